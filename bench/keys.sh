@@ -1,0 +1,62 @@
+#!/bin/bash
+# Measures crawl_keys: URLs and links per second, instructions each by callgrind, and the bytes
+# that a URL keeps in a set, alone and with three copies. Wants `rt`, valgrind and GNU time in the
+# path.
+#
+# usage: bench/keys.sh [URLS [LINKS]]      300000 URLs and 500000 links where none is given
+set -euo pipefail
+
+urls=${1:-300000}
+links=${2:-500000}
+counted=2000 # under callgrind, which is slow
+
+cd "$(dirname "$0")/../crates/bench_keys"
+rt run -- texts 1 > /dev/null
+program=$PWD/out/bench_keys
+scratch=$(mktemp -d)
+trap 'rm -r "$scratch"' EXIT
+
+# the best of five runs of a piece of work, in nanoseconds
+nanoseconds() {
+    local best= start spent
+    for _ in 1 2 3 4 5; do
+        start=$(date +%s%N)
+        "$program" "$1" "$2" > /dev/null
+        spent=$(($(date +%s%N) - start))
+        if [ -z "$best" ] || [ "$spent" -lt "$best" ]; then best=$spent; fi
+    done
+    echo "$best"
+}
+
+# the instructions that a piece of work takes
+instructions() {
+    valgrind --tool=callgrind --callgrind-out-file="$scratch/out" "$program" "$1" "$2" 2>&1 > /dev/null |
+        awk '/Collected/ { print $NF }'
+}
+
+# the greatest resident memory of a piece of work, in bytes
+resident() {
+    env time -f %M "$program" "$1" "$2" 2>&1 > /dev/null | awk '{ print $1 * 1024 }'
+}
+
+# what a piece of work costs a count besides making its texts
+row() {
+    local work=$1 texts=$2 count=$3 time calls
+    time=$(($(nanoseconds "$work" "$count") - $(nanoseconds "$texts" "$count")))
+    calls=$((($(instructions "$work" $((2 * counted))) - $(instructions "$work" "$counted")
+        - $(instructions "$texts" $((2 * counted))) + $(instructions "$texts" "$counted")) / counted))
+    printf '%s: %d in %d ms, %d a second, %d instructions each\n' \
+        "$work" "$count" $((time / 1000000)) $((count * 1000000000 / time)) "$calls"
+}
+
+# the memory that a URL keeps, besides the program's own
+kept() {
+    printf '%s: %d bytes a URL\n' "$1" $((($(resident "$1" "$urls") - $(resident "$1" 1)) / urls))
+}
+
+"$program" canonical "$urls"
+"$program" texts "$urls"
+row canonical texts "$urls"
+row joined links "$links"
+kept kept
+kept shared

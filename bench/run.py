@@ -1,0 +1,36 @@
+#!/usr/bin/env python3
+"""Runs a program on a file as its standard input, five times, and prints the least time and the greatest peak memory.
+
+Usage: run.py SECONDS_FILE FILE PROGRAM WORD..
+
+The least time in seconds is written to SECONDS_FILE too.
+"""
+import os
+import subprocess
+import sys
+import time
+
+RUNS = 5
+
+
+def run_once(path, command):
+    with open(path, "rb") as script:
+        start = time.monotonic()
+        process = subprocess.Popen(command, stdin=script, stdout=subprocess.DEVNULL)
+        _, status, usage = os.wait4(process.pid, 0)
+        seconds = time.monotonic() - start
+    if status != 0:
+        sys.exit(f"{command[0]} ended with status {os.waitstatus_to_exitcode(status)}")
+    return seconds, usage.ru_maxrss / 1024
+
+
+def main():
+    seconds_file, path, command = sys.argv[1], sys.argv[2], sys.argv[3:]
+    runs = [run_once(path, command) for _ in range(RUNS)]
+    seconds, peak = min(run[0] for run in runs), max(run[1] for run in runs)
+    print(f"{os.path.basename(path):28} {seconds:8.3f} s {peak:8.1f} MiB")
+    with open(seconds_file, "w", encoding="ascii") as out:
+        out.write(f"{seconds}\n")
+
+
+main()

@@ -1,0 +1,84 @@
+-- How the count of what is kept changes with a subqueue, and that the machine's events on subqueues make the table's moves.
+use Rattle.std.proofs.Common.{◌≡◌, ℕ, suc, ◌-◌, ◌≤◌, Bool, true, false, List, ◌∷◌, length, drop, slice_get, slice_set, Option, Some, None, refl, sym, ap, ◌∙◌, arith}
+use Rattle.std.specs.Option.{option_map}
+use Rattle.std.specs.List.{list_any}
+use Rattle.std.specs.Ordering.{nat_cmp}
+use Rattle.std.specs.BTreeMap.{is_at}
+use Rattle.std.proofs.lemmas.List.{length_push}
+use Rattle.std.proofs.lemmas.Map.Made.{length-remove_key}
+use Rattle.crawl_core.proofs.Places.{sum_at}
+use Rattle.crawl_core.specs.declared.event.Event.{Event}
+use Rattle.crawl_core.specs.declared.event.Event.TheVariants.{Take, Done}
+use Rattle.crawl_core.specs.declared.reply.Reply.{Reply}
+use Rattle.crawl_core.specs.declared.reply.Reply.TheVariants as told
+use Rattle.crawl_core.specs.State.{one_if}
+use Rattle.crawl_core.specs.Kept.{Kept, KeptQueue, IsCounted, kept_count, outstanding, has_seen}
+use Rattle.crawl_core.specs.Moves.{Moves, accepting, let_go}
+
+-- what a test of an element answers is what it answers of the element that is there
+pub there : {X Y : Type 0} (f : X → Y) (o : Option X) (y : Y) → option_map f o ≡ Some y → (x : X) × (o ≡ Some x) × (f x ≡ y)
+there f None y e = absurd (cc)
+there f (Some x) y e = (x, refl, cc)
+
+-- what is kept after an event, and the count that is stored with it, are right
+pub record Fits (old : Kept) (event : Event) (reply : Reply) (new : Kept) (count : ℕ) : Type 0 where
+  pub counts : IsCounted new count
+  pub moves : Moves old event reply new
+
+abbrev pub with_queues : Kept → List KeptQueue → Kept
+with_queues kept queues = record kept { queues = queues }
+
+-- a busy subqueue has a unit out
+pub busy_counts : {kept : Kept} {count : ℕ} (place : ℕ) → IsCounted kept count → option_map (λ q. q.busy) (slice_get kept.queues place) ≡ Some true → 1 ≤ count
+busy_counts {kept} {count} place counted busy =
+    let here = there (λ (q : KeptQueue). q.busy) (slice_get kept.queues place) true busy in
+    let sum = sum_at outstanding kept.queues place here.0 (record here.0 { busy = false }) here.1 in
+    let one : one_if here.0.busy ≡ 1 = ap one_if here.2 in
+    omega (arith, sum, one, counted.counted)
+
+pub done_fits : {kept : Kept} {count : ℕ} (place : ℕ) (new : List KeptQueue) → IsCounted kept count → option_map (λ q. q.busy) (slice_get kept.queues place) ≡ Some true → ((queue : KeptQueue) → slice_get kept.queues place ≡ Some queue → new ≡ slice_set kept.queues place (record queue { busy = false })) → Fits kept (Done place) (told.Count (count - 1)) (with_queues kept new) (count - 1)
+done_fits {kept} {count} place new counted busy set =
+    let here = there (λ (q : KeptQueue). q.busy) (slice_get kept.queues place) true busy in
+    let is_new = set here.0 here.1 in
+    let sum = sum_at outstanding kept.queues place here.0 (record here.0 { busy = false }) here.1 in
+    let one : one_if here.0.busy ≡ 1 = ap one_if here.2 in
+    let left : count - 1 ≡ kept_count (with_queues kept new) = rw is_new (omega (arith, sum, one, counted.counted)) in
+    record {
+      counts = record { counted = left; within = omega (arith, counted.within); small = counted.small };
+      moves = record {
+        reply_is = rw (here.1, here.2) (ap told.Count left ∙ ap (λ queues. told.Count (kept_count (with_queues kept queues))) is_new);
+        kept_is = rw (here.1, here.2) (ap (with_queues kept) is_new);
+      };
+    }
+
+-- a URL that is taken stays out: it does not wait any more, and its subqueue is busy
+pub take_fits : {kept : Kept} {count : ℕ} (place : ℕ) (url : List ℕ) (new : List KeptQueue) → IsCounted kept count → option_map (λ q. q.busy) (slice_get kept.queues place) ≡ Some false → ((queue : KeptQueue) → slice_get kept.queues place ≡ Some queue → queue.waiting ≡ url ∷ drop 1 queue.waiting) → ((queue : KeptQueue) → slice_get kept.queues place ≡ Some queue → new ≡ slice_set kept.queues place (record queue { waiting = drop 1 queue.waiting; busy = true })) → Fits kept (Take place) (told.Taken url) (with_queues kept new) count
+take_fits {kept} {count} place url new counted idle oldest set =
+    let here = there (λ (q : KeptQueue). q.busy) (slice_get kept.queues place) false idle in
+    let first = oldest here.0 here.1 in
+    let is_new = set here.0 here.1 in
+    let sum = sum_at outstanding kept.queues place here.0 (record here.0 { waiting = drop 1 here.0.waiting; busy = true }) here.1 in
+    let none : one_if here.0.busy ≡ 0 = ap one_if here.2 in
+    let one_more : length here.0.waiting ≡ suc (length (drop 1 here.0.waiting)) = ap length first in
+    let same : count ≡ kept_count (with_queues kept new) = rw is_new (omega (arith, sum, none, one_more, counted.counted)) in
+    record {
+      counts = record { counted = same; within = counted.within; small = counted.small };
+      moves = record {
+        reply_is = rw (here.1, here.2) (rw first refl);
+        kept_is = rw (here.1, here.2) (rw first (ap (with_queues kept) is_new));
+      };
+    }
+
+-- a URL that is accepted has the unit of its sender
+pub admit_counts : {kept : Kept} {count : ℕ} (place sender : ℕ) (url : List ℕ) (seen : Option Bool) (new : List KeptQueue) → IsCounted kept count → seen ≡ option_map (λ q. has_seen q url) (slice_get kept.queues place) → seen ≡ Some false → list_any (is_at (nat_cmp sender)) kept.holders ≡ true → ((queue : KeptQueue) → slice_get kept.queues place ≡ Some queue → new ≡ slice_set kept.queues place (accepting queue url sender)) → IsCounted (let_go (with_queues kept new) sender) count
+admit_counts {kept} {count} place sender url seen new counted seen_is unseen holds set =
+    let here = there (λ (q : KeptQueue). has_seen q url) (slice_get kept.queues place) false (sym seen_is ∙ unseen) in
+    let is_new = set here.0 here.1 in
+    let sum = sum_at outstanding kept.queues place here.0 (accepting here.0 url sender) here.1 in
+    let longer = length_push here.0.waiting url in
+    let fewer = length-remove_key (is_at (nat_cmp sender)) kept.holders holds in
+    record {
+      counted = rw is_new (omega (arith, sum, longer, fewer, counted.counted));
+      within = counted.within;
+      small = counted.small;
+    }

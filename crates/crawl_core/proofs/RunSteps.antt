@@ -1,0 +1,42 @@
+-- How a run goes on.
+use Rattle.std.proofs.Common.{◌≡◌, ℕ, ◌+◌, List, [], ◌∷◌, ◌++◌, length, refl, ap, arith}
+use Rattle.std.specs.List.{zip}
+use Rattle.std.proofs.lemmas.List.{length_push}
+use Rattle.crawl_core.specs.declared.event.Event.{Event}
+use Rattle.crawl_core.specs.declared.reply.Reply.{Reply}
+use Rattle.crawl_core.specs.State.{State, start}
+use Rattle.crawl_core.specs.Step.{Step}
+use Rattle.crawl_core.specs.Run.{Run}
+use Rattle.crawl_core.specs.Kept.{Kept}
+use Rattle.crawl_core.specs.Shows.{Shows, Makes}
+
+-- a new frontier had these replies to these events, and this is kept after them
+pub record RunTo (workers max : ℕ) (events : List Event) (replies : List Reply) (kept : Kept) : Type 0 where
+  pub as_many : length replies ≡ length events
+  pub state : State
+  pub run : Run (start workers max) (zip events replies) state
+  pub shown : Shows kept state
+
+pub zip_push : {A B : Type 0} (xs : List A) (ys : List B) (x : A) (y : B) → length ys ≡ length xs → zip (xs ++ x ∷ []) (ys ++ y ∷ []) ≡ zip xs ys ++ (x, y) ∷ []
+zip_push [] [] x y e = refl
+zip_push [] (b ∷ ys) x y e = absurd (omega (arith, e))
+zip_push (a ∷ xs) [] x y e = absurd (omega (arith, e))
+zip_push (a ∷ xs) (b ∷ ys) x y e = ap (λ zs. (a, b) ∷ zs) (zip_push xs ys x y (omega (arith, e)))
+
+-- a run goes on by a step
+pub Run-push : (old : State) (xs : List (Event × Reply)) (mid : State) (x : Event × Reply) (new : State) → Run old xs mid → Step mid x.0 x.1 new → Run old (xs ++ x ∷ []) new
+Run-push old [] mid x new run step = (new, rw (← run) step, refl)
+Run-push old (first ∷ xs) mid x new run step = (run.0, run.1, Run-push run.0 xs mid x new run.2 step)
+
+pub run_none : (workers max : ℕ) (kept : Kept) → Shows kept (start workers max) → RunTo workers max [] [] kept
+run_none workers max kept shown = record { as_many = refl; state = start workers max; run = refl; shown = shown }
+
+pub run_more : (workers max : ℕ) (events : List Event) (replies : List Reply) (old new : Kept) (event : Event) (reply : Reply) → RunTo workers max events replies old → Makes old event reply new → RunTo workers max (events ++ event ∷ []) (replies ++ reply ∷ []) new
+run_more workers max events replies old new event reply to makes =
+    let made = makes.step to.state to.shown in
+    record {
+      as_many = rw (length_push, length_push) (ap (λ n. n + 1) to.as_many);
+      state = made.0;
+      run = rw (zip_push events replies event reply to.as_many) (Run-push (start workers max) (zip events replies) to.state (event, reply) made.0 to.run made.1);
+      shown = made.2;
+    }

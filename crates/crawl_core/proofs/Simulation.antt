@@ -1,0 +1,259 @@
+-- A move of what is kept is the step of each state that it shows.
+use Rattle.std.proofs.Common.{eqb-true, unwrap_or, subst, ◌≡◌, ℕ, zero, suc, Bool, true, false, cond, ◌||◌, not, nat_eq, ◌+◌, ◌-◌, List, [], ◌∷◌, ◌++◌, length, map, drop, replicate, slice_get, slice_set, Option, Some, None, refl, sym, ap, ◌∙◌, arith, IfOk, Ok, Err, Result, MatchOption}
+use Rattle.std.specs.Bool.{if◌then◌else◌}
+use Rattle.std.specs.List.{AllZip, sum_by}
+use Rattle.std.specs.Ordering.{nat_cmp}
+use Rattle.std.specs.Str.{bytes_eq}
+use Rattle.std.specs.BTreeMap.{is_at}
+use Rattle.std.specs.Map.{lookup}
+use Rattle.std.proofs.lemmas.Cmp.{nat_list_cmp_total, nat_list_eq_equiv, nat_cmp_total}
+use Rattle.std.proofs.lemmas.List.{length-map, length-drop, map-append, drop-append-le, length_push}
+use Rattle.std.proofs.Math.ListN.{drop_of_length-le}
+use Rattle.std.proofs.lemmas.List.Folds.{list_any-append}
+use Rattle.std.proofs.lemmas.List.Sums.{sum_by-cons, sum_by_push}
+use Rattle.std.proofs.lemmas.Bool.Decides.{nat_tests}
+use Rattle.std.proofs.lemmas.Map.Text.{is_eq-slice_cmp}
+use Rattle.std.proofs.lemmas.Option.{slice_get_within}
+use Rattle.crawl_core.specs.declared.word.Word.{Word}
+use Rattle.crawl_core.specs.declared.event.Event.{Event}
+use Rattle.crawl_core.specs.declared.event.Event.TheVariants.{Look, Enter, Admit, Back, EndSeeds, Take, Done, Close}
+use Rattle.crawl_core.specs.declared.reply.Reply.{Reply}
+use Rattle.crawl_core.specs.declared.reply.Reply.TheVariants as told
+use Rattle.crawl_core.specs.declared.reply.Refusal.TheVariants as why
+use Rattle.crawl_core.specs.State.{State, word_of, Subqueue, Message, start, count_of, count_from, is_accepted, unfinished, one_if}
+use Rattle.crawl_core.specs.Step as step
+use Rattle.crawl_core.specs.Step.{Step, Turn, turn}
+use Rattle.crawl_core.specs.Kept.{Kept, KeptQueue, empty_queue, outstanding, number_at}
+use Rattle.crawl_core.specs.Moves.{Moves, Move, move, counted, enter_with, admit_to, take_from, take_oldest, done_with, accepting}
+use Rattle.crawl_core.specs.Shows.{Shows, ShowsQueue, Makes}
+use Rattle.crawl_core.proofs.Sets.{list_any-insert_key, lookup-insert_entry}
+
+-- R of what two lists have at a place: both have an element there, or neither
+abbrev pub Both : {A B : Type 0} → (A → B → Type 0) → Option A → Option B → Type 0
+Both R None None = Unit {0}
+Both R (Some a) (Some b) = R a b
+Both R None (Some b) = ⊥
+Both R (Some a) None = ⊥
+
+AllZip-slice_get : {A B : Type 0} (R : A → B → Type 0) (xs : List A) (ys : List B) (i : ℕ) → AllZip R xs ys → Both R (slice_get xs i) (slice_get ys i)
+AllZip-slice_get R [] [] i z = tt
+AllZip-slice_get R [] (y ∷ ys) i z = absurd z
+AllZip-slice_get R (x ∷ xs) [] i z = absurd z
+AllZip-slice_get R (x ∷ xs) (y ∷ ys) zero z = z.0
+AllZip-slice_get R (x ∷ xs) (y ∷ ys) (suc i) z = AllZip-slice_get R xs ys i z.1
+
+AllZip-slice_set : {A B : Type 0} (R : A → B → Type 0) (xs : List A) (ys : List B) (i : ℕ) (x : A) (y : B) → AllZip R xs ys → R x y → AllZip R (slice_set xs i x) (slice_set ys i y)
+AllZip-slice_set R [] [] i a b z r = tt
+AllZip-slice_set R [] (y ∷ ys) i a b z r = absurd z
+AllZip-slice_set R (x ∷ xs) [] i a b z r = absurd z
+AllZip-slice_set R (x ∷ xs) (y ∷ ys) zero a b z r = (r, z.1)
+AllZip-slice_set R (x ∷ xs) (y ∷ ys) (suc i) a b z r = (z.0, AllZip-slice_set R xs ys i a b z.1 r)
+
+AllZip-replicate : {A B : Type 0} (R : A → B → Type 0) (n : ℕ) (x : A) (y : B) → R x y → AllZip R (replicate n x) (replicate n y)
+AllZip-replicate R zero x y r = tt
+AllZip-replicate R (suc n) x y r = (r, AllZip-replicate R n x y r)
+
+-- what lies from a place on begins with the element there
+drop-slice_get : {A : Type 0} (xs : List A) (n : ℕ) → MatchOption (slice_get xs n) (drop n xs ≡ []) (λ x. drop n xs ≡ x ∷ drop (suc n) xs)
+drop-slice_get {A} [] n = drop_of_length-le {A = A} [] (omega arith)
+drop-slice_get (x ∷ xs) zero = refl
+drop-slice_get (x ∷ xs) (suc n) = drop-slice_get xs n
+
+-- what is kept of a subqueue has as many URLs out as the subqueue
+outstanding-unfinished : (kept : KeptQueue) (queue : Subqueue) → ShowsQueue kept queue → outstanding kept ≡ unfinished queue
+outstanding-unfinished kept queue shown =
+    let waits : length kept.waiting ≡ length queue.accepted - queue.taken = rw (shown.waiting, length-map, length-drop) refl in
+    let busy = ap one_if shown.busy in
+    omega (arith, waits, busy, shown.begun, shown.within)
+
+sums : (kept : List KeptQueue) (queues : List Subqueue) → AllZip ShowsQueue kept queues → sum_by outstanding kept ≡ sum_by unfinished queues
+sums [] [] z = refl
+sums [] (q ∷ qs) z = absurd z
+sums (k ∷ ks) [] z = absurd z
+sums (k ∷ ks) (q ∷ qs) z = let first = outstanding-unfinished k q z.0 in let rest = sums ks qs z.1 in rw (sum_by-cons outstanding k ks, sum_by-cons unfinished q qs) (omega (arith, first, rest))
+
+-- ## What an event does to one subqueue
+
+is_at_number : (s sender : ℕ) → is_at (nat_cmp s) sender ≡ nat_eq sender s
+is_at_number s sender = grind (arith, nat_tests)
+
+-- the number at a sender that may be this one, after one more of this one
+numbered : (b : Bool) (o : Option ℕ) (n c : ℕ) → unwrap_or o 0 ≡ c → (b ≡ true → n ≡ c) → unwrap_or (cond b (Some (suc n)) o) 0 ≡ c + cond b 1 0
+numbered true o n c old same = let e = same refl in omega (arith, e)
+numbered false o n c old same = omega (arith, old)
+
+or_none : (a b : Bool) → (a || b) ≡ (b || (a || false))
+or_none true true = refl
+or_none true false = refl
+or_none false true = refl
+or_none false false = refl
+
+accepted_shows : (kept : KeptQueue) (queue : Subqueue) (url : List ℕ) (sender : ℕ) → ShowsQueue kept queue → ShowsQueue (accepting kept url sender) (record queue { accepted = queue.accepted ++ record { url = url; sender = sender; number = count_from queue.accepted sender } ∷ [] })
+accepted_shows kept queue url sender shown =
+    let message : Message = record { url = url; sender = sender; number = count_from queue.accepted sender } in
+    record {
+      waiting =
+          let past : drop queue.taken (queue.accepted ++ message ∷ []) ≡ drop queue.taken queue.accepted ++ message ∷ [] = drop-append-le queue.taken queue.accepted (message ∷ []) shown.within in
+          rw (past, map-append, shown.waiting) refl;
+      seen = λ u. rw (list_any-insert_key nat_list_cmp_total u url kept.seen, shown.seen u, is_eq-slice_cmp u url, list_any-append, nat_list_eq_equiv.symm u url) (or_none (bytes_eq url u) (is_accepted queue u));
+      numbers = λ s.
+          rw (lookup-insert_entry nat_cmp_total s sender (suc (number_at kept.numbers sender)) kept.numbers, sum_by_push (λ (m : Message). cond (nat_eq m.sender s) 1 0) queue.accepted message, is_at_number s sender)
+          (numbered (nat_eq sender s) (lookup (is_at (nat_cmp s)) kept.numbers) (number_at kept.numbers sender) (count_from queue.accepted s) (shown.numbers s) (λ same. shown.numbers sender ∙ ap (count_from queue.accepted) (eqb-true sender s same)));
+      busy = shown.busy;
+      begun = shown.begun;
+      within = rw length_push (omega (arith, shown.within));
+    }
+
+taken_shows : (kept : KeptQueue) (queue : Subqueue) (message : Message) → ShowsQueue kept queue → slice_get queue.accepted queue.taken ≡ Some message → ShowsQueue (record kept { waiting = map (λ m. m.url) (drop (suc queue.taken) queue.accepted); busy = true }) (record queue { taken = suc queue.taken; busy = true })
+taken_shows kept queue message shown at = record {
+  waiting = refl;
+  seen = shown.seen;
+  numbers = shown.numbers;
+  busy = refl;
+  begun = omega arith;
+  within = let within = slice_get_within queue.accepted queue.taken message at in omega arith;
+}
+
+finished_shows : (kept : KeptQueue) (queue : Subqueue) → ShowsQueue kept queue → ShowsQueue (record kept { busy = false }) (record queue { busy = false })
+finished_shows kept queue shown = record {
+  waiting = shown.waiting;
+  seen = shown.seen;
+  numbers = shown.numbers;
+  busy = refl;
+  begun = omega arith;
+  within = shown.within;
+}
+
+-- ## The table
+
+-- a state, with these queues in the place of its subqueues
+abbrev pub keeping : List KeptQueue → State → Kept
+keeping queues state = record {
+  queues = queues;
+  holders = state.holders;
+  remembered = state.remembered;
+  opening = state.opening;
+  closed = state.closed;
+  max = state.max;
+}
+
+-- the move is the step's: the same reply, and what is kept is the state's
+pub record Agrees (made : Move) (done : Turn) : Type 0 where
+  pub queues : List KeptQueue
+  pub shown : AllZip ShowsQueue queues done.state.subqueues
+  pub is_move : made ≡ record { reply = done.reply; kept = keeping queues done.state }
+
+agrees_if : (b : Bool) (made made' : Move) (done done' : Turn) → Agrees made done → Agrees made' done' → Agrees (if b then made else made') (if b then done else done')
+agrees_if true made made' done done' first second = first
+agrees_if false made made' done done' first second = second
+
+-- nothing but the reply, which is the same
+unchanged : (queues : List KeptQueue) (state : State) → AllZip ShowsQueue queues state.subqueues → (reply : Reply) → Agrees (record { reply = reply; kept = keeping queues state }) (record { reply = reply; state = state })
+unchanged queues state shown reply = record { queues = queues; shown = shown; is_move = refl }
+
+-- a count, of what is left
+counted_agrees : (queues : List KeptQueue) (state : State) → AllZip ShowsQueue queues state.subqueues → Agrees (counted (keeping queues state)) (step.counted state)
+counted_agrees queues state shown = record { queues = queues; shown = shown; is_move = rw (sums queues state.subqueues shown) refl }
+
+enter_agrees : (queues : List KeptQueue) (state : State) → AllZip ShowsQueue queues state.subqueues → (sender : ℕ) (word : Option Word) → Agrees (enter_with (keeping queues state) sender word) (step.enter_with state sender word)
+enter_agrees queues state shown sender None = unchanged queues state shown (told.Refused why.Nothing)
+enter_agrees queues state shown sender (Some word) =
+    rw (sums queues state.subqueues shown)
+    (agrees_if (not (step.same_word word (word_of state))) _ _ _ _ (unchanged queues state shown told.Lost)
+    (agrees_if state.closed _ _ _ _ (unchanged queues state shown (told.Refused why.Closed))
+    (agrees_if (nat_eq (count_of state) state.max) _ _ _ _ (unchanged queues state shown (told.Refused why.Full))
+    (record { queues = queues; shown = shown; is_move = refl }))))
+
+admit_agrees : (queues : List KeptQueue) (state : State) → AllZip ShowsQueue queues state.subqueues → (sender : ℕ) (url : List ℕ) (place : ℕ) (kept : Option KeptQueue) (queue : Option Subqueue) → Both ShowsQueue kept queue → Agrees (admit_to (keeping queues state) sender url place kept) (step.admit_to state sender url place queue)
+admit_agrees queues state shown sender url place None None both = unchanged queues state shown (told.Refused why.NoSuch)
+admit_agrees queues state shown sender url place None (Some queue) both = absurd both
+admit_agrees queues state shown sender url place (Some kept) None both = absurd both
+admit_agrees queues state shown sender url place (Some kept) (Some queue) both =
+    rw (both.seen url)
+    (agrees_if (not (step.holds state sender)) _ _ _ _ (unchanged queues state shown (told.Refused why.Nothing))
+    (agrees_if (is_accepted queue url) _ _ _ _ (unchanged queues state shown told.Seen)
+    (record {
+      queues = slice_set queues place (accepting kept url sender);
+      shown = AllZip-slice_set ShowsQueue queues state.subqueues place _ _ shown (accepted_shows kept queue url sender both);
+      is_move = rw (both.numbers sender) refl;
+    })))
+
+oldest_agrees : (queues : List KeptQueue) (state : State) → AllZip ShowsQueue queues state.subqueues → (place : ℕ) (kept : KeptQueue) (queue : Subqueue) → ShowsQueue kept queue → (message : Option Message) → slice_get queue.accepted queue.taken ≡ message → Agrees (take_oldest (keeping queues state) place kept kept.waiting) (step.take_oldest state place queue message)
+oldest_agrees queues state shown place kept queue both None at =
+    let rest = rw at at (drop-slice_get queue.accepted queue.taken) in
+    rw (both.waiting, rest) (unchanged queues state shown told.Empty)
+oldest_agrees queues state shown place kept queue both (Some message) at =
+    let rest = rw at at (drop-slice_get queue.accepted queue.taken) in
+    rw (both.waiting, rest) (record {
+      queues = slice_set queues place (record kept { waiting = map (λ m. m.url) (drop (suc queue.taken) queue.accepted); busy = true });
+      shown = AllZip-slice_set ShowsQueue queues state.subqueues place _ _ shown (taken_shows kept queue message both at);
+      is_move = refl;
+    })
+
+take_agrees : (queues : List KeptQueue) (state : State) → AllZip ShowsQueue queues state.subqueues → (place : ℕ) (kept : Option KeptQueue) (queue : Option Subqueue) → Both ShowsQueue kept queue → Agrees (take_from (keeping queues state) place kept) (step.take_from state place queue)
+take_agrees queues state shown place None None both = unchanged queues state shown (told.Refused why.NoSuch)
+take_agrees queues state shown place None (Some queue) both = absurd both
+take_agrees queues state shown place (Some kept) None both = absurd both
+take_agrees queues state shown place (Some kept) (Some queue) both =
+    rw (both.busy)
+    (agrees_if queue.busy _ _ _ _ (unchanged queues state shown (told.Refused why.Busy))
+    (oldest_agrees queues state shown place kept queue both (slice_get queue.accepted queue.taken) refl))
+
+done_agrees : (queues : List KeptQueue) (state : State) → AllZip ShowsQueue queues state.subqueues → (place : ℕ) (kept : Option KeptQueue) (queue : Option Subqueue) → Both ShowsQueue kept queue → Agrees (done_with (keeping queues state) place kept) (step.done_with state place queue)
+done_agrees queues state shown place None None both = unchanged queues state shown (told.Refused why.NoSuch)
+done_agrees queues state shown place None (Some queue) both = absurd both
+done_agrees queues state shown place (Some kept) None both = absurd both
+done_agrees queues state shown place (Some kept) (Some queue) both =
+    let set = AllZip-slice_set ShowsQueue queues state.subqueues place (record kept { busy = false }) (record queue { busy = false }) shown (finished_shows kept queue both) in
+    rw (both.busy)
+    (agrees_if queue.busy _ _ _ _ (counted_agrees _ (step.with_subqueue state place (record queue { busy = false })) set)
+    (unchanged queues state shown (told.Refused why.Nothing)))
+
+agrees : (queues : List KeptQueue) (state : State) → AllZip ShowsQueue queues state.subqueues → (event : Event) → Agrees (move (keeping queues state) event) (turn state event)
+agrees queues state shown (Look sender) = record { queues = queues; shown = shown; is_move = rw (sums queues state.subqueues shown) refl }
+agrees queues state shown (Enter sender) =
+    agrees_if (step.holds state sender) _ _ _ _ (unchanged queues state shown (told.Refused why.Busy))
+    (enter_agrees queues state shown sender (lookup (is_at (nat_cmp sender)) state.remembered))
+agrees queues state shown (Admit sender url place) = admit_agrees queues state shown sender url place (slice_get queues place) (slice_get state.subqueues place) (AllZip-slice_get ShowsQueue queues state.subqueues place shown)
+agrees queues state shown (Back sender) =
+    agrees_if (step.holds state sender) _ _ _ _ (counted_agrees queues (step.let_go state sender) shown)
+    (unchanged queues state shown (told.Refused why.Nothing))
+agrees queues state shown EndSeeds =
+    agrees_if state.opening _ _ _ _ (counted_agrees queues (record state { opening = false }) shown)
+    (unchanged queues state shown (told.Refused why.Nothing))
+agrees queues state shown (Take place) = take_agrees queues state shown place (slice_get queues place) (slice_get state.subqueues place) (AllZip-slice_get ShowsQueue queues state.subqueues place shown)
+agrees queues state shown (Done place) = done_agrees queues state shown place (slice_get queues place) (slice_get state.subqueues place) (AllZip-slice_get ShowsQueue queues state.subqueues place shown)
+agrees queues state shown Close =
+    rw (sums queues state.subqueues shown)
+    (agrees_if (state.closed || nat_eq (count_of state) 0) _ _ _ _ (record { queues = queues; shown = shown; is_move = refl })
+    (unchanged queues state shown (told.Pending (count_of state))))
+
+pub makes : (old : Kept) (event : Event) (reply : Reply) (new : Kept) → Moves old event reply new → Makes old event reply new
+makes old event reply new moves = record {
+  step = λ state shown.
+      let same : old ≡ keeping old.queues state = rw (← shown.holders, ← shown.remembered, ← shown.opening, ← shown.closed, ← shown.max) refl in
+      let P : Kept → Type 0 = λ kept. Agrees (move kept event) (turn state event) in
+      let moved = subst P (sym same) (agrees old.queues state shown.queues event) in
+      let after : Kept → Type 0 = λ kept. Shows kept (turn state event).state in
+      let kept : keeping moved.queues (turn state event).state ≡ new = sym (moves.kept_is ∙ ap (λ m. m.kept) moved.is_move) in (
+        (turn state event).state,
+        record { reply_is = moves.reply_is ∙ ap (λ m. m.reply) moved.is_move; state_is = refl },
+        subst after kept (record { queues = moved.shown; holders = refl; remembered = refl; opening = refl; closed = refl; max = refl }),
+      );
+}
+
+-- what holds of a value follows from what implies it
+pub IfOk-weaker : {A E : Type 0} (r : Result A E) (P Q : A → Type 0) → ((a : A) → P a → Q a) → IfOk r P → IfOk r Q
+IfOk-weaker (Ok a) P Q weaker p = weaker a p
+IfOk-weaker (Err e) P Q weaker p = tt
+
+-- an empty machine shows the first state
+pub shows_start : (workers max : ℕ) → Shows (record { queues = replicate workers empty_queue; holders = []; remembered = []; opening = true; closed = false; max = max }) (start workers max)
+shows_start workers max = record {
+  queues = AllZip-replicate ShowsQueue workers empty_queue (record { accepted = []; taken = 0; busy = false }) (record { waiting = refl; seen = λ url. refl; numbers = λ sender. refl; busy = refl; begun = omega arith; within = omega arith });
+  holders = refl;
+  remembered = refl;
+  opening = refl;
+  closed = refl;
+  max = refl;
+}

@@ -1,0 +1,55 @@
+-- What the machine keeps of a state: queues, sets and maps in place of lists that grow for good.
+use Rattle.std.specs.Prelude.{◌≡◌, ℕ, ◌+◌, ◌^◌, ◌≤◌, Bool, false, List, [], length, unwrap_or}
+use Rattle.std.specs.List.{sum_by, list_any}
+use Rattle.std.specs.Ordering.{nat_cmp}
+use Rattle.std.specs.Cmp.Lexicographic.{slice_cmp}
+use Rattle.std.specs.BTreeMap.{is_at}
+use Rattle.std.specs.Map.{lookup}
+use Rattle.crawl_core.specs.declared.word.Word.{Word}
+use Rattle.crawl_core.specs.State.{one_if}
+
+-- of a subqueue: the URLs that wait, oldest first; those that it ever accepted, in ascending order; how many of each
+-- sender it accepted, by ascending sender; whether the one taken last is not done yet
+pub record KeptQueue : Type 0 where
+  pub waiting : List (List ℕ)
+  pub seen : List (List ℕ)
+  pub numbers : List (ℕ × ℕ)
+  pub busy : Bool
+
+-- of a state; all but the subqueues are kept as they are
+pub record Kept : Type 0 where
+  pub queues : List KeptQueue
+  pub holders : List ℕ
+  pub remembered : List (ℕ × Word)
+  pub opening : Bool
+  pub closed : Bool
+  pub max : ℕ
+
+abbrev pub empty_queue : KeptQueue
+empty_queue = record { waiting = []; seen = []; numbers = []; busy = false }
+
+-- how many URLs of a subqueue are not done
+abbrev pub outstanding : KeptQueue → ℕ
+outstanding queue = length queue.waiting + one_if queue.busy
+
+-- how many units are out
+abbrev pub kept_count : Kept → ℕ
+kept_count kept = one_if kept.opening + length kept.holders + sum_by outstanding kept.queues
+
+-- whether the subqueue accepted the URL
+abbrev pub has_seen : KeptQueue → List ℕ → Bool
+has_seen queue url = list_any (is_at (slice_cmp nat_cmp url)) queue.seen
+
+-- how many of the sender it accepted
+abbrev pub number_at : List (ℕ × ℕ) → ℕ → ℕ
+number_at numbers sender = unwrap_or (lookup (is_at (nat_cmp sender)) numbers) 0
+
+-- no sender has more than there are
+abbrev pub AreFew : KeptQueue → Type 0
+AreFew queue = (sender : ℕ) → number_at queue.numbers sender ≤ length queue.seen
+
+-- the count that is stored is the one of what is kept, at most the maximum, and that is small
+pub record IsCounted (kept : Kept) (count : ℕ) : Type 0 where
+  pub counted : count ≡ kept_count kept
+  pub within : count ≤ kept.max
+  pub small : kept.max ≤ 2 ^ 40

@@ -1,0 +1,48 @@
+ghost use Rattle.std.specs.Prelude.{◌≡◌};
+ghost use Rattle.crawl_core.specs.declared.error.CoreError.TheVariants as wrong;
+
+use std::alloc::{AllocError, AllocFailed};
+use std::error::Error;
+use std::fmt;
+
+/// Want of memory: a growth was refused.
+pub type NoMemory = AllocError;
+
+/// Why there is no frontier, in the order of the checks.
+#[derive(Clone, Copy, Debug, PartialEq, Eq)]
+pub enum CoreError {
+    /// The number of workers is not 1 to [`WORKER_LIMIT`](crate::WORKER_LIMIT).
+    BadWorkers,
+    /// The maximum is not 1 to [`PENDING_LIMIT`](crate::PENDING_LIMIT).
+    BadMax,
+    /// A growth was refused.
+    NoMemory,
+}
+
+impl fmt::Display for CoreError {
+    fn fmt<W: fmt::Write>(&self, f: &mut fmt::Formatter<W>) -> fmt::Result {
+        f.write_str(match self {
+            CoreError::BadWorkers => "bad number of workers",
+            CoreError::BadMax => "bad maximum",
+            CoreError::NoMemory => "out of memory",
+        })
+    }
+}
+
+impl Error for CoreError {}
+
+impl From<AllocError> for CoreError {
+    ghost from_gives = { λ _ e. e ≡ wrong.NoMemory };
+
+    fn from(_refused: AllocError) -> CoreError {
+        CoreError::NoMemory
+    }
+}
+
+impl<T: Drop> From<AllocFailed<T>> for CoreError {
+    ghost from_gives = { λ _ e. e ≡ wrong.NoMemory };
+
+    fn from(_refused: AllocFailed<T>) -> CoreError {
+        CoreError::NoMemory
+    }
+}

@@ -1,0 +1,53 @@
+//! Laws of whole runs: what holds of any events and the replies that [`run`](crate::run) gives to them. None does anything
+//! when it is called.
+ghost use Rattle.std.specs.Prelude.{◌≡◌, ℕ, ◌≤◌, List, ◌++◌, ◌∷◌, [], map, slice_get, Some};
+ghost use Rattle.std.specs.List.{zip};
+ghost use Rattle.crawl_core.specs.State.{State, Subqueue, Message, start};
+ghost use Rattle.crawl_core.specs.Run.{Run, IsRun};
+ghost use Rattle.crawl_core.specs.History.{TakesInOrder, AcceptsOnce, LeavesInOrder, FetchesOneAtATime, AssignsEachUrl, IsAdmitted, TakesOnce, TakesWhereAdmitted, StaysClosed};
+ghost use Rattle.crawl_core.specs.Invariants.{GateInvariant, SubqueueInvariant, EachSubqueue, IsFinished};
+ghost use Rattle.crawl_core.specs.declared.event.Event.{Event};
+ghost use Rattle.crawl_core.specs.declared.reply.Reply.{Reply};
+ghost use Rattle.crawl_core.specs.declared.reply.Reply.TheVariants as told;
+
+/// Events have one list of replies.
+pub fn one_run()
+    ensures { (workers max : ℕ) (events : List Event) (replies others : List Reply) → IsRun workers max events replies → IsRun workers max events others → replies ≡ others }
+{}
+
+/// First in, first out, once: for each subqueue the k-th URL taken is the k-th accepted, no URL is accepted twice, messages
+/// of one sender leave in the order of their numbers, and one fetch is on at a time.
+pub fn taken_once_in_order()
+    ensures in_order { (workers max : ℕ) (events : List Event) (replies : List Reply) → IsRun workers max events replies → TakesInOrder (zip events replies) }
+    ensures once { (workers max : ℕ) (events : List Event) (replies : List Reply) → IsRun workers max events replies → AcceptsOnce (zip events replies) }
+    ensures numbered { (workers max : ℕ) (events : List Event) (replies : List Reply) → IsRun workers max events replies → LeavesInOrder (zip events replies) }
+    ensures one_at_a_time { (workers max : ℕ) (events : List Event) (replies : List Reply) → IsRun workers max events replies → FetchesOneAtATime (zip events replies) }
+
+    // Where all admissions of a URL name one subqueue, it is taken at most once, from that subqueue alone.
+    ensures taken_once { (workers max : ℕ) (events : List Event) (replies : List Reply) → IsRun workers max events replies → AssignsEachUrl events → TakesOnce (zip events replies) }
+    ensures where_admitted { (workers max : ℕ) (events : List Event) (replies : List Reply) → IsRun workers max events replies → AssignsEachUrl events → TakesWhereAdmitted events (zip events replies) }
+{}
+
+/// Nothing is made up: each URL that a subqueue has accepted, and each that was taken from it, was admitted to it by one of
+/// the events.
+pub fn admitted_before()
+    ensures accepted { (workers max : ℕ) (history : List (Event × Reply)) (state : State) → Run (start workers max) history state → (queue k : ℕ) (found : Subqueue) (m : Message) → slice_get state.subqueues queue ≡ Some found → slice_get found.accepted k ≡ Some m → IsAdmitted (map (λ x. x.0) history) queue m.url }
+    ensures taken { (workers max : ℕ) (events : List Event) (replies : List Reply) → IsRun workers max events replies → (place queue : ℕ) (url : List ℕ) → slice_get (zip events replies) place ≡ Some (Event.Take queue, told.Taken url) → IsAdmitted events queue url }
+{}
+
+/// Closed means done: at a reply `Closed` the opening unit is gone, nobody holds a unit, and every accepted message was
+/// taken and is done.
+pub fn closed_means_finished()
+    ensures { (workers max : ℕ) (front back : List (Event × Reply)) (event : Event) (end : State) → Run (start workers max) (front ++ (event, told.Closed) ∷ back) end → (state : State) × Run (start workers max) (front ++ (event, told.Closed) ∷ []) state × IsFinished state }
+{}
+
+/// Closed for good: after a reply `Closed` no reply is `Entered`, `Accepted` or `Taken`.
+pub fn closed_for_good()
+    ensures { (workers max : ℕ) (events : List Event) (replies : List Reply) → IsRun workers max events replies → StaysClosed (zip events replies) }
+{}
+
+/// Every state of a run meets the gate's invariant and, in each subqueue, the subqueue's.
+pub fn invariants_in_runs()
+    ensures gate { (workers max : ℕ) (history : List (Event × Reply)) (state : State) → 1 ≤ max → Run (start workers max) history state → GateInvariant state }
+    ensures subqueues { (workers max : ℕ) (history : List (Event × Reply)) (state : State) → Run (start workers max) history state → EachSubqueue SubqueueInvariant state }
+{}

@@ -1,0 +1,26 @@
+//! The URL frontier as a pure machine over events: what a crawl's workers and senders may do, one atomic step at a time.
+#![tactic(auto)]
+
+mod error;
+mod event;
+/// What holds of whole runs.
+pub mod laws;
+mod limits;
+mod machine;
+mod reply;
+mod runs;
+mod subqueue;
+mod subqueues;
+#[cfg(test)]
+mod tests;
+mod text;
+mod word;
+
+pub use error::{CoreError, NoMemory};
+pub use event::Event;
+pub use limits::{PENDING_LIMIT, WORKER_LIMIT};
+pub use machine::Core;
+pub use reply::{Refusal, Reply};
+pub use runs::run;
+pub use text::Text;
+pub use word::Word;

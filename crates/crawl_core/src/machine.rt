@@ -1,0 +1,101 @@
+//! The machine: what it keeps, how it begins, and one step of it.
+ghost use Rattle.std.specs.Prelude.{◌≡◌, ◌<◌, ◌≤◌, ◌⊎◌, ◌↔◌, Err, IfOk, OnErr};
+ghost use Rattle.crawl_core.specs.State.{start};
+ghost use Rattle.crawl_core.specs.Shows.{Shows, Makes};
+ghost use Rattle.crawl_core.specs.Moves.{Moves};
+ghost use Rattle.crawl_core.specs.declared.error.CoreError.{CoreError};
+ghost use Rattle.crawl_core.specs.declared.limits.TheConstants.{WORKER_LIMIT, PENDING_LIMIT};
+
+use crate::error::{CoreError, NoMemory};
+use crate::event::Event;
+use crate::limits::{PENDING_LIMIT, WORKER_LIMIT};
+use crate::reply::Reply;
+use crate::subqueues::Subqueues;
+use crate::word::Word;
+use std::alloc::Global;
+use std::collections::{BTreeMap, BTreeSet};
+use std::marker::Model;
+
+mod gate;
+mod queues;
+
+/// A frontier as a pure machine: one subqueue for each worker, and the gate's word.
+#[derive(Drop)]
+pub struct Core {
+    queues: Subqueues,
+    /// The senders that hold a unit.
+    holders: BTreeSet<u64>,
+    /// The word that each sender read last, unless it entered by it.
+    remembered: BTreeMap<u64, Word>,
+    /// The opening unit is still out.
+    opening: bool,
+    closed: bool,
+    max: u64,
+    /// How many units are out.
+    count: u64,
+}
+
+impl Model for Core {
+    ghost use Rattle.crawl_core.specs.Kept.{Kept, IsCounted};
+
+    ghost Value = { Kept };
+
+    ghost view = { λ c. record { queues = c.queues; holders = c.holders.keys; remembered = c.remembered.entries; opening = c.opening; closed = c.closed; max = c.max } };
+
+    ghost invariant = { λ c. IsCounted (record { queues = c.queues; holders = c.holders.keys; remembered = c.remembered.entries; opening = c.opening; closed = c.closed; max = c.max }) c.count };
+}
+
+impl Core {
+    /// A frontier with that many subqueues and that maximum of units: the opening unit is out, nothing else is held.
+    ///
+    /// # Errors
+    /// `BadWorkers`, then `BadMax`, for a number beyond its limits; `NoMemory` where a growth was refused.
+    pub fn new(alloc: Global, workers: u32, max: u64) -> Result<Core, CoreError>
+        ensures start { IfOk result (λ core. Shows core (start workers max)) }
+        ensures bad_workers { (result ≡ Err CoreError.BadWorkers) ↔ ((workers < 1) ⊎ (WORKER_LIMIT < workers)) }
+        ensures bad_max { (result ≡ Err CoreError.BadMax) ↔ ((1 ≤ workers) × (workers ≤ WORKER_LIMIT) × ((max < 1) ⊎ (PENDING_LIMIT < max))) }
+    {
+        if workers < 1 || workers > WORKER_LIMIT {
+            return Err(CoreError::BadWorkers);
+        }
+        if max < 1 || max > PENDING_LIMIT {
+            return Err(CoreError::BadMax);
+        }
+        Ok(Core {
+            queues: Subqueues::new(alloc, workers)?,
+            holders: BTreeSet::new(alloc),
+            remembered: BTreeMap::new(alloc),
+            opening: true,
+            closed: false,
+            max,
+            count: 1,
+        })
+    }
+
+    /// One step: the reply to the event.
+    ///
+    /// # Errors
+    /// Want of memory, where a growth was refused; the machine is then as it was.
+    pub fn step(&mut self, event: &Event) -> Result<Reply, NoMemory>
+        ensures step { IfOk result (λ reply. Makes self.old event.now reply self.new) }
+        ensures err { OnErr result (self.new ≡ self.old) }
+    {
+        self.advance(event)
+    }
+
+    fn advance(&mut self, event: &Event) -> Result<Reply, NoMemory>
+        ensures moves { IfOk result (λ reply. Moves self.old event.now reply self.new) }
+        ensures err { OnErr result (self.new ≡ self.old) }
+    {
+        match event {
+            Event::Look { sender } => self.look(*sender),
+            Event::Enter { sender } => self.enter(*sender),
+            Event::Admit { sender, url, queue } => self.admit(*sender, url, *queue),
+            Event::Back { sender } => Ok(self.back(*sender)),
+            Event::EndSeeds => Ok(self.end_seeds()),
+            Event::Take { queue } => Ok(self.take(*queue)),
+            Event::Done { queue } => Ok(self.done(*queue)),
+            Event::Close => Ok(self.close()),
+        }
+    }
+}

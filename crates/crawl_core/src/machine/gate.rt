@@ -1,0 +1,89 @@
+//! The events on the gate's word.
+ghost use Rattle.std.specs.Prelude.{◌≡◌, IfOk, OnErr};
+ghost use Rattle.crawl_core.specs.Moves.{Moves, kept_word};
+ghost use Rattle.crawl_core.specs.declared.event.Event.{Event};
+
+use super::Core;
+use crate::error::NoMemory;
+use crate::event::Event;
+use crate::reply::{Refusal, Reply};
+use crate::word::Word;
+
+impl Core {
+    fn word(&self) -> Word
+        ensures { result ≡ kept_word self.now }
+    {
+        Word {
+            count: self.count,
+            closed: self.closed,
+        }
+    }
+
+    pub(super) fn look(&mut self, sender: u64) -> Result<Reply, NoMemory>
+        ensures moves { IfOk result (λ reply. Moves self.old (Event.Look sender) reply self.new) }
+        ensures err { OnErr result (self.new ≡ self.old) }
+    {
+        let word = self.word();
+        self.remembered.insert(sender, word)?;
+        Ok(Reply::Word {
+            count: word.count,
+            closed: word.closed,
+        })
+    }
+
+    pub(super) fn enter(&mut self, sender: u64) -> Result<Reply, NoMemory>
+        ensures moves { IfOk result (λ reply. Moves self.old (Event.Enter sender) reply self.new) }
+        ensures err { OnErr result (self.new ≡ self.old) }
+    {
+        if self.holders.contains(&sender) {
+            return Ok(Reply::Refused(Refusal::Busy));
+        }
+        let Some(remembered) = self.remembered.get(&sender).copied() else {
+            return Ok(Reply::Refused(Refusal::Nothing));
+        };
+        if remembered != self.word() {
+            return Ok(Reply::Lost);
+        }
+        if self.closed {
+            return Ok(Reply::Refused(Refusal::Closed));
+        }
+        if self.count == self.max {
+            return Ok(Reply::Refused(Refusal::Full));
+        }
+        self.holders.insert(sender)?;
+        self.remembered.remove(&sender);
+        self.count += 1;
+        Ok(Reply::Entered(self.count))
+    }
+
+    pub(super) fn back(&mut self, sender: u64) -> Reply
+        ensures { Moves self.old (Event.Back sender) result self.new }
+    {
+        if !self.holders.remove(&sender) {
+            return Reply::Refused(Refusal::Nothing);
+        }
+        self.count -= 1;
+        Reply::Count(self.count)
+    }
+
+    pub(super) fn end_seeds(&mut self) -> Reply
+        ensures { Moves self.old Event.EndSeeds result self.new }
+    {
+        if !self.opening {
+            return Reply::Refused(Refusal::Nothing);
+        }
+        self.opening = false;
+        self.count -= 1;
+        Reply::Count(self.count)
+    }
+
+    pub(super) fn close(&mut self) -> Reply
+        ensures { Moves self.old Event.Close result self.new }
+    {
+        if self.closed || self.count == 0 {
+            self.closed = true;
+            return Reply::Closed;
+        }
+        Reply::Pending(self.count)
+    }
+}

@@ -1,0 +1,60 @@
+//! The events on a subqueue.
+ghost use Rattle.std.specs.Prelude.{◌≡◌, IfOk, OnErr};
+ghost use Rattle.crawl_core.specs.Moves.{Moves};
+ghost use Rattle.crawl_core.specs.declared.event.Event.{Event};
+
+use super::Core;
+use crate::error::NoMemory;
+use crate::event::Event;
+use crate::reply::{Refusal, Reply};
+use crate::text::Text;
+
+impl Core {
+    pub(super) fn admit(&mut self, sender: u64, url: &Text, queue: u32) -> Result<Reply, NoMemory>
+        ensures moves { IfOk result (λ reply. Moves self.old (Event.Admit sender url.now queue) reply self.new) }
+        ensures err { OnErr result (self.new ≡ self.old) }
+    {
+        let Some(seen) = self.queues.has_seen(queue, url) else {
+            return Ok(Reply::Refused(Refusal::NoSuch));
+        };
+        if !self.holders.contains(&sender) {
+            return Ok(Reply::Refused(Refusal::Nothing));
+        }
+        if seen {
+            return Ok(Reply::Seen);
+        }
+        let number = self.queues.accept(queue, url, sender)?;
+        // The sender's unit goes with the URL, so the count stays.
+        self.holders.remove(&sender);
+        Ok(Reply::Accepted { queue, number })
+    }
+
+    pub(super) fn take(&mut self, queue: u32) -> Reply
+        ensures { Moves self.old (Event.Take queue) result self.new }
+    {
+        let Some(busy) = self.queues.is_busy(queue) else {
+            return Reply::Refused(Refusal::NoSuch);
+        };
+        if busy {
+            return Reply::Refused(Refusal::Busy);
+        }
+        let Some(url) = self.queues.take(queue) else {
+            return Reply::Empty;
+        };
+        Reply::Taken(url)
+    }
+
+    pub(super) fn done(&mut self, queue: u32) -> Reply
+        ensures { Moves self.old (Event.Done queue) result self.new }
+    {
+        let Some(busy) = self.queues.is_busy(queue) else {
+            return Reply::Refused(Refusal::NoSuch);
+        };
+        if !busy {
+            return Reply::Refused(Refusal::Nothing);
+        }
+        self.queues.finish(queue);
+        self.count -= 1;
+        Reply::Count(self.count)
+    }
+}

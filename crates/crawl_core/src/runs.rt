@@ -1,0 +1,28 @@
+//! Whole runs.
+ghost use Rattle.std.specs.Prelude.{◌≡◌, ◌<◌, ◌≤◌, ◌⊎◌, ◌↔◌, Err, IfOk};
+ghost use Rattle.crawl_core.specs.Run.{IsRun};
+ghost use Rattle.crawl_core.specs.declared.error.CoreError.{CoreError};
+ghost use Rattle.crawl_core.specs.declared.limits.TheConstants.{WORKER_LIMIT, PENDING_LIMIT};
+
+use crate::error::CoreError;
+use crate::event::Event;
+use crate::machine::Core;
+use crate::reply::Reply;
+use std::alloc::Global;
+
+/// A new frontier's replies to these events, one for each.
+///
+/// # Errors
+/// Those of [`Core::new`]; `NoMemory` also where a step or a reply found no room.
+pub fn run(alloc: Global, workers: u32, max: u64, events: &[Event]) -> Result<Vec<Reply>, CoreError>
+    ensures run { IfOk result (λ replies. IsRun workers max events.now replies.items) }
+    ensures bad_workers { (result ≡ Err CoreError.BadWorkers) ↔ ((workers < 1) ⊎ (WORKER_LIMIT < workers)) }
+    ensures bad_max { (result ≡ Err CoreError.BadMax) ↔ ((1 ≤ workers) × (workers ≤ WORKER_LIMIT) × ((max < 1) ⊎ (PENDING_LIMIT < max))) }
+{
+    let mut core = Core::new(alloc, workers, max)?;
+    let mut replies = Vec::new(alloc);
+    for event in events {
+        replies.push(core.step(event)?)?;
+    }
+    Ok(replies)
+}

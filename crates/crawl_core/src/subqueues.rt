@@ -1,0 +1,84 @@
+//! The subqueues of a machine, each asked and changed by its place.
+ghost use Rattle.std.specs.Prelude.{◌≡◌, ◌∷◌, [], ◌<◌, true, false, length, replicate, slice_get, slice_set, Some, None, drop, IfOk, IfSome, IfNone, OnErr, OnSome};
+ghost use Rattle.std.specs.Option.{option_map};
+ghost use Rattle.crawl_core.specs.Kept.{KeptQueue, empty_queue, has_seen, number_at};
+ghost use Rattle.crawl_core.specs.Moves.{accepting};
+
+use crate::error::NoMemory;
+use crate::subqueue::Subqueue;
+use crate::text::Text;
+use std::alloc::Global;
+use std::marker::Model;
+
+/// One subqueue for each worker.
+#[derive(Drop)]
+pub struct Subqueues {
+    queues: Vec<Subqueue>,
+}
+
+impl Model for Subqueues {
+    ghost use Rattle.std.specs.Prelude.{List};
+    ghost use Rattle.crawl_core.specs.Kept.{KeptQueue};
+
+    ghost Value = { List KeptQueue };
+
+    ghost view = { λ s. s.queues.items };
+}
+
+impl Subqueues {
+    /// That many subqueues in which nothing was ever accepted.
+    pub fn new(alloc: Global, workers: u32) -> Result<Subqueues, NoMemory>
+        ensures { IfOk result (λ queues. queues ≡ replicate workers empty_queue) }
+    {
+        let mut queues = Vec::with_capacity(alloc, workers as usize)?;
+        for _made in 0..workers {
+            queues.push(Subqueue::new(alloc))?;
+        }
+        Ok(Subqueues { queues })
+    }
+
+    /// Whether the subqueue is busy, if there is one.
+    pub fn is_busy(&self, place: u32) -> Option<bool>
+        ensures { result ≡ option_map (λ queue. queue.busy) (slice_get self.now place) }
+    {
+        let queue = self.queues.get(place as usize)?;
+        Some(queue.is_busy())
+    }
+
+    /// Whether the subqueue has accepted the URL, if there is one.
+    pub fn has_seen(&self, place: u32, url: &Text) -> Option<bool>
+        ensures { result ≡ option_map (λ queue. has_seen queue url.now) (slice_get self.now place) }
+    {
+        let queue = self.queues.get(place as usize)?;
+        Some(queue.has_seen(url))
+    }
+
+    /// Puts a URL that the subqueue never accepted to its end, and answers how many of the sender came before it.
+    pub fn accept(&mut self, place: u32, url: &Text, sender: u64) -> Result<u64, NoMemory>
+        requires { option_map (λ queue. has_seen queue url.now) (slice_get self.old place) ≡ Some false }
+        ensures number { IfOk result (λ number. (queue : KeptQueue) → slice_get self.old place ≡ Some queue → number ≡ number_at queue.numbers sender) }
+        ensures accepted { IfOk result (λ _. (queue : KeptQueue) → slice_get self.old place ≡ Some queue → self.new ≡ slice_set self.old place (accepting queue url.now sender)) }
+        ensures err { OnErr result (self.new ≡ self.old) }
+    {
+        self.queues[place as usize].accept(url, sender)
+    }
+
+    /// Takes the URL of the subqueue that has waited longest.
+    pub fn take(&mut self, place: u32) -> Option<Text>
+        requires { place < length self.old }
+        ensures empty { IfNone result ((queue : KeptQueue) → slice_get self.old place ≡ Some queue → queue.waiting ≡ []) }
+        ensures unchanged { IfNone result (self.new ≡ self.old) }
+        ensures oldest { IfSome result (λ url. (queue : KeptQueue) → slice_get self.old place ≡ Some queue → queue.waiting ≡ url ∷ drop 1 queue.waiting) }
+        ensures taken { OnSome result ((queue : KeptQueue) → slice_get self.old place ≡ Some queue → self.new ≡ slice_set self.old place (record queue { waiting = drop 1 queue.waiting; busy = true })) }
+    {
+        self.queues[place as usize].take()
+    }
+
+    /// The URL of the subqueue that was taken last is done.
+    pub fn finish(&mut self, place: u32)
+        requires { place < length self.old }
+        ensures { (queue : KeptQueue) → slice_get self.old place ≡ Some queue → self.new ≡ slice_set self.old place (record queue { busy = false }) }
+    {
+        self.queues[place as usize].finish();
+    }
+}

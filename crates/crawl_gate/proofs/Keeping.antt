@@ -1,0 +1,243 @@
+-- Each kind of step keeps the gate's invariant, and tells its seat what `specs/Steps.antt` says.
+use Rattle.std.proofs.Common.{◌≡◌, ◌≢◌, ℕ, ◌+◌, ◌-◌, ◌%◌, ◌^◌, ◌<◌, ◌≤◌, Bool, true, false, true≢false, eqb, [], ◌∷◌, ◌++◌, set, sym, refl, ap, ◌∙◌, subst, ⊎_elim, arith, eq-eqb, ne_eqb}
+use Rattle.std.specs.Prelude.{slice_index}
+use mathlib.Core.Logic.{dite}
+use mathlib.Core.Option.{none, some}
+use native.Mathlib.Decide.{ℕ_discrete}
+use lib.ListN.{get_elem?}
+use prog.Atomic.{either}
+use Rattle.atomic_table.specs.Table.{step, keeps, stepped, Allows, Splits}
+use Rattle.atomic_table.proofs.Lists.{at_set, at_snoc, set_again}
+use Rattle.crawl_gate.specs.declared.rule.View.{View}
+use Rattle.crawl_gate.specs.Word.{Word, bits, closed_bit, open_at, closed_at}
+use Rattle.crawl_gate.specs.View.{units_of, units_held, knows_closed, fresh_view, view_meeting, view_entering, view_leaving, view_closing}
+use Rattle.crawl_gate.specs.GateInvariant.{Moment, GateInvariant, MayMeet}
+use Rattle.crawl_gate.specs.Steps.{Sitting, Looks, Enters, Leaves, Closes}
+use Rattle.crawl_gate.proofs.Units.{units_held-set, units_held-at, units_held-fresh}
+use Rattle.crawl_gate.proofs.Knowing.{knows_closed-before}
+
+-- the word of a gate that keeps the invariant
+abbrev pub word_of : (max : ℕ) (gate : Moment) → GateInvariant max gate → Word
+word_of max gate k = (units_held gate.views, k.closed)
+
+-- what is owed of a step by which a seat's view goes from v to w, and which leaves the word x
+pub record Owed (max : ℕ) (gate : Moment) (k : GateInvariant max gate) (v w : View) (x : Word) : Type 0 where
+  pub counted : x.0 + units_of v.holds_unit ≡ units_held gate.views + units_of w.holds_unit
+  pub within : x.0 ≤ max
+  pub empty : x.1 ≡ true → x.0 ≡ 0
+  pub stays : k.closed ≡ true → x.1 ≡ true
+  pub same_max : w.max_pending ≡ v.max_pending
+  pub known : knows_closed w ≡ true → x.1 ≡ true
+
+-- a step that does what is owed keeps the invariant
+pub kept : (max : ℕ) (gate : Moment) (k : GateInvariant max gate) (seat : ℕ) (m : Sitting) (w : View) (x : Word) → get_elem? gate.views seat ≡ some m.0
+    → Owed max gate k m.0 w x → GateInvariant max (stepped gate 0 (bits x) seat m.1 w keeps)
+kept max gate k seat m w x at o =
+    let sum = units_held-set gate.views seat m.0 w at in
+    let counted = o.counted in
+    let count : x.0 ≡ units_held (set gate.views seat w) = omega arith in
+    record {
+      closed = x.1;
+      word = ap (λ ws. set ws 0 (bits x)) k.word ∙ ap (λ n. bits (n, x.1) ∷ []) count;
+      within = subst (λ n. n ≤ max) count o.within;
+      small = k.small;
+      empty = λ e. sym count ∙ o.empty e;
+      seats = λ other u e. ⊎_elim
+          (λ (this : (other ≡ seat) × (w ≡ u)). subst (λ (y : View). (y.max_pending ≡ max) × (knows_closed y ≡ true → x.1 ≡ true)) this.1 (o.same_max ∙ (k.seats seat m.0 at).0, o.known))
+          (λ (that : (other ≢ seat) × (get_elem? gate.views other ≡ some u)). let was = k.seats other u that.1 in (was.0, λ c. o.stays (was.1 c)))
+          (at_set gate.views seat other w u e);
+    }
+
+-- a step that meets the word and leaves it as it is
+pub owed_meeting : (max : ℕ) (gate : Moment) (k : GateInvariant max gate) (seat : ℕ) (v : View) → get_elem? gate.views seat ≡ some v
+    → Owed max gate k v (view_meeting v (word_of max gate k)) (word_of max gate k)
+owed_meeting max gate k seat v at = record {
+  counted = refl;
+  within = k.within;
+  empty = k.empty;
+  stays = λ e. e;
+  same_max = refl;
+  known = λ e. ⊎_elim (k.seats seat v at).1 (λ closed. closed) (knows_closed-before v (word_of max gate k) e);
+}
+
+-- a step that finds the gate open and leaves it open, with one unit more or less
+pub owed_moving : (max : ℕ) (gate : Moment) (k : GateInvariant max gate) (seat : ℕ) (v w : View) (n : ℕ) → get_elem? gate.views seat ≡ some v
+    → k.closed ≡ false → n + units_of v.holds_unit ≡ units_held gate.views + units_of w.holds_unit → n ≤ max
+    → w.max_pending ≡ v.max_pending → (knows_closed w ≡ true → knows_closed (view_meeting v (word_of max gate k)) ≡ true)
+    → Owed max gate k v w (open_at n)
+owed_moving max gate k seat v w n at is_open counted within same_max knew = record {
+  counted = counted;
+  within = within;
+  empty = λ e. absurd (true≢false (sym e));
+  stays = λ e. sym is_open ∙ e;
+  same_max = same_max;
+  known = λ e. ⊎_elim (λ knows. sym is_open ∙ (k.seats seat v at).1 knows) (λ closed. sym is_open ∙ closed) (knows_closed-before v (word_of max gate k) (knew e));
+}
+
+-- a step that finds no unit held and closes the gate
+pub owed_closing : (max : ℕ) (gate : Moment) (k : GateInvariant max gate) (v : View) (x : Word) → units_held gate.views ≡ 0
+    → Owed max gate k v (view_closing v x) (closed_at 0)
+owed_closing max gate k v x none_held = record {
+  counted = omega (arith, none_held);
+  within = omega arith;
+  empty = λ _. refl;
+  stays = λ _. refl;
+  same_max = refl;
+  known = λ _. refl;
+}
+
+-- the number that a step finds
+found : (max : ℕ) (gate : Moment) (k : GateInvariant max gate) → slice_index gate.words 0 ≡ bits (word_of max gate k)
+found max gate k = ap (λ ws. slice_index ws 0) k.word
+
+-- what any seat may rely on at that word
+may_meet : (max : ℕ) (gate : Moment) (k : GateInvariant max gate) (seat : ℕ) (v : View) → get_elem? gate.views seat ≡ some v → MayMeet v (word_of max gate k)
+may_meet max gate k seat v at =
+    let mine = k.seats seat v at in
+    let within = k.within in
+    let small = k.small in
+    record {
+      met = record { gate = gate; invariant = subst (λ n. GateInvariant n gate) (sym mine.0) k; seat = seat; view = at; word = k.word };
+      within = omega (arith, mine.0);
+      small = omega arith;
+      empty = k.empty;
+      holder = λ holds. let one : 0 < units_held gate.views = omega (arith, units_held-at gate.views seat v at, ap units_of holds) in (stays_open k.closed one k.empty, one);
+      for_good = mine.1;
+    }
+  where
+    stays_open : (closed : Bool) → 0 < units_held gate.views → (closed ≡ true → units_held gate.views ≡ 0) → closed ≡ false
+    stays_open true one empty = absurd (omega (arith, empty refl))
+    stays_open false one empty = refl
+
+-- the invariant after such steps, as a step of the word sees them
+unmoved : (max : ℕ) (gate : Moment) (k : GateInvariant max gate) (seat : ℕ) (m : Sitting) → get_elem? gate.views seat ≡ some m.0
+    → GateInvariant max (stepped gate 0 (slice_index gate.words 0) seat m.1 (view_meeting m.0 (word_of max gate k)) keeps)
+unmoved max gate k seat m at =
+    let x = word_of max gate k in
+    let w = view_meeting m.0 x in
+    subst (λ n. GateInvariant max (stepped gate 0 n seat m.1 w keeps)) (sym (found max gate k))
+    (kept max gate k seat m w x at (owed_meeting max gate k seat m.0 at))
+
+moved : (max : ℕ) (gate : Moment) (k : GateInvariant max gate) (seat : ℕ) (m : Sitting) (w : View) (n : ℕ) → get_elem? gate.views seat ≡ some m.0
+    → k.closed ≡ false → n + units_of m.0.holds_unit ≡ units_held gate.views + units_of w.holds_unit → n ≤ max
+    → w.max_pending ≡ m.0.max_pending → (knows_closed w ≡ true → knows_closed (view_meeting m.0 (word_of max gate k)) ≡ true)
+    → GateInvariant max (stepped gate 0 (bits (open_at n)) seat m.1 w keeps)
+moved max gate k seat m w n at is_open counted within same_max knew =
+    kept max gate k seat m w (open_at n) at (owed_moving max gate k seat m.0 w n at is_open counted within same_max knew)
+
+pub looks : (max slots seat : ℕ) (m : Sitting) → Allows (GateInvariant max) slots seat m 0 (λ n. n) (Looks (step slots 0 0 0 none) m)
+looks max slots seat m gate k _ at _ =
+    let x = word_of max gate k in (
+      view_meeting m.0 x,
+      keeps,
+      tt,
+      unmoved max gate k seat m at,
+      (x, may_meet max gate k seat m.0 at, found max gate k, refl, refl),
+    )
+
+pub splits : (max seat : ℕ) (v : View) → Splits (GateInvariant max) seat v v (fresh_view v.max_pending)
+splits max seat v gate k at =
+    let mine = k.seats seat v at in
+    let new = fresh_view v.max_pending in
+    let same = set_again gate.views seat v at in
+    let count : units_held gate.views ≡ units_held (set gate.views seat v ++ new ∷ []) =
+    sym (units_held-fresh (set gate.views seat v) v.max_pending ∙ ap units_held same) in
+    record {
+      closed = k.closed;
+      word = k.word ∙ ap (λ n. bits (n, k.closed) ∷ []) count;
+      within = subst (λ n. n ≤ max) count k.within;
+      small = k.small;
+      empty = λ e. sym count ∙ k.empty e;
+      seats = λ other u e. ⊎_elim
+          (λ was. k.seats other u (subst (λ l. get_elem? l other ≡ some u) same was))
+          (λ (is : new ≡ u). subst (λ (y : View). (y.max_pending ≡ max) × (knows_closed y ≡ true → k.closed ≡ true)) is (mine.0, λ c. absurd (true≢false (sym c))))
+          (at_snoc (set gate.views seat v) new u other e);
+    }
+
+-- a number at most the maximum is the word of an open gate
+is_open_at : (count n max : ℕ) (closed : Bool) → max < 2 ^ 63 → n ≤ max → count + closed_bit closed ≡ n → (closed ≡ false) × (count ≡ n)
+is_open_at count n max true small within e = absurd (omega arith)
+is_open_at count n max false small within e = (refl, omega arith)
+
+pub takes_unit : (max slots seat : ℕ) (m : Sitting) (n : ℕ) → m.0.holds_unit ≡ false → n < max
+    → Allows (GateInvariant max) slots seat m 0 (λ r. either (eqb r n) (n + 1) r) (Enters (step slots 0 n (n + 1) none) m)
+takes_unit max slots seat m n holds_none room gate k _ at _ =
+    let x = word_of max gate k in
+    let r : ℕ = slice_index gate.words 0 in
+    let is = found max gate k in
+    let may = may_meet max gate k seat m.0 at in
+    dite (ℕ_discrete r n)
+    (λ hit.
+    let within : n ≤ max = omega arith in
+    let shown = is_open_at (units_held gate.views) n max k.closed k.small within (sym is ∙ hit) in
+    let w = view_entering m.0 x in
+    let none_yet : units_of m.0.holds_unit ≡ 0 = ap units_of holds_none in
+    let more : n + 1 ≡ bits (n + 1, false) = omega arith in
+    let next : either (eqb r n) (n + 1) r ≡ bits (n + 1, false) = ap (λ b. either b (n + 1) r) (eq-eqb r n hit) ∙ more in (
+      w,
+      keeps,
+      tt,
+      subst (λ z. GateInvariant max (stepped gate 0 z seat m.1 w keeps)) (sym next)
+          (moved max gate k seat m w (n + 1) at shown.0 (omega (arith, shown.1)) (omega arith) refl (λ e. e)),
+      (x, may, is, (λ _. refl), (λ miss. absurd (miss hit)), refl),
+    ))
+    (λ miss. (
+      view_meeting m.0 x,
+      keeps,
+      tt,
+      subst (λ b. GateInvariant max (stepped gate 0 (either b (n + 1) r) seat m.1 (view_meeting m.0 x) keeps)) (sym (ne_eqb r n miss)) (unmoved max gate k seat m at),
+      (x, may, is, (λ hit. absurd (miss hit)), (λ _. refl), refl),
+    ))
+
+-- the subtraction of 1 from an open word with a unit held, as the machine makes it
+one_less : (count max : ℕ) (closed : Bool) → count ≤ max → max < 2 ^ 63 → 0 < count → closed ≡ false
+    → (count + closed_bit closed + (2 ^ 64 - 1)) % 2 ^ 64 ≡ bits (count - 1, false)
+one_less count max true within small more e = absurd (true≢false e)
+one_less count max false within small more e = omega arith
+
+pub gives_back : (max slots seat : ℕ) (m : Sitting) → m.0.holds_unit ≡ true
+    → Allows (GateInvariant max) slots seat m 0 (λ r. (r + (2 ^ 64 - 1)) % 2 ^ 64) (Leaves (step slots 0 1 0 none) m)
+gives_back max slots seat m holds gate k _ at _ =
+    let x = word_of max gate k in
+    let is = found max gate k in
+    let may = may_meet max gate k seat m.0 at in
+    let held = may.holder holds in
+    let one : units_of m.0.holds_unit ≡ 1 = ap units_of holds in
+    let some_held = held.1 in
+    let within = k.within in
+    let w = view_leaving m.0 x in
+    let next : (slice_index gate.words 0 + (2 ^ 64 - 1)) % 2 ^ 64 ≡ bits (units_held gate.views - 1, false) =
+    ap (λ (r : ℕ). (r + (2 ^ 64 - 1)) % 2 ^ 64) is ∙ one_less (units_held gate.views) max k.closed within k.small some_held held.0 in (
+      w,
+      keeps,
+      tt,
+      subst (λ z. GateInvariant max (stepped gate 0 z seat m.1 w keeps)) (sym next)
+          (moved max gate k seat m w (units_held gate.views - 1) at held.0 (omega arith) (omega arith) refl (λ e. e)),
+      (x, may, is, refl, refl),
+    )
+
+pub shuts : (max slots seat : ℕ) (m : Sitting) → m.0.holds_unit ≡ false
+    → Allows (GateInvariant max) slots seat m 0 (λ r. either (eqb r 0) (2 ^ 63) r) (Closes (step slots 0 0 (2 ^ 63) none) m)
+shuts max slots seat m holds_none gate k _ at _ =
+    let x = word_of max gate k in
+    let r : ℕ = slice_index gate.words 0 in
+    let is = found max gate k in
+    let may = may_meet max gate k seat m.0 at in
+    dite (ℕ_discrete r 0)
+    (λ hit.
+    let shown = is_open_at (units_held gate.views) 0 max k.closed k.small (omega arith) (sym is ∙ hit) in
+    let w = view_closing m.0 x in (
+      w,
+      keeps,
+      tt,
+      subst (λ b. GateInvariant max (stepped gate 0 (either b (2 ^ 63) r) seat m.1 w keeps)) (sym (eq-eqb r 0 hit))
+          (kept max gate k seat m w (closed_at 0) at (owed_closing max gate k m.0 x shown.1)),
+      (x, may, is, (λ _. refl), (λ miss. absurd (miss hit)), refl),
+    ))
+    (λ miss. (
+      view_meeting m.0 x,
+      keeps,
+      tt,
+      subst (λ b. GateInvariant max (stepped gate 0 (either b (2 ^ 63) r) seat m.1 (view_meeting m.0 x) keeps)) (sym (ne_eqb r 0 miss)) (unmoved max gate k seat m at),
+      (x, may, is, (λ hit. absurd (miss hit)), (λ _. refl), refl),
+    ))

@@ -1,0 +1,5 @@
+pub mod Units
+pub mod Knowing
+pub mod Keeping
+pub mod Trying
+pub mod Histories

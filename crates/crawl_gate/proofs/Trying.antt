@@ -1,0 +1,112 @@
+-- What a seat has met over several tries, and the closed word that a closing call finds.
+use Rattle.std.proofs.Common.{◌≡◌, ◌≢◌, ℕ, ◌<◌, ◌^◌, true, false, List, [], ◌∷◌, ◌++◌, sym, refl, ap, ◌∙◌, subst, arith}
+use Rattle.crawl_gate.specs.declared.rule.View.{View}
+use Rattle.crawl_gate.specs.declared.gate.enter.Enter.{Enter}
+use Rattle.crawl_gate.specs.declared.gate.enter.Enter.TheVariants.{Entered, Closed, Full, Lost}
+use Rattle.crawl_gate.specs.Word.{Word, bits, open_at, closed_at}
+use Rattle.crawl_gate.specs.View.{knows_closed, view_meeting}
+use Rattle.crawl_gate.specs.Seat.{GateId, SeatId, IsSeatOf, with_view}
+use Rattle.crawl_gate.specs.Enter.{LostTry, AllLost, TriesToEnter, TriesToEnterBeside, view_trying, view_loading, view_exchanging, after_trying, after_loading, after_exchanging, IsLost, EntersAtLast, EntersAtLastBeside}
+use Rattle.crawl_gate.proofs.Knowing.{knows_closed-still}
+
+pub not_lost : (answer : Enter) → ((back : SeatId) → answer ≡ Lost back → ⊥) → ¬ IsLost answer
+not_lost (Entered unit) other = λ never. never
+not_lost (Closed back) other = λ never. never
+not_lost (Full back) other = λ never. never
+not_lost (Lost back) other = λ _. other back refl
+
+AllLost-append : (max : ℕ) (ts : List LostTry) (t : LostTry) → AllLost max ts → t.0 < max → t.1 ≢ open_at t.0 → AllLost max (ts ++ t ∷ [])
+AllLost-append max [] t all room other = (room, other, tt)
+AllLost-append max (u ∷ ts) t all room other = (all.0, all.1, AllLost-append max ts t all.2 room other)
+
+view_trying-max : (v : View) (ts : List LostTry) → (view_trying v ts).max_pending ≡ v.max_pending
+view_trying-max v [] = refl
+view_trying-max v (t ∷ ts) = view_trying-max (view_meeting (view_meeting v (open_at t.0)) t.1) ts
+
+view_trying-append : (v : View) (ts : List LostTry) (t : LostTry) → view_trying v (ts ++ t ∷ []) ≡ view_meeting (view_meeting (view_trying v ts) (open_at t.0)) t.1
+view_trying-append v [] t = refl
+view_trying-append v (u ∷ ts) t = view_trying-append (view_meeting (view_meeting v (open_at u.0)) u.1) ts t
+
+view_trying-knows : (v : View) (ts : List LostTry) → knows_closed v ≡ true → knows_closed (view_trying v ts) ≡ true
+view_trying-knows v [] e = e
+view_trying-knows v (t ∷ ts) e =
+    let looked = view_meeting v (open_at t.0) in
+    view_trying-knows (view_meeting looked t.1) ts (knows_closed-still looked t.1 (knows_closed-still v (open_at t.0) e))
+
+view_loading-max : (v : View) (ts : List LostTry) → (view_loading v ts).max_pending ≡ v.max_pending
+view_loading-max v [] = refl
+view_loading-max v (t ∷ ts) = view_loading-max (view_meeting v (open_at t.0)) ts
+
+view_loading-append : (v : View) (ts : List LostTry) (t : LostTry) → view_loading v (ts ++ t ∷ []) ≡ view_meeting (view_loading v ts) (open_at t.0)
+view_loading-append v [] t = refl
+view_loading-append v (u ∷ ts) t = view_loading-append (view_meeting v (open_at u.0)) ts t
+
+view_exchanging-max : (v : View) (ts : List LostTry) → (view_exchanging v ts).max_pending ≡ v.max_pending
+view_exchanging-max v [] = refl
+view_exchanging-max v (t ∷ ts) = view_exchanging-max (view_meeting v t.1) ts
+
+view_exchanging-append : (v : View) (ts : List LostTry) (t : LostTry) → view_exchanging v (ts ++ t ∷ []) ≡ view_meeting (view_exchanging v ts) t.1
+view_exchanging-append v [] t = refl
+view_exchanging-append v (u ∷ ts) t = view_exchanging-append (view_meeting v u.1) ts t
+
+-- the tries of a pass so far, all lost, and the pass as it is now
+abbrev pub LostSoFar : SeatId → SeatId → Type 0
+LostSoFar pass now = (ts : List LostTry) × AllLost pass.view.max_pending ts × (now ≡ after_trying pass ts)
+
+pub none_lost : (pass : SeatId) → LostSoFar pass pass
+none_lost pass = ([], tt, refl)
+
+pub lost_of : (gate : GateId) (pass now : SeatId) → LostSoFar pass now → IsSeatOf gate pass → IsSeatOf gate now
+lost_of gate pass now so_far of =
+    (ap (λ s. s.table) so_far.2 ∙ of.0, ap (λ s. s.view.max_pending) so_far.2 ∙ view_trying-max pass.view so_far.0 ∙ of.1)
+
+pub lost_knows : (pass now : SeatId) → LostSoFar pass now → knows_closed pass.view ≡ true → knows_closed now.view ≡ true
+lost_knows pass now so_far e = ap (λ (s : SeatId). knows_closed s.view) so_far.2 ∙ view_trying-knows pass.view so_far.0 e
+
+pub one_more_lost : (pass now next : SeatId) → LostSoFar pass now → TriesToEnter now (Lost next) → LostSoFar pass next
+one_more_lost pass now next so_far tries =
+    let try = subst (λ (s : SeatId). TriesToEnter s (Lost next)) so_far.2 tries in
+    let t : LostTry = (try.0, try.1) in (
+      so_far.0 ++ t ∷ [],
+      AllLost-append pass.view.max_pending so_far.0 t so_far.1 (subst (λ n. try.0 < n) (view_trying-max pass.view so_far.0) try.2) try.4,
+      try.5 ∙ ap (with_view pass) (sym (view_trying-append pass.view so_far.0 t)),
+    )
+
+pub at_last : (pass now : SeatId) (answer : Enter) → LostSoFar pass now → TriesToEnter now answer → ¬ IsLost answer → EntersAtLast pass answer
+at_last pass now answer so_far tries not = (so_far.0, so_far.1, subst (λ (s : SeatId). TriesToEnter s answer) so_far.2 tries, not)
+
+-- the tries of a pass beside a unit so far, all lost, and both as they are now
+abbrev pub LostSoFarBeside : SeatId → SeatId → SeatId → SeatId → Type 0
+LostSoFarBeside held held' pass now =
+    (ts : List LostTry) × AllLost pass.view.max_pending ts × (held' ≡ after_loading held ts) × (now ≡ after_exchanging pass ts)
+
+pub none_lost_beside : (held pass : SeatId) → LostSoFarBeside held held pass pass
+none_lost_beside held pass = ([], tt, refl, refl)
+
+pub lost_of_beside : (gate : GateId) (held held' pass now : SeatId) → LostSoFarBeside held held' pass now
+    → IsSeatOf gate held → IsSeatOf gate pass → IsSeatOf gate held' × IsSeatOf gate now
+lost_of_beside gate held held' pass now so_far held_of pass_of = (
+  (ap (λ s. s.table) so_far.2 ∙ held_of.0, ap (λ s. s.view.max_pending) so_far.2 ∙ view_loading-max held.view so_far.0 ∙ held_of.1),
+  (ap (λ s. s.table) so_far.3 ∙ pass_of.0, ap (λ s. s.view.max_pending) so_far.3 ∙ view_exchanging-max pass.view so_far.0 ∙ pass_of.1),
+)
+
+pub one_more_lost_beside : (held held' held'' pass now next : SeatId) → LostSoFarBeside held held' pass now
+    → TriesToEnterBeside held' held'' now (Lost next) → LostSoFarBeside held held'' pass next
+one_more_lost_beside held held' held'' pass now next so_far tries =
+    let try = subst (λ (s : SeatId × SeatId). TriesToEnterBeside s.0 held'' s.1 (Lost next)) (λ i. (so_far.2 i, so_far.3 i)) tries in
+    let t : LostTry = (try.0, try.1) in (
+      so_far.0 ++ t ∷ [],
+      AllLost-append pass.view.max_pending so_far.0 t so_far.1 (subst (λ n. try.0 < n) (view_exchanging-max pass.view so_far.0) try.2) try.3,
+      try.4 ∙ ap (with_view held) (sym (view_loading-append held.view so_far.0 t)),
+      try.5 ∙ ap (with_view pass) (sym (view_exchanging-append pass.view so_far.0 t)),
+    )
+
+pub at_last_beside : (held held' held'' pass now : SeatId) (answer : Enter) → LostSoFarBeside held held' pass now
+    → TriesToEnterBeside held' held'' now answer → ¬ IsLost answer → EntersAtLastBeside held held'' pass answer
+at_last_beside held held' held'' pass now answer so_far tries not =
+    (so_far.0, so_far.1, subst (λ (s : SeatId × SeatId). TriesToEnterBeside s.0 held'' s.1 answer) (λ i. (so_far.2 i, so_far.3 i)) tries, not)
+
+-- a number of 2^63 and more is the word of a closed gate, whose count is 0
+pub closed_word : (x : Word) (r count : ℕ) → r ≡ bits x → bits (count, true) ≡ r → x.0 < 2 ^ 63 → (x.1 ≡ true → x.0 ≡ 0) → x ≡ closed_at 0
+closed_word (m, true) r count is shown small empty = ap (λ n. closed_at n) (empty refl)
+closed_word (m, false) r count is shown small empty = absurd (omega arith)

@@ -1,0 +1,43 @@
+-- What is true of a gate between any two steps, and so what a seat that makes a step may rely on.
+use Rattle.std.specs.Prelude.{◌≡◌, ℕ, ◌<◌, ◌≤◌, ◌^◌, Bool, true, false, [], ◌∷◌}
+use mathlib.Core.Option.{some}
+use lib.ListN.{get_elem?}
+use Rattle.atomic_table.specs.Table.{State}
+use Rattle.crawl_gate.specs.declared.rule.View.{View}
+use Rattle.crawl_gate.specs.Word.{Word, bits}
+use Rattle.crawl_gate.specs.View.{units_held, knows_closed}
+
+-- a gate at one moment: its word, and the views of all its seats
+abbrev pub Moment : Type 0
+Moment = State (Unit {0}) View
+
+pub record GateInvariant (max : ℕ) (gate : Moment) : Type 0 where
+  pub closed : Bool
+  -- the count is the number of units held, dropped ones among them
+  pub word : gate.words ≡ bits (units_held gate.views, closed) ∷ []
+  -- the count is at most the maximum, which leaves bit 63 free
+  pub within : units_held gate.views ≤ max
+  pub small : max < 2 ^ 63
+  -- the gate is closed only with count 0
+  pub empty : closed ≡ true → units_held gate.views ≡ 0
+  -- every seat has the maximum in its view, and the gate is closed where a seat has closed it or has met it closed
+  pub seats : (seat : ℕ) (v : View) → get_elem? gate.views seat ≡ some v → (v.max_pending ≡ max) × (knows_closed v ≡ true → closed ≡ true)
+
+-- the word x of a gate that keeps the invariant, at a moment at which a seat has the view v
+pub record WordMet (v : View) (x : Word) : Type 0 where
+  pub gate : Moment
+  pub invariant : GateInvariant v.max_pending gate
+  pub seat : ℕ
+  pub view : get_elem? gate.views seat ≡ some v
+  pub word : gate.words ≡ bits x ∷ []
+
+-- what follows for a seat with the view v that meets the word x
+pub record MayMeet (v : View) (x : Word) : Type 0 where
+  pub met : WordMet v x
+  pub within : x.0 ≤ v.max_pending
+  pub small : x.0 < 2 ^ 63
+  pub empty : x.1 ≡ true → x.0 ≡ 0
+  -- who holds a unit meets an open gate and counts at least its own
+  pub holder : v.holds_unit ≡ true → (x.1 ≡ false) × (0 < x.0)
+  -- closed once is closed for good
+  pub for_good : knows_closed v ≡ true → x.1 ≡ true

@@ -1,0 +1,9 @@
+pub mod Word
+pub mod View
+pub mod GateInvariant
+pub mod Steps
+pub mod Seat
+pub mod Enter
+pub mod Close
+pub mod GateError
+pub mod History

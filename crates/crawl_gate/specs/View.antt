@@ -1,0 +1,42 @@
+-- What a seat knows of its gate, and how each of its steps changes that.
+use Rattle.std.specs.Prelude.{ℕ, ◌+◌, Bool, true, false, List, [], ◌∷◌, ◌++◌, ◌||◌}
+use Rattle.crawl_gate.specs.declared.rule.View.{View}
+use Rattle.crawl_gate.specs.Word.{Word, any_closed}
+
+-- the view of the unit that comes with a new gate
+abbrev pub opening_view : ℕ → View
+opening_view max = record { max_pending = max; holds_unit = true; closed_gate = false; met = [] }
+
+-- the view of a pass that was just split off
+abbrev pub fresh_view : ℕ → View
+fresh_view max = record { max_pending = max; holds_unit = false; closed_gate = false; met = [] }
+
+-- the seat has closed the gate, or has met it closed
+abbrev pub knows_closed : View → Bool
+knows_closed v = v.closed_gate || any_closed v.met
+
+-- a step met the word x, and changed nothing
+abbrev pub view_meeting : View → Word → View
+view_meeting v x = record { max_pending = v.max_pending; holds_unit = v.holds_unit; closed_gate = v.closed_gate; met = v.met ++ x ∷ [] }
+
+-- a step met the word x, and took a unit
+abbrev pub view_entering : View → Word → View
+view_entering v x = record { max_pending = v.max_pending; holds_unit = true; closed_gate = v.closed_gate; met = v.met ++ x ∷ [] }
+
+-- a step met the word x, and gave the unit back
+abbrev pub view_leaving : View → Word → View
+view_leaving v x = record { max_pending = v.max_pending; holds_unit = false; closed_gate = v.closed_gate; met = v.met ++ x ∷ [] }
+
+-- a step met the word x, and closed the gate
+abbrev pub view_closing : View → Word → View
+view_closing v x = record { max_pending = v.max_pending; holds_unit = v.holds_unit; closed_gate = true; met = v.met ++ x ∷ [] }
+
+-- the units of one seat
+abbrev pub units_of : Bool → ℕ
+units_of true = 1
+units_of false = 0
+
+-- how many seats hold a unit. The view of a seat that was dropped stays, so its unit counts as held
+abbrev pub units_held : List View → ℕ
+units_held [] = 0
+units_held (v ∷ vs) = units_of v.holds_unit + units_held vs

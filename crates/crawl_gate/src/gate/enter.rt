@@ -1,0 +1,121 @@
+//! Entering: a pass becomes a unit.
+ghost use Rattle.std.specs.Prelude.{◌≡◌, ◌≢◌, ◌<◌, MatchResult, true, false};
+ghost use Rattle.crawl_gate.specs.Word.{Word, open_at};
+ghost use Rattle.crawl_gate.specs.View.{knows_closed};
+ghost use Rattle.crawl_gate.specs.Seat.{IsSeatOf, after_meeting, after_entering};
+ghost use Rattle.crawl_gate.specs.Enter.{TriesToEnter, TriesToEnterBeside, EntersAtLast, EntersAtLastBeside, GivesSeatOf, IsClosed, IsLost};
+
+use super::Gate;
+use crate::pass::Pass;
+use crate::rule::TakeUnit;
+use crate::unit::Unit;
+use std::sync::Wait;
+
+/// How an entering call ended. Where it took no unit the pass comes back, with what it met.
+#[derive(Drop)]
+pub enum Enter {
+    /// The pass is now a unit.
+    Entered(Unit),
+    /// The gate was closed, and is for good.
+    Closed(Pass),
+    /// The count was the maximum.
+    Full(Pass),
+    /// Another step came between the load and the exchange. Only the calls that try once answer it.
+    Lost(Pass),
+}
+
+impl Gate {
+    /// Tries once: a load, and where that finds the gate open with room, an exchange for one unit more.
+    pub fn try_enter(&self, mut pass: Pass) -> Enter
+        requires { IsSeatOf self.now pass }
+        ensures words { TriesToEnter pass result }
+        ensures gate { GivesSeatOf self.now result }
+        ensures for_good { knows_closed pass.view ≡ true → IsClosed result }
+    {
+        let state = self.load(&mut pass);
+        if state.closed {
+            return Enter::Closed(pass);
+        }
+        if state.count == self.max_pending {
+            return Enter::Full(pass);
+        }
+        match self.take_unit(pass, state.count) {
+            Ok(unit) => Enter::Entered(unit),
+            Err(pass) => Enter::Lost(pass),
+        }
+    }
+
+    /// Tries once, with the load made by a unit: the gate is open, so the answer is never `Closed`.
+    pub fn try_enter_beside(&self, held: &mut Unit, pass: Pass) -> Enter
+        requires held { IsSeatOf self.now held.old }
+        requires pass { IsSeatOf self.now pass }
+        ensures words { TriesToEnterBeside held.old held.new pass result }
+        ensures gate { IsSeatOf self.now held.new × GivesSeatOf self.now result }
+        ensures never_closed { ¬ IsClosed result }
+    {
+        let count = self.load_held(held);
+        if count == self.max_pending {
+            return Enter::Full(pass);
+        }
+        match self.take_unit(pass, count) {
+            Ok(unit) => Enter::Entered(unit),
+            Err(pass) => Enter::Lost(pass),
+        }
+    }
+
+    /// Tries until no other step comes between, so the answer is never `Lost`. While other threads go on
+    /// changing the word it may try again and again.
+    pub fn enter<R: Wait>(&self, rt: &R, mut pass: Pass) -> Enter
+        requires { IsSeatOf self.now pass }
+        ensures words { EntersAtLast pass result }
+        ensures gate { GivesSeatOf self.now result }
+        ensures never_lost { ¬ IsLost result }
+        ensures for_good { knows_closed pass.view ≡ true → IsClosed result }
+    {
+        for _ in rt.forever() {
+            match self.try_enter(pass) {
+                Enter::Lost(lost) => pass = lost,
+                answer => return answer,
+            }
+        }
+        unreachable!()
+    }
+
+    /// As `enter`, with the loads made by a unit: the answer is `Entered` or `Full`.
+    pub fn enter_beside<R: Wait>(&self, rt: &R, held: &mut Unit, mut pass: Pass) -> Enter
+        requires held { IsSeatOf self.now held.old }
+        requires pass { IsSeatOf self.now pass }
+        ensures words { EntersAtLastBeside held.old held.new pass result }
+        ensures gate { IsSeatOf self.now held.new × GivesSeatOf self.now result }
+        ensures never_closed { ¬ IsClosed result }
+        ensures never_lost { ¬ IsLost result }
+    {
+        for _ in rt.forever() {
+            match self.try_enter_beside(held, pass) {
+                Enter::Lost(lost) => pass = lost,
+                answer => return answer,
+            }
+        }
+        unreachable!()
+    }
+
+    // The exchange of a try whose load found the gate open with this count.
+    fn take_unit(&self, pass: Pass, count: u64) -> Result<Unit, Pass>
+        requires gate { IsSeatOf self.now pass }
+        requires room { count < self.now.max_pending }
+        ensures { MatchResult result
+            (λ unit. (knows_closed pass.view ≡ false) × (unit ≡ after_entering pass (open_at count)))
+            (λ back. (x : Word) × (x ≢ open_at count) × (back ≡ after_meeting pass x)) }
+    {
+        let Pass { mut seat } = pass;
+        let found = self
+            .table
+            .shared
+            .compare_exchange::<TakeUnit>(&mut seat, 0, count, count + 1);
+        if found == count {
+            Ok(Unit { seat })
+        } else {
+            Err(Pass { seat })
+        }
+    }
+}

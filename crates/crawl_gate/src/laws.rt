@@ -1,0 +1,20 @@
+//! What follows for every history of a gate's steps, whichever threads make them: facts alone, with nothing to run.
+ghost use Rattle.std.specs.Prelude.{◌≡◌, ℕ, List, [], ◌∷◌, All};
+ghost use Rattle.crawl_gate.specs.Word.{bits, closed_at};
+ghost use Rattle.crawl_gate.specs.GateInvariant.{Moment, GateInvariant};
+ghost use Rattle.crawl_gate.specs.GateError.{IsMaximum};
+ghost use Rattle.crawl_gate.specs.History.{IsHistory, first_moment};
+
+/// The gate's invariant holds at the moment at which a gate is made, and at every later moment of a history
+/// from there, or from any other moment that keeps it.
+pub fn invariant_in_histories()
+    ensures first { (max : ℕ) → IsMaximum max → GateInvariant max (first_moment max) }
+    ensures later { (max : ℕ) (gate : Moment) (moments : List Moment) → GateInvariant max gate → IsHistory gate moments
+        → All (GateInvariant max) moments }
+{}
+
+/// Once a gate is closed no step changes its word, so that its count stays 0 and nobody enters.
+pub fn closed_for_good()
+    ensures { (gate : Moment) (moments : List Moment) → gate.words ≡ bits (closed_at 0) ∷ [] → IsHistory gate moments
+        → All (λ later. later.words ≡ bits (closed_at 0) ∷ []) moments }
+{}

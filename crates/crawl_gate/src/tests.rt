@@ -1,0 +1,4 @@
+//! What no clause says: that the calls succeed, and what many threads do to one gate.
+mod pool;
+mod rows;
+mod threads;

@@ -1,0 +1,82 @@
+-- A canonical text parses to the very URL that it is the text of.
+use Rattle.std.proofs.Common.{◌≡◌, List, ℕ, None, Ok, Err, refl, ap, sym, ◌∙◌, true, false}
+use Rattle.std.proofs.lemmas.Bool.{or_cases, cond-true, cond-false}
+use Rattle.std.proofs.lemmas.Slice.Eq.{bytes_eq-Decides}
+use Rattle.std.proofs.Common.{⊎_elim}
+use Rattle.std.specs.Prelude.{codes}
+use Rattle.url.specs.declared.scheme.SchemeType.TheVariants.{SpecialNotFile}
+use Rattle.url.specs.Scheme.{scheme_type, default_port}
+use Rattle.url.specs.Parts.{Parts, IsValid, kind_of, serialize}
+use Rattle.url.specs.Parser.{parse_url}
+use Rattle.url.proofs.Theorems.{parse_url-serialize_special}
+use Rattle.crawl_keys.specs.CanonicalText.{IsCanonical, canonical, is_web, text_of, text_of_parse, without_fragment}
+use Rattle.crawl_keys.specs.declared.error.KeyError.TheVariants.{NotHttp}
+
+-- the standard calls the scheme of a web URL special, and it is no file
+pub web_kind : (url : Parts) → is_web url ≡ true → kind_of url ≡ SpecialNotFile
+unfolding scheme_type default_port
+web_kind url web =
+    ⊎_elim (λ http. ap scheme_type ((bytes_eq-Decides url.scheme (codes "http")).0 http))
+    (λ https. ap scheme_type ((bytes_eq-Decides url.scheme (codes "https")).0 https))
+    (or_cases _ _ web)
+
+-- a valid URL stays valid without its fragment
+pub without_fragment_valid : (url : Parts) → IsValid url → IsValid (without_fragment url)
+without_fragment_valid url valid = record {
+  head = record {
+    scheme = valid.head.scheme;
+    username = valid.head.username;
+    password = valid.head.password;
+    host = valid.head.host;
+    port = valid.head.port;
+    bare = valid.head.bare;
+  };
+  path = valid.path;
+  query = valid.query;
+  fragment = tt;
+}
+
+-- the text of a web URL without its fragment parses to that URL
+pub parse_url-without_fragment : (url : Parts) → IsValid url → is_web url ≡ true → parse_url None (serialize (without_fragment url)) ≡ Ok (without_fragment url)
+parse_url-without_fragment url valid web =
+    parse_url-serialize_special (without_fragment url) None (without_fragment_valid url valid)
+    (web_kind (without_fragment url) web)
+
+-- that text is canonical
+pub canonical_text : (url : Parts) → IsValid url → is_web url ≡ true → IsCanonical (serialize (without_fragment url))
+canonical_text url valid web = record {
+  url = without_fragment url;
+  valid = without_fragment_valid url valid;
+  web = web;
+  bare = refl;
+  spelled = refl;
+}
+
+-- and it is the one of the URL
+pub text_of-web : (url : Parts) → is_web url ≡ true → text_of url ≡ Ok (serialize (without_fragment url))
+unfolding text_of
+text_of-web url web = cond-true _ _ _ web
+
+-- a URL of another scheme has no canonical text
+pub text_of-other : (url : Parts) → is_web url ≡ false → text_of url ≡ Err NotHttp
+unfolding text_of
+text_of-other url other = cond-false _ _ _ other
+
+-- a canonical text parses to its URL
+pub parse_url-canonical : (text : List ℕ) → (key : IsCanonical text) → parse_url None text ≡ Ok key.url
+parse_url-canonical text key =
+    ap (parse_url None) (sym key.spelled)
+    ∙ parse_url-serialize_special key.url None key.valid (web_kind key.url key.web)
+
+-- the canonical text of a canonical text is itself
+pub canonical-canonical : (text : List ℕ) → IsCanonical text → canonical text ≡ Ok text
+canonical-canonical text key =
+    ap text_of_parse (parse_url-canonical text key) ∙ text_of-web key.url key.web
+    ∙ ap Ok ((λ i. serialize (record key.url { fragment = sym key.bare i })) ∙ key.spelled)
+
+-- the URL that a canonical text parses to has that text
+pub serialize-parsed : (text : List ℕ) (url : Parts) → IsCanonical text → parse_url None text ≡ Ok url → serialize url ≡ text
+serialize-parsed text url key parsed =
+    let both : Ok key.url ≡ Ok url = sym (parse_url-canonical text key) ∙ parsed in
+    let same : key.url ≡ url = cc in
+    ap serialize (sym same) ∙ key.spelled

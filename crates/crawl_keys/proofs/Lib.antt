@@ -1,0 +1,3 @@
+pub mod CanonicalLemmas
+pub mod LaidLemmas
+pub mod HashLemmas

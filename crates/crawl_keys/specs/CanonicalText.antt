@@ -1,0 +1,64 @@
+-- Which text a URL of the web is known by. The parser and the serializer are those of the URL
+-- Standard, as the crate `url` states them.
+use Rattle.std.specs.Prelude.{◌≡◌, ◌⊎◌, ℕ, Bool, true, ◌||◌, List, bytes_eq, codes, Some, None, Result, Ok, Err, MatchResult, if◌then◌else◌}
+use Rattle.url.specs.declared.error.ParseError.{ParseError}
+use Rattle.url.specs.declared.error.ParseError.TheVariants.{OutOfMemory, Overflow}
+use Rattle.url.specs.Parts.{Parts, serialize, IsValid}
+use Rattle.url.specs.Parser.{Parsed, parse_url}
+use Rattle.crawl_keys.specs.declared.error.KeyError.{KeyError}
+use Rattle.crawl_keys.specs.declared.error.KeyError.TheVariants.{NotUrl, NotHttp, NoMemory}
+
+-- the scheme is `http` or `https`
+abbrev pub is_web : Parts → Bool
+is_web url = bytes_eq url.scheme (codes "http") || bytes_eq url.scheme (codes "https")
+
+-- the same URL with no fragment
+abbrev pub without_fragment : Parts → Parts
+without_fragment url = record url { fragment = None }
+
+-- the text of a web URL without its fragment; there is none for another scheme
+unfoldable pub text_of : Parts → Result (List ℕ) KeyError
+text_of url = if is_web url then Ok (serialize (without_fragment url)) else Err NotHttp
+
+-- the text of what was parsed; there is none where the parse has no URL
+abbrev pub text_of_parse : Parsed Parts → Result (List ℕ) KeyError
+text_of_parse (Ok url) = text_of url
+text_of_parse (Err _) = Err NotUrl
+
+-- the canonical text of a text, parsed with no base
+abbrev pub canonical : List ℕ → Result (List ℕ) KeyError
+canonical text = text_of_parse (parse_url None text)
+
+-- the canonical text of a text, parsed against a base
+abbrev pub resolve_from : Parsed Parts → List ℕ → Result (List ℕ) KeyError
+resolve_from (Ok base) text = text_of_parse (parse_url (Some base) text)
+resolve_from (Err _) text = Err NotUrl
+
+-- the canonical text of a link on the page at `base`
+abbrev pub resolve : List ℕ → List ℕ → Result (List ℕ) KeyError
+resolve base text = resolve_from (parse_url None base) text
+
+-- the result is the expected one, text or refusal, unless memory was wanting
+abbrev pub Answers : {T : Type 0} → Result T KeyError → Result T KeyError → Type 0
+Answers result expected =
+    MatchResult result (λ x. expected ≡ Ok x) (λ e. (expected ≡ Err e) ⊎ (e ≡ NoMemory))
+
+-- the text is that of a valid web URL with no fragment
+pub record IsCanonical (text : List ℕ) : Type 0 where
+  pub url : Parts
+  pub valid : IsValid url
+  pub web : is_web url ≡ true
+  pub bare : url.fragment ≡ None
+  pub spelled : serialize url ≡ text
+
+-- the refusal that the parser's error leads to: what `url` cannot hold is want of memory
+abbrev pub key_error : ParseError → KeyError
+key_error OutOfMemory = NoMemory
+key_error Overflow = NoMemory
+key_error _ = NotUrl
+
+-- what a refusal prints
+abbrev pub message : KeyError → List ℕ
+message NotUrl = codes "not a URL"
+message NotHttp = codes "not http or https"
+message NoMemory = codes "out of memory"

@@ -1,0 +1,14 @@
+-- How a canonical URL is laid out: its text, and where the host stands in it.
+use Rattle.std.specs.Prelude.{◌≡◌, ◌≤◌, length, slice_range, string_bytes, IsAscii}
+use Rattle.crawl_keys.specs.declared.canon_url.Laid.TheInside.{Inside}
+use Rattle.crawl_keys.specs.CanonicalText.{IsCanonical}
+use Rattle.crawl_keys.specs.HostKey.{host_key}
+
+-- the text is canonical, and the two places bound its host key
+pub record IsLaidOut (u : Inside) : Type 0 where
+  pub canonical : IsCanonical (string_bytes u.text)
+  pub ascii : IsAscii (string_bytes u.text)
+  pub ordered : u.host_start ≤ u.host_end
+  pub inside : u.host_end ≤ length (string_bytes u.text)
+  pub host : slice_range (string_bytes u.text) u.host_start u.host_end
+      ≡ host_key (string_bytes u.text)

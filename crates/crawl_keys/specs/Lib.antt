@@ -1,0 +1,4 @@
+pub mod CanonicalText
+pub mod HostKey
+pub mod Layout
+pub mod Assignment

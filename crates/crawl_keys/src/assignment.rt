@@ -1,0 +1,30 @@
+//! The subqueue that a host key is assigned to.
+ghost use Rattle.std.specs.Prelude.{◌≡◌, ◌<◌, ◌≤◌};
+ghost use Rattle.crawl_keys.specs.Assignment as spec;
+
+/// The greatest number of subqueues that keys are assigned to.
+pub const SUBQUEUES_LIMIT: u32 = 512;
+
+/// What the hash so far is multiplied by before the next byte is added.
+const MULTIPLIER: u32 = 31;
+
+/// The polynomial hash of a key's bytes, modulo 2^32.
+pub fn hash(key: &str) -> u32
+    ensures { result ≡ spec.hash key.now }
+{
+    let mut hash = 0u32;
+    for &byte in key.as_bytes() {
+        hash = hash.wrapping_mul(MULTIPLIER).wrapping_add(u32::from(byte));
+    }
+    hash
+}
+
+/// Which of n subqueues a key is assigned to, from 0.
+pub fn assign(key: &str, n: u32) -> u32
+    requires some { 1 ≤ n }
+    requires few { n ≤ SUBQUEUES_LIMIT }
+    ensures value { result ≡ spec.assign key.now n }
+    ensures below { result < n }
+{
+    hash(key) % n
+}

@@ -1,0 +1,48 @@
+//! A page whose links are resolved.
+ghost use Rattle.std.specs.Prelude.{◌≡◌, IfOk, IfErr};
+ghost use Rattle.crawl_keys.specs.CanonicalText.{Answers};
+ghost use Rattle.crawl_keys.specs.CanonicalText as spec;
+
+use crate::{CanonUrl, KeyError};
+use std::alloc::Global;
+use std::marker::Model;
+use url::Url;
+
+/// The URL of a page, parsed once for all its links.
+#[derive(Debug, Drop)]
+pub struct Base {
+    url: Url,
+}
+
+// Contracts see a base as the canonical text of its page.
+impl Model for Base {
+    ghost use Rattle.std.specs.Prelude.{◌≡◌, ℕ, List, None, Ok};
+    ghost use Rattle.url.specs.Parts.{serialize};
+    ghost use Rattle.url.specs.Parser.{parse_url};
+
+    ghost Value = { List ℕ };
+
+    ghost view = { λ base. serialize base.url };
+
+    ghost invariant = { λ base. parse_url None (serialize base.url) ≡ Ok base.url };
+}
+
+impl Base {
+    /// The base for the links of the page at this URL; the only error is `NoMemory`.
+    pub fn new(alloc: Global, page: &CanonUrl) -> Result<Base, KeyError>
+        ensures ok { IfOk result (λ base. base ≡ page.now) }
+        ensures err { IfErr result (λ e. e ≡ KeyError.NoMemory) }
+    {
+        let url = Url::parse(alloc, page.as_str())?;
+        Ok(Base { url })
+    }
+
+    /// The canonical URL of a link on the page: what `resolve` answers with the page's URL, errors
+    /// included.
+    pub fn resolve(&self, alloc: Global, text: &str) -> Result<CanonUrl, KeyError>
+        ensures { Answers result (spec.resolve self.now text.now) }
+    {
+        let url = self.url.join(text)?;
+        CanonUrl::keep(alloc, &url)
+    }
+}

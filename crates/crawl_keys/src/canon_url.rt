@@ -1,0 +1,117 @@
+//! A canonical URL, the parts of it that callers ask for, and its copies.
+ghost use Rattle.std.specs.Prelude.{◌≡◌, ◌<◌, ◌≤◌, Ok, IfOk, IfErr};
+ghost use Rattle.crawl_keys.specs.declared.assignment.TheConstants.{SUBQUEUES_LIMIT};
+ghost use Rattle.crawl_keys.specs.Assignment.{subqueue_of};
+ghost use Rattle.crawl_keys.specs.CanonicalText.{Answers, IsCanonical, text_of};
+ghost use Rattle.crawl_keys.specs.CanonicalText as spec;
+ghost use Rattle.crawl_keys.specs.HostKey as spec_host;
+
+use crate::{KeyError, assign};
+use std::alloc::{AllocError, Global};
+use std::marker::Model;
+use std::sync::Arc;
+use url::Url;
+
+mod compared;
+mod lay_out;
+
+/// The canonical text of an `http` or `https` URL.
+///
+/// Two are equal, ordered and hashed as the bytes of their texts. The text is kept once and
+/// shared by all copies, in any threads, so a copy is 8 bytes and copies no text.
+#[derive(Drop)]
+pub struct CanonUrl {
+    shared: Arc<Laid>,
+}
+
+// Contracts see a canonical URL as its text.
+impl Model for CanonUrl {
+    ghost use Rattle.std.specs.Prelude.{ℕ, List};
+    ghost use Rattle.std.specs.Arc.{arc_value};
+
+    ghost Value = { List ℕ };
+
+    ghost view = { λ url. arc_value url.shared };
+}
+
+// What the copies share: the text, and where its host begins and ends.
+#[derive(Drop)]
+struct Laid {
+    text: String,
+    host_start: u32,
+    host_end: u32,
+}
+
+// Contracts see the text alone.
+impl Model for Laid {
+    ghost use Rattle.std.specs.Prelude.{ℕ, List, string_bytes};
+
+    ghost Value = { List ℕ };
+
+    ghost view = { λ laid. string_bytes laid.text };
+
+    ghost use Rattle.crawl_keys.specs.Layout.{IsLaidOut};
+
+    ghost invariant = { IsLaidOut };
+}
+
+impl CanonUrl {
+    /// The canonical URL of a parsed one.
+    pub(crate) fn keep(alloc: Global, url: &Url) -> Result<CanonUrl, KeyError>
+        ensures { Answers result (text_of url.now) }
+    {
+        let laid = Laid::keep(alloc, url)?;
+        match Arc::new(alloc, laid) {
+            Ok(shared) => Ok(CanonUrl { shared }),
+            Err(_) => Err(KeyError::NoMemory),
+        }
+    }
+
+    /// The canonical text.
+    pub fn as_str(&self) -> &str
+        ensures value { result.now ≡ self.now }
+
+        // The canonical text of a canonical text is itself.
+        ensures stable { spec.canonical self.now ≡ Ok self.now }
+        ensures canonical { IsCanonical self.now }
+    {
+        self.shared.as_ref().as_str()
+    }
+
+    /// The serialized host, without port, user name and password. An IPv6 address keeps its
+    /// brackets, and a trailing dot stays.
+    pub fn host_key(&self) -> &str
+        ensures { result.now ≡ spec_host.host_key self.now }
+    {
+        self.shared.as_ref().host_key()
+    }
+
+    /// Which of n subqueues the URL belongs to: the one that its host key is assigned to.
+    pub fn subqueue(&self, n: u32) -> u32
+        requires some { 1 ≤ n }
+        requires few { n ≤ SUBQUEUES_LIMIT }
+        ensures value { result ≡ subqueue_of self.now n }
+        ensures below { result < n }
+    {
+        assign(self.host_key(), n)
+    }
+
+    /// The same URL once more, sharing the text: `clone`, with this crate's error. The only one is
+    /// `NoMemory`, where the count of copies is at its limit.
+    pub fn copy(&self) -> Result<CanonUrl, KeyError>
+        ensures ok { IfOk result (λ copy. copy ≡ self.now) }
+        ensures err { IfErr result (λ e. e ≡ KeyError.NoMemory) }
+    {
+        let copy = self.clone()?;
+        Ok(copy)
+    }
+}
+
+impl Clone for CanonUrl {
+    ghost is_clone = { λ url copy. copy ≡ url };
+
+    fn clone(&self) -> Result<CanonUrl, AllocError> {
+        let shared = Arc::try_clone(&self.shared)?;
+        Ok(CanonUrl { shared })
+    }
+}

@@ -1,0 +1,59 @@
+//! Laying a URL out, and reading what was laid out.
+ghost use Rattle.std.specs.Prelude.{◌≡◌};
+ghost use Rattle.crawl_keys.specs.CanonicalText.{Answers, IsCanonical, text_of};
+ghost use Rattle.crawl_keys.specs.CanonicalText as spec;
+ghost use Rattle.crawl_keys.specs.HostKey as spec_host;
+
+use super::Laid;
+use crate::KeyError;
+use std::alloc::Global;
+use url::{Position, Url};
+
+impl Laid {
+    /// Lays out the text of a web URL without its fragment, by one exact allocation.
+    pub(super) fn keep(alloc: Global, url: &Url) -> Result<Laid, KeyError>
+        ensures { Answers result (text_of url.now) }
+    {
+        if !is_web(url) {
+            return Err(KeyError::NotHttp);
+        }
+        // A URL's text is under 4 GB, so both places fit.
+        let Ok(host_start) = u32::try_from(url.index(Position::BeforeHost)) else {
+            return Err(KeyError::NoMemory);
+        };
+        let Ok(host_end) = u32::try_from(url.index(Position::AfterHost)) else {
+            return Err(KeyError::NoMemory);
+        };
+        let text = String::from_str(
+            alloc,
+            url.slice(Position::BeforeScheme, Position::AfterQuery),
+        )?;
+        Ok(Laid {
+            text,
+            host_start,
+            host_end,
+        })
+    }
+
+    /// The canonical text.
+    pub(super) fn as_str(&self) -> &str
+        ensures value { result.now ≡ self.now }
+        ensures canonical { IsCanonical self.now }
+    {
+        self.text.as_str()
+    }
+
+    /// The host without its port.
+    pub(super) fn host_key(&self) -> &str
+        ensures { result.now ≡ spec_host.host_key self.now }
+    {
+        &self.text.as_str()[self.host_start as usize..self.host_end as usize]
+    }
+}
+
+/// Whether the scheme is `http` or `https`.
+fn is_web(url: &Url) -> bool
+    ensures { result ≡ spec.is_web url.now }
+{
+    url.scheme() == "http" || url.scheme() == "https"
+}

@@ -1,0 +1,17 @@
+//! Canonical URLs of web pages, their host keys, and the subqueue that a host key is assigned to.
+#![tactic(auto)]
+
+mod assignment;
+mod base;
+mod canon_url;
+mod error;
+mod read;
+
+pub use assignment::{SUBQUEUES_LIMIT, assign, hash};
+pub use base::Base;
+pub use canon_url::CanonUrl;
+pub use error::KeyError;
+pub use read::{canonical, resolve};
+
+#[cfg(test)]
+mod tests;

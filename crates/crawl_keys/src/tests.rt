@@ -1,0 +1,158 @@
+//! The worked rows: what each public call answers with ample memory.
+use super::*;
+use std::alloc::Global;
+use std::collections::{BTreeSet, HashSet};
+use std::process::Abort;
+use std::test::Fail;
+
+// Each row's input has this canonical text and this host key, and its copy is equal.
+fn reads(rt: &impl Abort, alloc: Global, rows: &[(&str, &str, &str)]) -> Result<(), Fail> {
+    for &(input, text, key) in rows {
+        let url = canonical(alloc, input)?;
+        assert_eq!(rt; url.as_str(), text, "{input}");
+        assert_eq!(rt; url.host_key(), key, "{input}");
+        assert_eq!(rt; url.copy()?, url, "{input}");
+    }
+    Ok(())
+}
+
+#[test]
+fn key_of_spelled_url(rt: HostRuntime) -> Result<(), Fail> {
+    let rows = [("http://A.test:80/x/../y#f", "http://a.test/y", "a.test")];
+    reads(&rt, rt.alloc(), &rows)
+}
+
+#[test]
+fn key_without_port(rt: HostRuntime) -> Result<(), Fail> {
+    let rows = [
+        ("http://b.test:8080/", "http://b.test:8080/", "b.test"),
+        ("http://b.test/", "http://b.test/", "b.test"),
+    ];
+    reads(&rt, rt.alloc(), &rows)
+}
+
+#[test]
+fn canonical_hosts(rt: HostRuntime) -> Result<(), Fail> {
+    let rows = [
+        ("http://a.test?q#f", "http://a.test/?q", "a.test"),
+        ("http://u:p@a.test./", "http://u:p@a.test./", "a.test."),
+        ("http://[::1]:80/", "http://[::1]/", "[::1]"),
+    ];
+    reads(&rt, rt.alloc(), &rows)
+}
+
+#[test]
+fn hostile_urls(rt: HostRuntime) -> Result<(), Fail> {
+    let rows = [
+        ("http://a.test\\x", "http://a.test/x", "a.test"),
+        ("http://0x7f.1/", "http://127.0.0.1/", "127.0.0.1"),
+    ];
+    reads(&rt, rt.alloc(), &rows)?;
+    for input in ["http://a.test:65536/", "http://a b/"] {
+        let answer = canonical(rt.alloc(), input);
+        assert_eq!(rt; answer.err(), Some(KeyError::NotUrl), "{input}");
+    }
+    Ok(())
+}
+
+#[test]
+fn not_urls_and_not_http(rt: HostRuntime) {
+    let rows = [
+        ("ftp://a.test/", KeyError::NotHttp),
+        ("mailto:x", KeyError::NotHttp),
+        ("", KeyError::NotUrl),
+        ("/x", KeyError::NotUrl),
+        ("http://", KeyError::NotUrl),
+    ];
+    for (input, refusal) in rows {
+        let answer = canonical(rt.alloc(), input);
+        assert_eq!(rt; answer.err(), Some(refusal), "{input}");
+    }
+}
+
+#[test]
+fn resolved_links(rt: HostRuntime) -> Result<(), Fail> {
+    let alloc = rt.alloc();
+    let page = canonical(alloc, "http://a.test/d/e?q")?;
+    let base = Base::new(alloc, &page)?;
+    let rows = [
+        ("../f#g", Ok("http://a.test/f")),
+        ("?z", Ok("http://a.test/d/e?z")),
+        ("//b.test", Ok("http://b.test/")),
+        ("#x", Ok("http://a.test/d/e?q")),
+        ("", Ok("http://a.test/d/e?q")),
+        ("mailto:x", Err(KeyError::NotHttp)),
+        ("http://[", Err(KeyError::NotUrl)),
+    ];
+    for (link, expected) in rows {
+        for answer in [resolve(alloc, &page, link), base.resolve(alloc, link)] {
+            let text = answer.as_ref().map(|url| url.as_str()).map_err(|e| *e);
+            assert_eq!(rt; text, expected, "{link}");
+        }
+    }
+    Ok(())
+}
+
+#[test]
+fn hash_table(rt: HostRuntime) {
+    let rows = [
+        ("a.test", 2823066111, [1, 0, 3, 63, 511]),
+        ("b.test", 2851695262, [0, 1, 2, 30, 158]),
+        ("c.test", 2880324413, [1, 2, 1, 61, 317]),
+        ("d.test", 2908953564, [0, 0, 0, 28, 476]),
+    ];
+    for (key, value, [of_2, of_3, of_4, of_64, of_512]) in rows {
+        assert_eq!(rt; hash(key), value, "{key}");
+        assert_eq!(rt; assign(key, 2), of_2, "{key}");
+        assert_eq!(rt; assign(key, 3), of_3, "{key}");
+        assert_eq!(rt; assign(key, 4), of_4, "{key}");
+        assert_eq!(rt; assign(key, 64), of_64, "{key}");
+        assert_eq!(rt; assign(key, SUBQUEUES_LIMIT), of_512, "{key}");
+    }
+}
+
+// The subqueue is that of the host key, whatever the port, the path and the user name.
+#[test]
+fn subqueues(rt: HostRuntime) -> Result<(), Fail> {
+    for input in ["http://b.test:8080/", "https://u@b.test/x?y"] {
+        assert_eq!(rt; canonical(rt.alloc(), input)?.subqueue(64), 30, "{input}");
+    }
+    Ok(())
+}
+
+// Two spellings of one URL and a copy are one key of a set of each kind; another URL comes later.
+#[test]
+fn copies_and_spellings_are_equal(rt: HostRuntime) -> Result<(), Fail> {
+    let alloc = rt.alloc();
+    let url = canonical(alloc, "http://a.test?q#f")?;
+    let spelled = canonical(alloc, "HTTP://A.TEST:80/?q")?;
+    let later = canonical(alloc, "http://a.test/?r")?;
+    let copy = url.copy()?;
+    assert_eq!(rt; copy, url);
+    assert_eq!(rt; spelled, url);
+    assert!(rt; url < later);
+    let mut ordered = BTreeSet::new(alloc);
+    let mut hashed = HashSet::new(alloc);
+    let offers = [
+        (&url, true),
+        (&copy, false),
+        (&spelled, false),
+        (&later, true),
+    ];
+    for (url, is_new) in offers {
+        assert_eq!(rt; ordered.insert(url.copy()?)?, is_new, "{url}");
+        assert_eq!(rt; hashed.insert(url.clone()?)?, is_new, "{url}");
+    }
+    Ok(())
+}
+
+fn moves_and_shares<T: Send + Sync>(_: &T) {}
+
+#[test]
+fn crosses_threads(rt: HostRuntime) -> Result<(), Fail> {
+    let url = canonical(rt.alloc(), "http://a.test/")?;
+    let base = Base::new(rt.alloc(), &url)?;
+    moves_and_shares(&url);
+    moves_and_shares(&base);
+    Ok(())
+}

@@ -1,0 +1,54 @@
+//! The escapes of the table, by which a line can hold any character.
+use std::alloc::{AllocError, Global};
+
+/// Where the reader of a text stands: outside an escape, after its backslash, or in the
+/// hexadecimal digits of a character's number, which a semicolon ends.
+#[derive(Clone, Copy)]
+enum Place {
+    Outside,
+    AfterBackslash,
+    InNumber(u32),
+}
+
+/// The text that an escaped one stands for.
+pub fn unescape(alloc: Global, escaped: &str) -> Result<String, AllocError> {
+    let mut text = String::new(alloc);
+    let mut place = Place::Outside;
+    for c in escaped.chars() {
+        let (next, shown) = step(place, c);
+        if let Some(shown) = shown {
+            text.push(shown)?;
+        }
+        place = next;
+    }
+    Ok(text)
+}
+
+/// Where the reader stands after one more character, and the character that ended there.
+fn step(place: Place, c: char) -> (Place, Option<char>) {
+    match (place, c) {
+        (Place::Outside, '\\') => (Place::AfterBackslash, None),
+        (Place::Outside, _) => (Place::Outside, Some(c)),
+        (Place::AfterBackslash, 'u') => (Place::InNumber(0), None),
+        (Place::AfterBackslash, _) => (Place::Outside, Some(named(c))),
+        (Place::InNumber(number), ';') => (Place::Outside, char::from_u32(number)),
+        (Place::InNumber(number), _) => {
+            let digit = c.to_digit(16).unwrap_or(0);
+            (
+                Place::InNumber(number.wrapping_mul(16).wrapping_add(digit)),
+                None,
+            )
+        }
+    }
+}
+
+/// The character that a letter after a backslash stands for.
+fn named(letter: char) -> char {
+    match letter {
+        's' => ' ',
+        't' => '\t',
+        'n' => '\n',
+        'r' => '\r',
+        _ => letter,
+    }
+}

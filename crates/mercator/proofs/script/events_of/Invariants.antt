@@ -1,0 +1,14 @@
+use Rattle.std.proofs.Common.{◌≡◌, ◌+◌, ◌≤◌, length}
+use Rattle.std.specs.Str.Lines.{lines}
+use Rattle.mercator.specs.Script.{events_of}
+use Rattle.mercator.proofs.ReadLines.{behind}
+use Rattle.mercator.proofs.script.events_of.Given as goal
+
+abbrev pub invariant-loop-line : goal.invariant-loop-line
+invariant-loop-line l = record {
+  few : l.number + length l.rest ≤ length l.bytes + 1;
+  so_far : behind l.events.items (events_of l.workers (l.number + 1) (lines l.rest)) ≡ events_of l.workers 2 (lines l.bytes);
+}
+
+abbrev pub decreases-loop-line : goal.decreases-loop-line
+decreases-loop-line l = length l.rest

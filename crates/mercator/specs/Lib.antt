@@ -1,0 +1,11 @@
+pub mod Assignment
+pub mod KeyLine
+pub mod LeastFault
+pub mod Lines
+pub mod Numbers
+pub mod Parts
+pub mod Replay
+pub mod Replies
+pub mod Script
+pub mod ScriptContent
+pub mod ScriptFaults

@@ -1,0 +1,21 @@
+-- The replay of a script.
+use Rattle.std.specs.Prelude.{◌≡◌, ℕ, List, Option, Ok}
+use Rattle.std.specs.Io.KnownBytes.{Appends}
+use Rattle.crawl_core.specs.declared.reply.Reply.{Reply}
+use Rattle.crawl_core.specs.Run.{IsRun}
+use Rattle.mercator.specs.Script.{Said, script_of}
+use Rattle.mercator.specs.Replies.{reply_lines}
+
+-- the bytes are a script, and the text has the lines of a new frontier's replies to its events
+pub record IsReplay (bytes text : List ℕ) : Type 0 where
+  pub script : Said
+  pub read : script_of bytes ≡ Ok script
+  pub replies : List Reply
+  pub run : IsRun script.workers script.max script.events replies
+  pub written : text ≡ reply_lines replies
+
+-- a writer that held the old bytes gained the replay of these bytes, where it says what it holds
+pub record GainsReplay (bytes : List ℕ) (old new : Option (List ℕ)) : Type 0 where
+  pub text : List ℕ
+  pub replay : IsReplay bytes text
+  pub gained : Appends old new text

@@ -1,0 +1,24 @@
+//! Laws over the definitions of the crates below, together. None does anything when it is called.
+ghost use Rattle.std.specs.Prelude.{◌≡◌, ℕ, List, map, slice_get, Some};
+ghost use Rattle.std.specs.List.{zip};
+ghost use Rattle.crawl_core.specs.State.{State, Subqueue, Message, start};
+ghost use Rattle.crawl_core.specs.Run.{Run, IsRun};
+ghost use Rattle.crawl_core.specs.History.{TakesOnce};
+ghost use Rattle.crawl_core.specs.declared.event.Event.{Event};
+ghost use Rattle.crawl_core.specs.declared.event.Event.TheVariants.{Take};
+ghost use Rattle.crawl_core.specs.declared.reply.Reply.{Reply};
+ghost use Rattle.crawl_core.specs.declared.reply.Reply.TheVariants.{Taken};
+ghost use Rattle.crawl_keys.specs.Assignment.{subqueue_of};
+ghost use Rattle.mercator.specs.Assignment.{IsAssigned};
+
+/// Hosts keep to their subqueues. Where each admission names its URL's subqueue, as those of a script that was read do: in
+/// every state of a run each message stands in its URL's subqueue; a URL is taken at most once; and it is taken from its
+/// subqueue alone.
+pub fn hosts_keep_to_their_subqueues()
+    ensures states { (workers max : ℕ) (history : List (Event × Reply)) (state : State) → Run (start workers max) history state → IsAssigned workers (map (λ x. x.0) history) → (queue k : ℕ) (found : Subqueue) (m : Message) → slice_get state.subqueues queue ≡ Some found → slice_get found.accepted k ≡ Some m → queue ≡ subqueue_of m.url workers }
+    ensures once { (workers max : ℕ) (events : List Event) (replies : List Reply) → IsRun workers max events replies → IsAssigned workers events → TakesOnce (zip events replies) }
+    ensures alone { (workers max : ℕ) (events : List Event) (replies : List Reply) → IsRun workers max events replies → IsAssigned workers events → (place queue : ℕ) (url : List ℕ) → slice_get (zip events replies) place ≡ Some (Take queue, Taken url) → queue ≡ subqueue_of url workers }
+{
+    crawl_core::laws::admitted_before();
+    crawl_core::laws::taken_once_in_order();
+}
