@@ -1,5 +1,6 @@
 pub mod Assignment
 pub mod KeyLine
+pub mod KeyWords
 pub mod LeastFault
 pub mod Lines
 pub mod Numbers

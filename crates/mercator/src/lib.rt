@@ -4,6 +4,7 @@
 mod fault;
 mod input;
 mod key;
+mod key_words;
 /// What holds of the definitions together.
 pub mod laws;
 mod lines;
@@ -18,6 +19,7 @@ mod words;
 
 pub use input::{INPUT_LIMIT, READ_LIMIT};
 pub use key::key_line;
+pub use key_words::DEFAULT_WORKERS;
 pub use lines::LINE_LIMIT;
 pub use replay::replay_text;
 pub use script::{Script, ScriptError, read_script};
