@@ -1,23 +1,26 @@
 -- The laws of whole runs.
-use Rattle.std.proofs.Common.{eq-eqb, cond, ◌≡◌, inl, inr, ℕ, zero, suc, ◌+◌, ◌-◌, ◌<◌, ◌≤◌, Bool, true, false, List, [], ◌∷◌, ◌++◌, length, take, drop, map, nat_eq, replicate, slice_get, Option, Some, None, refl, sym, ap, subst, ◌∙◌, arith, eqb-true, true≢false, mul-zero, zero-add}
+use Rattle.std.proofs.Common.{eq-eqb, cond, ◌≡◌, inl, inr, ℕ, zero, suc, ◌+◌, ◌-◌, ◌<◌, ◌≤◌, Bool, true, false, List, [], ◌∷◌, ◌++◌, length, take, drop, map, nat_eq, replicate, slice_get, Option, Some, None, refl, sym, ap, subst, ◌∙◌, arith, eqb-true, true≢false, mul-zero, zero-add, ◌||◌, not, filter_map}
 use Rattle.std.specs.Bool.{if◌then◌else◌}
-use Rattle.std.specs.List.{sum_by, flat_map, zip, cons_option}
+use Rattle.std.specs.List.{sum_by, flat_map, zip, cons_option, Contains, list_any}
 use Rattle.std.specs.Option.{option_to_list, option_map}
 use Rattle.std.proofs.lemmas.List.{length-append, length-map, length-drop, append_assoc}
 use Rattle.std.proofs.lemmas.Bool.{cases_lt}
 use Rattle.std.proofs.lemmas.List.Sums.{sum_by-cons}
 use Rattle.std.proofs.lemmas.List.Folds.{sum_by-replicate}
+use Rattle.std.specs.Str.{bytes_eq}
+use Rattle.std.proofs.lemmas.Slice.Eq.{bytes_eq-Decides}
+use Rattle.std.proofs.lemmas.List.Elements.{Contains-append_right}
 use Rattle.crawl_core.specs.declared.event.Event.{Event}
 use Rattle.crawl_core.specs.declared.event.Event.TheVariants.{Look, Enter, Admit, Back, EndSeeds, Take, Done, Close}
 use Rattle.crawl_core.specs.declared.reply.Reply.{Reply}
 use Rattle.crawl_core.specs.declared.reply.Reply.TheVariants as told
-use Rattle.crawl_core.specs.State.{State, Subqueue, Message, start, count_of, unfinished, finished, one_if}
-use Rattle.crawl_core.specs.Step.{Step, turn}
+use Rattle.crawl_core.specs.State.{State, Subqueue, Message, start, count_of, unfinished, finished, one_if, is_accepted}
+use Rattle.crawl_core.specs.Step.{Step, turn, Turn, holds, admit_to}
 use Rattle.crawl_core.specs.Run.{Run, IsRun}
-use Rattle.crawl_core.specs.History.{accepted_by, taken_by, accepted_in, taken_urls, is_quiet, TakesInOrder, AcceptsOnce, LeavesInOrder, FetchesOneAtATime, AssignsEachUrl, IsAdmitted, TakesOnce, TakesWhereAdmitted, StaysClosed}
+use Rattle.crawl_core.specs.History.{accepted_by, taken_by, accepted_in, accepted_urls, taken_urls, is_quiet, TakesInOrder, AcceptsOnce, LeavesInOrder, FetchesOneAtATime, AssignsEachUrl, IsAdmitted, TakesOnce, TakesWhereAdmitted, StaysClosed}
 use Rattle.crawl_core.specs.Invariants.{SubqueueInvariant, EachSubqueue, GateInvariant, IsFinished, units_of, OfMessage, Opening}
 use Rattle.crawl_core.proofs.Places.{from_filter_map, at_rank, rank_below, zip_first, slice_get-map}
-use Rattle.crawl_core.proofs.Effects.{QueueEffect, queue_effect, messages, urls_taken, is_busy}
+use Rattle.crawl_core.proofs.Effects.{QueueEffect, queue_effect, messages, urls_taken, is_busy, cond_both}
 use Rattle.crawl_core.proofs.Sound.{Sound, gate_effect, some_is, none_unfinished}
 
 eqb_same : (n : ℕ) → nat_eq n n ≡ true
@@ -423,3 +426,85 @@ message_was_admitted workers max history state run queue k found m at at_k =
     let source = from_filter_map (λ (x : Event × Reply). accepted_by queue x.0 x.1) history k m (rw accepted at_k) in
     let admitted = accepted_source queue source.item.0 source.item.1 m source.gives in
     (source.place, admitted.0, slice_get-map (λ (x : Event × Reply). x.0) history source.place ∙ ap (option_map (λ (x : Event × Reply). x.0)) source.at ∙ ap Some admitted.1)
+
+-- ## What the history of a closed run says
+
+-- at the end of any run
+history_at : (workers max queue : ℕ) (history : List (Event × Reply)) (end : State) → Run (start workers max) history end → History workers max queue history end
+history_at workers max queue history end run =
+    let none = nothing_yet workers max queue in
+    let all = grows queue (start workers max) history end (start_sound workers max) run in
+    record {
+      accepted = sym (rw none.0 at all.accepts);
+      taken = sym (rw none.1 at all.takes);
+      sound = (run_sound workers max history end run).queues queue;
+    }
+
+closing_accepts : (queue : ℕ) (event : Event) → accepted_by queue event told.Closed ≡ None
+closing_accepts queue (Look sender) = refl
+closing_accepts queue (Enter sender) = refl
+closing_accepts queue (Admit sender url place) = refl
+closing_accepts queue (Back sender) = refl
+closing_accepts queue EndSeeds = refl
+closing_accepts queue (Take place) = refl
+closing_accepts queue (Done place) = refl
+closing_accepts queue Close = refl
+
+closing_takes : (queue : ℕ) (event : Event) → taken_by queue event told.Closed ≡ None
+closing_takes queue (Look sender) = refl
+closing_takes queue (Enter sender) = refl
+closing_takes queue (Admit sender url place) = refl
+closing_takes queue (Back sender) = refl
+closing_takes queue EndSeeds = refl
+closing_takes queue (Take place) = refl
+closing_takes queue (Done place) = refl
+closing_takes queue Close = refl
+
+-- what a list without its last element, which gives nothing, gives
+filter_map-last : {X Y : Type 0} (h : X → Option Y) (xs : List X) (x : X) → h x ≡ None → filter_map h (xs ++ x ∷ []) ≡ filter_map h xs
+filter_map-last h [] x none = rw none refl
+filter_map-last h (y ∷ ys) x none = ap (cons_option (h y)) (filter_map-last h ys x none)
+
+take_all : {A : Type 0} (xs : List A) (n : ℕ) → n ≡ length xs → take n xs ≡ xs
+take_all [] zero e = refl
+take_all [] (suc n) e = refl
+take_all (x ∷ xs) zero e = absurd (omega (arith, e))
+take_all (x ∷ xs) (suc n) e = ap (λ ys. x ∷ ys) (take_all xs n (omega (arith, e)))
+
+-- what was taken from a subqueue with nothing left
+taken_whole : (o : Option Subqueue) → ((found : Subqueue) → o ≡ Some found → found.taken ≡ length found.accepted) → urls_taken o ≡ map (λ m. m.url) (messages o)
+taken_whole None all = refl
+taken_whole (Some queue) all = ap (map (λ (m : Message). m.url)) (take_all queue.accepted queue.taken (all queue refl))
+
+pub drained : (workers max : ℕ) (front back : List (Event × Reply)) (event : Event) (end : State) → Run (start workers max) (front ++ (event, told.Closed) ∷ back) end → (queue : ℕ) → taken_urls queue front ≡ accepted_urls queue front
+drained workers max front back event end run queue =
+    let x : Event × Reply = (event, told.Closed) in
+    let finished = closed_means_finished workers max front back event end run in
+    let said = history_at workers max queue (front ++ x ∷ []) finished.0 finished.1 in
+    let whole = taken_whole (slice_get finished.0.subqueues queue) (λ found at. (finished.2.done queue found at).0) in
+    let taken = filter_map-last (λ (y : Event × Reply). taken_by queue y.0 y.1) front x (closing_takes queue event) in
+    let accepted = filter_map-last (λ (y : Event × Reply). accepted_by queue y.0 y.1) front x (closing_accepts queue event) in
+    sym taken ∙ said.taken ∙ whole ∙ ap (map (λ (m : Message). m.url)) (sym said.accepted ∙ accepted)
+
+-- an accepted URL stands among the accepted URLs
+accepted_among : (xs : List Message) (url : List ℕ) → list_any (λ (m : Message). bytes_eq m.url url) xs ≡ true → Contains (map (λ (m : Message). m.url) xs) url
+accepted_among [] url e = absurd (cc)
+accepted_among (x ∷ xs) url e = by_first (bytes_eq x.url url) refl (accepted_among xs url) e
+  where
+    by_first : (b : Bool) → bytes_eq x.url url ≡ b → (list_any (λ (m : Message). bytes_eq m.url url) xs ≡ true → Contains (map (λ (m : Message). m.url) xs) url) → (b || list_any (λ (m : Message). bytes_eq m.url url) xs) ≡ true → Contains (map (λ (m : Message). m.url) (x ∷ xs)) url
+    by_first true here rest _ = rw (← (bytes_eq-Decides x.url url).0 here) (0, omega arith, refl)
+    by_first false _ rest later = Contains-append_right (x.url ∷ []) (map (λ (m : Message). m.url) xs) url (rest later)
+
+-- a reply `Seen` was given by a subqueue that had accepted the URL
+seen_by : (state : State) (sender place : ℕ) (url : List ℕ) (o : Option Subqueue) → told.Seen ≡ (admit_to state sender url place o).reply → Contains (map (λ (m : Message). m.url) (messages o)) url
+seen_by state sender place url None = λ e. absurd (cc)
+seen_by state sender place url (Some queue) =
+    let P : Turn → Type 0 = λ t. told.Seen ≡ t.reply → Contains (map (λ (m : Message). m.url) queue.accepted) url in
+    cond_both P (not (holds state sender)) _ _ (λ _ e. absurd (cc))
+    (λ _. cond_both P (is_accepted queue url) _ _ (λ seen e. accepted_among queue.accepted url seen) (λ _ e. absurd (cc)))
+
+pub seen_means_accepted : (workers max : ℕ) (front back : List (Event × Reply)) (sender queue : ℕ) (url : List ℕ) (end : State) → Run (start workers max) (front ++ (Admit sender url queue, told.Seen) ∷ back) end → Contains (accepted_urls queue front) url
+seen_means_accepted workers max front back sender queue url end run =
+    let parts = run_split (start workers max) front ((Admit sender url queue, told.Seen) ∷ back) end run in
+    let said = history_at workers max queue front parts.0 parts.1 in
+    rw said.accepted (seen_by parts.0 sender queue url (slice_get parts.0.subqueues queue) parts.2.1.reply_is)

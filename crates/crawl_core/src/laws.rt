@@ -1,10 +1,10 @@
 //! Laws of whole runs: what holds of any events and the replies that [`run`](crate::run) gives to them. None does anything
 //! when it is called.
 ghost use Rattle.std.specs.Prelude.{◌≡◌, ℕ, ◌≤◌, List, ◌++◌, ◌∷◌, [], map, slice_get, Some};
-ghost use Rattle.std.specs.List.{zip};
+ghost use Rattle.std.specs.List.{zip, Contains};
 ghost use Rattle.crawl_core.specs.State.{State, Subqueue, Message, start};
 ghost use Rattle.crawl_core.specs.Run.{Run, IsRun};
-ghost use Rattle.crawl_core.specs.History.{TakesInOrder, AcceptsOnce, LeavesInOrder, FetchesOneAtATime, AssignsEachUrl, IsAdmitted, TakesOnce, TakesWhereAdmitted, StaysClosed};
+ghost use Rattle.crawl_core.specs.History.{TakesInOrder, AcceptsOnce, LeavesInOrder, FetchesOneAtATime, AssignsEachUrl, IsAdmitted, TakesOnce, TakesWhereAdmitted, StaysClosed, accepted_urls, taken_urls};
 ghost use Rattle.crawl_core.specs.Invariants.{GateInvariant, SubqueueInvariant, EachSubqueue, IsFinished};
 ghost use Rattle.crawl_core.specs.declared.event.Event.{Event};
 ghost use Rattle.crawl_core.specs.declared.reply.Reply.{Reply};
@@ -35,10 +35,16 @@ pub fn admitted_before()
     ensures taken { (workers max : ℕ) (events : List Event) (replies : List Reply) → IsRun workers max events replies → (place queue : ℕ) (url : List ℕ) → slice_get (zip events replies) place ≡ Some (Event.Take queue, told.Taken url) → IsAdmitted events queue url }
 {}
 
+/// Seen means accepted: a URL that is answered `Seen` was accepted by its subqueue before.
+pub fn seen_means_accepted()
+    ensures { (workers max : ℕ) (front back : List (Event × Reply)) (sender queue : ℕ) (url : List ℕ) (end : State) → Run (start workers max) (front ++ (Event.Admit sender url queue, told.Seen) ∷ back) end → Contains (accepted_urls queue front) url }
+{}
+
 /// Closed means done: at a reply `Closed` the opening unit is gone, nobody holds a unit, and every accepted message was
-/// taken and is done.
+/// taken and is done; so from each subqueue were taken exactly the URLs that it accepted, in order.
 pub fn closed_means_finished()
-    ensures { (workers max : ℕ) (front back : List (Event × Reply)) (event : Event) (end : State) → Run (start workers max) (front ++ (event, told.Closed) ∷ back) end → (state : State) × Run (start workers max) (front ++ (event, told.Closed) ∷ []) state × IsFinished state }
+    ensures drained { (workers max : ℕ) (front back : List (Event × Reply)) (event : Event) (end : State) → Run (start workers max) (front ++ (event, told.Closed) ∷ back) end → (queue : ℕ) → taken_urls queue front ≡ accepted_urls queue front }
+    ensures finished { (workers max : ℕ) (front back : List (Event × Reply)) (event : Event) (end : State) → Run (start workers max) (front ++ (event, told.Closed) ∷ back) end → (state : State) × Run (start workers max) (front ++ (event, told.Closed) ∷ []) state × IsFinished state }
 {}
 
 /// Closed for good: after a reply `Closed` no reply is `Entered`, `Accepted` or `Taken`.

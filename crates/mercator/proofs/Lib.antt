@@ -1,5 +1,5 @@
 pub mod Commands
-pub mod CutLines
+pub mod CoreCrawl
 pub mod Least
 pub mod Placing
 pub mod ReadLines

@@ -9,15 +9,15 @@ use Rattle.crawl_core.specs.declared.event.Event.TheVariants.{Look, Enter, Admit
 use Rattle.crawl_keys.specs.Assignment.{subqueue_of}
 use Rattle.crawl_keys.specs.CanonicalText.{canonical}
 use Rattle.crawl_keys.specs.declared.error.KeyError.{KeyError}
-use Rattle.mercator.specs.declared.lines.LineError.{LineError}
+use Rattle.crawl_web.specs.declared.lines.LineError.{LineError}
 use Rattle.mercator.specs.declared.script.Script.{Script}
 use Rattle.mercator.specs.declared.script.header.Header.{Header}
 use Rattle.mercator.specs.declared.script.error.ScriptError.{ScriptError}
 use Rattle.mercator.specs.declared.script.error.ScriptError.TheVariants.{BadLine}
 use Rattle.mercator.specs.Assignment.{IsAssigned}
-use Rattle.mercator.specs.Lines.{text_of}
+use Rattle.crawl_web.specs.Lines.{text_of}
 use Rattle.mercator.specs.Numbers.{number_of}
-use Rattle.mercator.specs.Parts.{at_space}
+use Rattle.crawl_web.specs.Parts.{at_space}
 use Rattle.mercator.specs.Script.{Said, script_of, script_in, header_in, with_header, with_events, unless_fault, least_fault, events_in, said_from, said_by, some_event, with_text, event_of, event_from, plain_event, numbered_event, admit_with, admit_parts, admit_at, address_from}
 use Rattle.mercator.specs.ScriptContent.{content}
 use Rattle.mercator.specs.ScriptFaults.{Gives}

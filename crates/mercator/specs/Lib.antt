@@ -1,12 +1,14 @@
 pub mod Assignment
+pub mod ByCore
+pub mod CrawlWords
+pub mod Crawled
 pub mod KeyLine
 pub mod KeyWords
 pub mod LeastFault
-pub mod Lines
 pub mod Numbers
-pub mod Parts
 pub mod Replay
 pub mod Replies
 pub mod Script
 pub mod ScriptContent
 pub mod ScriptFaults
+pub mod WebCrawl

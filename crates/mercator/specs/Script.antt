@@ -9,10 +9,10 @@ use Rattle.crawl_core.specs.declared.limits.TheConstants.{WORKER_LIMIT, PENDING_
 use Rattle.crawl_keys.specs.declared.error.KeyError.{KeyError}
 use Rattle.crawl_keys.specs.CanonicalText.{canonical}
 use Rattle.crawl_keys.specs.Assignment.{subqueue_of}
-use Rattle.mercator.specs.Lines.{text_of}
-use Rattle.mercator.specs.declared.lines.LineError.{LineError}
+use Rattle.crawl_web.specs.Lines.{text_of}
+use Rattle.crawl_web.specs.declared.lines.LineError.{LineError}
 use Rattle.mercator.specs.Numbers.{number_of}
-use Rattle.mercator.specs.Parts.{at_space}
+use Rattle.crawl_web.specs.Parts.{at_space}
 use Rattle.mercator.specs.ScriptFaults.{fault_of}
 use Rattle.mercator.specs.declared.script.header.Header.{Header}
 use Rattle.mercator.specs.declared.script.error.ScriptError.{ScriptError}

@@ -1,7 +1,7 @@
 -- Faults of a script, and what a call that may want memory gives.
 use Rattle.std.specs.Prelude.{◌≡◌, Result, Ok, Err}
-use Rattle.mercator.specs.declared.lines.LineError.{LineError}
-use Rattle.mercator.specs.declared.lines.LineError.TheVariants.{TooLong, NotText}
+use Rattle.crawl_web.specs.declared.lines.LineError.{LineError}
+use Rattle.crawl_web.specs.declared.lines.LineError.TheVariants.{TooLong, NotText}
 use Rattle.mercator.specs.declared.script.error.ScriptError.{ScriptError}
 use Rattle.mercator.specs.declared.script.error.ScriptError.TheVariants as wrong
 

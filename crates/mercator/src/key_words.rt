@@ -59,7 +59,7 @@ fn key_of_four<'a>(
     }
 }
 
-fn workers_of(number: &str) -> Option<u32>
+pub fn workers_of(number: &str) -> Option<u32>
     ensures number { result ≡ workers_of number.now }
     ensures some { IfSome result (λ workers. 1 ≤ workers) }
     ensures few { IfSome result (λ workers. workers ≤ WORKER_LIMIT) }

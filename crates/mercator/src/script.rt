@@ -12,8 +12,8 @@ mod error;
 mod event;
 mod header;
 
-use crate::lines::{first_line, text_of};
 use crawl_core::Event;
+use crawl_web::{first_line, text_of};
 pub use error::ScriptError;
 use event::said_by;
 use header::{Header, header_of};

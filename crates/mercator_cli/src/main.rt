@@ -13,6 +13,7 @@ fn main(rt: HostRuntime) -> ExitCode {
         Err(error) => return ExitCode::from(status_of(&error)),
     };
     ExitCode::from(run_words(
+        &rt,
         rt.alloc(),
         &words,
         &mut rt.reader(),

@@ -2,7 +2,7 @@ ghost use Rattle.std.specs.Prelude.{◌≡◌};
 ghost use Rattle.mercator.specs.ScriptFaults.{fault_of};
 ghost use Rattle.mercator.specs.declared.script.error.ScriptError.TheVariants as wrong;
 
-use crate::lines::LineError;
+use crawl_web::LineError;
 use std::alloc::{AllocError, AllocFailed};
 use thiserror::Error;
 

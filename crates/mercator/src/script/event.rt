@@ -5,12 +5,11 @@ ghost use Rattle.std.specs.Option.{option_map};
 ghost use Rattle.mercator.specs.ScriptFaults.{Gives};
 ghost use Rattle.mercator.specs.Script.{address_of, admit_parts, admit_of, plain_event, numbered_event, event_of, said_by};
 
-use crate::lines::text_of;
 use crate::numbers::{number32, number64};
-use crate::parts::split_space;
 use crate::script::error::ScriptError;
 use crawl_core::{Event, Text};
 use crawl_keys::{KeyError, canonical};
+use crawl_web::{split_space, text_of};
 use std::alloc::Global;
 
 /// The event that the line with this number says, to a frontier with so many workers, or nothing for an empty line.

@@ -3,8 +3,8 @@ ghost use Rattle.std.specs.Prelude.{◌≡◌};
 ghost use Rattle.mercator.specs.Script.{is_within, header_of};
 
 use crate::numbers::{number32, number64};
-use crate::parts::split_space;
 use crawl_core::{PENDING_LIMIT, WORKER_LIMIT};
+use crawl_web::split_space;
 
 /// What the first line says.
 #[derive(Clone, Copy, Debug, PartialEq, Eq)]

@@ -2,6 +2,7 @@ use crate::tests::runs::words;
 use crate::{BAD_COMMAND, DONE, FAULT, key_line, run_words};
 use crawl_keys::KeyError;
 use std::alloc::{AllocError, Global};
+use std::sync::Wait;
 use std::test::Fail;
 
 #[test]
@@ -36,10 +37,10 @@ fn key_lines_that_are_none(rt: HostRuntime) {
 }
 
 // The status and what is written, for these words and an empty input.
-fn answer(alloc: Global, row: &[&str]) -> Result<(u8, Vec<u8>), AllocError> {
+fn answer(rt: &impl Wait, alloc: Global, row: &[&str]) -> Result<(u8, Vec<u8>), AllocError> {
     let (mut out, mut err) = (Vec::new(alloc), Vec::new(alloc));
     let words = words(alloc, row)?;
-    let status = run_words(alloc, &words, &mut "".as_bytes(), &mut out, &mut err);
+    let status = run_words(rt, alloc, &words, &mut "".as_bytes(), &mut out, &mut err);
     Ok((status, out))
 }
 
@@ -65,7 +66,7 @@ fn keys_told(rt: HostRuntime) -> Result<(), Fail> {
         ),
     ];
     for (row, text) in rows {
-        let (status, out) = answer(rt.alloc(), row)?;
+        let (status, out) = answer(&rt, rt.alloc(), row)?;
         assert_eq!(rt; status, DONE, "{row:?}");
         assert_eq!(rt; str::from_utf8(&out)?, text, "{row:?}");
     }
@@ -84,7 +85,7 @@ fn keys_not_told(rt: HostRuntime) -> Result<(), Fail> {
         (&["key", "http://a.test/", "--worker", "2"], BAD_COMMAND),
     ];
     for (row, status) in rows {
-        let (ended, out) = answer(rt.alloc(), row)?;
+        let (ended, out) = answer(&rt, rt.alloc(), row)?;
         assert_eq!(rt; ended, status, "{row:?}");
         assert_eq!(rt; str::from_utf8(&out)?, "", "{row:?}");
     }

@@ -55,6 +55,7 @@ fn replays_its_input(rt: HostRuntime) -> Result<(), Fail> {
     let alloc = rt.alloc();
     let (mut out, mut err) = (Vec::new(alloc), Vec::new(alloc));
     let status = run_words(
+        &rt,
         alloc,
         &words(alloc, &["replay", "-"])?,
         &mut SCRIPT.as_bytes(),
@@ -81,6 +82,7 @@ fn bad_commands(rt: HostRuntime) -> Result<(), Fail> {
     for row in rows {
         let (mut out, mut err) = (Vec::new(alloc), Vec::new(alloc));
         let status = run_words(
+            &rt,
             alloc,
             &words(alloc, row)?,
             &mut SCRIPT.as_bytes(),
@@ -101,6 +103,7 @@ fn faults(rt: HostRuntime) -> Result<(), Fail> {
 
     let mut out = Vec::new(alloc);
     let status = run_words(
+        &rt,
         alloc,
         &replay,
         &mut "workers 0 max 1".as_bytes(),
@@ -113,13 +116,14 @@ fn faults(rt: HostRuntime) -> Result<(), Fail> {
     let mut reader = BrokenReader {
         left: SCRIPT.as_bytes(),
     };
-    let status = run_words(alloc, &replay, &mut reader, &mut out, &mut err);
+    let status = run_words(&rt, alloc, &replay, &mut reader, &mut out, &mut err);
     assert_eq!(rt; status, FAULT, "a read fails");
     assert_eq!(rt; out.len(), 0, "a read fails");
 
     for writes in [false, true] {
         let mut writer = BrokenWriter { writes };
         let status = run_words(
+            &rt,
             alloc,
             &replay,
             &mut SCRIPT.as_bytes(),

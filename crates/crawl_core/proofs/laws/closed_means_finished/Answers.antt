@@ -1,5 +1,8 @@
-use Rattle.crawl_core.proofs.RunLaws.{closed_means_finished}
+use Rattle.crawl_core.proofs.RunLaws.{closed_means_finished, drained}
 use Rattle.crawl_core.proofs.laws.closed_means_finished.Goals as goal
 
-pub returns : goal.returns
-returns c = closed_means_finished
+pub returns-clause-drained : goal.returns-clause-drained
+returns-clause-drained c = drained
+
+pub returns-clause-finished : goal.returns-clause-finished
+returns-clause-finished c = closed_means_finished

@@ -1,0 +1,126 @@
+-- What is known of a saved web while its lines are read one by one.
+use Rattle.std.proofs.Common.{◌≡◌, ◌⊎◌, inl, inr, ℕ, ◌+◌, ◌==◌, Bool, true, false, ◌||◌, not, cond, List, [], ◌∷◌, ◌++◌, length, Option, Some, None, is_some, refl, sym, ap, subst, ◌∙◌, arith, append_assoc, append-nil, length-append, ne_eqb}
+use Rattle.std.specs.Bool.{if◌then◌else◌}
+use Rattle.std.specs.Borrow.{Bor}
+use Rattle.std.specs.BTreeMap.{btree_map_len, get, is_at}
+use Rattle.std.specs.Cmp.Lexicographic.{slice_cmp, texts_ties}
+use Rattle.std.specs.List.{list_any}
+use Rattle.std.specs.Map.{lookup}
+use Rattle.std.proofs.lemmas.Slice.Eq.{bytes_eq-Decides}
+use Rattle.std.specs.Option.{option_map, option_or, option_map_or}
+use Rattle.std.specs.Ordering.{nat_cmp}
+use Rattle.std.specs.Str.{bytes_eq}
+use Rattle.std.specs.Str.Lines.{lines}
+use Rattle.std.proofs.lemmas.List.Folds.{list_any-append}
+use Rattle.crawl_web.specs.SavedWeb.{is_page, is_page_at, page_url, lines_behind, line_fault, fault_after}
+use Rattle.crawl_web.specs.KnownPages.{KnownPages, has_some, has, known_behind, Adds}
+use Rattle.crawl_web.specs.WebFaults.{SoundAfter, IsLeastFault, IsFault}
+use Rattle.crawl_web.specs.declared.saved_web.error.WebError.{WebError}
+use Rattle.crawl_web.specs.declared.saved_web.error.WebError.TheVariants as wrong
+
+-- the earlier lines are sound and their pages are known; what is left holds the others
+pub record ReadTo (bytes rest : List ℕ) (number : ℕ) (pages : KnownPages) : Type 0 where
+  pub earlier : List (List ℕ)
+  pub cut : lines bytes ≡ earlier ++ lines rest
+  pub numbered : number ≡ length earlier
+  pub sound : SoundAfter [] earlier
+  pub some_page : has_some pages ≡ list_any is_page earlier
+  pub known : (url : List ℕ) → has pages url ≡ list_any (is_page_at url) earlier
+  pub found : (url : List ℕ) → lines_behind (lines bytes) url ≡ option_or (known_behind pages url) (lines_behind (lines rest) url)
+
+or_false : (b : Bool) → b ≡ (b || false)
+or_false true = refl
+or_false false = refl
+
+or_true : (b : Bool) → true ≡ (b || true)
+or_true true = refl
+or_true false = refl
+
+-- ---- one more page
+
+-- the page whose URL a line has, if any, is the one with this URL
+abbrev at : Option (List ℕ) → List ℕ → Bool
+at own url = option_map_or (λ u. bytes_eq u url) own false
+
+abbrev value : KnownPages → List ℕ → Option (Bor (List ℕ))
+value pages url = get (slice_cmp nat_cmp) pages url
+
+abbrev told : Option (Bor (List ℕ)) → Option (List (List ℕ))
+told o = option_map (λ bytes. lines bytes.now) o
+
+adds_some : (old new : KnownPages) (own : Option (List ℕ)) (bytes : Bor (List ℕ)) → Adds old new own bytes → has_some new ≡ (has_some old || is_some own)
+adds_some old new None bytes same = ap (λ es. not (length es == 0)) same ∙ or_false (has_some old)
+adds_some old new (Some url) bytes adds =
+    ap (λ n. not (n == 0)) adds.2 ∙ ap not (ne_eqb (btree_map_len old + 1) 0 (λ none. omega arith)) ∙ or_true (has_some old)
+
+-- the value at a key after one was put in
+put : (old new : KnownPages) (url : List ℕ) (bytes : Bor (List ℕ)) → Adds old new (Some url) bytes → (q : List ℕ) → value new q ≡ cond (bytes_eq url q) (Some bytes) (value old q)
+put old new url bytes adds q = adds.1.0 q ∙ ap (λ b. cond b (Some bytes) (value old q)) (sym (texts_ties url q))
+
+has_put : (b : Bool) (o : Option (Bor (List ℕ))) (bytes : Bor (List ℕ)) → is_some (cond b (Some bytes) o) ≡ (is_some o || b)
+has_put true o bytes = or_true (is_some o)
+has_put false o bytes = or_false (is_some o)
+
+adds_has : (old new : KnownPages) (own : Option (List ℕ)) (bytes : Bor (List ℕ)) → Adds old new own bytes → (q : List ℕ) → has new q ≡ (has old q || at own q)
+adds_has old new None bytes same q = ap (λ es. is_some (lookup (is_at (slice_cmp nat_cmp q)) es)) same ∙ or_false (has old q)
+adds_has old new (Some url) bytes adds q = ap is_some (put old new url bytes adds q) ∙ has_put (bytes_eq url q) (value old q) bytes
+
+behind_put : (b : Bool) (o : Option (Bor (List ℕ))) (bytes : Bor (List ℕ)) (more : Option (List (List ℕ))) → (b ≡ true → o ≡ None) → option_or (told o) (if b then Some (lines bytes.now) else more) ≡ option_or (told (cond b (Some bytes) o)) more
+behind_put true o bytes more first = ap (λ x. option_or (told x) (Some (lines bytes.now))) (first refl)
+behind_put false o bytes more first = refl
+
+adds_behind : (old new : KnownPages) (own : Option (List ℕ)) (bytes : Bor (List ℕ)) (more : Option (List (List ℕ))) → Adds old new own bytes → (q : List ℕ) → option_or (known_behind old q) (if at own q then Some (lines bytes.now) else more) ≡ option_or (known_behind new q) more
+adds_behind old new None bytes more same q = ap (λ es. option_or (told (lookup (is_at (slice_cmp nat_cmp q)) es)) more) (sym same)
+adds_behind old new (Some url) bytes more adds q =
+    behind_put (bytes_eq url q) (value old q) bytes more (λ e. ap (value old) (sym ((bytes_eq-Decides url q).0 e)) ∙ adds.0)
+    ∙ ap (λ o. option_or (told o) more) (sym (put old new url bytes adds q))
+
+-- ---- one more line
+
+-- what is known of the pages says which check a line fails
+fault_known : (bytes rest : List ℕ) (number : ℕ) (pages : KnownPages) (line : List ℕ) → (k : ReadTo bytes rest number pages) → line_fault (number + 1) (has_some pages) (has pages) line ≡ fault_after k.earlier line
+fault_known bytes rest number pages line k = λ i. line_fault (k.numbered i + 1) (k.some_page i) (λ url. k.known url i) line
+
+sound_more : (front earlier : List (List ℕ)) (line : List ℕ) → SoundAfter front earlier → fault_after (front ++ earlier) line ≡ None → SoundAfter front (earlier ++ line ∷ [])
+sound_more front [] line sound passes = (rw append-nil at passes, tt)
+sound_more front (x ∷ xs) line sound passes =
+    let P : List (List ℕ) → Type 0 = λ e. fault_after e line ≡ None in
+    (sound.0, sound_more (front ++ x ∷ []) xs line sound.1 (subst P (sym (append_assoc front (x ∷ []) xs)) passes))
+
+any_more : (p : List ℕ → Bool) (b : Bool) (earlier : List (List ℕ)) (line : List ℕ) → p line ≡ b → (list_any p earlier || b) ≡ list_any p (earlier ++ line ∷ [])
+any_more p b earlier line e =
+    ap (λ x. list_any p earlier || x) (sym e ∙ or_false (p line)) ∙ sym (list_any-append p earlier (line ∷ []))
+
+pub read_more : (bytes rest : List ℕ) (number : ℕ) (pages : KnownPages) (line : List ℕ) (more : Bor (List ℕ)) (new : KnownPages) → lines rest ≡ line ∷ lines more.now → line_fault (number + 1) (has_some pages) (has pages) line ≡ None → Adds pages new (page_url line) more → is_page line ≡ is_some (page_url line) → ReadTo bytes rest number pages → ReadTo bytes more.now (number + 1) new
+read_more bytes rest number pages line more new first passes adds page k = record {
+  earlier = k.earlier ++ line ∷ [];
+  cut = k.cut ∙ ap (λ ls. k.earlier ++ ls) first ∙ sym (append_assoc k.earlier (line ∷ []) (lines more.now));
+  numbered = ap (λ n. n + 1) k.numbered ∙ sym (length-append k.earlier (line ∷ []));
+  sound = sound_more [] k.earlier line k.sound (sym (fault_known bytes rest number pages line k) ∙ passes);
+  some_page =
+      adds_some pages new (page_url line) more adds ∙ ap (λ b. b || is_some (page_url line)) k.some_page
+      ∙ any_more is_page (is_some (page_url line)) k.earlier line page;
+  known = λ url.
+      adds_has pages new (page_url line) more adds url ∙ ap (λ b. b || is_page_at url line) (k.known url)
+      ∙ any_more (is_page_at url) (is_page_at url line) k.earlier line refl;
+  found = λ url.
+      k.found url ∙ ap (λ ls. option_or (known_behind pages url) (lines_behind ls url)) first
+      ∙ adds_behind pages new (page_url line) more (lines_behind (lines more.now) url) adds url;
+}
+
+-- ---- a line that fails
+
+is_fault : (all : List (List ℕ)) (fault : WebError) → IsLeastFault all fault → IsFault all fault
+is_fault [] fault least = absurd (omega (arith, ap length least.split, length-append least.front (least.line ∷ least.rest)))
+is_fault (line ∷ more) fault least = least
+
+pub read_fault : (bytes rest : List ℕ) (number : ℕ) (pages : KnownPages) (line more : List ℕ) (fault : WebError) → lines rest ≡ line ∷ lines more → (line_fault (number + 1) (has_some pages) (has pages) line ≡ Some fault) ⊎ (fault ≡ wrong.NoMemory) → ReadTo bytes rest number pages → IsFault (lines bytes) fault ⊎ (fault ≡ wrong.NoMemory)
+read_fault bytes rest number pages line more fault first (inr e) k = inr e
+read_fault bytes rest number pages line more fault first (inl fails) k = inl (is_fault (lines bytes) fault (record {
+  front = k.earlier;
+  line = line;
+  rest = lines more;
+  split = k.cut ∙ ap (λ ls. k.earlier ++ ls) first;
+  sound = k.sound;
+  fails = sym (fault_known bytes rest number pages line k) ∙ fails;
+}))

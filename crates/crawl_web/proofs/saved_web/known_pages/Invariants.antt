@@ -1,0 +1,12 @@
+use Rattle.std.proofs.Common.{◌+◌, ◌≤◌, length}
+use Rattle.crawl_web.proofs.ReadWeb.{ReadTo}
+use Rattle.crawl_web.proofs.saved_web.known_pages.Given as goal
+
+abbrev pub invariant-loop-line : goal.invariant-loop-line
+invariant-loop-line l = record {
+  few : l.number + length l.rest ≤ length l.bytes;
+  read : ReadTo l.bytes l.rest l.number l.pages;
+}
+
+abbrev pub decreases-loop-line : goal.decreases-loop-line
+decreases-loop-line l = length l.rest

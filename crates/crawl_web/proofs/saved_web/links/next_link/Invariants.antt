@@ -1,0 +1,13 @@
+use Rattle.std.proofs.Common.{◌≡◌, ◌≤◌, length}
+use Rattle.std.specs.Str.Lines.{lines}
+use Rattle.crawl_web.specs.SavedWeb.{link_texts}
+use Rattle.crawl_web.proofs.saved_web.links.next_link.Given as goal
+
+abbrev pub invariant-loop-line : goal.invariant-loop-line
+invariant-loop-line l = record {
+  same : link_texts (lines l.rest) ≡ link_texts (lines l.bytes);
+  within : length l.rest ≤ length l.bytes;
+}
+
+abbrev pub decreases-loop-line : goal.decreases-loop-line
+decreases-loop-line l = length l.rest

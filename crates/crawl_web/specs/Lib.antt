@@ -1,0 +1,7 @@
+pub mod KnownPages
+pub mod Lines
+pub mod Pages
+pub mod Parts
+pub mod ReportText
+pub mod SavedWeb
+pub mod WebFaults

@@ -1,0 +1,62 @@
+//! Lines: bytes cut at each LF, and the text of a line.
+ghost use Rattle.std.specs.Prelude.{◌≡◌, ◌==◌, ◌∷◌, ◌<◌, [], length, position, IfSome, MatchOption};
+ghost use Rattle.std.specs.Str.Lines.{lines, strip_carriage_return};
+ghost use Rattle.crawl_web.specs.Lines.{text_of, bytes_at};
+
+/// The most bytes of a line, without its LF and a CR directly before that.
+pub const LINE_LIMIT: usize = 4096;
+
+/// Why a line has no text, in the order of the checks. Each fault has the number of its line, from 1.
+#[derive(Clone, Copy, Debug, PartialEq, Eq)]
+pub enum LineError {
+    /// The line has more than [`LINE_LIMIT`] bytes.
+    TooLong(u64),
+    /// The line is not UTF-8.
+    NotText(u64),
+}
+
+/// The first line of the bytes, and what follows it; nothing where there are no bytes.
+///
+/// A line ends at LF, or at the end of the bytes. One CR directly before its LF is no part of it.
+pub fn first_line(bytes: &[u8]) -> Option<(&[u8], &[u8])>
+    ensures cut { MatchOption result (lines bytes.now ≡ []) (λ x. lines bytes.now ≡ x.0.now ∷ lines x.1.now) }
+    ensures shorter { IfSome result (λ x. length x.1.now < length bytes.now) }
+{
+    match newline_in(bytes) {
+        Some(end) => Some((without_return(&bytes[..end]), &bytes[end + 1..])),
+        None if bytes.is_empty() => None,
+        None => Some((bytes, &[])),
+    }
+}
+
+fn newline_in(bytes: &[u8]) -> Option<usize>
+    ensures { result ≡ position (λ b. b == 10) bytes.now }
+{
+    bytes.iter().position(|b| *b == b'\n')
+}
+
+fn without_return(line: &[u8]) -> &[u8]
+    ensures { result.now ≡ strip_carriage_return line.now }
+{
+    if line.last() == Some(&b'\r') {
+        &line[..line.len() - 1]
+    } else {
+        line
+    }
+}
+
+/// The text of the line with this number.
+///
+/// # Errors
+/// `TooLong`, then `NotText`.
+pub fn text_of(number: u64, line: &[u8]) -> Result<&str, LineError>
+    ensures { bytes_at result ≡ text_of number line.now }
+{
+    if line.len() > LINE_LIMIT {
+        return Err(LineError::TooLong(number));
+    }
+    match str::from_utf8(line) {
+        Ok(text) => Ok(text),
+        Err(_) => Err(LineError::NotText(number)),
+    }
+}

@@ -1,0 +1,87 @@
+//! Saved webs: pages and their links, written down in lines.
+ghost use Rattle.std.specs.Prelude.{◌≡◌, ℕ, ◌⊎◌, List, IfOk, IfErr, MatchResult};
+ghost use Rattle.std.specs.Str.Lines.{lines};
+ghost use Rattle.crawl_web.specs.SavedWeb.{page_of};
+ghost use Rattle.crawl_web.specs.KnownPages.{known_page, page_at};
+ghost use Rattle.crawl_web.specs.WebFaults.{IsSound, IsFault};
+
+mod add;
+mod error;
+mod line;
+mod links;
+
+use crate::fetch::{Fetch, FetchError};
+use crate::lines::first_line;
+use crate::page::Page;
+use add::add_line;
+use crawl_keys::CanonUrl;
+pub use error::WebError;
+use links::page_behind;
+use std::alloc::Global;
+use std::collections::BTreeMap;
+
+/// The pages of a saved web, each with its links. It borrows the bytes that it was read from.
+#[derive(Debug, Drop)]
+pub struct SavedWeb<'a> {
+    /// From each page's canonical URL to the bytes behind its line.
+    pages: BTreeMap<CanonUrl, &'a [u8]>,
+}
+
+impl<'a> SavedWeb<'a> {
+    /// The saved web that the bytes are.
+    ///
+    /// # Errors
+    /// That of the first line that fails a check, and there the first of the checks, in the order of [`WebError`];
+    /// `NoMemory` where a growth was refused.
+    pub fn read(alloc: Global, bytes: &'a [u8]) -> Result<SavedWeb<'a>, WebError>
+        ensures sound { IfOk result (λ web. IsSound (lines bytes.now)) }
+        // At every URL it has the page that the lines say.
+        ensures pages { IfOk result (λ web. (url : List ℕ) → page_at web url ≡ page_of (lines bytes.now) url) }
+        // An error is the fault of the first line that has one, unless a growth was refused.
+        ensures fault { IfErr result (λ told. IsFault (lines bytes.now) told ⊎ (told ≡ WebError.NoMemory)) }
+        // So it is, the other way round, for every input.
+        ensures reads { IsSound (lines bytes.now) → IfErr result (λ told. told ≡ WebError.NoMemory) }
+        ensures tells { (fault : WebError) → IsFault (lines bytes.now) fault → MatchResult result (λ _. ⊥) (λ told. (told ≡ fault) ⊎ (told ≡ WebError.NoMemory)) }
+    {
+        Ok(SavedWeb {
+            pages: known_pages(alloc, bytes)?,
+        })
+    }
+}
+
+/// The pages that the lines are, each with the bytes behind its line.
+fn known_pages(alloc: Global, bytes: &[u8]) -> Result<BTreeMap<CanonUrl, &[u8]>, WebError>
+    ensures sound { IfOk result (λ _. IsSound (lines bytes.now)) }
+    ensures pages { IfOk result (λ pages. (url : List ℕ) → known_page pages url ≡ page_of (lines bytes.now) url) }
+    ensures fault { IfErr result (λ told. IsFault (lines bytes.now) told ⊎ (told ≡ WebError.NoMemory)) }
+{
+    let mut pages = BTreeMap::new(alloc);
+    let mut rest = bytes;
+    let mut number: u64 = 0;
+    while let Some((line, more)) = first_line(rest) {
+        rest = more;
+        number += 1;
+        add_line(alloc, &mut pages, number, line, more)?;
+    }
+    if number == 0 {
+        return Err(WebError::BadHeader);
+    }
+    Ok(pages)
+}
+
+impl Fetch for SavedWeb<'_> {
+    ghost use Rattle.crawl_web.specs.KnownPages.{page_at};
+
+    ghost meaning = { page_at };
+
+    fn fetch(&self, alloc: Global, url: &CanonUrl) -> Result<Page, FetchError>
+        ensures meaning { IfOk result (λ page. page ≡ page_at self.now url.now) }
+        // It never fails of itself.
+        ensures refused { IfErr result (λ e. e ≡ FetchError.NoMemory) }
+    {
+        match self.pages.get(url) {
+            Some(behind) => page_behind(alloc, url, behind),
+            None => Ok(Page::Missing),
+        }
+    }
+}

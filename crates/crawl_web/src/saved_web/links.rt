@@ -1,0 +1,53 @@
+//! The links of a page of a saved web, read from the lines behind the page's own.
+ghost use Rattle.std.specs.Prelude.{◌≡◌, ◌<◌, ◌∷◌, [], Some, length, IfOk, IfErr, IfSome, MatchOption};
+ghost use Rattle.std.specs.Str.Lines.{lines};
+ghost use Rattle.crawl_web.specs.SavedWeb.{link_texts, page_behind};
+
+use crate::fetch::FetchError;
+use crate::lines::first_line;
+use crate::page::{Links, Page};
+use crate::saved_web::line::{Line, line_of};
+use crawl_keys::{Base, CanonUrl, KeyError};
+use std::alloc::Global;
+
+/// The page with this URL whose line these bytes follow, up to the next page or to the end.
+pub fn page_behind(alloc: Global, url: &CanonUrl, bytes: &[u8]) -> Result<Page, FetchError>
+    ensures page { IfOk result (λ page. page ≡ page_behind url.now (Some (lines bytes.now))) }
+    ensures refused { IfErr result (λ e. e ≡ FetchError.NoMemory) }
+{
+    let Ok(base) = Base::new(alloc, url) else {
+        return Err(FetchError::NoMemory);
+    };
+    let mut links = Vec::new(alloc);
+    let mut skipped: u64 = 0;
+    let mut rest = bytes;
+    while let Some((text, more)) = next_link(rest) {
+        rest = more;
+        match base.resolve(alloc, text) {
+            Ok(link) => links.push(link)?,
+            Err(KeyError::NoMemory) => return Err(FetchError::NoMemory),
+            Err(KeyError::NotUrl | KeyError::NotHttp) => skipped += 1,
+        }
+    }
+    Ok(Page::Found {
+        links: Links::from(links),
+        skipped,
+    })
+}
+
+/// The text of the first link before the next page, and what follows that line.
+fn next_link(bytes: &[u8]) -> Option<(&str, &[u8])>
+    ensures first { MatchOption result (link_texts (lines bytes.now) ≡ []) (λ x. link_texts (lines bytes.now) ≡ x.0.now ∷ link_texts (lines x.1.now)) }
+    ensures shorter { IfSome result (λ x. length x.1.now < length bytes.now) }
+{
+    let mut rest = bytes;
+    while let Some((line, more)) = first_line(rest) {
+        rest = more;
+        match line_of(line) {
+            Line::Page(_) => return None,
+            Line::Link(text) => return Some((text, rest)),
+            Line::Empty | Line::Other => {}
+        }
+    }
+    None
+}

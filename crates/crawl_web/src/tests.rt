@@ -1,0 +1,3 @@
+//! What no clause says: that calls succeed, the texts, and that the definitions mean the formats.
+mod report;
+mod saved_webs;

@@ -1,0 +1,139 @@
+use crate::{Links, Page, PageResult, report_text};
+use crawl_keys::{CanonUrl, KeyError, canonical};
+use std::alloc::Global;
+use std::process::Abort;
+use std::test::Fail;
+
+// A URL, and how many links its page has and how many are skipped; nothing where it is missing.
+type Row = (&'static str, Option<(usize, u64)>);
+
+fn links_to(alloc: Global, url: &CanonUrl, count: usize) -> Result<Links, KeyError> {
+    let mut urls = Vec::new(alloc);
+    for _ in 0..count {
+        urls.push(url.copy()?)?;
+    }
+    Ok(urls.into())
+}
+
+fn result_of(alloc: Global, row: Row) -> Result<PageResult, KeyError> {
+    let url = canonical(alloc, row.0)?;
+    let page = match row.1 {
+        None => Page::Missing,
+        Some((links, skipped)) => Page::Found {
+            links: links_to(alloc, &url, links)?,
+            skipped,
+        },
+    };
+    Ok(PageResult { url, page })
+}
+
+fn report_of(rt: &impl Abort, alloc: Global, rows: &[Row], expected: &str) -> Result<(), Fail> {
+    let mut results = Vec::new(alloc);
+    for row in rows {
+        results.push(result_of(alloc, *row)?)?;
+    }
+    let text = report_text(alloc, results.as_slice())?;
+    assert_eq!(rt; text.as_slice(), expected.as_bytes(), "{expected}");
+    Ok(())
+}
+
+const A: &str = "http://a.test/";
+
+const A1: &str = "http://a.test/1";
+
+const A2: &str = "http://a.test/2";
+
+const B: &str = "http://b.test/";
+
+const C: &str = "http://c.test/";
+
+const GONE: &str = "http://c.test/gone";
+
+#[test]
+fn reports_in_any_order_of_arrival(rt: HostRuntime) -> Result<(), Fail> {
+    let a: Row = (A, Some((2, 1)));
+    let b: Row = (B, Some((2, 0)));
+    let c: Row = (C, Some((2, 0)));
+    let gone: Row = (GONE, None);
+    let ring =
+        "ok 3 1 http://a.test/\nok 2 0 http://b.test/\nok 2 0 http://c.test/\nmissing http://c.test/gone\ntotal 4 ok 3 missing 1\n";
+    for rows in [
+        [a, b, c, gone],
+        [gone, c, b, a],
+        [c, a, gone, b],
+        [b, gone, a, c],
+    ] {
+        report_of(&rt, rt.alloc(), &rows, ring)?;
+    }
+    let start: Row = (A, Some((2, 0)));
+    let one: Row = (A1, None);
+    let two: Row = (A2, None);
+    let two_links =
+        "ok 2 0 http://a.test/\nmissing http://a.test/1\nmissing http://a.test/2\ntotal 3 ok 1 missing 2\n";
+    for rows in [[start, one, two], [two, start, one], [one, two, start]] {
+        report_of(&rt, rt.alloc(), &rows, two_links)?;
+    }
+    let none: [Row; 0] = [];
+    report_of(&rt, rt.alloc(), &none, "total 0 ok 0 missing 0\n")
+}
+
+// Bytes decide, not numbers or letters.
+#[test]
+fn reports_in_byte_order(rt: HostRuntime) -> Result<(), Fail> {
+    let rows: [Row; 5] = [
+        ("https://a.test/", None),
+        ("http://a.test/b", None),
+        ("http://a.test/9", None),
+        ("http://a.test/B", None),
+        ("http://a.test/10", None),
+    ];
+    report_of(
+        &rt,
+        rt.alloc(),
+        &rows,
+        "missing http://a.test/10\nmissing http://a.test/9\nmissing http://a.test/B\nmissing http://a.test/b\nmissing https://a.test/\ntotal 5 ok 0 missing 5\n",
+    )
+}
+
+#[test]
+fn results_of_one_url_stay_as_given(rt: HostRuntime) -> Result<(), Fail> {
+    let first: Row = (A, Some((1, 0)));
+    let second: Row = (A, Some((1, 1)));
+    let third: Row = (A, None);
+    let other: Row = (A2, None);
+    for (rows, expected) in [
+        (
+            [other, first, second, third],
+            "ok 1 0 http://a.test/\nok 2 1 http://a.test/\nmissing http://a.test/\nmissing http://a.test/2\ntotal 4 ok 2 missing 2\n",
+        ),
+        (
+            [third, second, other, first],
+            "missing http://a.test/\nok 2 1 http://a.test/\nok 1 0 http://a.test/\nmissing http://a.test/2\ntotal 4 ok 2 missing 2\n",
+        ),
+    ] {
+        report_of(&rt, rt.alloc(), &rows, expected)?;
+    }
+    Ok(())
+}
+
+#[test]
+fn links_past_the_greatest_number_are_counted(rt: HostRuntime) -> Result<(), Fail> {
+    for (links, expected) in [
+        (
+            0,
+            "ok 18446744073709551615 18446744073709551615 http://a.test/\ntotal 1 ok 1 missing 0\n",
+        ),
+        (
+            1,
+            "ok 18446744073709551616 18446744073709551615 http://a.test/\ntotal 1 ok 1 missing 0\n",
+        ),
+        (
+            3,
+            "ok 18446744073709551618 18446744073709551615 http://a.test/\ntotal 1 ok 1 missing 0\n",
+        ),
+    ] {
+        let row: Row = (A, Some((links, u64::MAX)));
+        report_of(&rt, rt.alloc(), &[row], expected)?;
+    }
+    Ok(())
+}

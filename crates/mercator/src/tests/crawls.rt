@@ -1,0 +1,188 @@
+ghost use Rattle.std.specs.Prelude.{◌≤◌};
+ghost use Rattle.crawl_core.specs.declared.limits.TheConstants.{PENDING_LIMIT};
+
+use crate::tests::runs::words;
+use crate::{BAD_COMMAND, DONE, FAULT, crawl_by_core, run_words};
+use crawl_core::NoMemory;
+use crawl_keys::{CanonUrl, canonical};
+use crawl_web::{Fetch, FetchError, Page, SavedWeb};
+use std::alloc::{AllocError, Global};
+use std::sync::Wait;
+use std::test::Fail;
+
+const RING: &str = "savedweb 1\n\
+    page http://a.test/\n\
+    link http://b.test/\n\
+    link #top\n\
+    link mailto:x@a.test\n\
+    page http://b.test/\n\
+    link //c.test\n\
+    link /\n\
+    page http://c.test/\n\
+    link http://A.test:80\n\
+    link gone\n";
+
+const RING_REPORT: &str = "ok 3 1 http://a.test/\n\
+    ok 2 0 http://b.test/\n\
+    ok 2 0 http://c.test/\n\
+    missing http://c.test/gone\n\
+    total 4 ok 3 missing 1\n";
+
+const TWO_LINKS: &str = "savedweb 1\npage http://a.test/\nlink 1\nlink 2\n";
+
+const TWO_LINKS_REPORT: &str = "ok 2 0 http://a.test/\n\
+    missing http://a.test/1\n\
+    missing http://a.test/2\n\
+    total 3 ok 1 missing 2\n";
+
+// The status and what is written, for these words and this input.
+fn answer(
+    rt: &impl Wait,
+    alloc: Global,
+    row: &[&str],
+    web: &str,
+) -> Result<(u8, Vec<u8>), AllocError> {
+    let (mut out, mut err) = (Vec::new(alloc), Vec::new(alloc));
+    let words = words(alloc, row)?;
+    let status = run_words(rt, alloc, &words, &mut web.as_bytes(), &mut out, &mut err);
+    Ok((status, out))
+}
+
+#[test]
+fn empty_web_small_web_and_two_links(rt: HostRuntime) -> Result<(), Fail> {
+    let empty = "savedweb 1";
+    let rows: [(&str, &[&str], &str); 8] = [
+        (
+            empty,
+            &["crawl", "-", "http://a.test"],
+            "missing http://a.test/\ntotal 1 ok 0 missing 1\n",
+        ),
+        (
+            empty,
+            &[
+                "crawl",
+                "-",
+                "http://b.test/",
+                "http://a.test",
+                "HTTP://B.test:80/#f",
+            ],
+            "missing http://a.test/\nmissing http://b.test/\ntotal 2 ok 0 missing 2\n",
+        ),
+        (RING, &["crawl", "-", "http://a.test/"], RING_REPORT),
+        (
+            RING,
+            &["crawl", "--workers", "1", "-", "http://a.test/"],
+            RING_REPORT,
+        ),
+        (
+            RING,
+            &["crawl", "--workers", "2", "-", "http://a.test/"],
+            RING_REPORT,
+        ),
+        (
+            RING,
+            &["crawl", "--workers", "3", "-", "http://a.test/"],
+            RING_REPORT,
+        ),
+        (
+            RING,
+            &["crawl", "--workers", "64", "-", "http://a.test/"],
+            RING_REPORT,
+        ),
+        (
+            TWO_LINKS,
+            &["crawl", "-", "http://a.test/"],
+            TWO_LINKS_REPORT,
+        ),
+    ];
+    for (web, row, report) in rows {
+        let (status, out) = answer(&rt, rt.alloc(), row, web)?;
+        assert_eq!(rt; status, DONE, "{row:?}");
+        assert_eq!(rt; str::from_utf8(&out)?, report, "{row:?}");
+    }
+    Ok(())
+}
+
+#[test]
+fn crawls_refused(rt: HostRuntime) -> Result<(), Fail> {
+    let rows: [(&str, &[&str], u8); 12] = [
+        ("", &["crawl", "-", "http://a.test/"], FAULT),
+        ("savedweb 2", &["crawl", "-", "http://a.test/"], FAULT),
+        (
+            "savedweb 1\nlink x",
+            &["crawl", "-", "http://a.test/"],
+            FAULT,
+        ),
+        (RING, &["crawl", "-", "mailto:x"], FAULT),
+        (RING, &["crawl", "-", "http://a.test/", "/x"], FAULT),
+        (RING, &["crawl", "-"], BAD_COMMAND),
+        (RING, &["crawl", "ring.web", "http://a.test/"], BAD_COMMAND),
+        (RING, &["crawl", "--workers", "2", "-"], BAD_COMMAND),
+        (
+            RING,
+            &["crawl", "--workers", "0", "-", "http://a.test/"],
+            BAD_COMMAND,
+        ),
+        (
+            RING,
+            &["crawl", "--workers", "65", "-", "http://a.test/"],
+            BAD_COMMAND,
+        ),
+        (
+            RING,
+            &["crawl", "--worker", "2", "-", "http://a.test/"],
+            BAD_COMMAND,
+        ),
+        (RING, &["crawl"], BAD_COMMAND),
+    ];
+    for (web, row, status) in rows {
+        let (ended, out) = answer(&rt, rt.alloc(), row, web)?;
+        assert_eq!(rt; ended, status, "{row:?}");
+        assert_eq!(rt; str::from_utf8(&out)?, "", "{row:?}");
+    }
+    Ok(())
+}
+
+/// Its pages are all missing, and no fetch succeeds.
+#[derive(Drop)]
+struct NoFetch;
+
+impl Fetch for NoFetch {
+    ghost use Rattle.crawl_web.specs.declared.page.Page.TheVariants.{Missing};
+
+    ghost meaning = { λ _ _. Missing };
+
+    fn fetch(&self, _alloc: Global, _url: &CanonUrl) -> Result<Page, FetchError> {
+        Err(FetchError::Failed)
+    }
+}
+
+// How many results there are, and how much was lost, of a crawl from `http://a.test/` by one worker.
+fn counts<F: Fetch>(
+    rt: &impl Wait,
+    alloc: Global,
+    fetcher: &F,
+    max: u64,
+) -> Result<(usize, u64), NoMemory>
+    requires least { 1 ≤ max }
+    requires most { max ≤ PENDING_LIMIT }
+{
+    let Ok(seed) = canonical(alloc, "http://a.test/") else {
+        return Err(AllocError);
+    };
+    let (results, lost) = crawl_by_core(rt, alloc, fetcher, &[seed], 1, max)?;
+    Ok((results.len(), lost))
+}
+
+#[test]
+fn losses(rt: HostRuntime) -> Result<(), Fail> {
+    let alloc = rt.alloc();
+    let Ok(web) = SavedWeb::read(alloc, TWO_LINKS.as_bytes()) else {
+        return Err(Fail::from(AllocError));
+    };
+    assert_eq!(rt; counts(&rt, alloc, &web, 1)?, (0, 1), "the seed is refused");
+    assert_eq!(rt; counts(&rt, alloc, &web, 2)?, (2, 1), "one link is refused");
+    assert_eq!(rt; counts(&rt, alloc, &web, 3)?, (3, 0), "nothing is lost");
+    assert_eq!(rt; counts(&rt, alloc, &NoFetch, 3)?, (0, 1), "the fetch fails");
+    Ok(())
+}
