@@ -1,3 +1,4 @@
+pub mod ErrorText
 pub mod History
 pub mod Invariants
 pub mod Kept

@@ -20,12 +20,17 @@ pub enum CoreError {
 }
 
 impl fmt::Display for CoreError {
+    ghost use Rattle.std.specs.Prelude.{Some};
+    ghost use Rattle.crawl_core.specs.ErrorText.{error_text};
+
+    ghost output = { λ e. Some (error_text e) };
+
     fn fmt<W: fmt::Write>(&self, f: &mut fmt::Formatter<W>) -> fmt::Result {
-        f.write_str(match self {
-            CoreError::BadWorkers => "bad number of workers",
-            CoreError::BadMax => "bad maximum",
-            CoreError::NoMemory => "out of memory",
-        })
+        match self {
+            CoreError::BadWorkers => f.write_str("bad number of workers"),
+            CoreError::BadMax => f.write_str("bad maximum"),
+            CoreError::NoMemory => f.write_str("out of memory"),
+        }
     }
 }
 

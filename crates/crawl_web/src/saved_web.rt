@@ -39,7 +39,7 @@ impl<'a> SavedWeb<'a> {
         ensures pages { IfOk result (λ web. (url : List ℕ) → page_at web url ≡ page_of (lines bytes.now) url) }
         // An error is the fault of the first line that has one, unless a growth was refused.
         ensures fault { IfErr result (λ told. IsFault (lines bytes.now) told ⊎ (told ≡ WebError.NoMemory)) }
-        // So it is, the other way round, for every input.
+        // The other way round: sound lines are read, and lines with a fault are refused for it.
         ensures reads { IsSound (lines bytes.now) → IfErr result (λ told. told ≡ WebError.NoMemory) }
         ensures tells { (fault : WebError) → IsFault (lines bytes.now) fault → MatchResult result (λ _. ⊥) (λ told. (told ≡ fault) ⊎ (told ≡ WebError.NoMemory)) }
     {
