@@ -2,3 +2,4 @@ pub mod CanonicalText
 pub mod HostKey
 pub mod Layout
 pub mod Assignment
+pub mod Outcome

@@ -1,4 +1,5 @@
 pub mod KnownPages
+pub mod LeastFault
 pub mod Lines
 pub mod Pages
 pub mod Parts
