@@ -25,7 +25,7 @@ use Rattle.crawl_core.specs.Subqueue.{Subqueue, empty_subqueue, unfinished, olde
 use Rattle.crawl_core.specs.GateSide.{GateSide, GateTurn, units_out, holds, let_go, same_word, enter_with, close}
 use Rattle.crawl_core.specs.State.{State, unfinished_in, count_of, word_of}
 use Rattle.crawl_core.specs.Step.{Turn, turn, by_gate, with_subqueue, put, admit_to, take_oldest, take_from, done_with}
-use Rattle.crawl_core.specs.History.{is_quiet, came_out, came_back, told_count}
+use Rattle.crawl_core.specs.History.{is_quiet, comes_out, comes_back, told_count}
 use Rattle.crawl_core.specs.Invariants.{SubqueueInvariant, EachSubqueue}
 use Rattle.crawl_core.proofs.Places.{sum_at, set_cases, push_cases, length-slice_set}
 use Rattle.crawl_core.proofs.Holders.{Rising, Rising-insert_key, Rising-remove_key}
@@ -47,11 +47,11 @@ pub record GateEffect (old : State) (done : Turn) : Type 0 where
   pub stays : old.gate.closed ≡ true → (done.state.gate.closed ≡ true) × (is_quiet done.reply ≡ true)
   pub max : done.state.gate.max ≡ old.gate.max
   pub as_many : length done.state.subqueues ≡ length old.subqueues
-  pub units : count_of done.state + came_back done.reply ≡ count_of old + came_out done.reply
+  pub units : count_of done.state + cond (comes_back done.reply) 1 0 ≡ count_of old + cond (comes_out done.reply) 1 0
   pub tells : (count : ℕ) → told_count done.reply ≡ Some count → count_of done.state ≡ count
 
 -- a reply that changes nothing
-still : (state : State) → Sound state → (reply : Reply) → is_quiet reply ≡ true → (reply ≡ told.Closed → ⊥) → came_back reply ≡ came_out reply → ((count : ℕ) → told_count reply ≡ Some count → count_of state ≡ count) → GateEffect state (record { reply = reply; state = state })
+still : (state : State) → Sound state → (reply : Reply) → is_quiet reply ≡ true → (reply ≡ told.Closed → ⊥) → comes_back reply ≡ comes_out reply → ((count : ℕ) → told_count reply ≡ Some count → count_of state ≡ count) → GateEffect state (record { reply = reply; state = state })
 still state sound reply quiet other even tells = record {
   sound = sound;
   within = λ within. within;
@@ -59,7 +59,7 @@ still state sound reply quiet other even tells = record {
   stays = λ closed. (closed, quiet);
   max = refl;
   as_many = refl;
-  units = omega (arith, even);
+  units = rw even refl;
   tells = tells;
 }
 
