@@ -15,17 +15,17 @@ use Rattle.crawl_core.specs.declared.reply.Reply.{Reply}
 use Rattle.crawl_core.specs.declared.reply.Reply.TheVariants as told
 use Rattle.crawl_core.specs.Flags.{one_if}
 use Rattle.crawl_core.specs.Messages.{Message, has_url}
-use Rattle.crawl_core.specs.Subqueue.{Subqueue, finished, unfinished}
+use Rattle.crawl_core.specs.Subqueue.{oldest, Subqueue, finished, unfinished}
 use Rattle.crawl_core.specs.GateSide.{holds}
 use Rattle.crawl_core.specs.State.{State, start, count_of}
-use Rattle.crawl_core.specs.Step.{turn, Turn, admit_to}
+use Rattle.crawl_core.specs.Step.{take_from, take_oldest, turn, Turn, admit_to}
 use Rattle.crawl_core.specs.Run.{Run, IsRun}
 use Rattle.crawl_core.specs.History.{accepted_by, taken_by, done_by, accepted_in, accepted_urls, taken_urls, done_in, is_quiet, AssignsEachUrl, IsAdmitted, TakesOnce, TakesWhereAdmitted, NamesItsSubqueue, StaysClosed}
 use Rattle.crawl_core.specs.Invariants.{SubqueueInvariant, EachSubqueue, GateInvariant, HasRoom, IsAfter, IsState, IsFinished}
 use Rattle.crawl_core.proofs.Places.{from_filter_map, at_rank, rank_below, zip_first, slice_get-map}
 use Rattle.crawl_core.proofs.Holders.{rising_differ}
 use Rattle.crawl_core.proofs.Effects.{messages, urls_taken, finished_at, cond_both}
-use Rattle.crawl_core.proofs.RunParts.{eqb_same, pair_is, run_keeps, run_at, run_split, run_sound, start_sound, start_count, later_place, run_shape, units_out_of}
+use Rattle.crawl_core.proofs.RunParts.{eqb_same, pair_is, run_keeps, run_at, run_split, run_sound, start_sound, start_count, later_place, run_shape, units_out_of, closed_of}
 use Rattle.crawl_core.proofs.QueueHistory.{History, history_at, url_at, takes_in_order, accepts_once}
 use Rattle.crawl_core.proofs.Sound.{Sound, gate_effect, some_is, none_unfinished}
 
@@ -78,6 +78,7 @@ state_of_history workers max history state run =
           let none = no_place state.subqueues place (omega (arith, beyond, shape.as_many)) in
           (rw none at said.accepted, rw none at said.taken);
       units = units_out_of workers max history state run;
+      closed = closed_of workers max history state run;
     }
 
 -- ## Closing
@@ -328,3 +329,34 @@ seen_means_accepted workers max front back sender queue url end run =
     let parts = run_split (start workers max) front ((Admit sender url queue, told.Seen) ∷ back) end run in
     let said = history_at workers max queue front parts.0 parts.1 in
     rw said.accepted (seen_by parts.0 sender queue url (slice_get parts.0.subqueues queue) parts.2.1.reply_is)
+
+-- ## Empty
+
+get_none : {A : Type 0} (xs : List A) (n : ℕ) → slice_get xs n ≡ None → length xs ≤ n
+get_none [] n none = omega arith
+get_none (x ∷ xs) zero none = absurd (cc)
+get_none (x ∷ xs) (suc n) none = let rest = get_none xs n none in omega (arith, rest)
+
+-- all that is longer than the list is the list
+take_beyond : {A : Type 0} (xs : List A) (n : ℕ) → length xs ≤ n → take n xs ≡ xs
+take_beyond [] zero beyond = refl
+take_beyond [] (suc n) beyond = refl
+take_beyond (x ∷ xs) zero beyond = absurd (omega (arith, beyond))
+take_beyond (x ∷ xs) (suc n) beyond = ap (λ ys. x ∷ ys) (take_beyond xs n (omega (arith, beyond)))
+
+-- a reply `Empty` was given by a subqueue with nothing left
+empty_by : (state : State) (place : ℕ) (o : Option Subqueue) → told.Empty ≡ (take_from state place o).reply → urls_taken o ≡ map (λ (m : Message). m.url) (messages o)
+empty_by state place None = λ e. refl
+empty_by state place (Some queue) =
+    let P : Turn → Type 0 = λ t. told.Empty ≡ t.reply → urls_taken (Some queue) ≡ map (λ (m : Message). m.url) queue.accepted in
+    cond_both P queue.busy _ _ (λ _ e. absurd (cc)) (λ _. by_oldest (oldest queue) refl)
+  where
+    by_oldest : (first : Option Message) → oldest queue ≡ first → told.Empty ≡ (take_oldest state place queue first).reply → urls_taken (Some queue) ≡ map (λ (m : Message). m.url) queue.accepted
+    by_oldest None none e = ap (map (λ (m : Message). m.url)) (take_beyond queue.accepted queue.taken (get_none queue.accepted queue.taken none))
+    by_oldest (Some m) is e = absurd (cc)
+
+pub empty_means_taken : (workers max : ℕ) (front back : List (Event × Reply)) (queue : ℕ) (end : State) → Run (start workers max) (front ++ (Take queue, told.Empty) ∷ back) end → taken_urls queue front ≡ accepted_urls queue front
+empty_means_taken workers max front back queue end run =
+    let parts = run_split (start workers max) front ((Take queue, told.Empty) ∷ back) end run in
+    let said = history_at workers max queue front parts.0 parts.1 in
+    rw (said.accepted, said.taken) (empty_by parts.0 queue (slice_get parts.0.subqueues queue) parts.2.1.reply_is)

@@ -1,17 +1,19 @@
 -- Parts of a run, and what every run keeps.
-use Rattle.std.proofs.Common.{eq-eqb, cond, ◌≡◌, ℕ, zero, suc, ◌+◌, ◌-◌, ◌<◌, true, List, [], ◌∷◌, ◌++◌, length, take, drop, nat_eq, replicate, slice_get, Some, refl, sym, ap, subst, ◌∙◌, arith, true≢false, mul-zero, zero-add}
+use Rattle.std.proofs.Common.{Bool, true, false, ◌||◌, eq-eqb, cond, ◌≡◌, ℕ, zero, suc, ◌+◌, ◌-◌, ◌<◌, List, [], ◌∷◌, ◌++◌, length, take, drop, nat_eq, replicate, slice_get, Some, refl, sym, ap, subst, ◌∙◌, arith, true≢false, mul-zero, zero-add}
 use Rattle.std.specs.List.{count_by, zip}
 use Rattle.std.proofs.lemmas.List.{length-replicate}
 use Rattle.std.proofs.lemmas.List.Sums.{sum_by-cons}
 use Rattle.std.proofs.lemmas.List.Folds.{sum_by-replicate}
 use Rattle.crawl_core.specs.declared.event.Event.{Event}
+use Rattle.crawl_core.specs.declared.event.Event.TheVariants.{Look}
 use Rattle.crawl_core.specs.declared.reply.Reply.{Reply}
+use Rattle.crawl_core.specs.declared.reply.Reply.TheVariants as told
 use Rattle.crawl_core.specs.Subqueue.{empty_subqueue, unfinished}
 use Rattle.crawl_core.specs.GateSide.{holds}
 use Rattle.crawl_core.specs.State.{State, start, count_of}
 use Rattle.crawl_core.specs.Step.{Step, turn}
 use Rattle.crawl_core.specs.Run.{Run, IsRun}
-use Rattle.crawl_core.specs.History.{comes_out, comes_back, told_count, AreOut, TellsUnits}
+use Rattle.crawl_core.specs.History.{comes_out, comes_back, told_count, AreOut, TellsUnits, says_closed, was_closed, TellsClosing}
 use Rattle.crawl_core.proofs.Effects.{take_one_more}
 use Rattle.crawl_core.proofs.RunSteps.{Run-push}
 use Rattle.crawl_core.proofs.Sound.{Sound, gate_effect, some_is}
@@ -141,6 +143,37 @@ tells_units workers max events replies run k count event reply at told_is =
     let is_count : count_of moment.after ≡ count = rw moment.step.state_is (effect.tells count told_here) in
     let whole : Run (start workers max) (take (suc k) history) moment.after = rw (take_one_more history k (event, reply) at) (Run-push (start workers max) (take k history) moment.before (event, reply) moment.after moment.came moment.step) in
     rw (← is_count) (units_out_of workers max (take (suc k) history) moment.after whole)
+
+-- ## Closed or not
+
+or_three : (a b c : Bool) → ((a || b) || c) ≡ (a || (b || c))
+or_three true b c = refl
+or_three false b c = refl
+
+run_closes : (old : State) (history : List (Event × Reply)) (new : State) → Sound old → Run old history new → new.gate.closed ≡ (old.gate.closed || was_closed history)
+run_closes old [] new sound run = rw run (or_none old.gate.closed)
+  where
+    or_none : (b : Bool) → b ≡ (b || false)
+    or_none true = refl
+    or_none false = refl
+run_closes old (x ∷ xs) new sound run =
+    let effect = gate_effect old sound x.0 in
+    let after = subst Sound (sym run.1.state_is) effect.sound in
+    let here : run.0.gate.closed ≡ (old.gate.closed || says_closed x.1) = rw (run.1.state_is, run.1.reply_is) effect.closing in
+    let rest = run_closes run.0 xs new after run.2 in
+    rest ∙ ap (λ b. b || was_closed xs) here ∙ or_three old.gate.closed (says_closed x.1) (was_closed xs)
+
+pub closed_of : (workers max : ℕ) (history : List (Event × Reply)) (state : State) → Run (start workers max) history state → state.gate.closed ≡ was_closed history
+closed_of workers max history state run = run_closes (start workers max) history state (start_sound workers max) run
+
+flag_of_word : {a b : ℕ} {c d : Bool} → told.Word a c ≡ told.Word b d → c ≡ d
+flag_of_word e = cc
+
+pub tells_closing : (workers max : ℕ) (events : List Event) (replies : List Reply) → IsRun workers max events replies → TellsClosing (zip events replies)
+tells_closing workers max events replies run k sender count closed at =
+    let history = zip events replies in
+    let moment = run_at (start workers max) history k (Look sender, told.Word count closed) run.end run.run at in
+    flag_of_word moment.step.reply_is ∙ closed_of workers max (take k history) moment.before moment.came
 
 -- ## The numbers of a frontier
 

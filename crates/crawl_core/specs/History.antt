@@ -1,8 +1,8 @@
 -- What a history, a list of events with their replies, says of each subqueue and of the units.
 use Rattle.std.specs.Prelude.{◌≡◌, ℕ, suc, ◌+◌, ◌<◌, List, map, take, nat_eq, slice_get, if◌then◌else◌, Option, Some, None, Bool, true, false}
-use Rattle.std.specs.List.{filter_map, count_by}
+use Rattle.std.specs.List.{filter_map, count_by, list_any}
 use Rattle.crawl_core.specs.declared.event.Event.{Event}
-use Rattle.crawl_core.specs.declared.event.Event.TheVariants.{Admit, Take, Done}
+use Rattle.crawl_core.specs.declared.event.Event.TheVariants.{Look, Admit, Take, Done}
 use Rattle.crawl_core.specs.declared.reply.Reply.{Reply}
 use Rattle.crawl_core.specs.declared.reply.Reply.TheVariants as told
 use Rattle.crawl_core.specs.Messages.{Message, message_with, numbers_of}
@@ -110,6 +110,19 @@ told_count _ = None
 abbrev pub TellsUnits : List (Event × Reply) → Type 0
 TellsUnits history =
     (k count : ℕ) (event : Event) (reply : Reply) → slice_get history k ≡ Some (event, reply) → told_count reply ≡ Some count → AreOut count (take (suc k) history)
+
+-- whether the reply says that the gate is closed, and whether one did
+abbrev pub says_closed : Reply → Bool
+says_closed told.Closed = true
+says_closed _ = false
+
+abbrev pub was_closed : List (Event × Reply) → Bool
+was_closed history = list_any (λ x. says_closed x.1) history
+
+-- a look finds the gate closed exactly if a reply before said so
+abbrev pub TellsClosing : List (Event × Reply) → Type 0
+TellsClosing history =
+    (k sender count : ℕ) (closed : Bool) → slice_get history k ≡ Some (Look sender, told.Word count closed) → closed ≡ was_closed (take k history)
 
 -- an acceptance is told of the subqueue that its event names
 abbrev pub NamesItsSubqueue : List (Event × Reply) → Type 0

@@ -8,7 +8,7 @@ use Rattle.crawl_core.specs.Messages.{UrlsDiffer, NumbersInOrder}
 use Rattle.crawl_core.specs.Subqueue.{Subqueue, waiting}
 use Rattle.crawl_core.specs.GateSide.{GateSide}
 use Rattle.crawl_core.specs.State.{State, count_of}
-use Rattle.crawl_core.specs.History.{accepted_in, accepted_urls, taken_urls, done_in, AreOut}
+use Rattle.crawl_core.specs.History.{accepted_in, accepted_urls, taken_urls, done_in, AreOut, was_closed}
 
 -- a maximum with room for the opening unit, which is out from the start: a maximum of 0 would be passed before any event.
 -- No frontier is made with one that has none
@@ -52,6 +52,7 @@ pub record IsState (workers max : ℕ) (history : List (Event × Reply)) (state 
   pub queues : (place : ℕ) (queue : Subqueue) → slice_get state.subqueues place ≡ Some queue → IsAfter history place queue
   pub no_others : (place : ℕ) → workers ≤ place → (accepted_in place history ≡ []) × (taken_urls place history ≡ [])
   pub units : AreOut (count_of state) history
+  pub closed : state.gate.closed ≡ was_closed history
 
 -- the opening unit is gone, nobody holds one, and every accepted message was taken and is done
 pub record IsFinished (state : State) : Type 0 where

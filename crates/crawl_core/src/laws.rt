@@ -6,7 +6,7 @@ ghost use Rattle.crawl_core.specs.Messages.{Message};
 ghost use Rattle.crawl_core.specs.Subqueue.{Subqueue};
 ghost use Rattle.crawl_core.specs.State.{State, start, count_of};
 ghost use Rattle.crawl_core.specs.Run.{Run, IsRun};
-ghost use Rattle.crawl_core.specs.History.{TakesInOrder, AcceptsOnce, LeavesInOrder, FetchesOneAtATime, AssignsEachUrl, IsAdmitted, NamesItsSubqueue, TakesOnce, TakesWhereAdmitted, TellsUnits, StaysClosed, accepted_urls, taken_urls, done_in};
+ghost use Rattle.crawl_core.specs.History.{TakesInOrder, AcceptsOnce, LeavesInOrder, FetchesOneAtATime, AssignsEachUrl, IsAdmitted, NamesItsSubqueue, TakesOnce, TakesWhereAdmitted, TellsUnits, TellsClosing, StaysClosed, accepted_urls, taken_urls, done_in};
 ghost use Rattle.crawl_core.specs.Invariants.{HasRoom, GateInvariant, SubqueueInvariant, EachSubqueue, IsState, IsFinished};
 ghost use Rattle.crawl_core.specs.declared.event.Event.{Event};
 ghost use Rattle.crawl_core.specs.declared.reply.Reply.{Reply};
@@ -44,6 +44,11 @@ pub fn seen_means_accepted()
     ensures { (workers max : ℕ) (front back : List (Event × Reply)) (sender queue : ℕ) (url : List ℕ) (end : State) → Run (start workers max) (front ++ (Event.Admit sender url queue, told.Seen) ∷ back) end → Contains (accepted_urls queue front) url }
 {}
 
+/// Empty means taken: at a reply `Empty` every URL that the subqueue accepted was taken.
+pub fn empty_means_taken()
+    ensures { (workers max : ℕ) (front back : List (Event × Reply)) (queue : ℕ) (end : State) → Run (start workers max) (front ++ (Event.Take queue, told.Empty) ∷ back) end → taken_urls queue front ≡ accepted_urls queue front }
+{}
+
 /// Closed means done: at a reply `Closed` the opening unit is gone, nobody holds a unit, and every accepted message was
 /// taken and is done; so from each subqueue were taken exactly the URLs that it accepted, in order, and each of these fetches
 /// was answered as done.
@@ -58,11 +63,12 @@ pub fn closed_for_good()
     ensures { (workers max : ℕ) (events : List Event) (replies : List Reply) → IsRun workers max events replies → StaysClosed (zip events replies) }
 {}
 
-/// Every state of a run meets the gate's invariant and, in each subqueue, the subqueue's; it has the run's numbers, and its
-/// subqueues and units are those that the history tells of. And the counts that the replies tell are those of the history.
+/// Every state of a run meets the gate's invariant and, in each subqueue, the subqueue's; it has the run's numbers, and it is
+/// what the history says. So are the counts that the replies tell, and whether a look finds the gate closed.
 pub fn invariants_in_runs()
     ensures gate { (workers max : ℕ) (history : List (Event × Reply)) (state : State) → HasRoom max → Run (start workers max) history state → GateInvariant state.gate (count_of state) }
     ensures subqueues { (workers max : ℕ) (history : List (Event × Reply)) (state : State) → Run (start workers max) history state → EachSubqueue SubqueueInvariant state }
     ensures history { (workers max : ℕ) (history : List (Event × Reply)) (state : State) → Run (start workers max) history state → IsState workers max history state }
     ensures told { (workers max : ℕ) (events : List Event) (replies : List Reply) → IsRun workers max events replies → TellsUnits (zip events replies) }
+    ensures told_closing { (workers max : ℕ) (events : List Event) (replies : List Reply) → IsRun workers max events replies → TellsClosing (zip events replies) }
 {}

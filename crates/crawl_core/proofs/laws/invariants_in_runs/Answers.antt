@@ -1,5 +1,5 @@
 use Rattle.crawl_core.proofs.RunLaws.{gate_invariant, subqueue_invariant, state_of_history}
-use Rattle.crawl_core.proofs.RunParts.{tells_units}
+use Rattle.crawl_core.proofs.RunParts.{tells_units, tells_closing}
 use Rattle.crawl_core.proofs.laws.invariants_in_runs.Goals as goal
 
 pub returns-clause-gate : goal.returns-clause-gate
@@ -13,3 +13,6 @@ returns-clause-history c = state_of_history
 
 pub returns-clause-told : goal.returns-clause-told
 returns-clause-told c = tells_units
+
+pub returns-clause-told_closing : goal.returns-clause-told_closing
+returns-clause-told_closing c = tells_closing
