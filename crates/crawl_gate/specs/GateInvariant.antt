@@ -1,5 +1,5 @@
 -- What is true of a gate between any two steps, and so what a seat that makes a step may rely on.
-use Rattle.std.specs.Prelude.{◌≡◌, ℕ, ◌<◌, ◌≤◌, ◌^◌, Bool, true, false, [], ◌∷◌}
+use Rattle.std.specs.Prelude.{◌≡◌, ℕ, ◌<◌, ◌≤◌, ◌^◌, Bool, true, false, List, [], ◌∷◌}
 use mathlib.Core.Option.{some}
 use lib.ListN.{get_elem?}
 use Rattle.atomic_table.specs.Table.{State}
@@ -11,6 +11,10 @@ use Rattle.crawl_gate.specs.View.{units_held, knows_closed}
 abbrev pub Moment : Type 0
 Moment = State (Unit {0}) View
 
+-- some seat's view says that a step of its own closed the gate
+abbrev pub HasCloser : List View → Type 0
+HasCloser views = (seat : ℕ) × (v : View) × (get_elem? views seat ≡ some v) × (v.closed_gate ≡ true)
+
 pub record GateInvariant (max : ℕ) (gate : Moment) : Type 0 where
   pub closed : Bool
   -- the count is the number of units held, dropped ones among them
@@ -20,6 +24,8 @@ pub record GateInvariant (max : ℕ) (gate : Moment) : Type 0 where
   pub small : max < 2 ^ 63
   -- the gate is closed only with count 0
   pub empty : closed ≡ true → units_held gate.views ≡ 0
+  -- and only where a seat has closed it
+  pub closer : closed ≡ true → HasCloser gate.views
   -- every seat has the maximum in its view, and the gate is closed where a seat has closed it or has met it closed
   pub seats : (seat : ℕ) (v : View) → get_elem? gate.views seat ≡ some v → (v.max_pending ≡ max) × (knows_closed v ≡ true → closed ≡ true)
 

@@ -1,10 +1,10 @@
 -- The kinds of step of a gate, what each does to its word and its seats, and histories of such steps.
-use Rattle.std.specs.Prelude.{◌≡◌, ℕ, ◌+◌, ◌<◌, ◌^◌, true, false, List, [], ◌∷◌, ◌++◌, slice_set}
+use Rattle.std.specs.Prelude.{◌≡◌, ◌≢◌, ℕ, ◌+◌, ◌<◌, ◌^◌, true, false, List, [], ◌∷◌, ◌++◌, slice_set}
 use mathlib.Core.Option.{some}
 use lib.ListN.{get_elem?}
 use Rattle.crawl_gate.specs.declared.rule.View.{View}
 use Rattle.crawl_gate.specs.Word.{Word, bits, open_at, closed_at}
-use Rattle.crawl_gate.specs.View.{opening_view, fresh_view, view_meeting, view_entering, view_leaving, view_closing}
+use Rattle.crawl_gate.specs.View.{opening_view, fresh_view, view_looking, view_entering, view_losing, view_leaving, view_closing, view_not_closing}
 use Rattle.crawl_gate.specs.GateInvariant.{Moment}
 
 -- the moment at which a gate is made
@@ -19,18 +19,22 @@ pub record SeatSteps (gate gate' : Moment) (v w : View) (x y : Word) : Type 0 wh
   pub small : x.0 < 2 ^ 63
   pub next : gate' ≡ record { words = bits y ∷ []; homes = gate.homes; views = slice_set gate.views seat w }
 
--- A split adds the view of a new pass. Every other step changes the view of the one seat that makes it; a load,
--- and an exchange that is not won, leave the word as it is.
+-- A split adds the view of a new pass. Every other step changes the view of the one seat that makes it, and names
+-- its kind there; a load, and an exchange that is not won, leave the word as it is.
 pub data GateStep (gate gate' : Moment) : Type 0 where
   splits : (v : View) (seat : ℕ) → get_elem? gate.views seat ≡ some v
       → gate' ≡ record { words = gate.words; homes = gate.homes; views = gate.views ++ fresh_view v.max_pending ∷ [] } → GateStep gate gate'
-  meets : (v : View) (x : Word) → SeatSteps gate gate' v (view_meeting v x) x x → GateStep gate gate'
+  looks : (v : View) (x : Word) → SeatSteps gate gate' v (view_looking v x) x x → GateStep gate gate'
   enters : (v : View) (n : ℕ) → v.holds_unit ≡ false → n < v.max_pending
       → SeatSteps gate gate' v (view_entering v (open_at n)) (open_at n) (open_at (n + 1)) → GateStep gate gate'
+  loses : (v : View) (n : ℕ) (x : Word) → v.holds_unit ≡ false → n < v.max_pending → x ≢ open_at n
+      → SeatSteps gate gate' v (view_losing v x) x x → GateStep gate gate'
   leaves : (v : View) (n : ℕ) → v.holds_unit ≡ true
       → SeatSteps gate gate' v (view_leaving v (open_at (n + 1))) (open_at (n + 1)) (open_at n) → GateStep gate gate'
   closes : (v : View) → v.holds_unit ≡ false
       → SeatSteps gate gate' v (view_closing v (open_at 0)) (open_at 0) (closed_at 0) → GateStep gate gate'
+  not_closes : (v : View) (x : Word) → v.holds_unit ≡ false → x ≢ open_at 0
+      → SeatSteps gate gate' v (view_not_closing v x) x x → GateStep gate gate'
 
 -- the moments after this one, each by one step from the one before
 abbrev pub IsHistory : Moment → List Moment → Type 0

@@ -3,7 +3,7 @@ use Rattle.std.specs.Prelude.{◌≡◌, ◌≢◌, ℕ}
 use Rattle.atomic_table.specs.Table.{Step, Me}
 use Rattle.crawl_gate.specs.declared.rule.View.{View}
 use Rattle.crawl_gate.specs.Word.{Word, bits}
-use Rattle.crawl_gate.specs.View.{view_meeting, view_entering, view_leaving, view_closing}
+use Rattle.crawl_gate.specs.View.{view_looking, view_entering, view_losing, view_leaving, view_closing, view_not_closing}
 use Rattle.crawl_gate.specs.GateInvariant.{MayMeet}
 
 -- a seat: its view, and a list of slots, which is empty for a gate
@@ -12,13 +12,13 @@ Sitting = Me (Unit {0}) View
 
 -- a load
 abbrev pub Looks : Step (Unit {0}) → Sitting → ℕ → Sitting → Type 0
-Looks step before found after = (x : Word) × MayMeet before.0 x × (found ≡ bits x) × (after.0 ≡ view_meeting before.0 x) × (after.1 ≡ before.1)
+Looks step before found after = (x : Word) × MayMeet before.0 x × (found ≡ bits x) × (after.0 ≡ view_looking before.0 x) × (after.1 ≡ before.1)
 
 -- an exchange for one unit more, which wins where it finds the word that it expects
 abbrev pub Enters : Step (Unit {0}) → Sitting → ℕ → Sitting → Type 0
 Enters step before found after =
     (x : Word) × MayMeet before.0 x × (found ≡ bits x)
-    × (found ≡ step.first → after.0 ≡ view_entering before.0 x) × (found ≢ step.first → after.0 ≡ view_meeting before.0 x) × (after.1 ≡ before.1)
+    × (found ≡ step.first → after.0 ≡ view_entering before.0 x) × (found ≢ step.first → after.0 ≡ view_losing before.0 x) × (after.1 ≡ before.1)
 
 -- a subtraction of one unit
 abbrev pub Leaves : Step (Unit {0}) → Sitting → ℕ → Sitting → Type 0
@@ -28,4 +28,4 @@ Leaves step before found after = (x : Word) × MayMeet before.0 x × (found ≡ 
 abbrev pub Closes : Step (Unit {0}) → Sitting → ℕ → Sitting → Type 0
 Closes step before found after =
     (x : Word) × MayMeet before.0 x × (found ≡ bits x)
-    × (found ≡ 0 → after.0 ≡ view_closing before.0 x) × (found ≢ 0 → after.0 ≡ view_meeting before.0 x) × (after.1 ≡ before.1)
+    × (found ≡ 0 → after.0 ≡ view_closing before.0 x) × (found ≢ 0 → after.0 ≡ view_not_closing before.0 x) × (after.1 ≡ before.1)

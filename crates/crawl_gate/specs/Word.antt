@@ -1,5 +1,5 @@
 -- A gate's word: how many units are held, and whether the gate is closed.
-use Rattle.std.specs.Prelude.{ℕ, ◌+◌, ◌^◌, Bool, true, false, List, [], ◌∷◌, ◌||◌}
+use Rattle.std.specs.Prelude.{ℕ, ◌+◌, ◌^◌, Bool, true, false}
 
 -- the count, and whether the gate is closed
 abbrev pub Word : Type 0
@@ -19,8 +19,3 @@ closed_bit false = 0
 -- the u64 that shows a word
 abbrev pub bits : Word → ℕ
 bits x = x.0 + closed_bit x.1
-
--- one of the words is closed
-abbrev pub any_closed : List Word → Bool
-any_closed [] = false
-any_closed (x ∷ xs) = x.1 || any_closed xs
