@@ -25,7 +25,7 @@ same_word (m, false) (n, true) e small small' = absurd (omega arith)
 same_word (m, false) (n, false) e small small' = let same : m ≡ n = omega arith in ap (λ k. open_at k) same
 
 -- the word that a step of a seat finds is that of the invariant
-word_found : (max : ℕ) (gate gate' : Moment) (k : GateInvariant max gate) (v w : View) (x y : Word) → SeatSteps gate gate' v w x y → x ≡ word_of max gate k
+pub word_found : (max : ℕ) (gate gate' : Moment) (k : GateInvariant max gate) (v w : View) (x y : Word) → SeatSteps gate gate' v w x y → x ≡ word_of max gate k
 word_found max gate gate' k v w x y s =
     let within = k.within in
     let small = k.small in

@@ -34,7 +34,7 @@ pub record Owed (max : ℕ) (gate : Moment) (k : GateInvariant max gate) (v w : 
   pub keeps_closer : v.closed_gate ≡ true → w.closed_gate ≡ true
 
 -- who has closed the gate has closed it after a step of its own, and after a step of another seat
-still_closer : (views : List View) (seat : ℕ) (v w : View) → get_elem? views seat ≡ some v → (v.closed_gate ≡ true → w.closed_gate ≡ true)
+pub still_closer : (views : List View) (seat : ℕ) (v w : View) → get_elem? views seat ≡ some v → (v.closed_gate ≡ true → w.closed_gate ≡ true)
     → HasCloser views → HasCloser (set views seat w)
 still_closer views seat v w at stays by = dite (ℕ_discrete by.0 seat)
     (λ (same : by.0 ≡ seat).
@@ -114,7 +114,7 @@ found : (max : ℕ) (gate : Moment) (k : GateInvariant max gate) → slice_index
 found max gate k = ap (λ ws. slice_index ws 0) k.word
 
 -- what any seat may rely on at that word
-may_meet : (max : ℕ) (gate : Moment) (k : GateInvariant max gate) (seat : ℕ) (v : View) → get_elem? gate.views seat ≡ some v → MayMeet v (word_of max gate k)
+pub may_meet : (max : ℕ) (gate : Moment) (k : GateInvariant max gate) (seat : ℕ) (v : View) → get_elem? gate.views seat ≡ some v → MayMeet v (word_of max gate k)
 may_meet max gate k seat v at =
     let mine = k.seats seat v at in
     let within = k.within in
@@ -179,13 +179,15 @@ splits max seat v gate k at =
     }
 
 -- a number at most the maximum is the word of an open gate
-is_open_at : (count n max : ℕ) (closed : Bool) → max < 2 ^ 63 → n ≤ max → count + closed_bit closed ≡ n → (closed ≡ false) × (count ≡ n)
+pub is_open_at : (count n max : ℕ) (closed : Bool) → max < 2 ^ 63 → n ≤ max → count + closed_bit closed ≡ n → (closed ≡ false) × (count ≡ n)
 is_open_at count n max true small within e = absurd (omega arith)
 is_open_at count n max false small within e = (refl, omega arith)
 
-pub takes_unit : (max slots seat : ℕ) (m : Sitting) (n : ℕ) → m.0.holds_unit ≡ false → n < max
+pub takes_unit : (max slots seat : ℕ) (m : Sitting) (n : ℕ) → m.0.holds_unit ≡ false → n < m.0.max_pending
     → Allows (GateInvariant max) slots seat m 0 (λ r. either (eqb r n) (n + 1) r) (Enters (step slots 0 n (n + 1) none) m)
-takes_unit max slots seat m n holds_none room gate k _ at _ =
+takes_unit max slots seat m n holds_none below gate k _ at _ =
+    let same_max = (k.seats seat m.0 at).0 in
+    let room : n < max = omega (arith, below, same_max) in
     let x = word_of max gate k in
     let r : ℕ = slice_index gate.words 0 in
     let is = found max gate k in
@@ -203,14 +205,14 @@ takes_unit max slots seat m n holds_none room gate k _ at _ =
       tt,
       subst (λ z. GateInvariant max (stepped gate 0 z seat m.1 w keeps)) (sym next)
           (moved max gate k seat m w EnterWon (n + 1) at shown.0 (omega (arith, shown.1)) (omega arith) refl refl (λ e. e)),
-      (x, may, is, (λ _. refl), (λ miss. absurd (miss hit)), refl),
+      (holds_none, below, x, may, is, (λ _. refl), (λ miss. absurd (miss hit)), refl),
     ))
     (λ miss. (
       view_losing m.0 x,
       keeps,
       tt,
       subst (λ b. GateInvariant max (stepped gate 0 (either b (n + 1) r) seat m.1 (view_losing m.0 x) keeps)) (sym (ne_eqb r n miss)) (unmoved max gate k seat m EnterLost at),
-      (x, may, is, (λ hit. absurd (miss hit)), (λ _. refl), refl),
+      (holds_none, below, x, may, is, (λ hit. absurd (miss hit)), (λ _. refl), refl),
     ))
 
 -- the subtraction of 1 from an open word with a unit held, as the machine makes it
@@ -237,7 +239,7 @@ gives_back max slots seat m holds gate k _ at _ =
       tt,
       subst (λ z. GateInvariant max (stepped gate 0 z seat m.1 w keeps)) (sym next)
           (moved max gate k seat m w Leave (units_held gate.views - 1) at held.0 (omega arith) (omega arith) refl refl (λ e. e)),
-      (x, may, is, refl, refl),
+      (holds, x, may, is, refl, refl),
     )
 
 pub shuts : (max slots seat : ℕ) (m : Sitting) → m.0.holds_unit ≡ false
@@ -256,12 +258,12 @@ shuts max slots seat m holds_none gate k _ at _ =
       tt,
       subst (λ b. GateInvariant max (stepped gate 0 (either b (2 ^ 63) r) seat m.1 w keeps)) (sym (eq-eqb r 0 hit))
           (kept max gate k seat m w (closed_at 0) at (owed_closing max gate k m.0 x shown.1)),
-      (x, may, is, (λ _. refl), (λ miss. absurd (miss hit)), refl),
+      (holds_none, x, may, is, (λ _. refl), (λ miss. absurd (miss hit)), refl),
     ))
     (λ miss. (
       view_not_closing m.0 x,
       keeps,
       tt,
       subst (λ b. GateInvariant max (stepped gate 0 (either b (2 ^ 63) r) seat m.1 (view_not_closing m.0 x) keeps)) (sym (ne_eqb r 0 miss)) (unmoved max gate k seat m CloseLost at),
-      (x, may, is, (λ hit. absurd (miss hit)), (λ _. refl), refl),
+      (holds_none, x, may, is, (λ hit. absurd (miss hit)), (λ _. refl), refl),
     ))

@@ -3,7 +3,8 @@ ghost use Rattle.std.specs.Prelude.{◌≡◌, ℕ, List, [], ◌∷◌, All};
 ghost use Rattle.crawl_gate.specs.Word.{bits, closed_at};
 ghost use Rattle.crawl_gate.specs.GateInvariant.{Moment, GateInvariant};
 ghost use Rattle.crawl_gate.specs.GateError.{IsMaximum};
-ghost use Rattle.crawl_gate.specs.History.{IsHistory, first_moment};
+ghost use Rattle.crawl_gate.specs.History.{GateStep, IsHistory, first_moment};
+ghost use Rattle.crawl_gate.specs.TableStep.{TableStep};
 
 /// The gate's invariant holds at the moment at which a gate is made, and at every later moment of a history
 /// from there, or from any other moment that keeps it.
@@ -11,6 +12,13 @@ pub fn invariant_in_histories()
     ensures first { (max : ℕ) → IsMaximum max → GateInvariant max (first_moment max) }
     ensures later { (max : ℕ) (gate : Moment) (moments : List Moment) → GateInvariant max gate → IsHistory gate moments
         → All (GateInvariant max) moments }
+{}
+
+/// From a moment that keeps the invariant, the steps of a history are the steps that the gate's table lets its
+/// plays and its split make: every one of those, whichever number it writes, and no other.
+pub fn steps_are_those_of_the_table()
+    ensures every { (max : ℕ) (gate next : Moment) → GateInvariant max gate → GateInvariant max next → TableStep gate next → GateStep gate next }
+    ensures no_other { (max : ℕ) (gate next : Moment) → GateInvariant max gate → GateStep gate next → TableStep gate next × GateInvariant max next }
 {}
 
 /// Once a gate is closed no step changes its word, so that its count stays 0 and nobody enters.

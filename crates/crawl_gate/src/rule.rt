@@ -62,9 +62,9 @@ impl Play<(), View> for Shut {
 pub(crate) struct FreshPass;
 
 impl Split<View> for FreshPass {
-    ghost use Rattle.crawl_gate.specs.View.{fresh_view};
+    ghost use Rattle.crawl_gate.specs.Steps.{view_split, view_split_off};
 
-    ghost left = { λ v. v };
+    ghost left = { view_split };
 
-    ghost right = { λ v. fresh_view v.max_pending };
+    ghost right = { view_split_off };
 }
