@@ -1,9 +1,9 @@
 -- The kinds of step of a gate, what each does to its word and its seats, and histories of such steps.
-use Rattle.std.specs.Prelude.{◌≡◌, ◌≢◌, ℕ, ◌+◌, ◌<◌, ◌^◌, true, false, List, [], ◌∷◌, ◌++◌, slice_set}
+use Rattle.std.specs.Prelude.{◌≡◌, ◌≢◌, ℕ, ◌+◌, ◌<◌, true, false, List, [], ◌∷◌, ◌++◌, slice_set}
 use mathlib.Core.Option.{some}
 use lib.ListN.{get_elem?}
 use Rattle.crawl_gate.specs.declared.rule.View.{View}
-use Rattle.crawl_gate.specs.Word.{Word, bits, open_at, closed_at}
+use Rattle.crawl_gate.specs.Word.{Word, top_bit, bits, open_at, closed_at}
 use Rattle.crawl_gate.specs.View.{opening_view, fresh_view, view_looking, view_entering, view_losing, view_leaving, view_closing, view_not_closing}
 use Rattle.crawl_gate.specs.GateInvariant.{Moment}
 
@@ -16,7 +16,7 @@ pub record SeatSteps (gate gate' : Moment) (v w : View) (x y : Word) : Type 0 wh
   pub seat : ℕ
   pub view : get_elem? gate.views seat ≡ some v
   pub word : gate.words ≡ bits x ∷ []
-  pub small : x.0 < 2 ^ 63
+  pub small : x.0 < top_bit
   pub next : gate' ≡ record { words = bits y ∷ []; homes = gate.homes; views = slice_set gate.views seat w }
 
 -- A split adds the view of a new pass. Every other step changes the view of the one seat that makes it, and names

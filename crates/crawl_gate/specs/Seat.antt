@@ -3,7 +3,7 @@ use Rattle.std.specs.Prelude.{◌≡◌, ℕ, []}
 use Rattle.atomic_table.specs.Seated.{TableId}
 use Rattle.crawl_gate.specs.declared.rule.View.{View}
 use Rattle.crawl_gate.specs.Word.{Word}
-use Rattle.crawl_gate.specs.View.{view_looking, view_entering, view_losing, view_leaving, view_closing, view_not_closing}
+use Rattle.crawl_gate.specs.View.{opening_view, view_looking, view_entering, view_losing, view_leaving, view_closing, view_not_closing}
 
 -- which gate it is, and its maximum
 pub record GateId : Type 0 where
@@ -19,6 +19,10 @@ pub record SeatId : Type 0 where
 -- the seat was made by this gate
 abbrev pub IsSeatOf : GateId → SeatId → Type 0
 IsSeatOf gate seat = (seat.table ≡ gate.table) × (seat.view.max_pending ≡ gate.max_pending)
+
+-- the first seat of a new gate: a unit that is held, and has met nothing
+abbrev pub IsFirstUnit : GateId → SeatId → Type 0
+IsFirstUnit gate unit = (unit.table ≡ gate.table) × (unit.number ≡ 0) × (unit.view ≡ opening_view gate.max_pending)
 
 -- the same seat with another view
 abbrev pub with_view : SeatId → View → SeatId

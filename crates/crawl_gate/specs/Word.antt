@@ -11,9 +11,13 @@ open_at count = (count, false)
 abbrev pub closed_at : ℕ → Word
 closed_at count = (count, true)
 
--- bit 63, which is set where the gate is closed
+-- the u64 in which bit 63 alone is set. Counts are below it
+abbrev pub top_bit : ℕ
+top_bit = 2 ^ 63
+
+-- bit 63 is set where the gate is closed
 abbrev pub closed_bit : Bool → ℕ
-closed_bit true = 2 ^ 63
+closed_bit true = top_bit
 closed_bit false = 0
 
 -- the u64 that shows a word
