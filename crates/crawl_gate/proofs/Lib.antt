@@ -5,3 +5,4 @@ pub mod Trying
 pub mod Histories
 pub mod Slots
 pub mod TableSteps
+pub mod OneStep

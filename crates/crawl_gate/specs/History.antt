@@ -1,8 +1,10 @@
 -- The kinds of step of a gate, what each does to its word and its seats, and histories of such steps.
-use Rattle.std.specs.Prelude.{◌≡◌, ◌≢◌, ℕ, ◌+◌, ◌<◌, true, false, List, [], ◌∷◌, ◌++◌, slice_set}
+use Rattle.std.specs.Prelude.{Option, Some, None, ◌≡◌, ◌≢◌, ℕ, ◌+◌, ◌<◌, true, false, List, [], ◌∷◌, ◌++◌, slice_set}
 use mathlib.Core.Option.{some}
 use lib.ListN.{get_elem?}
 use Rattle.crawl_gate.specs.declared.rule.View.{View}
+use Rattle.crawl_gate.specs.declared.step_kind.StepKind.{StepKind}
+use Rattle.crawl_gate.specs.declared.step_kind.StepKind.TheVariants.{Load, EnterWon, EnterLost, Leave, CloseWon, CloseLost}
 use Rattle.crawl_gate.specs.Word.{Word, top_bit, bits, open_at, closed_at}
 use Rattle.crawl_gate.specs.View.{opening_view, fresh_view, view_looking, view_entering, view_losing, view_leaving, view_closing, view_not_closing}
 use Rattle.crawl_gate.specs.GateInvariant.{Moment}
@@ -35,6 +37,49 @@ pub data GateStep (gate gate' : Moment) : Type 0 where
       → SeatSteps gate gate' v (view_closing v (open_at 0)) (open_at 0) (closed_at 0) → GateStep gate gate'
   not_closes : (v : View) (x : Word) → v.holds_unit ≡ false → x ≢ open_at 0
       → SeatSteps gate gate' v (view_not_closing v x) x x → GateStep gate gate'
+
+-- the kind of a step; of a split none, since a split is told to no seat
+abbrev pub kind_of : (gate gate' : Moment) → GateStep gate gate' → Option StepKind
+kind_of gate gate' (splits v seat at next) = None
+kind_of gate gate' (looks v x s) = Some Load
+kind_of gate gate' (enters v n holds_none room s) = Some EnterWon
+kind_of gate gate' (loses v n x holds_none room other s) = Some EnterLost
+kind_of gate gate' (leaves v n holds s) = Some Leave
+kind_of gate gate' (closes v holds_none s) = Some CloseWon
+kind_of gate gate' (not_closes v x holds_none other s) = Some CloseLost
+
+-- how a step of this kind changes the word from x to y
+abbrev pub WordGoes : Option StepKind → Word → Word → Type 0
+WordGoes (Some EnterWon) x y = (n : ℕ) × (x ≡ open_at n) × (y ≡ open_at (n + 1))
+WordGoes (Some Leave) x y = (n : ℕ) × (x ≡ open_at (n + 1)) × (y ≡ open_at n)
+WordGoes (Some CloseWon) x y = (x ≡ open_at 0) × (y ≡ closed_at 0)
+WordGoes (Some Load) x y = x ≡ y
+WordGoes (Some EnterLost) x y = x ≡ y
+WordGoes (Some CloseLost) x y = x ≡ y
+WordGoes None x y = x ≡ y
+
+-- the one view that a step changes gains its kind and the word x. A split changes no view
+pub record GainsMet (gate gate' : Moment) (kind : StepKind) (x : Word) : Type 0 where
+  pub seat : ℕ
+  pub before : View
+  pub after : View
+  pub at : get_elem? gate.views seat ≡ some before
+  pub views : gate'.views ≡ slice_set gate.views seat after
+  pub met : after.met ≡ before.met ++ (kind, x) ∷ []
+
+abbrev pub ViewsGo : (gate gate' : Moment) → Option StepKind → Word → Type 0
+ViewsGo gate gate' (Some kind) x = GainsMet gate gate' kind x
+ViewsGo gate gate' None x = (v : View) × (gate'.views ≡ gate.views ++ v ∷ [])
+
+-- a step from the word x to the word y, both of which a u64 shows
+pub record GateGoes (gate gate' : Moment) (x y : Word) : Type 0 where
+  pub step : GateStep gate gate'
+  pub from : gate.words ≡ bits x ∷ []
+  pub to : gate'.words ≡ bits y ∷ []
+  pub small : x.0 < top_bit
+  pub small' : y.0 < top_bit
+  pub word : WordGoes (kind_of gate gate' step) x y
+  pub views : ViewsGo gate gate' (kind_of gate gate' step) x
 
 -- the moments after this one, each by one step from the one before
 abbrev pub IsHistory : Moment → List Moment → Type 0

@@ -1,9 +1,9 @@
 //! What follows for every history of a gate's steps, whichever threads make them: facts alone, with nothing to run.
 ghost use Rattle.std.specs.Prelude.{◌≡◌, ℕ, List, [], ◌∷◌, All};
-ghost use Rattle.crawl_gate.specs.Word.{bits, closed_at};
+ghost use Rattle.crawl_gate.specs.Word.{Word, bits, closed_at};
 ghost use Rattle.crawl_gate.specs.GateInvariant.{Moment, GateInvariant};
 ghost use Rattle.crawl_gate.specs.GateError.{IsMaximum};
-ghost use Rattle.crawl_gate.specs.History.{GateStep, IsHistory, first_moment};
+ghost use Rattle.crawl_gate.specs.History.{GateStep, GateGoes, IsHistory, first_moment};
 ghost use Rattle.crawl_gate.specs.TableStep.{TableStep};
 
 /// The gate's invariant holds at the moment at which a gate is made, and at every later moment of a history
@@ -12,6 +12,13 @@ pub fn invariant_in_histories()
     ensures first { (max : ℕ) → IsMaximum max → GateInvariant max (first_moment max) }
     ensures later { (max : ℕ) (gate : Moment) (moments : List Moment) → GateInvariant max gate → IsHistory gate moments
         → All (GateInvariant max) moments }
+{}
+
+/// One step from a moment that keeps the invariant: so does the next moment; and the step's kind says how the word
+/// goes, and stands with the word that was met in the view of the seat that made it.
+pub fn one_step()
+    ensures keeps { (max : ℕ) (gate next : Moment) → GateInvariant max gate → GateStep gate next → GateInvariant max next }
+    ensures goes { (max : ℕ) (gate next : Moment) → GateInvariant max gate → GateStep gate next → (x : Word) × (y : Word) × GateGoes gate next x y }
 {}
 
 /// From a moment that keeps the invariant, the steps of a history are the steps that the gate's table lets its
