@@ -38,7 +38,7 @@ pub data GateStep (gate gate' : Moment) : Type 0 where
   not_closes : (v : View) (x : Word) → v.holds_unit ≡ false → x ≢ open_at 0
       → SeatSteps gate gate' v (view_not_closing v x) x x → GateStep gate gate'
 
--- the kind of a step; of a split none, since a split is told to no seat
+-- the kind of a step. A split has none, since no view tells of it
 abbrev pub kind_of : (gate gate' : Moment) → GateStep gate gate' → Option StepKind
 kind_of gate gate' (splits v seat at next) = None
 kind_of gate gate' (looks v x s) = Some Load
@@ -58,7 +58,7 @@ WordGoes (Some EnterLost) x y = x ≡ y
 WordGoes (Some CloseLost) x y = x ≡ y
 WordGoes None x y = x ≡ y
 
--- the one view that a step changes gains its kind and the word x. A split changes no view
+-- the one view that a seat's step changes gains its kind and the word x
 pub record GainsMet (gate gate' : Moment) (kind : StepKind) (x : Word) : Type 0 where
   pub seat : ℕ
   pub before : View
@@ -67,13 +67,13 @@ pub record GainsMet (gate gate' : Moment) (kind : StepKind) (x : Word) : Type 0 
   pub views : gate'.views ≡ slice_set gate.views seat after
   pub met : after.met ≡ before.met ++ (kind, x) ∷ []
 
+-- how a step of this kind changes the views: a split adds one, and changes none
 abbrev pub ViewsGo : (gate gate' : Moment) → Option StepKind → Word → Type 0
 ViewsGo gate gate' (Some kind) x = GainsMet gate gate' kind x
 ViewsGo gate gate' None x = (v : View) × (gate'.views ≡ gate.views ++ v ∷ [])
 
--- a step from the word x to the word y, both of which a u64 shows
-pub record GateGoes (gate gate' : Moment) (x y : Word) : Type 0 where
-  pub step : GateStep gate gate'
+-- the step goes from the word x to the word y, both of which a u64 shows
+pub record GateGoes (gate gate' : Moment) (step : GateStep gate gate') (x y : Word) : Type 0 where
   pub from : gate.words ≡ bits x ∷ []
   pub to : gate'.words ≡ bits y ∷ []
   pub small : x.0 < top_bit

@@ -18,7 +18,7 @@ pub fn invariant_in_histories()
 /// goes, and stands with the word that was met in the view of the seat that made it.
 pub fn one_step()
     ensures keeps { (max : ℕ) (gate next : Moment) → GateInvariant max gate → GateStep gate next → GateInvariant max next }
-    ensures goes { (max : ℕ) (gate next : Moment) → GateInvariant max gate → GateStep gate next → (x : Word) × (y : Word) × GateGoes gate next x y }
+    ensures goes { (max : ℕ) (gate next : Moment) → GateInvariant max gate → (step : GateStep gate next) → (x : Word) × (y : Word) × GateGoes gate next step x y }
 {}
 
 /// From a moment that keeps the invariant, the steps of a history are the steps that the gate's table lets its
