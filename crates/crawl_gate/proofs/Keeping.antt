@@ -1,19 +1,21 @@
 -- Each kind of step keeps the gate's invariant, and tells its seat what `specs/Steps.antt` says.
-use Rattle.std.proofs.Common.{◌≡◌, ◌≢◌, ℕ, ◌+◌, ◌-◌, ◌%◌, ◌^◌, ◌<◌, ◌≤◌, Bool, true, false, true≢false, eqb, [], ◌∷◌, ◌++◌, set, sym, refl, ap, ◌∙◌, subst, ⊎_elim, arith, eq-eqb, ne_eqb}
+use Rattle.std.proofs.Common.{◌≡◌, ◌≢◌, ℕ, ◌+◌, ◌-◌, ◌%◌, ◌^◌, ◌<◌, ◌≤◌, Bool, true, false, true≢false, eqb, List, [], ◌∷◌, ◌++◌, set, sym, refl, ap, ◌∙◌, subst, ◌⊎◌, inl, inr, ⊎_elim, arith, eq-eqb, ne_eqb}
 use Rattle.std.specs.Prelude.{slice_index}
 use mathlib.Core.Logic.{dite}
-use mathlib.Core.Option.{none, some}
+use mathlib.Core.Option.{none, some, some-injective}
 use native.Mathlib.Decide.{ℕ_discrete}
 use lib.ListN.{get_elem?}
 use prog.Atomic.{either}
 use Rattle.atomic_table.specs.Table.{step, keeps, stepped, Allows, Splits}
-use Rattle.atomic_table.proofs.Lists.{at_set, at_snoc, set_again}
+use Rattle.atomic_table.proofs.Lists.{at_set, at_snoc, at_longer, set_else, set_again}
 use Rattle.crawl_gate.specs.declared.rule.View.{View}
+use Rattle.crawl_gate.specs.declared.step_kind.StepKind.{StepKind}
+use Rattle.crawl_gate.specs.declared.step_kind.StepKind.TheVariants.{Load, EnterWon, EnterLost, Leave, CloseWon, CloseLost}
 use Rattle.crawl_gate.specs.Word.{Word, bits, closed_bit, open_at, closed_at}
-use Rattle.crawl_gate.specs.View.{units_of, units_held, knows_closed, fresh_view, view_meeting, view_entering, view_leaving, view_closing}
-use Rattle.crawl_gate.specs.GateInvariant.{Moment, GateInvariant, MayMeet}
+use Rattle.crawl_gate.specs.View.{units_of, units_held, knows_closed, fresh_view, view_meeting, view_looking, view_entering, view_losing, view_leaving, view_closing, view_not_closing}
+use Rattle.crawl_gate.specs.GateInvariant.{Moment, HasCloser, GateInvariant, MayMeet}
 use Rattle.crawl_gate.specs.Steps.{Sitting, Looks, Enters, Leaves, Closes}
-use Rattle.crawl_gate.proofs.Units.{units_held-set, units_held-at, units_held-fresh}
+use Rattle.crawl_gate.proofs.Units.{at_itself, units_held-set, units_held-at, units_held-fresh}
 use Rattle.crawl_gate.proofs.Knowing.{knows_closed-before}
 
 -- the word of a gate that keeps the invariant
@@ -26,8 +28,19 @@ pub record Owed (max : ℕ) (gate : Moment) (k : GateInvariant max gate) (v w : 
   pub within : x.0 ≤ max
   pub empty : x.1 ≡ true → x.0 ≡ 0
   pub stays : k.closed ≡ true → x.1 ≡ true
+  pub closer : x.1 ≡ true → (k.closed ≡ true) ⊎ (w.closed_gate ≡ true)
   pub same_max : w.max_pending ≡ v.max_pending
   pub known : knows_closed w ≡ true → x.1 ≡ true
+  pub keeps_closer : v.closed_gate ≡ true → w.closed_gate ≡ true
+
+-- who has closed the gate has closed it after a step of its own, and after a step of another seat
+pub still_closer : (views : List View) (seat : ℕ) (v w : View) → get_elem? views seat ≡ some v → (v.closed_gate ≡ true → w.closed_gate ≡ true)
+    → HasCloser views → HasCloser (set views seat w)
+still_closer views seat v w at stays by = dite (ℕ_discrete by.0 seat)
+    (λ (same : by.0 ≡ seat).
+    let is : v ≡ by.1 = some-injective v by.1 (sym at ∙ subst (λ n. get_elem? views n ≡ some by.1) same by.2) in
+    (seat, w, at_itself views seat v w at, stays (subst (λ (u : View). u.closed_gate ≡ true) (sym is) by.3)))
+    (λ other. (by.0, by.1, set_else views seat by.0 w other ∙ by.2, by.3))
 
 -- a step that does what is owed keeps the invariant
 pub kept : (max : ℕ) (gate : Moment) (k : GateInvariant max gate) (seat : ℕ) (m : Sitting) (w : View) (x : Word) → get_elem? gate.views seat ≡ some m.0
@@ -42,6 +55,10 @@ kept max gate k seat m w x at o =
       within = subst (λ n. n ≤ max) count o.within;
       small = k.small;
       empty = λ e. sym count ∙ o.empty e;
+      closer = λ e. ⊎_elim
+          (λ was. still_closer gate.views seat m.0 w at o.keeps_closer (k.closer was))
+          (λ (mine : w.closed_gate ≡ true). (seat, w, at_itself gate.views seat m.0 w at, mine))
+          (o.closer e);
       seats = λ other u e. ⊎_elim
           (λ (this : (other ≡ seat) × (w ≡ u)). subst (λ (y : View). (y.max_pending ≡ max) × (knows_closed y ≡ true → x.1 ≡ true)) this.1 (o.same_max ∙ (k.seats seat m.0 at).0, o.known))
           (λ (that : (other ≢ seat) × (get_elem? gate.views other ≡ some u)). let was = k.seats other u that.1 in (was.0, λ c. o.stays (was.1 c)))
@@ -49,29 +66,33 @@ kept max gate k seat m w x at o =
     }
 
 -- a step that meets the word and leaves it as it is
-pub owed_meeting : (max : ℕ) (gate : Moment) (k : GateInvariant max gate) (seat : ℕ) (v : View) → get_elem? gate.views seat ≡ some v
-    → Owed max gate k v (view_meeting v (word_of max gate k)) (word_of max gate k)
-owed_meeting max gate k seat v at = record {
+pub owed_meeting : (max : ℕ) (gate : Moment) (k : GateInvariant max gate) (seat : ℕ) (v : View) (kind : StepKind) → get_elem? gate.views seat ≡ some v
+    → Owed max gate k v (view_meeting v kind (word_of max gate k)) (word_of max gate k)
+owed_meeting max gate k seat v kind at = record {
   counted = refl;
   within = k.within;
   empty = k.empty;
   stays = λ e. e;
+  closer = λ e. inl e;
   same_max = refl;
-  known = λ e. ⊎_elim (k.seats seat v at).1 (λ closed. closed) (knows_closed-before v (word_of max gate k) e);
+  known = λ e. ⊎_elim (k.seats seat v at).1 (λ closed. closed) (knows_closed-before v kind (word_of max gate k) e);
+  keeps_closer = λ e. e;
 }
 
 -- a step that finds the gate open and leaves it open, with one unit more or less
-pub owed_moving : (max : ℕ) (gate : Moment) (k : GateInvariant max gate) (seat : ℕ) (v w : View) (n : ℕ) → get_elem? gate.views seat ≡ some v
+pub owed_moving : (max : ℕ) (gate : Moment) (k : GateInvariant max gate) (seat : ℕ) (v w : View) (kind : StepKind) (n : ℕ) → get_elem? gate.views seat ≡ some v
     → k.closed ≡ false → n + units_of v.holds_unit ≡ units_held gate.views + units_of w.holds_unit → n ≤ max
-    → w.max_pending ≡ v.max_pending → (knows_closed w ≡ true → knows_closed (view_meeting v (word_of max gate k)) ≡ true)
+    → w.max_pending ≡ v.max_pending → w.closed_gate ≡ v.closed_gate → (knows_closed w ≡ true → knows_closed (view_meeting v kind (word_of max gate k)) ≡ true)
     → Owed max gate k v w (open_at n)
-owed_moving max gate k seat v w n at is_open counted within same_max knew = record {
+owed_moving max gate k seat v w kind n at is_open counted within same_max same_closed knew = record {
   counted = counted;
   within = within;
   empty = λ e. absurd (true≢false (sym e));
   stays = λ e. sym is_open ∙ e;
+  closer = λ e. absurd (true≢false (sym e));
   same_max = same_max;
-  known = λ e. ⊎_elim (λ knows. sym is_open ∙ (k.seats seat v at).1 knows) (λ closed. sym is_open ∙ closed) (knows_closed-before v (word_of max gate k) (knew e));
+  known = λ e. ⊎_elim (λ knows. sym is_open ∙ (k.seats seat v at).1 knows) (λ closed. sym is_open ∙ closed) (knows_closed-before v kind (word_of max gate k) (knew e));
+  keeps_closer = λ e. same_closed ∙ e;
 }
 
 -- a step that finds no unit held and closes the gate
@@ -82,8 +103,10 @@ owed_closing max gate k v x none_held = record {
   within = omega arith;
   empty = λ _. refl;
   stays = λ _. refl;
+  closer = λ _. inr refl;
   same_max = refl;
   known = λ _. refl;
+  keeps_closer = λ _. refl;
 }
 
 -- the number that a step finds
@@ -91,7 +114,7 @@ found : (max : ℕ) (gate : Moment) (k : GateInvariant max gate) → slice_index
 found max gate k = ap (λ ws. slice_index ws 0) k.word
 
 -- what any seat may rely on at that word
-may_meet : (max : ℕ) (gate : Moment) (k : GateInvariant max gate) (seat : ℕ) (v : View) → get_elem? gate.views seat ≡ some v → MayMeet v (word_of max gate k)
+pub may_meet : (max : ℕ) (gate : Moment) (k : GateInvariant max gate) (seat : ℕ) (v : View) → get_elem? gate.views seat ≡ some v → MayMeet v (word_of max gate k)
 may_meet max gate k seat v at =
     let mine = k.seats seat v at in
     let within = k.within in
@@ -110,28 +133,28 @@ may_meet max gate k seat v at =
     stays_open false one empty = refl
 
 -- the invariant after such steps, as a step of the word sees them
-unmoved : (max : ℕ) (gate : Moment) (k : GateInvariant max gate) (seat : ℕ) (m : Sitting) → get_elem? gate.views seat ≡ some m.0
-    → GateInvariant max (stepped gate 0 (slice_index gate.words 0) seat m.1 (view_meeting m.0 (word_of max gate k)) keeps)
-unmoved max gate k seat m at =
+unmoved : (max : ℕ) (gate : Moment) (k : GateInvariant max gate) (seat : ℕ) (m : Sitting) (kind : StepKind) → get_elem? gate.views seat ≡ some m.0
+    → GateInvariant max (stepped gate 0 (slice_index gate.words 0) seat m.1 (view_meeting m.0 kind (word_of max gate k)) keeps)
+unmoved max gate k seat m kind at =
     let x = word_of max gate k in
-    let w = view_meeting m.0 x in
+    let w = view_meeting m.0 kind x in
     subst (λ n. GateInvariant max (stepped gate 0 n seat m.1 w keeps)) (sym (found max gate k))
-    (kept max gate k seat m w x at (owed_meeting max gate k seat m.0 at))
+    (kept max gate k seat m w x at (owed_meeting max gate k seat m.0 kind at))
 
-moved : (max : ℕ) (gate : Moment) (k : GateInvariant max gate) (seat : ℕ) (m : Sitting) (w : View) (n : ℕ) → get_elem? gate.views seat ≡ some m.0
+moved : (max : ℕ) (gate : Moment) (k : GateInvariant max gate) (seat : ℕ) (m : Sitting) (w : View) (kind : StepKind) (n : ℕ) → get_elem? gate.views seat ≡ some m.0
     → k.closed ≡ false → n + units_of m.0.holds_unit ≡ units_held gate.views + units_of w.holds_unit → n ≤ max
-    → w.max_pending ≡ m.0.max_pending → (knows_closed w ≡ true → knows_closed (view_meeting m.0 (word_of max gate k)) ≡ true)
+    → w.max_pending ≡ m.0.max_pending → w.closed_gate ≡ m.0.closed_gate → (knows_closed w ≡ true → knows_closed (view_meeting m.0 kind (word_of max gate k)) ≡ true)
     → GateInvariant max (stepped gate 0 (bits (open_at n)) seat m.1 w keeps)
-moved max gate k seat m w n at is_open counted within same_max knew =
-    kept max gate k seat m w (open_at n) at (owed_moving max gate k seat m.0 w n at is_open counted within same_max knew)
+moved max gate k seat m w kind n at is_open counted within same_max same_closed knew =
+    kept max gate k seat m w (open_at n) at (owed_moving max gate k seat m.0 w kind n at is_open counted within same_max same_closed knew)
 
 pub looks : (max slots seat : ℕ) (m : Sitting) → Allows (GateInvariant max) slots seat m 0 (λ n. n) (Looks (step slots 0 0 0 none) m)
 looks max slots seat m gate k _ at _ =
     let x = word_of max gate k in (
-      view_meeting m.0 x,
+      view_looking m.0 x,
       keeps,
       tt,
-      unmoved max gate k seat m at,
+      unmoved max gate k seat m Load at,
       (x, may_meet max gate k seat m.0 at, found max gate k, refl, refl),
     )
 
@@ -148,6 +171,7 @@ splits max seat v gate k at =
       within = subst (λ n. n ≤ max) count k.within;
       small = k.small;
       empty = λ e. sym count ∙ k.empty e;
+      closer = λ e. let by = k.closer e in (by.0, by.1, at_longer (set gate.views seat v) (new ∷ []) by.0 by.1 (ap (λ l. get_elem? l by.0) same ∙ by.2), by.3);
       seats = λ other u e. ⊎_elim
           (λ was. k.seats other u (subst (λ l. get_elem? l other ≡ some u) same was))
           (λ (is : new ≡ u). subst (λ (y : View). (y.max_pending ≡ max) × (knows_closed y ≡ true → k.closed ≡ true)) is (mine.0, λ c. absurd (true≢false (sym c))))
@@ -155,13 +179,15 @@ splits max seat v gate k at =
     }
 
 -- a number at most the maximum is the word of an open gate
-is_open_at : (count n max : ℕ) (closed : Bool) → max < 2 ^ 63 → n ≤ max → count + closed_bit closed ≡ n → (closed ≡ false) × (count ≡ n)
+pub is_open_at : (count n max : ℕ) (closed : Bool) → max < 2 ^ 63 → n ≤ max → count + closed_bit closed ≡ n → (closed ≡ false) × (count ≡ n)
 is_open_at count n max true small within e = absurd (omega arith)
 is_open_at count n max false small within e = (refl, omega arith)
 
-pub takes_unit : (max slots seat : ℕ) (m : Sitting) (n : ℕ) → m.0.holds_unit ≡ false → n < max
+pub takes_unit : (max slots seat : ℕ) (m : Sitting) (n : ℕ) → m.0.holds_unit ≡ false → n < m.0.max_pending
     → Allows (GateInvariant max) slots seat m 0 (λ r. either (eqb r n) (n + 1) r) (Enters (step slots 0 n (n + 1) none) m)
-takes_unit max slots seat m n holds_none room gate k _ at _ =
+takes_unit max slots seat m n holds_none below gate k _ at _ =
+    let same_max = (k.seats seat m.0 at).0 in
+    let room : n < max = omega (arith, below, same_max) in
     let x = word_of max gate k in
     let r : ℕ = slice_index gate.words 0 in
     let is = found max gate k in
@@ -178,15 +204,15 @@ takes_unit max slots seat m n holds_none room gate k _ at _ =
       keeps,
       tt,
       subst (λ z. GateInvariant max (stepped gate 0 z seat m.1 w keeps)) (sym next)
-          (moved max gate k seat m w (n + 1) at shown.0 (omega (arith, shown.1)) (omega arith) refl (λ e. e)),
-      (x, may, is, (λ _. refl), (λ miss. absurd (miss hit)), refl),
+          (moved max gate k seat m w EnterWon (n + 1) at shown.0 (omega (arith, shown.1)) (omega arith) refl refl (λ e. e)),
+      (holds_none, below, x, may, is, (λ _. refl), (λ miss. absurd (miss hit)), refl),
     ))
     (λ miss. (
-      view_meeting m.0 x,
+      view_losing m.0 x,
       keeps,
       tt,
-      subst (λ b. GateInvariant max (stepped gate 0 (either b (n + 1) r) seat m.1 (view_meeting m.0 x) keeps)) (sym (ne_eqb r n miss)) (unmoved max gate k seat m at),
-      (x, may, is, (λ hit. absurd (miss hit)), (λ _. refl), refl),
+      subst (λ b. GateInvariant max (stepped gate 0 (either b (n + 1) r) seat m.1 (view_losing m.0 x) keeps)) (sym (ne_eqb r n miss)) (unmoved max gate k seat m EnterLost at),
+      (holds_none, below, x, may, is, (λ hit. absurd (miss hit)), (λ _. refl), refl),
     ))
 
 -- the subtraction of 1 from an open word with a unit held, as the machine makes it
@@ -212,8 +238,8 @@ gives_back max slots seat m holds gate k _ at _ =
       keeps,
       tt,
       subst (λ z. GateInvariant max (stepped gate 0 z seat m.1 w keeps)) (sym next)
-          (moved max gate k seat m w (units_held gate.views - 1) at held.0 (omega arith) (omega arith) refl (λ e. e)),
-      (x, may, is, refl, refl),
+          (moved max gate k seat m w Leave (units_held gate.views - 1) at held.0 (omega arith) (omega arith) refl refl (λ e. e)),
+      (holds, x, may, is, refl, refl),
     )
 
 pub shuts : (max slots seat : ℕ) (m : Sitting) → m.0.holds_unit ≡ false
@@ -232,12 +258,12 @@ shuts max slots seat m holds_none gate k _ at _ =
       tt,
       subst (λ b. GateInvariant max (stepped gate 0 (either b (2 ^ 63) r) seat m.1 w keeps)) (sym (eq-eqb r 0 hit))
           (kept max gate k seat m w (closed_at 0) at (owed_closing max gate k m.0 x shown.1)),
-      (x, may, is, (λ _. refl), (λ miss. absurd (miss hit)), refl),
+      (holds_none, x, may, is, (λ _. refl), (λ miss. absurd (miss hit)), refl),
     ))
     (λ miss. (
-      view_meeting m.0 x,
+      view_not_closing m.0 x,
       keeps,
       tt,
-      subst (λ b. GateInvariant max (stepped gate 0 (either b (2 ^ 63) r) seat m.1 (view_meeting m.0 x) keeps)) (sym (ne_eqb r 0 miss)) (unmoved max gate k seat m at),
-      (x, may, is, (λ hit. absurd (miss hit)), (λ _. refl), refl),
+      subst (λ b. GateInvariant max (stepped gate 0 (either b (2 ^ 63) r) seat m.1 (view_not_closing m.0 x) keeps)) (sym (ne_eqb r 0 miss)) (unmoved max gate k seat m CloseLost at),
+      (holds_none, x, may, is, (λ hit. absurd (miss hit)), (λ _. refl), refl),
     ))

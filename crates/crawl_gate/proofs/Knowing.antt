@@ -2,45 +2,46 @@
 use Rattle.std.proofs.Common.{◌≡◌, ◌⊎◌, ℕ, Bool, true, false, true≢false, List, [], ◌∷◌, ◌++◌, sym, refl, subst, inl, inr}
 use Rattle.std.specs.Prelude.{◌||◌}
 use Rattle.crawl_gate.specs.declared.rule.View.{View}
-use Rattle.crawl_gate.specs.Word.{Word, any_closed}
-use Rattle.crawl_gate.specs.View.{knows_closed, view_meeting}
+use Rattle.crawl_gate.specs.declared.step_kind.StepKind.{StepKind}
+use Rattle.crawl_gate.specs.Word.{Word}
+use Rattle.crawl_gate.specs.View.{Met, any_closed, knows_closed, view_meeting}
 
-any_closed-before : (xs : List Word) (x : Word) → any_closed (xs ++ x ∷ []) ≡ true → (any_closed xs ≡ true) ⊎ (x.1 ≡ true)
-any_closed-before [] (n, true) e = inr refl
-any_closed-before [] (n, false) e = absurd (true≢false (sym e))
-any_closed-before ((m, true) ∷ xs) x e = inl refl
-any_closed-before ((m, false) ∷ xs) x e = any_closed-before xs x e
+any_closed-before : (ms : List Met) (kind : StepKind) (x : Word) → any_closed (ms ++ (kind, x) ∷ []) ≡ true → (any_closed ms ≡ true) ⊎ (x.1 ≡ true)
+any_closed-before [] kind (n, true) e = inr refl
+any_closed-before [] kind (n, false) e = absurd (true≢false (sym e))
+any_closed-before ((k, (m, true)) ∷ ms) kind x e = inl refl
+any_closed-before ((k, (m, false)) ∷ ms) kind x e = any_closed-before ms kind x e
 
-any_closed-still : (xs : List Word) (x : Word) → any_closed xs ≡ true → any_closed (xs ++ x ∷ []) ≡ true
-any_closed-still [] x e = absurd (true≢false (sym e))
-any_closed-still ((m, true) ∷ xs) x e = refl
-any_closed-still ((m, false) ∷ xs) x e = any_closed-still xs x e
+any_closed-still : (ms : List Met) (kind : StepKind) (x : Word) → any_closed ms ≡ true → any_closed (ms ++ (kind, x) ∷ []) ≡ true
+any_closed-still [] kind x e = absurd (true≢false (sym e))
+any_closed-still ((k, (m, true)) ∷ ms) kind x e = refl
+any_closed-still ((k, (m, false)) ∷ ms) kind x e = any_closed-still ms kind x e
 
-any_closed-last : (xs : List Word) (n : ℕ) → any_closed (xs ++ (n, true) ∷ []) ≡ true
-any_closed-last [] n = refl
-any_closed-last ((m, true) ∷ xs) n = refl
-any_closed-last ((m, false) ∷ xs) n = any_closed-last xs n
+any_closed-last : (ms : List Met) (kind : StepKind) (n : ℕ) → any_closed (ms ++ (kind, (n, true)) ∷ []) ≡ true
+any_closed-last [] kind n = refl
+any_closed-last ((k, (m, true)) ∷ ms) kind n = refl
+any_closed-last ((k, (m, false)) ∷ ms) kind n = any_closed-last ms kind n
 
-before : (closed : Bool) (xs : List Word) (x : Word) → (closed || any_closed (xs ++ x ∷ [])) ≡ true → ((closed || any_closed xs) ≡ true) ⊎ (x.1 ≡ true)
-before true xs x e = inl refl
-before false xs x e = any_closed-before xs x e
+before : (closed : Bool) (ms : List Met) (kind : StepKind) (x : Word) → (closed || any_closed (ms ++ (kind, x) ∷ [])) ≡ true → ((closed || any_closed ms) ≡ true) ⊎ (x.1 ≡ true)
+before true ms kind x e = inl refl
+before false ms kind x e = any_closed-before ms kind x e
 
-still : (closed : Bool) (xs : List Word) (x : Word) → (closed || any_closed xs) ≡ true → (closed || any_closed (xs ++ x ∷ [])) ≡ true
-still true xs x e = refl
-still false xs x e = any_closed-still xs x e
+still : (closed : Bool) (ms : List Met) (kind : StepKind) (x : Word) → (closed || any_closed ms) ≡ true → (closed || any_closed (ms ++ (kind, x) ∷ [])) ≡ true
+still true ms kind x e = refl
+still false ms kind x e = any_closed-still ms kind x e
 
-last : (closed : Bool) (xs : List Word) (n : ℕ) → (closed || any_closed (xs ++ (n, true) ∷ [])) ≡ true
-last true xs n = refl
-last false xs n = any_closed-last xs n
+last : (closed : Bool) (ms : List Met) (kind : StepKind) (n : ℕ) → (closed || any_closed (ms ++ (kind, (n, true)) ∷ [])) ≡ true
+last true ms kind n = refl
+last false ms kind n = any_closed-last ms kind n
 
 -- it knew before, or the word is closed
-pub knows_closed-before : (v : View) (x : Word) → knows_closed (view_meeting v x) ≡ true → (knows_closed v ≡ true) ⊎ (x.1 ≡ true)
-knows_closed-before v x e = before v.closed_gate v.met x e
+pub knows_closed-before : (v : View) (kind : StepKind) (x : Word) → knows_closed (view_meeting v kind x) ≡ true → (knows_closed v ≡ true) ⊎ (x.1 ≡ true)
+knows_closed-before v kind x e = before v.closed_gate v.met kind x e
 
 -- what it knew it still knows
-pub knows_closed-still : (v : View) (x : Word) → knows_closed v ≡ true → knows_closed (view_meeting v x) ≡ true
-knows_closed-still v x e = still v.closed_gate v.met x e
+pub knows_closed-still : (v : View) (kind : StepKind) (x : Word) → knows_closed v ≡ true → knows_closed (view_meeting v kind x) ≡ true
+knows_closed-still v kind x e = still v.closed_gate v.met kind x e
 
 -- a closed word tells it
-pub knows_closed-last : (v : View) (x : Word) → x.1 ≡ true → knows_closed (view_meeting v x) ≡ true
-knows_closed-last v x e = subst (λ (b : Bool). knows_closed (view_meeting v (x.0, b)) ≡ true) (sym e) (last v.closed_gate v.met x.0)
+pub knows_closed-last : (v : View) (kind : StepKind) (x : Word) → x.1 ≡ true → knows_closed (view_meeting v kind x) ≡ true
+knows_closed-last v kind x e = subst (λ (b : Bool). knows_closed (view_meeting v kind (x.0, b)) ≡ true) (sym e) (last v.closed_gate v.met kind x.0)

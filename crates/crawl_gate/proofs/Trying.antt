@@ -1,10 +1,11 @@
 -- What a seat has met over several tries, and the closed word that a closing call finds.
 use Rattle.std.proofs.Common.{◌≡◌, ◌≢◌, ℕ, ◌<◌, ◌^◌, true, false, List, [], ◌∷◌, ◌++◌, sym, refl, ap, ◌∙◌, subst, arith}
 use Rattle.crawl_gate.specs.declared.rule.View.{View}
+use Rattle.crawl_gate.specs.declared.step_kind.StepKind.TheVariants.{Load, EnterLost}
 use Rattle.crawl_gate.specs.declared.gate.enter.Enter.{Enter}
 use Rattle.crawl_gate.specs.declared.gate.enter.Enter.TheVariants.{Entered, Closed, Full, Lost}
 use Rattle.crawl_gate.specs.Word.{Word, bits, open_at, closed_at}
-use Rattle.crawl_gate.specs.View.{knows_closed, view_meeting}
+use Rattle.crawl_gate.specs.View.{knows_closed, view_looking, view_losing}
 use Rattle.crawl_gate.specs.Seat.{GateId, SeatId, IsSeatOf, with_view}
 use Rattle.crawl_gate.specs.Enter.{LostTry, AllLost, TriesToEnter, TriesToEnterBeside, view_trying, view_loading, view_exchanging, after_trying, after_loading, after_exchanging, IsLost, EntersAtLast, EntersAtLastBeside}
 use Rattle.crawl_gate.proofs.Knowing.{knows_closed-still}
@@ -21,33 +22,33 @@ AllLost-append max (u ∷ ts) t all room other = (all.0, all.1, AllLost-append m
 
 view_trying-max : (v : View) (ts : List LostTry) → (view_trying v ts).max_pending ≡ v.max_pending
 view_trying-max v [] = refl
-view_trying-max v (t ∷ ts) = view_trying-max (view_meeting (view_meeting v (open_at t.0)) t.1) ts
+view_trying-max v (t ∷ ts) = view_trying-max (view_losing (view_looking v (open_at t.0)) t.1) ts
 
-view_trying-append : (v : View) (ts : List LostTry) (t : LostTry) → view_trying v (ts ++ t ∷ []) ≡ view_meeting (view_meeting (view_trying v ts) (open_at t.0)) t.1
+view_trying-append : (v : View) (ts : List LostTry) (t : LostTry) → view_trying v (ts ++ t ∷ []) ≡ view_losing (view_looking (view_trying v ts) (open_at t.0)) t.1
 view_trying-append v [] t = refl
-view_trying-append v (u ∷ ts) t = view_trying-append (view_meeting (view_meeting v (open_at u.0)) u.1) ts t
+view_trying-append v (u ∷ ts) t = view_trying-append (view_losing (view_looking v (open_at u.0)) u.1) ts t
 
 view_trying-knows : (v : View) (ts : List LostTry) → knows_closed v ≡ true → knows_closed (view_trying v ts) ≡ true
 view_trying-knows v [] e = e
 view_trying-knows v (t ∷ ts) e =
-    let looked = view_meeting v (open_at t.0) in
-    view_trying-knows (view_meeting looked t.1) ts (knows_closed-still looked t.1 (knows_closed-still v (open_at t.0) e))
+    let looked = view_looking v (open_at t.0) in
+    view_trying-knows (view_losing looked t.1) ts (knows_closed-still looked EnterLost t.1 (knows_closed-still v Load (open_at t.0) e))
 
 view_loading-max : (v : View) (ts : List LostTry) → (view_loading v ts).max_pending ≡ v.max_pending
 view_loading-max v [] = refl
-view_loading-max v (t ∷ ts) = view_loading-max (view_meeting v (open_at t.0)) ts
+view_loading-max v (t ∷ ts) = view_loading-max (view_looking v (open_at t.0)) ts
 
-view_loading-append : (v : View) (ts : List LostTry) (t : LostTry) → view_loading v (ts ++ t ∷ []) ≡ view_meeting (view_loading v ts) (open_at t.0)
+view_loading-append : (v : View) (ts : List LostTry) (t : LostTry) → view_loading v (ts ++ t ∷ []) ≡ view_looking (view_loading v ts) (open_at t.0)
 view_loading-append v [] t = refl
-view_loading-append v (u ∷ ts) t = view_loading-append (view_meeting v (open_at u.0)) ts t
+view_loading-append v (u ∷ ts) t = view_loading-append (view_looking v (open_at u.0)) ts t
 
 view_exchanging-max : (v : View) (ts : List LostTry) → (view_exchanging v ts).max_pending ≡ v.max_pending
 view_exchanging-max v [] = refl
-view_exchanging-max v (t ∷ ts) = view_exchanging-max (view_meeting v t.1) ts
+view_exchanging-max v (t ∷ ts) = view_exchanging-max (view_losing v t.1) ts
 
-view_exchanging-append : (v : View) (ts : List LostTry) (t : LostTry) → view_exchanging v (ts ++ t ∷ []) ≡ view_meeting (view_exchanging v ts) t.1
+view_exchanging-append : (v : View) (ts : List LostTry) (t : LostTry) → view_exchanging v (ts ++ t ∷ []) ≡ view_losing (view_exchanging v ts) t.1
 view_exchanging-append v [] t = refl
-view_exchanging-append v (u ∷ ts) t = view_exchanging-append (view_meeting v u.1) ts t
+view_exchanging-append v (u ∷ ts) t = view_exchanging-append (view_losing v u.1) ts t
 
 -- the tries of a pass so far, all lost, and the pass as it is now
 abbrev pub LostSoFar : SeatId → SeatId → Type 0

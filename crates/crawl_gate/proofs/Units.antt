@@ -5,6 +5,12 @@ use lib.ListN.{get_elem?}
 use Rattle.crawl_gate.specs.declared.rule.View.{View}
 use Rattle.crawl_gate.specs.View.{units_of, units_held, fresh_view}
 
+-- a view that was written is there
+pub at_itself : (vs : List View) (seat : ℕ) (v w : View) → get_elem? vs seat ≡ some v → get_elem? (set vs seat w) seat ≡ some w
+at_itself [] seat v w at = absurd (some-ne-none v (sym at))
+at_itself (x ∷ xs) zero v w at = refl
+at_itself (x ∷ xs) (suc seat) v w at = at_itself xs seat v w at
+
 same_units : (v w : View) → some v ≡ some w → units_of v.holds_unit ≡ units_of w.holds_unit
 same_units v w e = ap (λ (u : View). units_of u.holds_unit) (some-injective v w e)
 

@@ -4,13 +4,13 @@ use Rattle.crawl_gate.specs.declared.gate.close.Close.{Close}
 use Rattle.crawl_gate.specs.declared.gate.close.Close.TheVariants.{Closed, Pending}
 use Rattle.crawl_gate.specs.Word.{open_at, closed_at}
 use Rattle.crawl_gate.specs.View.{knows_closed}
-use Rattle.crawl_gate.specs.Seat.{GateId, SeatId, IsSeatOf, after_meeting, after_closing}
+use Rattle.crawl_gate.specs.Seat.{GateId, SeatId, IsSeatOf, after_closing, after_not_closing}
 
 -- The exchange meets count 0 and closes the gate, or meets it closed; or it meets an open word with units held.
 abbrev pub TriesToClose : SeatId → Close → Type 0
-TriesToClose pass (Closed closed) = (closed ≡ after_closing pass (open_at 0)) ⊎ (closed ≡ after_meeting pass (closed_at 0))
+TriesToClose pass (Closed closed) = (closed ≡ after_closing pass (open_at 0)) ⊎ (closed ≡ after_not_closing pass (closed_at 0))
 TriesToClose pass (Pending back n) =
-    (0 < n) × (n ≤ pass.view.max_pending) × (knows_closed pass.view ≡ false) × (back ≡ after_meeting pass (open_at n))
+    (0 < n) × (n ≤ pass.view.max_pending) × (knows_closed pass.view ≡ false) × (back ≡ after_not_closing pass (open_at n))
 
 -- who is answered Closed knows it, and so meets the gate closed from then on
 abbrev pub TellsClosed : Close → Type 0

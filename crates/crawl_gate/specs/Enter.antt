@@ -4,30 +4,30 @@ use Rattle.crawl_gate.specs.declared.rule.View.{View}
 use Rattle.crawl_gate.specs.declared.gate.enter.Enter.{Enter}
 use Rattle.crawl_gate.specs.declared.gate.enter.Enter.TheVariants.{Entered, Closed, Full, Lost}
 use Rattle.crawl_gate.specs.Word.{Word, open_at, closed_at}
-use Rattle.crawl_gate.specs.View.{knows_closed, view_meeting}
-use Rattle.crawl_gate.specs.Seat.{GateId, SeatId, IsSeatOf, with_view, after_meeting, after_entering}
+use Rattle.crawl_gate.specs.View.{knows_closed, view_looking, view_losing}
+use Rattle.crawl_gate.specs.Seat.{GateId, SeatId, IsSeatOf, with_view, after_looking, after_entering, after_losing}
 
 -- One try of a pass. Its load meets a closed word, or an open one with the maximum, and that is the answer;
 -- or an open word below the maximum, and then its exchange meets that word again, or another.
 abbrev pub TriesToEnter : SeatId → Enter → Type 0
 TriesToEnter pass (Entered unit) =
     (n : ℕ) × (n < pass.view.max_pending) × (knows_closed pass.view ≡ false)
-    × (unit ≡ after_entering (after_meeting pass (open_at n)) (open_at n))
-TriesToEnter pass (Closed back) = back ≡ after_meeting pass (closed_at 0)
-TriesToEnter pass (Full back) = (knows_closed pass.view ≡ false) × (back ≡ after_meeting pass (open_at pass.view.max_pending))
+    × (unit ≡ after_entering (after_looking pass (open_at n)) (open_at n))
+TriesToEnter pass (Closed back) = back ≡ after_looking pass (closed_at 0)
+TriesToEnter pass (Full back) = (knows_closed pass.view ≡ false) × (back ≡ after_looking pass (open_at pass.view.max_pending))
 TriesToEnter pass (Lost back) =
     (n : ℕ) × (x : Word) × (n < pass.view.max_pending) × (knows_closed pass.view ≡ false) × (x ≢ open_at n)
-    × (back ≡ after_meeting (after_meeting pass (open_at n)) x)
+    × (back ≡ after_losing (after_looking pass (open_at n)) x)
 
 -- One try beside a unit, whose seat makes the load: the gate is open, and the pass makes at most the exchange.
 abbrev pub TriesToEnterBeside : SeatId → SeatId → SeatId → Enter → Type 0
 TriesToEnterBeside held held' pass (Entered unit) =
-    (n : ℕ) × (n < pass.view.max_pending) × (held' ≡ after_meeting held (open_at n)) × (unit ≡ after_entering pass (open_at n))
+    (n : ℕ) × (n < pass.view.max_pending) × (held' ≡ after_looking held (open_at n)) × (unit ≡ after_entering pass (open_at n))
 TriesToEnterBeside held held' pass (Closed back) = ⊥
-TriesToEnterBeside held held' pass (Full back) = (held' ≡ after_meeting held (open_at pass.view.max_pending)) × (back ≡ pass)
+TriesToEnterBeside held held' pass (Full back) = (held' ≡ after_looking held (open_at pass.view.max_pending)) × (back ≡ pass)
 TriesToEnterBeside held held' pass (Lost back) =
     (n : ℕ) × (x : Word) × (n < pass.view.max_pending) × (x ≢ open_at n)
-    × (held' ≡ after_meeting held (open_at n)) × (back ≡ after_meeting pass x)
+    × (held' ≡ after_looking held (open_at n)) × (back ≡ after_losing pass x)
 
 -- a lost try: the count that its load met, and the other word that its exchange met
 abbrev pub LostTry : Type 0
@@ -41,17 +41,17 @@ AllLost max (t ∷ ts) = (t.0 < max) × (t.1 ≢ open_at t.0) × AllLost max ts
 -- the view of a seat that made both steps of each of these tries
 abbrev pub view_trying : View → List LostTry → View
 view_trying v [] = v
-view_trying v (t ∷ ts) = view_trying (view_meeting (view_meeting v (open_at t.0)) t.1) ts
+view_trying v (t ∷ ts) = view_trying (view_losing (view_looking v (open_at t.0)) t.1) ts
 
 -- the view of a seat that made the loads alone
 abbrev pub view_loading : View → List LostTry → View
 view_loading v [] = v
-view_loading v (t ∷ ts) = view_loading (view_meeting v (open_at t.0)) ts
+view_loading v (t ∷ ts) = view_loading (view_looking v (open_at t.0)) ts
 
 -- the view of a seat that made the exchanges alone
 abbrev pub view_exchanging : View → List LostTry → View
 view_exchanging v [] = v
-view_exchanging v (t ∷ ts) = view_exchanging (view_meeting v t.1) ts
+view_exchanging v (t ∷ ts) = view_exchanging (view_losing v t.1) ts
 
 abbrev pub after_trying : SeatId → List LostTry → SeatId
 after_trying seat ts = with_view seat (view_trying seat.view ts)

@@ -1,15 +1,19 @@
 -- What is true of a gate between any two steps, and so what a seat that makes a step may rely on.
-use Rattle.std.specs.Prelude.{◌≡◌, ℕ, ◌<◌, ◌≤◌, ◌^◌, Bool, true, false, [], ◌∷◌}
+use Rattle.std.specs.Prelude.{◌≡◌, ℕ, ◌<◌, ◌≤◌, Bool, true, false, List, [], ◌∷◌}
 use mathlib.Core.Option.{some}
 use lib.ListN.{get_elem?}
 use Rattle.atomic_table.specs.Table.{State}
 use Rattle.crawl_gate.specs.declared.rule.View.{View}
-use Rattle.crawl_gate.specs.Word.{Word, bits}
+use Rattle.crawl_gate.specs.Word.{Word, top_bit, bits}
 use Rattle.crawl_gate.specs.View.{units_held, knows_closed}
 
 -- a gate at one moment: its word, and the views of all its seats
 abbrev pub Moment : Type 0
 Moment = State (Unit {0}) View
+
+-- some seat's view says that a step of its own closed the gate
+abbrev pub HasCloser : List View → Type 0
+HasCloser views = (seat : ℕ) × (v : View) × (get_elem? views seat ≡ some v) × (v.closed_gate ≡ true)
 
 pub record GateInvariant (max : ℕ) (gate : Moment) : Type 0 where
   pub closed : Bool
@@ -17,9 +21,11 @@ pub record GateInvariant (max : ℕ) (gate : Moment) : Type 0 where
   pub word : gate.words ≡ bits (units_held gate.views, closed) ∷ []
   -- the count is at most the maximum, which leaves bit 63 free
   pub within : units_held gate.views ≤ max
-  pub small : max < 2 ^ 63
+  pub small : max < top_bit
   -- the gate is closed only with count 0
   pub empty : closed ≡ true → units_held gate.views ≡ 0
+  -- and only where a seat has closed it
+  pub closer : closed ≡ true → HasCloser gate.views
   -- every seat has the maximum in its view, and the gate is closed where a seat has closed it or has met it closed
   pub seats : (seat : ℕ) (v : View) → get_elem? gate.views seat ≡ some v → (v.max_pending ≡ max) × (knows_closed v ≡ true → closed ≡ true)
 
@@ -35,7 +41,7 @@ pub record WordMet (v : View) (x : Word) : Type 0 where
 pub record MayMeet (v : View) (x : Word) : Type 0 where
   pub met : WordMet v x
   pub within : x.0 ≤ v.max_pending
-  pub small : x.0 < 2 ^ 63
+  pub small : x.0 < top_bit
   pub empty : x.1 ≡ true → x.0 ≡ 0
   -- who holds a unit meets an open gate and counts at least its own
   pub holder : v.holds_unit ≡ true → (x.1 ≡ false) × (0 < x.0)

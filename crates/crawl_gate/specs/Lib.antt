@@ -7,3 +7,4 @@ pub mod Enter
 pub mod Close
 pub mod GateError
 pub mod History
+pub mod TableStep

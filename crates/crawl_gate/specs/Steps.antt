@@ -1,9 +1,9 @@
 -- What each kind of step tells the seat that makes it: the word x that it met, and the view that it leaves.
-use Rattle.std.specs.Prelude.{◌≡◌, ◌≢◌, ℕ}
+use Rattle.std.specs.Prelude.{◌≡◌, ◌≢◌, ℕ, ◌<◌, true, false}
 use Rattle.atomic_table.specs.Table.{Step, Me}
 use Rattle.crawl_gate.specs.declared.rule.View.{View}
 use Rattle.crawl_gate.specs.Word.{Word, bits}
-use Rattle.crawl_gate.specs.View.{view_meeting, view_entering, view_leaving, view_closing}
+use Rattle.crawl_gate.specs.View.{fresh_view, view_looking, view_entering, view_losing, view_leaving, view_closing, view_not_closing}
 use Rattle.crawl_gate.specs.GateInvariant.{MayMeet}
 
 -- a seat: its view, and a list of slots, which is empty for a gate
@@ -12,20 +12,28 @@ Sitting = Me (Unit {0}) View
 
 -- a load
 abbrev pub Looks : Step (Unit {0}) → Sitting → ℕ → Sitting → Type 0
-Looks step before found after = (x : Word) × MayMeet before.0 x × (found ≡ bits x) × (after.0 ≡ view_meeting before.0 x) × (after.1 ≡ before.1)
+Looks step before found after = (x : Word) × MayMeet before.0 x × (found ≡ bits x) × (after.0 ≡ view_looking before.0 x) × (after.1 ≡ before.1)
 
--- an exchange for one unit more, which wins where it finds the word that it expects
+-- a pass's exchange for one unit more, below the maximum, which wins where it finds the word that it expects
 abbrev pub Enters : Step (Unit {0}) → Sitting → ℕ → Sitting → Type 0
 Enters step before found after =
-    (x : Word) × MayMeet before.0 x × (found ≡ bits x)
-    × (found ≡ step.first → after.0 ≡ view_entering before.0 x) × (found ≢ step.first → after.0 ≡ view_meeting before.0 x) × (after.1 ≡ before.1)
+    (before.0.holds_unit ≡ false) × (step.first < before.0.max_pending) × (x : Word) × MayMeet before.0 x × (found ≡ bits x)
+    × (found ≡ step.first → after.0 ≡ view_entering before.0 x) × (found ≢ step.first → after.0 ≡ view_losing before.0 x) × (after.1 ≡ before.1)
 
--- a subtraction of one unit
+-- a unit's subtraction of itself
 abbrev pub Leaves : Step (Unit {0}) → Sitting → ℕ → Sitting → Type 0
-Leaves step before found after = (x : Word) × MayMeet before.0 x × (found ≡ bits x) × (after.0 ≡ view_leaving before.0 x) × (after.1 ≡ before.1)
+Leaves step before found after =
+    (before.0.holds_unit ≡ true) × (x : Word) × MayMeet before.0 x × (found ≡ bits x) × (after.0 ≡ view_leaving before.0 x) × (after.1 ≡ before.1)
 
--- an exchange of 0 for the closed word
+-- a pass's exchange of 0 for the closed word
 abbrev pub Closes : Step (Unit {0}) → Sitting → ℕ → Sitting → Type 0
 Closes step before found after =
-    (x : Word) × MayMeet before.0 x × (found ≡ bits x)
-    × (found ≡ 0 → after.0 ≡ view_closing before.0 x) × (found ≢ 0 → after.0 ≡ view_meeting before.0 x) × (after.1 ≡ before.1)
+    (before.0.holds_unit ≡ false) × (x : Word) × MayMeet before.0 x × (found ≡ bits x)
+    × (found ≡ 0 → after.0 ≡ view_closing before.0 x) × (found ≢ 0 → after.0 ≡ view_not_closing before.0 x) × (after.1 ≡ before.1)
+
+-- a split: what it leaves the seat with, and what it gives the new pass, which knows the maximum alone
+abbrev pub view_split : View → View
+view_split v = v
+
+abbrev pub view_split_off : View → View
+view_split_off v = fresh_view v.max_pending

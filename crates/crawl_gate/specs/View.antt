@@ -1,7 +1,18 @@
--- What a seat knows of its gate, and how each of its steps changes that.
+-- What a seat knows of its gate, and how each kind of step changes that.
 use Rattle.std.specs.Prelude.{ℕ, ◌+◌, Bool, true, false, List, [], ◌∷◌, ◌++◌, ◌||◌}
 use Rattle.crawl_gate.specs.declared.rule.View.{View}
-use Rattle.crawl_gate.specs.Word.{Word, any_closed}
+use Rattle.crawl_gate.specs.declared.step_kind.StepKind.{StepKind}
+use Rattle.crawl_gate.specs.declared.step_kind.StepKind.TheVariants.{Load, EnterWon, EnterLost, Leave, CloseWon, CloseLost}
+use Rattle.crawl_gate.specs.Word.{Word}
+
+-- a step that a seat made: its kind, and the word that it met
+abbrev pub Met : Type 0
+Met = StepKind × Word
+
+-- one of the words is closed
+abbrev pub any_closed : List Met → Bool
+any_closed [] = false
+any_closed (m ∷ ms) = m.1.1 || any_closed ms
 
 -- the view of the unit that comes with a new gate
 abbrev pub opening_view : ℕ → View
@@ -15,21 +26,33 @@ fresh_view max = record { max_pending = max; holds_unit = false; closed_gate = f
 abbrev pub knows_closed : View → Bool
 knows_closed v = v.closed_gate || any_closed v.met
 
--- a step met the word x, and changed nothing
-abbrev pub view_meeting : View → Word → View
-view_meeting v x = record { max_pending = v.max_pending; holds_unit = v.holds_unit; closed_gate = v.closed_gate; met = v.met ++ x ∷ [] }
+-- a step of this kind met the word x, and changed nothing
+abbrev pub view_meeting : View → StepKind → Word → View
+view_meeting v kind x = record { max_pending = v.max_pending; holds_unit = v.holds_unit; closed_gate = v.closed_gate; met = v.met ++ (kind, x) ∷ [] }
 
--- a step met the word x, and took a unit
+-- a load met the word x
+abbrev pub view_looking : View → Word → View
+view_looking v x = view_meeting v Load x
+
+-- an exchange met the word x, and took a unit
 abbrev pub view_entering : View → Word → View
-view_entering v x = record { max_pending = v.max_pending; holds_unit = true; closed_gate = v.closed_gate; met = v.met ++ x ∷ [] }
+view_entering v x = record { max_pending = v.max_pending; holds_unit = true; closed_gate = v.closed_gate; met = v.met ++ (EnterWon, x) ∷ [] }
 
--- a step met the word x, and gave the unit back
+-- an exchange for a unit met the word x, which it did not expect
+abbrev pub view_losing : View → Word → View
+view_losing v x = view_meeting v EnterLost x
+
+-- a subtraction met the word x, and gave the unit back
 abbrev pub view_leaving : View → Word → View
-view_leaving v x = record { max_pending = v.max_pending; holds_unit = false; closed_gate = v.closed_gate; met = v.met ++ x ∷ [] }
+view_leaving v x = record { max_pending = v.max_pending; holds_unit = false; closed_gate = v.closed_gate; met = v.met ++ (Leave, x) ∷ [] }
 
--- a step met the word x, and closed the gate
+-- an exchange met the word x, and closed the gate
 abbrev pub view_closing : View → Word → View
-view_closing v x = record { max_pending = v.max_pending; holds_unit = v.holds_unit; closed_gate = true; met = v.met ++ x ∷ [] }
+view_closing v x = record { max_pending = v.max_pending; holds_unit = v.holds_unit; closed_gate = true; met = v.met ++ (CloseWon, x) ∷ [] }
+
+-- an exchange that would close the gate met the word x, and did not
+abbrev pub view_not_closing : View → Word → View
+view_not_closing v x = view_meeting v CloseLost x
 
 -- the units of one seat
 abbrev pub units_of : Bool → ℕ

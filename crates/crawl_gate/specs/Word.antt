@@ -1,5 +1,5 @@
 -- A gate's word: how many units are held, and whether the gate is closed.
-use Rattle.std.specs.Prelude.{ℕ, ◌+◌, ◌^◌, Bool, true, false, List, [], ◌∷◌, ◌||◌}
+use Rattle.std.specs.Prelude.{ℕ, ◌+◌, ◌^◌, Bool, true, false}
 
 -- the count, and whether the gate is closed
 abbrev pub Word : Type 0
@@ -11,16 +11,15 @@ open_at count = (count, false)
 abbrev pub closed_at : ℕ → Word
 closed_at count = (count, true)
 
--- bit 63, which is set where the gate is closed
+-- the u64 in which bit 63 alone is set. Counts are below it
+abbrev pub top_bit : ℕ
+top_bit = 2 ^ 63
+
+-- bit 63 is set where the gate is closed
 abbrev pub closed_bit : Bool → ℕ
-closed_bit true = 2 ^ 63
+closed_bit true = top_bit
 closed_bit false = 0
 
 -- the u64 that shows a word
 abbrev pub bits : Word → ℕ
 bits x = x.0 + closed_bit x.1
-
--- one of the words is closed
-abbrev pub any_closed : List Word → Bool
-any_closed [] = false
-any_closed (x ∷ xs) = x.1 || any_closed xs

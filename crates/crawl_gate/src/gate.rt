@@ -1,7 +1,7 @@
 //! The gate, and how one is made and split.
 ghost use Rattle.std.specs.Prelude.{◌≡◌, MatchResult};
-ghost use Rattle.crawl_gate.specs.View.{opening_view, fresh_view};
-ghost use Rattle.crawl_gate.specs.Seat.{IsSeatOf};
+ghost use Rattle.crawl_gate.specs.View.{fresh_view};
+ghost use Rattle.crawl_gate.specs.Seat.{IsSeatOf, IsFirstUnit};
 ghost use Rattle.crawl_gate.specs.GateError.{IsMaximum, Refuses};
 
 pub mod close;
@@ -43,7 +43,7 @@ impl Gate {
     /// An open gate for at most this many units, with the first of them.
     pub fn new(alloc: Global, max_pending: u64) -> Result<(Gate, Unit), GateError>
         ensures { MatchResult result
-            (λ made. IsMaximum max_pending × (made.0.max_pending ≡ max_pending) × IsSeatOf made.0 made.1 × (made.1.view ≡ opening_view max_pending))
+            (λ made. IsMaximum max_pending × (made.0.max_pending ≡ max_pending) × IsSeatOf made.0 made.1 × IsFirstUnit made.0 made.1)
             (λ e. Refuses max_pending e) }
     {
         if max_pending == 0 || max_pending > MAX_PENDING_LIMIT {

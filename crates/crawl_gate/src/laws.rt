@@ -1,9 +1,10 @@
 //! What follows for every history of a gate's steps, whichever threads make them: facts alone, with nothing to run.
 ghost use Rattle.std.specs.Prelude.{◌≡◌, ℕ, List, [], ◌∷◌, All};
-ghost use Rattle.crawl_gate.specs.Word.{bits, closed_at};
+ghost use Rattle.crawl_gate.specs.Word.{Word, bits, closed_at};
 ghost use Rattle.crawl_gate.specs.GateInvariant.{Moment, GateInvariant};
 ghost use Rattle.crawl_gate.specs.GateError.{IsMaximum};
-ghost use Rattle.crawl_gate.specs.History.{IsHistory, first_moment};
+ghost use Rattle.crawl_gate.specs.History.{GateStep, GateGoes, IsHistory, first_moment};
+ghost use Rattle.crawl_gate.specs.TableStep.{TableStep};
 
 /// The gate's invariant holds at the moment at which a gate is made, and at every later moment of a history
 /// from there, or from any other moment that keeps it.
@@ -11,6 +12,20 @@ pub fn invariant_in_histories()
     ensures first { (max : ℕ) → IsMaximum max → GateInvariant max (first_moment max) }
     ensures later { (max : ℕ) (gate : Moment) (moments : List Moment) → GateInvariant max gate → IsHistory gate moments
         → All (GateInvariant max) moments }
+{}
+
+/// One step from a moment that keeps the invariant: so does the next moment; and the step's kind says how the word
+/// goes, and stands with the word that was met in the view of the seat that made it.
+pub fn one_step()
+    ensures keeps { (max : ℕ) (gate next : Moment) → GateInvariant max gate → GateStep gate next → GateInvariant max next }
+    ensures goes { (max : ℕ) (gate next : Moment) → GateInvariant max gate → (step : GateStep gate next) → (x : Word) × (y : Word) × GateGoes gate next step x y }
+{}
+
+/// From a moment that keeps the invariant, the steps of a history are the steps that the gate's table lets its
+/// plays and its split make: every one of those, whichever number it writes, and no other.
+pub fn steps_are_those_of_the_table()
+    ensures every { (max : ℕ) (gate next : Moment) → GateInvariant max gate → GateInvariant max next → TableStep gate next → GateStep gate next }
+    ensures no_other { (max : ℕ) (gate next : Moment) → GateInvariant max gate → GateStep gate next → TableStep gate next × GateInvariant max next }
 {}
 
 /// Once a gate is closed no step changes its word, so that its count stays 0 and nobody enters.

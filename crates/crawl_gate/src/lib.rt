@@ -11,6 +11,7 @@ mod gate;
 pub mod laws;
 mod pass;
 mod rule;
+mod step_kind;
 #[cfg(test)]
 mod tests;
 mod unit;
@@ -23,5 +24,6 @@ pub use gate::enter::Enter;
 pub use gate::{Gate, MAX_PENDING_LIMIT};
 pub use pass::Pass;
 pub use rule::View;
+pub use step_kind::StepKind;
 pub use unit::Unit;
 pub use word::GateState;

@@ -1,4 +1,5 @@
 //! The rule that the word and the views of all seats keep, and what each kind of step tells its seat.
+use crate::step_kind::StepKind;
 use atomic_table::{Play, Split, TableRule};
 use std::collections::LinkedList;
 
@@ -10,8 +11,8 @@ pub struct View {
     pub holds_unit: bool,
     /// Whether a step of this seat closed the gate.
     pub closed_gate: bool,
-    /// The words that its steps met, oldest first: each a count, and whether the gate was closed.
-    pub met: LinkedList<(u64, bool)>,
+    /// Its steps, oldest first: the kind of each, and the word that it met, a count and whether the gate was closed.
+    pub met: LinkedList<(StepKind, (u64, bool))>,
 }
 
 pub(crate) struct CountsUnits;
@@ -61,9 +62,9 @@ impl Play<(), View> for Shut {
 pub(crate) struct FreshPass;
 
 impl Split<View> for FreshPass {
-    ghost use Rattle.crawl_gate.specs.View.{fresh_view};
+    ghost use Rattle.crawl_gate.specs.Steps.{view_split, view_split_off};
 
-    ghost left = { λ v. v };
+    ghost left = { view_split };
 
-    ghost right = { λ v. fresh_view v.max_pending };
+    ghost right = { view_split_off };
 }

@@ -1,6 +1,6 @@
 //! The u64 that a gate's threads share: bit 63 says that the gate is closed, the bits below it count units.
-ghost use Rattle.std.specs.Prelude.{◌≡◌, ◌<◌, ◌^◌};
-ghost use Rattle.crawl_gate.specs.Word.{bits};
+ghost use Rattle.std.specs.Prelude.{◌≡◌, ◌<◌};
+ghost use Rattle.crawl_gate.specs.Word.{top_bit, bits};
 
 /// The word of a closed gate, whose count is 0.
 pub(crate) const CLOSED: u64 = 1 << 63;
@@ -17,7 +17,7 @@ pub struct GateState {
 // The state that the word shows.
 pub(crate) fn state_of(word: u64) -> GateState
     ensures shown { bits (result.count, result.closed) ≡ word }
-    ensures small { result.count < 2 ^ 63 }
+    ensures small { result.count < top_bit }
 {
     if word >= CLOSED {
         GateState {

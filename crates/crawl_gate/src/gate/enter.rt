@@ -2,7 +2,7 @@
 ghost use Rattle.std.specs.Prelude.{◌≡◌, ◌≢◌, ◌<◌, MatchResult, true, false};
 ghost use Rattle.crawl_gate.specs.Word.{Word, open_at};
 ghost use Rattle.crawl_gate.specs.View.{knows_closed};
-ghost use Rattle.crawl_gate.specs.Seat.{IsSeatOf, after_meeting, after_entering};
+ghost use Rattle.crawl_gate.specs.Seat.{IsSeatOf, after_entering, after_losing};
 ghost use Rattle.crawl_gate.specs.Enter.{TriesToEnter, TriesToEnterBeside, EntersAtLast, EntersAtLastBeside, GivesSeatOf, IsClosed, IsLost};
 
 use super::Gate;
@@ -105,7 +105,7 @@ impl Gate {
         requires room { count < self.now.max_pending }
         ensures { MatchResult result
             (λ unit. (knows_closed pass.view ≡ false) × (unit ≡ after_entering pass (open_at count)))
-            (λ back. (x : Word) × (x ≢ open_at count) × (back ≡ after_meeting pass x)) }
+            (λ back. (x : Word) × (x ≢ open_at count) × (back ≡ after_losing pass x)) }
     {
         let Pass { mut seat } = pass;
         let found = self

@@ -1,35 +1,15 @@
 //! One thread, call by call.
-use crate::{Close, Enter, Gate, GateError, GateState, MAX_PENDING_LIMIT};
+use crate::{Close, Enter, Gate, GateState};
 use std::test::Fail;
 
 #[test]
-fn takes_maximums_within_the_limit(rt: HostRuntime) {
-    for (max_pending, want) in [
-        (0, false),
-        (1, true),
-        (2, true),
-        (MAX_PENDING_LIMIT, true),
-        (MAX_PENDING_LIMIT + 1, false),
-        (u64::MAX, false),
-    ] {
-        let made = match Gate::new(rt.alloc(), max_pending) {
-            Ok(_) => true,
-            Err(e) => {
-                assert_eq!(rt; e, GateError::BadLimit, "at {max_pending}");
-                false
-            }
-        };
-        assert_eq!(rt; made, want, "at {max_pending}");
+fn makes_gates_from_1_to_2_to_the_40(rt: HostRuntime) {
+    for max_pending in [1, 2, 1_099_511_627_776] {
+        assert!(rt;
+            Gate::new(rt.alloc(), max_pending).is_ok(),
+            "at {max_pending}"
+        );
     }
-}
-
-#[test]
-fn errors_in_words(rt: HostRuntime) -> Result<(), Fail> {
-    let limit = format!(in rt.alloc(); "{}", GateError::BadLimit)?;
-    assert_eq!(rt; limit.as_str(), "maximum not from 1 to 2^40");
-    let memory = format!(in rt.alloc(); "{}", GateError::NoMemory)?;
-    assert_eq!(rt; memory.as_str(), "out of memory");
-    Ok(())
 }
 
 #[test]
