@@ -1,3 +1,4 @@
 pub mod CanonicalLemmas
 pub mod LaidLemmas
 pub mod HashLemmas
+pub mod FilterLemmas

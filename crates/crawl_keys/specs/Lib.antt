@@ -3,3 +3,4 @@ pub mod HostKey
 pub mod Layout
 pub mod Assignment
 pub mod Outcome
+pub mod HostFilter
