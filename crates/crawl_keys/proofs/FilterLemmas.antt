@@ -1,6 +1,6 @@
 -- A host is within a suffix where a look-up of the host, or of what stands behind one of its dots, finds the suffix.
-use Rattle.std.proofs.Common.{◌≡◌, ◌≤◌, ◌<◌, ◌+◌, ◌-◌, ◌⊎◌, ℕ, Bool, true, false, ◌&&◌, ◌||◌, not, List, [], ◌∷◌, ◌++◌, map, length, drop, suc, refl, ap, sym, ◌∙◌, ⊎_elim, arith, cond, String, Global, Bor, Some, None, Ok, Err}
-use Rattle.std.proofs.lemmas.Bool.{cases_order, false_from_ne_true, and_right, and_left, cases_Bool, eqb-false}
+use Rattle.std.proofs.Common.{◌≡◌, ◌≤◌, ◌<◌, ◌+◌, ◌-◌, ℕ, Bool, true, false, ◌&&◌, ◌||◌, not, List, [], ◌∷◌, ◌++◌, map, length, drop, suc, refl, ap, sym, ◌∙◌, ⊎_elim, arith, cond, String, Global, Bor, Some, None, Ok, Err}
+use Rattle.std.proofs.lemmas.Bool.{cases_order, false_from_ne_true, and_right, cases_Bool}
 use Rattle.std.proofs.Math.Bool.{or-false}
 use Rattle.std.proofs.lemmas.Slice.Eq.{bytes_eq-Decides}
 use Rattle.std.proofs.lemmas.Map.Text.{is_eq-slice_cmp}

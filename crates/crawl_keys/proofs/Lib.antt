@@ -2,3 +2,4 @@ pub mod CanonicalLemmas
 pub mod LaidLemmas
 pub mod HashLemmas
 pub mod FilterLemmas
+pub mod InOrderLemmas

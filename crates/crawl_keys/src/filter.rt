@@ -1,5 +1,5 @@
 //! Which hosts' URLs are wanted.
-ghost use Rattle.std.specs.Prelude.{◌≡◌, Ok, map, not, position};
+ghost use Rattle.std.specs.Prelude.{◌≡◌, ◌↔◌, ℕ, List, Ok, IfOk, Contains, map, not, position};
 ghost use Rattle.std.specs.List.{list_all};
 ghost use Rattle.crawl_keys.specs.HostFilter as spec;
 ghost use Rattle.crawl_keys.specs.Outcome.{Gives};
@@ -40,15 +40,16 @@ impl Filter {
     /// `BadSuffix` has the place, from 0, of the first suffix that is empty or has a byte other than
     /// `a` to `z`, `0` to `9`, `-` and `.`; `NoMemory` where memory is wanting.
     pub fn new(alloc: Global, suffixes: &[&str]) -> Result<Filter, FilterError>
-        ensures { Gives FilterError.NoMemory (λ filter. filter) result (spec.filter_of (map (λ suffix. suffix.now) suffixes.now)) }
+        ensures exact { Gives FilterError.NoMemory (λ filter. filter) result (spec.filter_of (map (λ suffix. suffix.now) suffixes.now)) }
+
+        // The suffixes kept are those given, and allow the URLs that those do.
+        ensures keeps { IfOk result (λ filter. (suffix : List ℕ) → Contains filter suffix ↔ Contains (map (λ suffix. suffix.now) suffixes.now) suffix) }
+        ensures alike { IfOk result (λ filter. (url : List ℕ) → spec.allows filter url ≡ spec.allows (map (λ suffix. suffix.now) suffixes.now) url) }
     {
         if let Some(place) = first_bad(suffixes) {
             return Err(FilterError::BadSuffix(place as u64));
         }
-        let mut kept = Suffixes::new(alloc);
-        for suffix in suffixes {
-            kept.add(alloc, suffix)?;
-        }
+        let kept = Suffixes::keep(alloc, suffixes)?;
         let shared = Arc::new(alloc, kept)?;
         Ok(Filter { shared })
     }

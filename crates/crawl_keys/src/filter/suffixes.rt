@@ -1,10 +1,12 @@
 //! The suffixes of a filter, in an ordered set.
-ghost use Rattle.std.specs.Prelude.{◌≡◌, ◌<◌, [], OnOk, OnErr, IfErr, MatchOption, length, bytes_eq};
+ghost use Rattle.std.specs.Prelude.{◌≡◌, ◌<◌, Ok, MatchOption, length, map, bytes_eq};
 ghost use Rattle.std.specs.BTreeSet.{insert_key};
 ghost use Rattle.std.specs.Cmp.Lexicographic.{slice_cmp};
 ghost use Rattle.std.specs.List.{list_any, after_first, position_or_len};
 ghost use Rattle.std.specs.Ordering.{nat_cmp};
+ghost use Rattle.crawl_keys.specs.HostFilter.{in_order};
 ghost use Rattle.crawl_keys.specs.HostFilter as spec;
+ghost use Rattle.crawl_keys.specs.Outcome.{Gives};
 
 use crate::filter::FilterError;
 use std::alloc::Global;
@@ -27,19 +29,22 @@ impl Model for Suffixes {
 }
 
 impl Suffixes {
-    /// No suffixes.
-    pub(super) fn new(alloc: Global) -> Suffixes
-        ensures { result ≡ [] }
+    /// These suffixes.
+    pub(super) fn keep(alloc: Global, suffixes: &[&str]) -> Result<Suffixes, FilterError>
+        ensures { Gives FilterError.NoMemory (λ kept. kept) result (Ok (in_order (map (λ suffix. suffix.now) suffixes.now))) }
     {
-        Suffixes {
+        let mut kept = Suffixes {
             texts: BTreeSet::new(alloc),
+        };
+        for suffix in suffixes {
+            kept.add(alloc, suffix)?;
         }
+        Ok(kept)
     }
 
     /// Adds a suffix, if it is not there.
-    pub(super) fn add(&mut self, alloc: Global, suffix: &str) -> Result<(), FilterError>
-        ensures ok { OnOk result (self.new ≡ insert_key (slice_cmp nat_cmp) self.old suffix.now) }
-        ensures err { IfErr result (λ e. e ≡ FilterError.NoMemory) }
+    fn add(&mut self, alloc: Global, suffix: &str) -> Result<(), FilterError>
+        ensures { Gives FilterError.NoMemory (λ _. self.new) result (Ok (insert_key (slice_cmp nat_cmp) self.old suffix.now)) }
     {
         self.texts.insert(String::from_str(alloc, suffix)?)?;
         Ok(())

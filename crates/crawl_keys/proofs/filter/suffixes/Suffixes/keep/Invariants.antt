@@ -1,6 +1,6 @@
 use Rattle.std.proofs.Common.{◌≡◌, map, take}
 use Rattle.crawl_keys.specs.HostFilter.{in_order}
-use Rattle.crawl_keys.proofs.filter.Filter.new.Given as goal
+use Rattle.crawl_keys.proofs.filter.suffixes.Suffixes.keep.Given as goal
 
 -- those before this place are kept
 abbrev pub invariant-loop-suffix : goal.invariant-loop-suffix
