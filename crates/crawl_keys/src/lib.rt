@@ -8,7 +8,7 @@ mod error;
 mod filter;
 mod read;
 
-pub use assignment::{SUBQUEUES_LIMIT, assign, hash};
+pub use assignment::{SUBQUEUES_LIMIT, assign, can_assign, hash};
 pub use base::Base;
 pub use canon_url::CanonUrl;
 pub use error::KeyError;
