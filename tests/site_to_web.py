@@ -500,6 +500,15 @@ class Documents(Converting):
             '<a href="x" href="y">': ["x"],
             '<a title="href=y > z" href="x">': ["x"],
             '<img src="x" srcset="y 1x, z 2x, data:,a 3x">': ["x", "y", "z", "data:,a"],
+            '<img srcset=" a,b.png 1x , c.png,d.png 2x,e.png,,f.png (x,y) 3w, g.png">': [
+                "a,b.png",
+                "c.png,d.png",
+                "e.png,,f.png",
+                "g.png",
+            ],
+            '<img srcset="a.png, b.png"><img srcset=", ,"><img srcset="c\u00a0d (e">': ["a.png", "b.png", "c\u00a0d"],
+            f'<a title="&#{"0" * 5000}65;" href="a&#{"9" * 5000};b&#{"0" * 5000}65;">': ["a\ufffdbA"],
+            '<a href=a\u00a0b>': ["a\u00a0b"],
             '<link rel="stylesheet" href="x"><link rel="preconnect" href="//y">': ["x"],
             '<link rel="prev DNS-Prefetch" href="//y"><link href="x">': ["x"],
             '<script src="x"></script><iframe src="y"></iframe><area href="z">': ["x", "y", "z"],
@@ -602,6 +611,8 @@ class Documents(Converting):
             ("a letter that it lacks", '<meta charset="latin1"><a href="?&#x416;">'.encode(), "?%26%231046%3B"),
             ("another scheme", '<meta charset="latin1"><a href="mailto:m?\u00fc">'.encode("cp1252"), "mailto:m?\u00fc"),
             ("an unheard one", '<meta charset="unheard"><a href="\u00fc">'.encode(), "\u00fc"),
+            ("one that decodes nothing", '<meta charset="undefined"><a href="\u00fc">'.encode(), "\u00fc"),
+            ("one that takes no broken bytes", '<meta charset="idna"><a href="\u00fc">'.encode(), "\u00fc"),
             ("a mark", '\ufeff<a href="\u00fc?\u00fc">'.encode("utf-16-le"), "\u00fc?\u00fc"),
             ("broken UTF-8", b'<meta charset="utf-8"><a href="a\xffb">', "a\ufffdb"),
             ("half a pair", b'<meta charset="utf-8"><a href="a&#xD800;b">', "a\ufffdb"),
@@ -795,7 +806,9 @@ class Archives(WithArchives):
         good = record("response", "http://a.test/", answer(200, '<a href="x">' * 100))
         self.assertFault(1, "--warc", self.archive(good, good[:-200]), says="a WARC record is cut off")
         self.assertFault(1, "--warc", self.archive(b"<html>"), says="no WARC record where one should begin")
-        self.assertFault(1, "--warc", self.archive(b"WARC/1.0\r\n\r\n"), says="a WARC record without a length")
+        for length in ("", "Content-Length: x\r\n", f"Content-Length: {'9' * 5000}\r\n"):
+            path = self.archive(f"WARC/1.0\r\n{length}\r\n".encode())
+            self.assertFault(1, "--warc", path, says="a WARC record without a length")
         packed = gzip.compress(good)
         self.put("cut.gz", packed[: len(packed) // 2])
         self.assertFault(1, "--warc", os.path.join(self.folder, "cut.gz"), says="cut.gz: ")

@@ -148,7 +148,9 @@ def is_web(scheme):
 def is_known_label(label):
     """Whether a label has letters of ASCII alone, or ones that Python reads and writes again."""
     try:
-        return label[:4] != "xn--" or label == label.encode().decode("idna").encode("idna").decode()
+        return label[:4] != "xn--" or (
+            len(label) < 64 and label == label.encode().decode("idna").encode("idna").decode()
+        )
     except UnicodeError:
         return False
 
@@ -270,7 +272,7 @@ def respelled(path):
 
 # ---------------------------------------------------------------- HTML
 
-ATTRIBUTE = re.compile(r"""[\s/]*([^\s/>][^\s/>=]*)(?:\s*=\s*("[^"]*"|'[^']*'|(?!['"])[^\s>]*))?""", re.S)
+ATTRIBUTE = re.compile(r"""[\s/]*([^\s/>][^\s/>=]*)(?:\s*=\s*("[^"]*"|'[^']*'|(?!['"])[^\s>]*))?""", re.A)
 COMMENT = re.compile(r"<!--(?:-?>|.*?(?:--!?>|\Z))", re.S)
 HTML_START = re.compile(
     rb"(\xef\xbb\xbf)?\s*(<\?xml[^>]*>\s*)?(<!--.*?-->\s*)*<(!doctype\s+html|html)\b", re.I | re.S
@@ -278,12 +280,15 @@ HTML_START = re.compile(
 START_LENGTH = 1024  # bytes of a document in which its kind and its encoding are looked for
 DECLARED = re.compile(rb"(?i)<meta[^>]*charset\s*=\s*[\"']?\s*([A-Za-z0-9_.:-]+)")
 REFERENCE = re.compile("&(#[0-9]+;?|#[xX][0-9a-fA-F]+;?|[A-Za-z][A-Za-z0-9]*(?:;|(?![A-Za-z0-9=])))")
-CANDIDATE = re.compile(r"[\s,]*(\S*[^\s,])(?:,+|\s+(?:\([^)]*\)|[^,(])*(?:,|$)|$)")
+LONG_REFERENCE = re.compile("&#([0-9]{8,})(;?)")
+CANDIDATE = re.compile(r"[^ \t\n\f\r]*")
+BETWEEN_CANDIDATES = re.compile(r"[ \t\n\f\r,]*")
+DESCRIPTORS = re.compile(r"(?:\([^)]*\)?|[^,(])*")
 REFRESH = re.compile(
-    r"""\s*[0-9.]*(?:\s*[;,]\s*|\s+)(?:url\s*=\s*)?(?:"([^"]*)|'([^']*)|(.*))""", re.I | re.S
+    r"""\s*[0-9.]*(?:\s*[;,]\s*|\s+)(?:url\s*=\s*)?(?:"([^"]*)|'([^']*)|(.*))""", re.A | re.I | re.S
 )
 STYLE_URL = re.compile(
-    r"""(?:url\(\s*|@import\s+)(?:"([^"]*)"|'([^']*)'|(?<=\()\s*([^"'()\s]+))""", re.I
+    r"""(?:url\(\s*|@import\s+)(?:"([^"]*)"|'([^']*)'|(?<=\()\s*([^"'()\s]+))""", re.A | re.I
 )
 
 
@@ -309,9 +314,31 @@ def attributes(tag):
     return found
 
 
+def without_long_references(text):
+    """The text with no reference of more than seven digits. Python may fail at long ones, which are no character."""
+
+    def one(found):
+        digits = found[1].lstrip("0")
+        return "\ufffd" if len(digits) > 7 else f"&#{digits or 0}{found[2]}"
+
+    return LONG_REFERENCE.sub(one, text)
+
+
+def candidates(text):
+    """The URLs of a srcset: each ends at a space, or at a comma where it ends in one."""
+    found, place = [], 0
+    while (place := BETWEEN_CANDIDATES.match(text, place).end()) < len(text):
+        candidate = CANDIDATE.match(text, place)
+        place = candidate.end()
+        found.append(candidate[0].rstrip(","))
+        if found[-1] == candidate[0]:
+            place = DESCRIPTORS.match(text, place).end()
+    return found
+
+
 def links_of_style(text):
     """The texts of url() and @import in a style sheet."""
-    text = re.sub(r"/\*.*?\*/", "", text, flags=re.S)
+    text = re.sub(r"/\*.*?(?:\*/|\Z)", "", text, flags=re.S)
     return ["".join(found) for found in STYLE_URL.findall(text)]
 
 
@@ -365,7 +392,7 @@ class LinkReader(html.parser.HTMLParser):
         """The texts of the attributes with these names."""
         for name in names:
             if name in found and name.endswith("srcset"):
-                self.links += CANDIDATE.findall(found[name])
+                self.links += candidates(found[name])
             elif name in found:
                 self.links.append(found[name])
 
@@ -388,7 +415,8 @@ def text_of(body, charset):
     for name in charset_names(body, charset):
         try:
             return body.decode(name, "replace"), name
-        except LookupError:
+        except (LookupError, ValueError):
+            # No name of an encoding, or one that takes no broken bytes
             pass
     try:
         return body.decode("utf-8"), "utf-8"
@@ -434,7 +462,7 @@ def links_of(body, url, kind, web, charset=None):
     elif is_document(kind, body):
         text, charset = text_of(body, charset)
         reader = LinkReader(web.styles)
-        reader.feed(text)
+        reader.feed(without_long_references(text))
         reader.close()
         given, base = reader.links, reader.base
     else:
@@ -729,7 +757,7 @@ def record_headers(file):
     while line := file.readline(1 << 16).rstrip(b"\r\n"):
         lines.append(line)
     headers = headers_of(lines)
-    if not re.fullmatch("[0-9]+", headers.get("content-length", "")):
+    if not re.fullmatch("[0-9]{1,18}", headers.get("content-length", "")):
         raise Fault("a WARC record without a length")
     return headers
 
