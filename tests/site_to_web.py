@@ -314,6 +314,7 @@ class Folders(Converting):
             "http://a.test:8080/docs": "http://a.test:8080/docs/x.txt",
             "http://a.test/b/../c d/": "http://a.test/c%20d/x.txt",
             "http://a.test/%64ocs/": "http://a.test/docs/x.txt",
+            "http://a.test/d%2focs/": "http://a.test/d%2Focs/x.txt",
             "http://127.0.0.1/": "http://127.0.0.1/x.txt",
             "http://a.test:65535/": "http://a.test:65535/x.txt",
         }.items():
@@ -370,6 +371,14 @@ class Folders(Converting):
     def test_exact_leaves_other_spellings_out(self):
         self.put("index.html", '<html><a href="?x"><a href="%69ndex.html">')
         self.assertEqual(list(self.converted("--exact")), ["http://a.test/", "http://a.test/index.html"])
+
+    def test_pages_below_another_spelling_are_other_spellings(self):
+        self.put("index.html", '<html><a href="%64ir/a.html">')
+        self.put("dir/a.html", '<html><a href="b.html">')
+        self.put("dir/b.html", '<html><a href="/dir/a.html">')
+        spelled = [url for url in self.converted() if "%" in url]
+        self.assertEqual(spelled, ["http://a.test/%64ir/a.html", "http://a.test/%64ir/b.html"])
+        self.assertIn("pages that are other spellings of a page: 2\n", self.told)
 
     def test_an_escaped_slash_and_other_hosts_are_no_other_spelling(self):
         self.put("dir/x.html", '<html><a href="/dir%2Fx.html"><a href="http://b.test/dir/x.html?q">')
@@ -519,8 +528,10 @@ class Documents(Converting):
             '<meta http-equiv="refresh" content="5">': [],
             '<form action="x"><blockquote cite="y"><q cite="z">': [],
             '<!-- <a href="x"> --><a href="y">': ["y"],
-            '<!--><a href="x"><!-- --!><a href="y">': ["x", "y"],
-            '<!-- <a href="x">': [],
+            '<!--><a href="x"> --><a href="y">': ["x", "y"],
+            '<!---><a href="x"> --><a href="y">': ["x", "y"],
+            '<!-- --!><a href="x"> --><a href="y">': ["x", "y"],
+            '<!-- > <a href="x">': [],
             '<![unheard[<a href="x">]]><a href="y">': ["y"],
             '<script>"<a href=x>"</script><a href="y">': ["y"],
             '<a href="?a=1&amp;b=2&copy=3&#38;c&lt;">': ["?a=1&b=2&copy=3&c<"],
@@ -597,7 +608,16 @@ class Documents(Converting):
             '<base href="data:,x"><a href="x">': ["x"],
             '<base href="http://"><a href="x">': ["x"],
             '<base href="/d/e/"><a href="a/./b/../c/%2e%2E/d\\e">': ["http://a.test/d/e/a/d/e"],
-            '<base href="/d/"><a href="..">': ["http://a.test/"],
+            '<base href="/d/e/"><a href=".."><a href="."><a href="../..">': [
+                "http://a.test/d/",
+                "http://a.test/d/e/",
+                "http://a.test/",
+            ],
+            '<base href="/d?q"><a href="#f"><a href=""><a href="e">': [
+                "http://a.test/d?q",
+                "http://a.test/d?q",
+                "http://a.test/e",
+            ],
         }.items():
             with self.subTest(document):
                 self.assertEqual(self.links(document), [f"link {text}" for text in expected])
@@ -607,6 +627,7 @@ class Documents(Converting):
             ("utf-8", '<meta charset="utf-8"><a href="\u00fc?\u00fc">'.encode(), "\u00fc?\u00fc"),
             ("none said", '<a href="\u00fc?\u00fc">'.encode(), "\u00fc?\u00fc"),
             ("none said, no UTF-8", '<a href="\u00fc?\u00fc">'.encode("latin-1"), "\u00fc?%FC"),
+            ("a letter that Windows has", b'<meta charset="latin1"><a href="\x80">', "\u20ac"),
             ("said", '<meta charset="koi8-r"><a href="\u0416?\u0416#\u0416">'.encode("koi8-r"), "\u0416?%F6#\u0416"),
             ("a letter that it lacks", '<meta charset="latin1"><a href="?&#x416;">'.encode(), "?%26%231046%3B"),
             ("another scheme", '<meta charset="latin1"><a href="mailto:m?\u00fc">'.encode("cp1252"), "mailto:m?\u00fc"),

@@ -264,10 +264,7 @@ def canonical_path(path):
 
 def respelled(path):
     """A canonical path with its escapes written as those of a file's page are."""
-    return "/".join(
-        part if "%2f" in part.lower() else quote(unquote_to_bytes(part), safe=IN_NAME)
-        for part in path.split("/")
-    )
+    return "/".join(quote(unquote_to_bytes(part), safe=IN_NAME) for part in path.split("/"))
 
 
 # ---------------------------------------------------------------- HTML
@@ -678,7 +675,7 @@ class Folder:
     def spelled_otherwise(self, link, url):
         """The canonical URL of a link and that of the page which a server takes it for, where these differ."""
         target = parse(link, url)
-        if target is None or target.site() != self.base.site():
+        if target is None:
             return None
         text = target.text()
         plain = target.site() + respelled(target.path)
