@@ -539,7 +539,7 @@ class Web:
         return True
 
     def link(self, text, url):
-        """The line of a link; where it is too long, a shorter one that means the same; None where there is none."""
+        """The line of a link; where that is too long, a shorter one that the reader takes for the same, or None."""
         line = line_of("link", text)
         if line is None:
             line = line_of("link", text.partition("#")[0])
@@ -591,7 +591,7 @@ def entries_below(folder, web):
     found, waiting = [], [(b"", (os.path.realpath(folder),))]
     while waiting:
         place, above = waiting.pop()
-        for name in os.listdir(os.path.join(folder, place)):
+        for name in sorted(os.listdir(os.path.join(folder, place))):
             path = os.path.join(folder, place, name)
             if os.path.isdir(path):
                 found.append(place + name + b"/")
@@ -616,10 +616,7 @@ def kind_of(name):
 
 def is_utf8(name):
     """Whether a file's name is UTF-8."""
-    try:
-        return bool(name.decode()) or not name
-    except UnicodeError:
-        return False
+    return name.decode("utf-8", "ignore").encode() == name
 
 
 def split_name(name, queries):
@@ -701,6 +698,17 @@ class Folder:
         self.web.moved(text, target)
         return [target]
 
+    def other_spellings(self, links, text, plain):
+        """The URLs by which a page's links spell pages in another way, each with the page's own URL."""
+        found, url = {}, parse(text)
+        for link in dict.fromkeys(links):
+            # Only these links can: ones with escapes or a query, and those of a page that is such a spelling itself
+            if "?" in link or "%" in link or text != plain:
+                other = self.spelled_otherwise(link, url)
+                if other:
+                    found[other[0]] = other[1]
+        return found
+
     def write(self):
         """Adds all pages, and then those that are other spellings of them, until no page links to a new one."""
         pages = {url: url for url in (*self.files, *self.moves)}
@@ -709,14 +717,8 @@ class Folder:
             found = {}
             for text, plain in sorted(pages.items()):
                 links = self.write_page(text, plain)
-                if self.exact:
-                    continue
-                for link in dict.fromkeys(links):
-                    # No other link has a page's URL but for escapes or a query
-                    if "?" in link or "%" in link or text != plain:
-                        other = self.spelled_otherwise(link, parse(text))
-                        if other:
-                            found[other[0]] = other[1]
+                if not self.exact:
+                    found.update(self.other_spellings(links, text, plain))
             self.web.count("pages that are other spellings of a page", len(found))
             self.known.update(found)
             pages = found
