@@ -1,0 +1,889 @@
+#!/usr/bin/env python3
+"""Tests of tools/site_to_web.py, by the standard library alone. Run by hand: python3 tests/site_to_web.py
+
+Expected lines are written by hand from the rules that the tool's help states, and from a server of the standard library
+for the shipped site. Each web that a test gets is held against the format's rules first, by a check of this file's own.
+"""
+
+import collections
+import contextlib
+import functools
+import gzip
+import http.client
+import http.server
+import importlib.util
+import io
+import os
+import subprocess
+import sys
+import tempfile
+import threading
+import unittest
+import zlib
+from unittest import mock
+from urllib.parse import urljoin, urlsplit
+
+ROOT = os.path.dirname(os.path.dirname(os.path.abspath(__file__)))
+TOOL = os.path.join(ROOT, "tools", "site_to_web.py")
+SITE = os.path.join(ROOT, "examples", "site")
+LINE_LIMIT = 4096
+
+Done = collections.namedtuple("Done", "status out told")
+
+
+# ---------------------------------------------------------------- the format's rules
+
+
+def checked_lines(web):
+    """The lines of a saved web, version 2; an AssertionError where it breaks a rule of the format."""
+    assert web.endswith(b"\n") and b"\r\n" not in web, "line ends"
+    lines = web[:-1].split(b"\n")
+    assert all(len(line) <= LINE_LIMIT for line in lines), "a line is too long"
+    lines = [line.decode("utf-8") for line in lines]
+    assert lines[0] == "savedweb 2", "header"
+    pages, words = [], None
+    for line in lines[1:]:
+        word, space, text = line.partition(" ")
+        assert space and word in ("page", "link", "moved"), f"no line of the format: {line}"
+        if word == "page":
+            assert urlsplit(text).scheme in ("http", "https") and urlsplit(text).netloc, f"no URL: {line}"
+            assert "#" not in text and text.isascii() and " " not in text, f"not canonical: {line}"
+            pages.append(text)
+            words = []
+            continue
+        assert words is not None, "a line before the first page"
+        assert "moved" not in words and (word == "link" or not words), f"a moved page with other lines: {line}"
+        words.append(word)
+    assert len(set(pages)) == len(pages), "a page twice"
+    assert pages == sorted(pages), "pages out of order"
+    return lines
+
+
+def pages_of(lines):
+    """The lines below each page, by its URL."""
+    pages = {}
+    for line in lines[1:]:
+        if line.startswith("page "):
+            below = pages[line[len("page ") :]] = []
+        else:
+            below.append(line)
+    return pages
+
+
+class TheCheckItself(unittest.TestCase):
+    def test_breaks_of_each_rule_are_seen(self):
+        page = b"page http://a.test/\n"
+        for name, web in {
+            "no header": page,
+            "version 1": b"savedweb 1\n" + page,
+            "a link first": b"savedweb 2\nlink x\n",
+            "a moved line first": b"savedweb 2\nmoved x\n",
+            "another word": b"savedweb 2\n" + page + b"lonk x\n",
+            "a link after a moved line": b"savedweb 2\n" + page + b"moved x\nlink y\n",
+            "a moved line after a link": b"savedweb 2\n" + page + b"link y\nmoved x\n",
+            "moved twice": b"savedweb 2\n" + page + b"moved x\nmoved x\n",
+            "a page twice": b"savedweb 2\n" + page + page,
+            "pages out of order": b"savedweb 2\npage http://b.test/\n" + page,
+            "a line too long": b"savedweb 2\n" + page + b"link " + b"x" * 4092 + b"\n",
+            "no UTF-8": b"savedweb 2\n" + page + b"link \xff\n",
+            "no URL": b"savedweb 2\npage a\n",
+        }.items():
+            with self.subTest(name), self.assertRaises((AssertionError, UnicodeError)):
+                checked_lines(web)
+        checked_lines(b"savedweb 2\n" + page + b"link " + b"x" * 4091 + b"\n")
+
+
+# ---------------------------------------------------------------- running the tool
+
+
+def run(*words):
+    """The tool's status, output and what it told."""
+    done = subprocess.run([sys.executable, TOOL, *words], capture_output=True, check=False)
+    return Done(done.returncode, done.stdout, done.stderr.decode())
+
+
+class Converting(unittest.TestCase):
+    """A test with a folder of its own, and ways to convert it."""
+
+    maxDiff = None
+
+    def setUp(self):
+        scratch = tempfile.TemporaryDirectory()
+        self.addCleanup(scratch.cleanup)
+        self.folder = os.path.join(scratch.name, "site")
+        os.mkdir(self.folder)
+        self.told = ""
+
+    def put(self, name, content=""):
+        """Writes a file below the folder; its name may be bytes."""
+        path = os.path.join(os.fsencode(self.folder), os.fsencode(name))
+        os.makedirs(os.path.dirname(path), exist_ok=True)
+        with open(path, "wb") as file:
+            file.write(content if isinstance(content, bytes) else content.encode())
+
+    def web(self, *words):
+        """The checked lines that the tool writes for these words."""
+        done = run(*words)
+        self.told = done.told
+        self.assertEqual(done.status, 0, done.told)
+        return checked_lines(done.out)
+
+    def converted(self, *options, base="http://a.test/"):
+        """The pages of the folder: the lines below each."""
+        return pages_of(self.web(*options, self.folder, base))
+
+    def links(self, document, *options):
+        """The lines of one document at http://a.test/dir/page.html."""
+        self.put("dir/page.html", document)
+        return self.converted(*options)["http://a.test/dir/page.html"]
+
+    def assertFault(self, status, *words, says):
+        """The tool ends with this status, writes nothing, and says so."""
+        done = run(*words)
+        self.assertEqual((done.status, done.out), (status, b""), done.told)
+        self.assertIn(says, done.told)
+
+
+# ---------------------------------------------------------------- the shipped site
+
+TOP = [
+    "link style.css",
+    "link images/bell.svg",
+    "link guide",
+    "link api/",
+    "link /news/?from=top",
+    "link about us.html",
+    "link downloads.html",
+    "link old.html",
+    "link http://cogs.test/wheels",
+    "link #top",
+]
+GUIDE = ["link ../style.css", "link install.html", "link use.html", "link ../"]
+NEWS = ["link /style.css", "link 2026.html", "link 2025.html"]
+CALLS = [
+    "link http://site.test/style.css",
+    "link http://site.test/api/v2/types.html",
+    "link http://site.test/api/v2/calls.html",
+    "link http://site.test/api/v2/calls.html",
+]
+SHIPPED = {
+    "/": TOP,
+    "/about%20us.html": ["link style.css", "link contact.html", "link mailto:bell@site.test", "link ."],
+    "/api": ["moved /api/"],
+    "/api/": CALLS,
+    "/api/index.html": CALLS,
+    "/api/v2": ["moved /api/v2/"],
+    "/api/v2/calls.html": ["link types.html", "link /api/"],
+    "/api/v2/types.html": ["link calls.html", "link ../v1/types.html"],
+    "/contact.html": ["link about%20us.html", "link guide/use.html#first-steps", "link news/2026.html"],
+    "/guide": ["moved /guide/"],
+    "/guide/": GUIDE,
+    "/guide/index.html": GUIDE,
+    "/guide/install.html": [
+        "link ../style.css",
+        "link ../downloads.html",
+        "link use.html#first-steps",
+        "link ../guide",
+    ],
+    "/guide/use.html": [
+        "link ../style.css",
+        "link ../api/v2/calls.html#set",
+        "link questions.html",
+        "link ../guide/",
+    ],
+    "/images": ["moved /images/"],
+    "/images/bell.svg": [],
+    "/index.html": TOP,
+    "/news": ["moved /news/"],
+    "/news/": NEWS,
+    "/news/2025.html": ["link ../api/v2", "link 2026.html"],
+    "/news/2026.html": [
+        "link ../images/bell.svg",
+        "link ../images/bell.svg",
+        "link ../images/bell-large.svg",
+        "link /search?q=bell&page=1",
+        "link 2025.html",
+    ],
+    "/news/?from=top": NEWS,
+    "/news/index.html": NEWS,
+    "/old.html": ["link news/2025.html"],
+    "/style.css": [],
+}
+
+
+class QuietServer(http.server.SimpleHTTPRequestHandler):
+    """The standard library's server of a folder, which lists no folder and tells nothing."""
+
+    def list_directory(self, path):
+        self.send_error(404)
+
+    def log_message(self, *words):
+        pass
+
+
+@contextlib.contextmanager
+def served(folder):
+    """A call that answers the status and the Location that a server of the folder gives for a path."""
+    handler = functools.partial(QuietServer, directory=folder)
+    server = http.server.ThreadingHTTPServer(("127.0.0.1", 0), handler)
+    thread = threading.Thread(target=server.serve_forever)
+    thread.start()
+
+    def ask(path):
+        connection = http.client.HTTPConnection(*server.server_address, timeout=10)
+        connection.request("GET", path)
+        answer = connection.getresponse()
+        connection.close()
+        return answer.status, answer.getheader("Location")
+
+    try:
+        yield ask
+    finally:
+        server.shutdown()
+        thread.join()
+        server.server_close()
+
+
+class TheShippedSite(Converting):
+    def test_its_lines_are_those_of_the_rules(self):
+        lines = self.web(SITE, "http://site.test/")
+        self.assertEqual(pages_of(lines), {"http://site.test" + path: below for path, below in SHIPPED.items()})
+
+    def test_its_stored_web_is_what_the_tool_writes(self):
+        with open(os.path.join(ROOT, "examples", "site.web"), "rb") as stored:
+            self.assertEqual(run(SITE, "http://site.test/").out, stored.read())
+
+    def test_a_server_answers_as_the_web_says(self):
+        """Each page, and each target of a link on the site, is asked of a server of the same folder."""
+        pages = pages_of(self.web(SITE, "http://site.test/"))
+        asked = set(pages)
+        for url, below in pages.items():
+            targets = (urljoin(url, line.partition(" ")[2]).partition("#")[0] for line in below)
+            asked.update(target for target in targets if target.startswith("http://site.test/"))
+        self.assertLess(len(pages), len(asked))
+        with served(SITE) as ask:
+            for url in sorted(asked):
+                path = url.removeprefix("http://site.test").replace(" ", "%20")
+                status, location = ask(path)
+                below = pages.get("http://site.test" + path)
+                expected = 404 if below is None else 301 if below[:1] == [f"moved {path}/"] else 200
+                with self.subTest(url):
+                    self.assertEqual(status, expected)
+                    if status == 301:
+                        self.assertEqual(urljoin(url, location), urljoin(url, below[0].removeprefix("moved ")))
+
+
+# ---------------------------------------------------------------- folders
+
+
+class Folders(Converting):
+    def test_names_are_percent_encoded_by_the_path_set(self):
+        names = {
+            "plain-._~.txt": "plain-._~.txt",
+            "two words.txt": "two%20words.txt",
+            "50%.txt": "50%25.txt",
+            "%41.txt": "%2541.txt",
+            "why?.txt": "why%3F.txt",
+            "a#b.txt": "a%23b.txt",
+            "a\\b.txt": "a%5Cb.txt",
+            'a"b<c>d^e`f{g}.txt': "a%22b%3Cc%3Ed%5Ee%60f%7Bg%7D.txt",
+            "!$&'()*+,;=:@[]|": "!$&'()*+,;=:@[]|",
+            "\u00fc.txt": "%C3%BC.txt",
+            "two\nlines.txt": "two%0Alines.txt",
+        }
+        for name in names:
+            self.put(name)
+        self.assertEqual(self.converted(), {f"http://a.test/{path}": [] for path in sorted(names.values())})
+
+    def test_names_that_are_no_utf8_are_written_by_their_bytes_and_told(self):
+        try:
+            self.put(b"caf\xe9.html", '<html><a href="caf%E9.html"><a href="caf%e9.html">')
+        except OSError:
+            self.skipTest("this file system takes no such name")
+        below = ["link caf%E9.html", "link caf%e9.html"]
+        self.assertEqual(
+            self.converted(), {"http://a.test/caf%E9.html": below, "http://a.test/caf%e9.html": below}
+        )
+        self.assertIn("name is not UTF-8, its bytes are percent-encoded: http://a.test/caf%E9.html\n", self.told)
+
+    def test_the_base_is_made_canonical(self):
+        self.put("x.txt")
+        for base, page in {
+            "http://A.test:80": "http://a.test/x.txt",
+            "https://a.test:0443/": "https://a.test/x.txt",
+            "http://a.test:8080/docs": "http://a.test:8080/docs/x.txt",
+            "http://a.test/b/../c d/": "http://a.test/c%20d/x.txt",
+            "http://a.test/%64ocs/": "http://a.test/docs/x.txt",
+            "http://a.test/d%2focs/": "http://a.test/d%2Focs/x.txt",
+            "http://127.0.0.1/": "http://127.0.0.1/x.txt",
+            "http://a.test:65535/": "http://a.test:65535/x.txt",
+        }.items():
+            with self.subTest(base):
+                self.assertEqual(self.converted(base=base), {page: []})
+
+    def test_bases_that_it_cannot_write_are_bad_words(self):
+        self.put("x.txt")
+        for base in (
+            "a.test",
+            "ftp://a.test/",
+            "http://",
+            "http://a.test/?x",
+            "http://me@a.test/",
+            "http://\u00fc.test/",
+            "http://a.test:65536/",
+            "http://a.test:x/",
+            "http://a..test/",
+            "http://1.2.3/",
+            "http://256.1.1.1/",
+            "http://[::1]/",
+        ):
+            with self.subTest(base):
+                self.assertFault(3, self.folder, base, says="no http or https URL with a plain host")
+
+    def test_a_folder_is_moved_to_its_index_with_the_query_that_it_was_asked_with(self):
+        self.put("index.html", '<html><a href="dir?x=1"><a href="dir?x=1"><a href="d%69r">')
+        self.put("dir/index.html", '<html><a href="?y">')
+        self.put("empty/name.txt")
+        below = ["link dir?x=1", "link dir?x=1", "link d%69r"]
+        self.assertEqual(
+            self.converted(),
+            {
+                "http://a.test/": below,
+                "http://a.test/d%69r": ["moved /dir/"],
+                "http://a.test/dir": ["moved /dir/"],
+                "http://a.test/dir/": ["link ?y"],
+                "http://a.test/dir/?x=1": ["link ?y"],
+                "http://a.test/dir/?y": ["link ?y"],
+                "http://a.test/dir/index.html": ["link ?y"],
+                "http://a.test/dir/index.html?y": ["link ?y"],
+                "http://a.test/dir?x=1": ["moved /dir/?x=1"],
+                "http://a.test/empty": ["moved /empty/"],
+                "http://a.test/empty/name.txt": [],
+                "http://a.test/index.html": below,
+            },
+        )
+
+    def test_a_redirect_never_names_a_host(self):
+        self.put("dir/x.txt")
+        pages = self.converted(base="http://a.test//docs/")
+        self.assertEqual(pages["http://a.test//docs/dir"], ["moved http://a.test//docs/dir/"])
+
+    def test_exact_leaves_other_spellings_out(self):
+        self.put("index.html", '<html><a href="?x"><a href="%69ndex.html">')
+        self.assertEqual(list(self.converted("--exact")), ["http://a.test/", "http://a.test/index.html"])
+
+    def test_pages_below_another_spelling_are_other_spellings(self):
+        self.put("index.html", '<html><a href="%64ir/a.html">')
+        self.put("dir/a.html", '<html><a href="b.html">')
+        self.put("dir/b.html", '<html><a href="/dir/a.html">')
+        spelled = [url for url in self.converted() if "%" in url]
+        self.assertEqual(spelled, ["http://a.test/%64ir/a.html", "http://a.test/%64ir/b.html"])
+        self.assertIn("pages that are other spellings of a page: 2\n", self.told)
+
+    def test_an_escaped_slash_and_other_hosts_are_no_other_spelling(self):
+        self.put("dir/x.html", '<html><a href="/dir%2Fx.html"><a href="http://b.test/dir/x.html?q">')
+        self.assertEqual(list(self.converted()), ["http://a.test/dir", "http://a.test/dir/x.html"])
+
+    def test_another_index_file(self):
+        self.put("home.htm", '<html><a href="x">')
+        self.assertEqual(
+            self.converted("--index", "home.htm"),
+            {"http://a.test/": ["link x"], "http://a.test/home.htm": ["link x"]},
+        )
+
+    def test_queries_of_names(self):
+        self.put("list.html?page=2", '<html><a href="list.html?page=3"><a href="list.html?p%61ge=2">')
+        self.put("list.html?p%61ge=2", "<html>")
+        below = ["link list.html?page=3", "link list.html?p%61ge=2"]
+        self.assertEqual(
+            self.converted(), {"http://a.test/list.html%3Fp%2561ge=2": [], "http://a.test/list.html%3Fpage=2": below}
+        )
+        # The name that comes first by its bytes has the URL
+        self.assertEqual(
+            self.converted("--queries"),
+            {"http://a.test/list.html?page=2": []},
+        )
+        told = "file left out, another has its URL: list.html?page=2, http://a.test/list.html?page=2\n"
+        self.assertIn(told, self.told)
+
+    def test_queries_of_index_files(self):
+        self.put("dir/index.html?page=2", '<html><a href="x">')
+        self.assertEqual(
+            self.converted("--queries"),
+            {
+                "http://a.test/dir": ["moved /dir/"],
+                "http://a.test/dir/?page=2": ["link x"],
+                "http://a.test/dir/index.html?page=2": ["link x"],
+            },
+        )
+        self.assertEqual(list(self.converted()), ["http://a.test/dir", "http://a.test/dir/index.html%3Fpage=2"])
+
+    def test_images_alone_are_pages_without_links(self):
+        for name in ("a.png", "b.jpg", "c.svg"):
+            self.put("images/" + name, b'\x89<html><a href="x">')
+        self.assertEqual(
+            self.converted(),
+            {
+                "http://a.test/images": ["moved /images/"],
+                "http://a.test/images/a.png": [],
+                "http://a.test/images/b.jpg": [],
+                "http://a.test/images/c.svg": [],
+            },
+        )
+        self.assertIn("4 pages, 1 of them moved; 0 links;", self.told)
+
+    def test_html_is_known_by_suffix_or_first_bytes(self):
+        document = '<!-- c --> <!DOCTYPE html><a href="x">'
+        for name, found in {
+            "a.html": 1,
+            "a.HTM": 1,
+            "a.xhtml": 1,
+            "none": 1,
+            "a.php": 1,
+            "a.txt": 0,
+            "a.js": 0,
+            "a.html.gz": 0,
+            "a.html.unheard": 1,
+        }.items():
+            self.put(name, document)
+            with self.subTest(name):
+                self.assertEqual(len(self.converted()[f"http://a.test/{name}"]), found)
+        self.put("words", "no document")
+        self.assertEqual(self.converted()["http://a.test/words"], [])
+
+    def test_symbolic_links_are_followed_but_not_back_up(self):
+        self.put("dir/x.txt")
+        os.symlink("dir", os.path.join(self.folder, "other"))
+        os.symlink("..", os.path.join(self.folder, "dir", "up"))
+        os.symlink("nothing", os.path.join(self.folder, "gone"))
+        self.assertEqual(
+            list(self.converted()),
+            [
+                f"http://a.test/{path}"
+                for path in ("dir", "dir/up", "dir/x.txt", "other", "other/up", "other/x.txt")
+            ],
+        )
+        self.assertIn("folder not entered, it leads back up: dir/up\n", self.told)
+        self.assertIn("left out, neither a file nor a folder: gone\n", self.told)
+
+    def test_a_page_whose_line_is_too_long_is_left_out_and_told(self):
+        deep = "/".join(["\u00fc" * 100] * 7)
+        self.put(deep + "/x.txt")
+        self.put("y.txt")
+        pages = self.converted()
+        # The slash and 600 letters for each folder, six of which fit
+        self.assertEqual([len(url) - len("http://a.test") for url in pages], [*range(601, 3607, 601), 6])
+        self.assertEqual(self.told.count("page left out, its URL is too long: http://a.test/%C3%BC"), 2)
+        self.assertIn("page left out, its URL is too long: 2\n", self.told)
+
+    def test_faults_write_nothing(self):
+        self.assertFault(1, self.folder, "http://a.test/", says="no files in")
+        os.mkdir(os.path.join(self.folder, "empty"))
+        self.assertFault(1, self.folder, "http://a.test/", says="no files in")
+        self.assertFault(1, self.folder + "x", "http://a.test/", says="no folder")
+        self.assertFault(3, self.folder, says="give FOLDER and BASE, or --warc FILE..")
+        self.assertFault(3, says="give FOLDER and BASE, or --warc FILE..")
+        self.assertFault(3, self.folder, "http://a.test/", "--warc", "x", says="give FOLDER and BASE")
+        self.assertFault(3, "--unheard", says="unrecognized arguments: --unheard")
+
+    def test_help_is_no_fault(self):
+        done = run("--help")
+        self.assertEqual((done.status, done.told), (0, ""))
+        for words in ("usage: site_to_web.py", "exit status:", "--warc FILE", "4,096 bytes"):
+            self.assertIn(words, done.out.decode())
+
+
+# ---------------------------------------------------------------- documents
+
+
+class Documents(Converting):
+    def test_what_is_a_link(self):
+        for document, expected in {
+            '<a href="x">': ["x"],
+            "<a href='x'>": ["x"],
+            "<A HREF=x>": ["x"],
+            "<a href=x/>": ["x/"],
+            '<a href="">': [""],
+            "<a href>": [""],
+            '<a name="x">': [],
+            '<a href="x" href="y">': ["x"],
+            '<a title="href=y > z" href="x">': ["x"],
+            '<img src="x" srcset="y 1x, z 2x, data:,a 3x">': ["x", "y", "z", "data:,a"],
+            '<img srcset=" a,b.png 1x , c.png,d.png 2x,e.png,,f.png (x,y) 3w, g.png">': [
+                "a,b.png",
+                "c.png,d.png",
+                "e.png,,f.png",
+                "g.png",
+            ],
+            '<img srcset="a.png, b.png"><img srcset=", ,"><img srcset="c\u00a0d (e">': ["a.png", "b.png", "c\u00a0d"],
+            f'<a title="&#{"0" * 5000}65;" href="a&#{"9" * 5000};b&#{"0" * 5000}65;">': ["a\ufffdbA"],
+            '<a href=a\u00a0b>': ["a\u00a0b"],
+            '<link rel="stylesheet" href="x"><link rel="preconnect" href="//y">': ["x"],
+            '<link rel="prev DNS-Prefetch" href="//y"><link href="x">': ["x"],
+            '<script src="x"></script><iframe src="y"></iframe><area href="z">': ["x", "y", "z"],
+            '<video src="x" poster="y"><source src="z"><track src="t"></video>': ["x", "y", "z", "t"],
+            '<svg><use xlink:href="x"/><image href="y"/></svg>': ["x", "y"],
+            '<meta http-equiv="Refresh" content="0;URL=\'x\'">': ["x"],
+            '<meta http-equiv="refresh" content="5; x">': ["x"],
+            '<meta http-equiv="refresh" content="5">': [],
+            '<form action="x"><blockquote cite="y"><q cite="z">': [],
+            '<!-- <a href="x"> --><a href="y">': ["y"],
+            '<!--><a href="x"> --><a href="y">': ["x", "y"],
+            '<!---><a href="x"> --><a href="y">': ["x", "y"],
+            '<!-- --!><a href="x"> --><a href="y">': ["x", "y"],
+            '<!-- > <a href="x">': [],
+            '<![unheard[<a href="x">]]><a href="y">': ["y"],
+            '<script>"<a href=x>"</script><a href="y">': ["y"],
+            '<a href="?a=1&amp;b=2&copy=3&#38;c&lt;">': ["?a=1&b=2&copy=3&c<"],
+            '<div style="background: url(x)"><style>@import "y";</style>': [],
+        }.items():
+            with self.subTest(document):
+                self.assertEqual(self.links(document), [f"link {text}" for text in expected])
+
+    def test_styles_are_read_where_they_are_asked_for(self):
+        document = '<div style="background: url(x)"><style>@import "y"; /* url(n) */</style><a href="z">'
+        self.assertEqual(self.links(document, "--styles"), ["link x", "link y", "link z"])
+        self.put("s.css", '@import "t.css"; a { background: url( "u v.png" ) }')
+        self.assertEqual(self.converted("--styles")["http://a.test/s.css"], ["link t.css", "link u v.png"])
+        self.assertEqual(self.converted()["http://a.test/s.css"], [])
+
+    def test_once_keeps_the_first_of_equal_texts(self):
+        document = '<a href="x"><a href="y"><a href="x"><a href="x#f">'
+        self.assertEqual(self.links(document), ["link x", "link y", "link x", "link x#f"])
+        self.assertEqual(self.links(document, "--once"), ["link x", "link y", "link x#f"])
+
+    def test_line_breaks_tabs_and_edges_are_taken_out(self):
+        for document, expected in {
+            '<a href="a\nb">': ["ab"],
+            '<a href="a\r\nb\tc">': ["abc"],
+            '<a href=" \n a b \n ">': ["a b"],
+            '<a href="a&#10;b&#13;&#9;c">': ["abc"],
+            '<a href="&#10;page http://b.test/">': ["page http://b.test/"],
+            '<a href="a\x0bb\x0cc">': ["a\x0bb\x0cc"],
+            '<a href="a\u2028b">': ["a\u2028b"],
+            '<a href="java\nscript:x">': ["javascript:x"],
+            '<img srcset="a.png\n1x,\nb.png 2x">': ["a.png", "b.png"],
+        }.items():
+            with self.subTest(document):
+                self.assertEqual(self.links(document), [f"link {text}" for text in expected])
+        self.links('<a href="a\nb"><a href="\na\n"><a href="c\nd">')
+        self.assertIn("links over several lines, put into one: 2\n", self.told)
+
+    def test_lines_are_at_most_4096_bytes(self):
+        room = LINE_LIMIT - len("link ")
+        letters = "\u00fc" * (room // 2)
+        for name, text, expected in (
+            ("as long as may be", "x" * room, "x" * room),
+            ("one byte more", "x" * (room + 1), None),
+            ("two bytes a letter", letters, letters),
+            ("one letter more", letters + "\u00fc", None),
+            ("without its fragment", "x" * room + "#" + "f" * 9000, "x" * room),
+            ("too long without its fragment", "x" * (room + 1) + "#f", None),
+            ("of another scheme", "data:," + "x" * 9000, "data:," + "x" * (room - 6)),
+            ("of another scheme, cut in a letter", "data:," + "\u00fc" * 9000, "data:," + "\u00fc" * (room // 2 - 3)),
+            ("of the web", "http://b.test/" + "x" * 9000, None),
+        ):
+            with self.subTest(name):
+                expected = [] if expected is None else [f"link {expected}"]
+                self.assertEqual(self.links(f'<meta charset="utf-8"><a href="{text}">'), expected)
+                told = "link left out, it is too long: http://a.test/dir/page.html"
+                self.assertEqual(told in self.told, not expected)
+
+    def test_a_base_resolves_what_is_below_it(self):
+        for document, expected in {
+            '<base href="/top/"><a href="x"><a href="../y#f"><a href="#f"><a href="//b.test">': [
+                "http://a.test/top/x",
+                "http://a.test/y",
+                "http://a.test/top/",
+                "http://b.test/",
+            ],
+            '<base href="http://B.test:80/d/e"><a href="x y"><a href="?q=\'"><a href="mailto:m">': [
+                "http://b.test/d/x%20y",
+                "http://b.test/d/e?q=%27",
+                "mailto:m",
+            ],
+            '<a href="x"><base target="_top"><base href="up/"><base href="/not/">': ["http://a.test/dir/up/x"],
+            '<base href="https://b.test/"><a href="http:x"><a href="https:x">': ["http://x/", "https://b.test/x"],
+            '<base href="ftp://b.test/"><a href="x"><a href="http://c.test/">': ["ftp:x", "http://c.test/"],
+            '<base href="data:,x"><a href="x">': ["x"],
+            '<base href="http://"><a href="x">': ["x"],
+            '<base href="/d/e/"><a href="a/./b/../c/%2e%2E/d\\e">': ["http://a.test/d/e/a/d/e"],
+            '<base href="/d/e/"><a href=".."><a href="."><a href="../..">': [
+                "http://a.test/d/",
+                "http://a.test/d/e/",
+                "http://a.test/",
+            ],
+            '<base href="/d?q"><a href="#f"><a href=""><a href="e">': [
+                "http://a.test/d?q",
+                "http://a.test/d?q",
+                "http://a.test/e",
+            ],
+        }.items():
+            with self.subTest(document):
+                self.assertEqual(self.links(document), [f"link {text}" for text in expected])
+
+    def test_encodings(self):
+        for name, document, expected in (
+            ("utf-8", '<meta charset="utf-8"><a href="\u00fc?\u00fc">'.encode(), "\u00fc?\u00fc"),
+            ("none said", '<a href="\u00fc?\u00fc">'.encode(), "\u00fc?\u00fc"),
+            ("none said, no UTF-8", '<a href="\u00fc?\u00fc">'.encode("latin-1"), "\u00fc?%FC"),
+            ("a letter that Windows has", b'<meta charset="latin1"><a href="\x80">', "\u20ac"),
+            ("said", '<meta charset="koi8-r"><a href="\u0416?\u0416#\u0416">'.encode("koi8-r"), "\u0416?%F6#\u0416"),
+            ("a letter that it lacks", '<meta charset="latin1"><a href="?&#x416;">'.encode(), "?%26%231046%3B"),
+            ("another scheme", '<meta charset="latin1"><a href="mailto:m?\u00fc">'.encode("cp1252"), "mailto:m?\u00fc"),
+            ("an unheard one", '<meta charset="unheard"><a href="\u00fc">'.encode(), "\u00fc"),
+            ("one that decodes nothing", '<meta charset="undefined"><a href="\u00fc">'.encode(), "\u00fc"),
+            ("one that takes no broken bytes", '<meta charset="idna"><a href="\u00fc">'.encode(), "\u00fc"),
+            ("a mark", '\ufeff<a href="\u00fc?\u00fc">'.encode("utf-16-le"), "\u00fc?\u00fc"),
+            ("broken UTF-8", b'<meta charset="utf-8"><a href="a\xffb">', "a\ufffdb"),
+            ("half a pair", b'<meta charset="utf-8"><a href="a&#xD800;b">', "a\ufffdb"),
+        ):
+            with self.subTest(name):
+                self.assertEqual(self.links(document), [f"link {expected}"])
+
+    def test_what_is_told_has_no_control_characters(self):
+        self.links(f'<a href="\x1b[2J{"x" * 9000}">')
+        self.assertIn("too long: ", self.told)
+        self.assertNotIn("\x1b", self.told)
+        self.assertNotIn("page.html", run("--quiet", self.folder, "http://a.test/").told)
+
+
+# ---------------------------------------------------------------- web archives
+
+
+def record(kind, url, block, *headers):
+    """A record of a WARC."""
+    lines = ["WARC/1.0", f"WARC-Type: {kind}", f"WARC-Target-URI: {url}", *headers, f"Content-Length: {len(block)}"]
+    return "\r\n".join(lines).encode() + b"\r\n\r\n" + block + b"\r\n\r\n"
+
+
+def answer(status, body=b"", *headers, kind="text/html"):
+    """An HTTP answer."""
+    body = body if isinstance(body, bytes) else body.encode()
+    lines = [f"HTTP/1.1 {status} Words", f"Content-Type: {kind}", *headers]
+    return "\r\n".join(lines).encode() + b"\r\n\r\n" + body
+
+
+def chunked(body):
+    """A body in chunks of seven bytes."""
+    parts = [body[place : place + 7] for place in range(0, len(body), 7)]
+    return b"".join(b"%x\r\n%s\r\n" % (len(part), part) for part in [*parts, b""])
+
+
+class WithArchives(Converting):
+    """A test that makes web archives."""
+
+    def archive(self, *records, packed=False):
+        """The name of a WARC of these records; where it is packed, each record is packed by itself."""
+        self.put("site.warc", b"".join(map(gzip.compress, records) if packed else records))
+        return os.path.join(self.folder, "site.warc")
+
+    def read(self, *records, options=()):
+        """The pages of a WARC of these records, which are the same where it is packed."""
+        plain = self.web(*options, "--warc", self.archive(*records))
+        self.assertEqual(self.web(*options, "--warc", self.archive(*records, packed=True)), plain)
+        return pages_of(plain)
+
+
+class Archives(WithArchives):
+    def test_pages_redirects_and_missing_ones(self):
+        pages = self.read(
+            record("warcinfo", "", b"software: none"),
+            record("request", "http://b.test/", b"GET / HTTP/1.1\r\n\r\n"),
+            record("response", "http://b.test/", answer(200, '<a href="old"><a href="gone">')),
+            record("response", "<http://B.test:80/old#f>", answer(301, "", "Location: /new?x=1")),
+            record("response", "http://b.test/new?x=1", answer(200, '<a href="http://a.test/">')),
+            record("response", "http://b.test/gone", answer(404, '<a href="x">')),
+            record("response", "http://b.test/picture", answer(200, '<a href="x">', kind="image/png")),
+            record("resource", "http://a.test/", b'<a href="y">', "Content-Type: text/html; charset=utf-8"),
+            record("metadata", "http://a.test/meta", b"via: x"),
+            record("response", "dns:b.test", b"127.0.0.1"),
+            record("response", "ftp://b.test/", b"x"),
+        )
+        self.assertEqual(
+            pages,
+            {
+                "http://a.test/": ["link y"],
+                "http://b.test/": ["link old", "link gone"],
+                "http://b.test/new?x=1": ["link http://a.test/"],
+                "http://b.test/old": ["moved /new?x=1"],
+                "http://b.test/picture": [],
+            },
+        )
+        self.assertIn("answers that are no page, status 404: 1\n", self.told)
+        self.assertIn("records of URLs that are neither http nor https: 2\n", self.told)
+
+    def test_each_status(self):
+        statuses = {
+            **dict.fromkeys((200, 203, 299), ["link x"]),
+            **dict.fromkeys((301, 302, 303, 307, 308), ["moved there"]),
+            **dict.fromkeys((100, 199, 300, 304, 305, 400, 401, 410, 500, 503), None),
+        }
+        pages = self.read(
+            *(
+                record("response", f"http://a.test/{status}", answer(status, '<a href="x">', "Location: there"))
+                for status in statuses
+            )
+        )
+        for status, expected in statuses.items():
+            with self.subTest(status):
+                self.assertEqual(pages.get(f"http://a.test/{status}"), expected)
+
+    def test_a_redirect_without_a_target_is_no_page(self):
+        pages = self.read(record("response", "http://a.test/", answer(301)))
+        self.assertEqual(pages, {})
+        self.assertIn("answers that are no page, status 301: 1\n", self.told)
+
+    def test_targets_of_redirects(self):
+        room = LINE_LIMIT - len("moved ")
+        for name, target, expected in (
+            ("another scheme", "mailto:m", ["moved mailto:m"]),
+            ("empty", "", ["moved "]),
+            ("as long as may be", "x" * room, ["moved " + "x" * room]),
+            ("without its fragment", "x" * room + "#f", ["moved " + "x" * room]),
+            ("too long", "x" * (room + 1), []),
+            ("over two lines", "a\r\n b", ["moved a b"]),
+        ):
+            with self.subTest(name):
+                pages = self.read(record("response", "http://a.test/", answer(302, "", f"Location: {target}")))
+                self.assertEqual(pages, {"http://a.test/": expected})
+                self.assertEqual("redirect left without its target" in self.told, not expected)
+
+    def test_of_two_pages_with_one_url_the_first_counts(self):
+        pages = self.read(
+            record("response", "http://a.test", answer(404)),
+            record("response", "http://a.test/", answer(200, '<a href="first">')),
+            record("response", "http://A.test:80/#f", answer(200, '<a href="second">')),
+            record("response", "http://a.test/", answer(301, "", "Location: third")),
+        )
+        self.assertEqual(pages, {"http://a.test/": ["link first"]})
+        self.assertIn("page left out, one with its URL came before: 2\n", self.told)
+
+    def test_pages_that_are_visited_again(self):
+        digest = "WARC-Payload-Digest: sha1:A"
+        pages = self.read(
+            record("response", "http://a.test/1", answer(200, '<a href="x">'), digest),
+            record("revisit", "http://a.test/2", answer(200), digest),
+            record("revisit", "http://a.test/3", answer(304), digest),
+            record("revisit", "http://a.test/4", b"", digest),
+            record("revisit", "http://a.test/5", answer(302, "", "Location: y"), digest),
+            record("revisit", "http://a.test/6", answer(404), digest),
+            record("revisit", "http://a.test/7", answer(200), "WARC-Payload-Digest: sha1:B"),
+        )
+        below = dict.fromkeys([f"http://a.test/{number}" for number in range(1, 5)], ["link x"])
+        self.assertEqual(pages, {**below, "http://a.test/5": ["moved y"], "http://a.test/7": []})
+        self.assertIn("links not read, the record that is visited again is not there: http://a.test/7\n", self.told)
+
+    def test_codings(self):
+        body = b'<!DOCTYPE html><a href="x">'
+        raw = zlib.compressobj(wbits=-15)
+        for name, headers, coded in (
+            ("gzip", ["Content-Encoding: gzip"], gzip.compress(body)),
+            ("gzip that is none", ["Content-Encoding: gzip"], body),
+            ("deflate", ["Content-Encoding: deflate"], zlib.compress(body)),
+            ("bare deflate", ["Content-Encoding: deflate"], raw.compress(body) + raw.flush()),
+            ("chunks", ["Transfer-Encoding: chunked"], chunked(body)),
+            ("chunks that are none", ["Transfer-Encoding: chunked"], body),
+            ("both", ["transfer-encoding: Chunked", "content-encoding: x-gzip"], chunked(gzip.compress(body))),
+            ("none", ["Content-Encoding: identity"], body),
+        ):
+            with self.subTest(name):
+                pages = self.read(record("response", "http://a.test/", answer(200, coded, *headers)))
+                self.assertEqual(pages, {"http://a.test/": ["link x"]})
+        pages = self.read(record("response", "http://a.test/", answer(200, body, "Content-Encoding: br")))
+        self.assertEqual(pages, {"http://a.test/": []})
+        self.assertIn("links not read, the body's coding is not known: http://a.test/\n", self.told)
+
+    def test_the_servers_word_on_kind_and_encoding(self):
+        document = '<a href="?\u00fc">'.encode("latin-1")
+        for kind, expected in {
+            "text/html": ["link ?%FC"],
+            "TEXT/HTML; Charset=ISO-8859-1": ["link ?%FC"],
+            'text/html; charset="koi8-r"': ["link ?%FC"],
+            "application/xhtml+xml": ["link ?%FC"],
+            "text/plain": [],
+            "": [],
+        }.items():
+            with self.subTest(kind):
+                pages = self.read(record("response", "http://a.test/", answer(200, document, kind=kind)))
+                self.assertEqual(pages, {"http://a.test/": expected})
+
+    def test_hosts_that_are_not_plain_are_left_out_and_told(self):
+        hosts = ("\u00fc.test", "me@a.test", "[::1]", "a.test:65536", "1.2", "0x7f.1", "a..test", "a b", "xn--a")
+        pages = self.read(
+            *(record("response", f"http://{host}/", answer(200)) for host in hosts),
+            record("response", "http://xn--tda.test:8080/", answer(200)),
+        )
+        self.assertEqual(pages, {"http://xn--tda.test:8080/": []})
+        self.assertIn(f"page left out, its host is not plain: {len(hosts)}\n", self.told)
+
+    def test_pages_come_in_order_of_url_whatever_the_order_of_records(self):
+        records = [record("response", f"http://{host}.test/", answer(200, f'<a href="{host}">')) for host in "cab"]
+        self.assertEqual(
+            self.web("--warc", self.archive(*records)), self.web("--warc", self.archive(*reversed(records)))
+        )
+
+    def test_faults_write_nothing(self):
+        good = record("response", "http://a.test/", answer(200, '<a href="x">' * 100))
+        self.assertFault(1, "--warc", self.archive(good, good[:-200]), says="a WARC record is cut off")
+        self.assertFault(1, "--warc", self.archive(b"<html>"), says="no WARC record where one should begin")
+        for length in ("", "Content-Length: x\r\n", f"Content-Length: {'9' * 5000}\r\n"):
+            path = self.archive(f"WARC/1.0\r\n{length}\r\n".encode())
+            self.assertFault(1, "--warc", path, says="a WARC record without a length")
+        packed = gzip.compress(good)
+        self.put("cut.gz", packed[: len(packed) // 2])
+        self.assertFault(1, "--warc", os.path.join(self.folder, "cut.gz"), says="cut.gz: ")
+        self.assertFault(1, "--warc", os.path.join(self.folder, "none"), says="No such file")
+
+    def test_an_empty_archive_is_a_web_without_pages(self):
+        self.assertEqual(self.web("--warc", self.archive(b"")), ["savedweb 2"])
+
+
+class Limits(WithArchives):
+    """Tests with lower limits than the true ones, which take much memory."""
+
+    def run_with(self, limit, number, *words):
+        """The tool's status, output and what it told, with another number for a limit."""
+        spec = importlib.util.spec_from_file_location("site_to_web_tool", TOOL)
+        tool = importlib.util.module_from_spec(spec)
+        spec.loader.exec_module(tool)
+        out, told, status = io.TextIOWrapper(io.BytesIO()), io.StringIO(), 0
+        with contextlib.ExitStack() as patches:
+            patches.enter_context(mock.patch.object(tool, limit, number))
+            patches.enter_context(mock.patch.object(sys, "stdout", out))
+            patches.enter_context(mock.patch.object(sys, "stderr", told))
+            patches.enter_context(mock.patch.object(sys, "argv", ["site_to_web.py", *words]))
+            try:
+                tool.main()
+            except SystemExit as ended:
+                status = ended.code
+        return Done(status, out.buffer.getvalue(), told.getvalue())
+
+    def test_a_web_that_no_crawl_takes_is_a_fault(self):
+        words = SITE, "http://site.test/"
+        whole = run(*words).out
+        self.assertEqual(self.run_with("INPUT_LIMIT", len(whole), *words)[:2], (0, whole))
+        done = self.run_with("INPUT_LIMIT", len(whole) - 1, *words)
+        self.assertEqual(done[:2], (1, b""))
+        self.assertIn("which no crawl takes", done.told)
+
+    def test_large_records_are_read_in_their_first_bytes(self):
+        document = '<a href="x">' + " " * 1000 + '<a href="y">'
+        packed = gzip.compress(document.encode())
+        for name, body, headers, told in (
+            ("record", document, [], "record read in its first bytes alone"),
+            ("document", packed, ["Content-Encoding: gzip"], "links read in its first bytes alone"),
+        ):
+            block = answer(200, body, *headers)
+            path = self.archive(record("response", "http://a.test/", block), record("resource", "http://b.test/", b""))
+            done = self.run_with("DOCUMENT_LIMIT", 500, "--warc", path)
+            with self.subTest(name):
+                self.assertEqual(
+                    pages_of(checked_lines(done.out)), {"http://a.test/": ["link x"], "http://b.test/": []}
+                )
+                self.assertIn(f"{told}, it is too large: http://a.test/\n", done.told)
+                self.assertNotIn("too large", run("--warc", path).told)
+
+
+if __name__ == "__main__":
+    unittest.main()
