@@ -1,6 +1,6 @@
-pub mod Commands
+pub mod Assigned
 pub mod CoreCrawl
 pub mod Least
-pub mod Placing
 pub mod ReadLines
 pub mod ReadNumbers
+pub mod Seeds

@@ -3,8 +3,8 @@ ghost use Rattle.std.specs.Prelude.{◌≡◌, ℕ, ◌≤◌, List, [], ◌∷�
 ghost use Rattle.std.specs.List.{All, Contains};
 ghost use Rattle.std.specs.Option.{option_to_list};
 ghost use Rattle.crawl_core.specs.declared.limits.TheConstants.{WORKER_LIMIT, PENDING_LIMIT};
-ghost use Rattle.mercator.specs.Crawled.{ArePages, AreApart, IsWhole, urls_of};
-ghost use Rattle.mercator.specs.ByCore.{Going, Crawling, Taking, Crawled, with_offers};
+ghost use Rattle.mercator.specs.Results.{ArePages, AreApart, IsWhole, urls_of};
+ghost use Rattle.mercator.specs.ByCore.{Going, Crawling, Taking, CrawlEnd, with_offers};
 
 use crawl_core::{Core, CoreError, Event, NoMemory, Reply, Text};
 use crawl_keys::{CanonUrl, canonical};
@@ -38,7 +38,7 @@ pub fn crawl_by_core<F: Fetch, R: Wait>(
     // Where nothing was lost, every seed and every link of a result is a result's URL.
     ensures whole { IfOk result (λ x. x.1 ≡ 0 → IsWhole seeds.now x.0.items) }
 {
-    let mut found = Found {
+    let mut found = Progress {
         core: new_core(alloc, workers, max)?,
         results: Vec::new(alloc),
         lost: 0,
@@ -51,7 +51,7 @@ pub fn crawl_by_core<F: Fetch, R: Wait>(
         workers,
     };
     crawl.run(rt, &mut found)?;
-    let Found { results, lost, .. } = found;
+    let Progress { results, lost, .. } = found;
     Ok((results, lost))
 }
 
@@ -67,7 +67,7 @@ struct Crawl<'a, F: Fetch> {
 
 /// How far a crawl has come.
 #[derive(Drop)]
-pub(crate) struct Found {
+pub(crate) struct Progress {
     core: Core,
     results: Vec<PageResult>,
     lost: u64,
@@ -75,8 +75,8 @@ pub(crate) struct Found {
 
 impl<'a, F: Fetch> Crawl<'a, F> {
     /// Rounds, until the gate closes.
-    fn run<R: Wait>(&self, rt: &R, found: &mut Found) -> Result<(), NoMemory>
-        ensures { OnOk result ((max : ℕ) (seeds : List (List ℕ)) → Crawling self.now.workers max (F.meaning self.now.fetcher.now) seeds found.old → Crawled (F.meaning self.now.fetcher.now) seeds found.new) }
+    fn run<R: Wait>(&self, rt: &R, found: &mut Progress) -> Result<(), NoMemory>
+        ensures { OnOk result ((max : ℕ) (seeds : List (List ℕ)) → Crawling self.now.workers max (F.meaning self.now.fetcher.now) seeds found.old → CrawlEnd (F.meaning self.now.fetcher.now) seeds found.new) }
     {
         for _ in rt.forever() {
             self.round(found)?;
@@ -88,7 +88,7 @@ impl<'a, F: Fetch> Crawl<'a, F> {
     }
 
     /// One turn of each subqueue.
-    fn round(&self, found: &mut Found) -> Result<(), NoMemory>
+    fn round(&self, found: &mut Progress) -> Result<(), NoMemory>
         ensures { OnOk result ((max : ℕ) (seeds : List (List ℕ)) → Crawling self.now.workers max (F.meaning self.now.fetcher.now) seeds found.old → Crawling self.now.workers max (F.meaning self.now.fetcher.now) seeds found.new) }
     {
         for queue in 0..self.workers {
@@ -98,7 +98,7 @@ impl<'a, F: Fetch> Crawl<'a, F> {
     }
 
     /// A turn of a subqueue: it takes a URL, if one waits, and its worker fetches it and is done.
-    fn turn(&self, found: &mut Found, queue: u32) -> Result<(), NoMemory>
+    fn turn(&self, found: &mut Progress, queue: u32) -> Result<(), NoMemory>
         ensures { OnOk result ((max : ℕ) (seeds : List (List ℕ)) → Crawling self.now.workers max (F.meaning self.now.fetcher.now) seeds found.old → Crawling self.now.workers max (F.meaning self.now.fetcher.now) seeds found.new) }
     {
         if let Some(url) = take(self.alloc, &mut found.core, queue)? {
@@ -109,7 +109,7 @@ impl<'a, F: Fetch> Crawl<'a, F> {
     }
 
     /// Fetches a URL that was taken, offers its links, and keeps the result.
-    fn fetch(&self, found: &mut Found, queue: u32, url: CanonUrl) -> Result<(), NoMemory>
+    fn fetch(&self, found: &mut Progress, queue: u32, url: CanonUrl) -> Result<(), NoMemory>
         ensures { OnOk result ((max : ℕ) (seeds taken : List (List ℕ)) → Taking self.now.workers max (F.meaning self.now.fetcher.now) seeds taken url found.old → Crawling self.now.workers max (F.meaning self.now.fetcher.now) seeds found.new) }
     {
         let Ok(page) = self.fetcher.fetch(self.alloc, &url) else {

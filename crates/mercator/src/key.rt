@@ -1,6 +1,7 @@
 //! The line of a URL's key.
-ghost use Rattle.std.specs.Prelude.{◌≡◌, ◌⊎◌, ◌≤◌, Err, IfOk, IfErr, string_bytes};
+ghost use Rattle.std.specs.Prelude.{◌≡◌, ◌≤◌, IfOk, IfErr, string_bytes};
 ghost use Rattle.crawl_keys.specs.CanonicalText.{canonical};
+ghost use Rattle.crawl_keys.specs.Outcome.{IsRefusal};
 ghost use Rattle.crawl_keys.specs.declared.assignment.TheConstants.{SUBQUEUES_LIMIT};
 ghost use Rattle.mercator.specs.KeyLine.{IsKeyLine, key_line, parts_line};
 
@@ -15,7 +16,7 @@ pub fn key_line(alloc: Global, text: &str, subqueues: u32) -> Result<Vec<u8>, Ke
     requires some { 1 ≤ subqueues }
     requires few { subqueues ≤ SUBQUEUES_LIMIT }
     ensures line { IfOk result (λ line. IsKeyLine text.now subqueues line.items) }
-    ensures err { IfErr result (λ e. (canonical text.now ≡ Err e) ⊎ (e ≡ KeyError.NoMemory)) }
+    ensures err { IfErr result (IsRefusal KeyError.NoMemory (canonical text.now)) }
 {
     let url = canonical(alloc, text)?;
     let line = line_of(alloc, &url, subqueues)?;

@@ -4,7 +4,7 @@ use Rattle.std.proofs.lemmas.List.Elements.{All-weaker}
 use Rattle.crawl_web.specs.KnownPages.{page_at}
 use Rattle.crawl_web.specs.SavedWeb.{page_of}
 use Rattle.crawl_web.specs.declared.page.PageResult.{PageResult}
-use Rattle.mercator.proofs.web_crawl.crawl_saved_web.Goals as goal
+use Rattle.mercator.proofs.commands.web_crawl.crawl_saved_web.Goals as goal
 
 pub returns-clause-report : goal.returns-clause-report
 returns-clause-report g c = record {
