@@ -1,7 +1,6 @@
 -- How the count of what is kept changes with a subqueue, and that the machine's events on subqueues make the table's moves.
 use Rattle.std.proofs.Common.{◌≡◌, ℕ, suc, ◌-◌, ◌≤◌, Bool, true, false, List, ◌∷◌, length, drop, slice_get, slice_set, Option, Some, None, refl, sym, ap, ◌∙◌, arith}
 use Rattle.std.specs.Option.{option_map}
-use Rattle.std.specs.List.{list_any}
 use Rattle.std.specs.Ordering.{nat_cmp}
 use Rattle.std.specs.BTreeMap.{is_at}
 use Rattle.std.proofs.lemmas.List.{length_push}
@@ -11,9 +10,10 @@ use Rattle.crawl_core.specs.declared.event.Event.{Event}
 use Rattle.crawl_core.specs.declared.event.Event.TheVariants.{Take, Done}
 use Rattle.crawl_core.specs.declared.reply.Reply.{Reply}
 use Rattle.crawl_core.specs.declared.reply.Reply.TheVariants as told
-use Rattle.crawl_core.specs.State.{one_if}
+use Rattle.crawl_core.specs.Flags.{one_if}
+use Rattle.crawl_core.specs.GateSide.{let_go, holds}
 use Rattle.crawl_core.specs.Kept.{Kept, KeptQueue, IsCounted, kept_count, outstanding, has_seen}
-use Rattle.crawl_core.specs.Moves.{Moves, accepting, let_go}
+use Rattle.crawl_core.specs.Moves.{Moves, accepting}
 
 -- what a test of an element answers is what it answers of the element that is there
 pub there : {X Y : Type 0} (f : X → Y) (o : Option X) (y : Y) → option_map f o ≡ Some y → (x : X) × (o ≡ Some x) × (f x ≡ y)
@@ -70,13 +70,13 @@ take_fits {kept} {count} place url new counted idle oldest set =
     }
 
 -- a URL that is accepted has the unit of its sender
-pub admit_counts : {kept : Kept} {count : ℕ} (place sender : ℕ) (url : List ℕ) (seen : Option Bool) (new : List KeptQueue) → IsCounted kept count → seen ≡ option_map (λ q. has_seen q url) (slice_get kept.queues place) → seen ≡ Some false → list_any (is_at (nat_cmp sender)) kept.holders ≡ true → ((queue : KeptQueue) → slice_get kept.queues place ≡ Some queue → new ≡ slice_set kept.queues place (accepting queue url sender)) → IsCounted (let_go (with_queues kept new) sender) count
-admit_counts {kept} {count} place sender url seen new counted seen_is unseen holds set =
+pub admit_counts : {kept : Kept} {count : ℕ} (place sender : ℕ) (url : List ℕ) (seen : Option Bool) (new : List KeptQueue) → IsCounted kept count → seen ≡ option_map (λ q. has_seen q url) (slice_get kept.queues place) → seen ≡ Some false → holds kept.gate sender ≡ true → ((queue : KeptQueue) → slice_get kept.queues place ≡ Some queue → new ≡ slice_set kept.queues place (accepting queue url sender)) → IsCounted (record { gate = let_go kept.gate sender; queues = new }) count
+admit_counts {kept} {count} place sender url seen new counted seen_is unseen held set =
     let here = there (λ (q : KeptQueue). has_seen q url) (slice_get kept.queues place) false (sym seen_is ∙ unseen) in
     let is_new = set here.0 here.1 in
     let sum = sum_at outstanding kept.queues place here.0 (accepting here.0 url sender) here.1 in
     let longer = length_push here.0.waiting url in
-    let fewer = length-remove_key (is_at (nat_cmp sender)) kept.holders holds in
+    let fewer = length-remove_key (is_at (nat_cmp sender)) kept.gate.holders held in
     record {
       counted = rw is_new (omega (arith, sum, longer, fewer, counted.counted));
       within = counted.within;

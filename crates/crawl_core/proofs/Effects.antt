@@ -1,22 +1,21 @@
 -- What one step does to the invariants and to each subqueue, event by event.
-use Rattle.std.proofs.Common.{◌≡◌, ℕ, zero, suc, ◌≤◌, Bool, true, false, not, ◌||◌, List, [], ◌∷◌, ◌++◌, length, take, map, nat_eq, slice_get, Option, Some, None, refl, sym, ap, ◌∙◌, eqb-true, true≢false}
+use Rattle.std.proofs.Common.{◌≡◌, ℕ, zero, suc, ◌≤◌, Bool, true, false, not, List, [], ◌∷◌, ◌++◌, length, take, map, slice_get, Option, Some, None, refl, sym, ap, ◌∙◌, eqb-true, true≢false}
 use Rattle.std.specs.Bool.{if◌then◌else◌}
 use Rattle.std.specs.Option.{option_to_list}
-use Rattle.std.specs.Ordering.{nat_cmp}
-use Rattle.std.specs.BTreeMap.{is_at}
-use Rattle.std.specs.Map.{lookup}
 use Rattle.std.proofs.lemmas.List.{take-append-le, map-append}
-use Rattle.crawl_core.specs.declared.word.Word.{Word}
 use Rattle.crawl_core.specs.declared.event.Event.{Event}
 use Rattle.crawl_core.specs.declared.event.Event.TheVariants.{Look, Enter, Admit, Back, EndSeeds, Take, Done, Close}
 use Rattle.crawl_core.specs.declared.reply.Reply.TheVariants as told
-use Rattle.crawl_core.specs.State.{State, Subqueue, Message, count_of, count_from, is_accepted, word_of}
-use Rattle.crawl_core.specs.Step.{Turn, turn, holds, with_subqueue, same_word, enter_with, put, admit_to, take_oldest, take_from, done_with}
+use Rattle.crawl_core.specs.Messages.{Message, has_url}
+use Rattle.crawl_core.specs.Subqueue.{Subqueue, oldest, next_message, after_finishing}
+use Rattle.crawl_core.specs.GateSide.{GateTurn, holds}
+use Rattle.crawl_core.specs.State.{State, count_of}
+use Rattle.crawl_core.specs.Step.{Turn, turn, by_gate, with_subqueue, put, admit_to, take_oldest, take_from, done_with}
 use Rattle.crawl_core.specs.History.{accepted_by, taken_by}
 use Rattle.crawl_core.proofs.Places.{set_cases}
 
 -- what holds of both branches holds of a choice
-pub cond_both : (P : Turn → Type 0) (b : Bool) (x y : Turn) → (b ≡ true → P x) → (b ≡ false → P y) → P (if b then x else y)
+pub cond_both : {A : Type 0} (P : A → Type 0) (b : Bool) (x y : A) → (b ≡ true → P x) → (b ≡ false → P y) → P (if b then x else y)
 cond_both P true x y first second = first refl
 cond_both P false x y first second = second refl
 
@@ -55,14 +54,6 @@ same_queues old event done same accepts takes = record {
   ends = λ queue busy idle. let kept = rw same at idle in absurd (cc);
 }
 
--- `Enter` leaves the subqueues
-enter_keeps : (state : State) (sender : ℕ) (word : Option Word) → (enter_with state sender word).state.subqueues ≡ state.subqueues
-enter_keeps state sender None = refl
-enter_keeps state sender (Some word) =
-    cond_both (λ t. t.state.subqueues ≡ state.subqueues) (not (same_word word (word_of state))) _ _ (λ _. refl) (λ _.
-    cond_both (λ t. t.state.subqueues ≡ state.subqueues) state.closed _ _ (λ _. refl) (λ _.
-    cond_both (λ t. t.state.subqueues ≡ state.subqueues) (nat_eq (count_of state) state.max) _ _ (λ _. refl) (λ _. refl)))
-
 -- one element more than the first n
 take_one_more : {A : Type 0} (xs : List A) (n : ℕ) (x : A) → slice_get xs n ≡ Some x → take (suc n) xs ≡ take n xs ++ x ∷ []
 take_one_more [] n x at = absurd (cc)
@@ -71,17 +62,17 @@ take_one_more (y ∷ ys) (suc n) x at = ap (λ zs. y ∷ zs) (take_one_more ys n
 
 put_effect : (state : State) (sender : ℕ) (url : List ℕ) (place : ℕ) (queue : Subqueue) → slice_get state.subqueues place ≡ Some queue → queue.taken ≤ length queue.accepted → QueueEffect state (Admit sender url place) (put state sender url place queue)
 put_effect state sender url place queue at within =
-    let message : Message = record { url = url; sender = sender; number = count_from queue.accepted sender } in
+    let message = next_message queue sender url in
     let front : take queue.taken (queue.accepted ++ message ∷ []) ≡ take queue.taken queue.accepted = take-append-le queue.taken queue.accepted (message ∷ []) within in
     record {
-      accepts = λ there. set_cases (λ o. messages o ≡ messages (slice_get state.subqueues there) ++ option_to_list (accepted_by there (Admit sender url place) (told.Accepted place (count_from queue.accepted sender)))) state.subqueues place there queue _ at
+      accepts = λ there. set_cases (λ o. messages o ≡ messages (slice_get state.subqueues there) ++ option_to_list (accepted_by there (Admit sender url place) (told.Accepted place (next_message queue sender url).number))) state.subqueues place there queue _ at
           (λ here found. rw (found, here) refl)
           (λ apart. rw apart (append_nil (messages (slice_get state.subqueues there))));
       takes = λ there. set_cases (λ o. urls_taken o ≡ urls_taken (slice_get state.subqueues there) ++ []) state.subqueues place there queue _ at
           (λ here found. rw (found, front) (append_nil (urls_taken (Some queue))))
           (λ apart. append_nil (urls_taken (slice_get state.subqueues there)));
       begins = λ there u taken. absurd (cc);
-      ends = λ there. set_cases (λ o. is_busy (slice_get state.subqueues there) ≡ true → is_busy o ≡ false → (left : ℕ) × (Admit sender url place ≡ Done there) × (told.Accepted place (count_from queue.accepted sender) ≡ told.Count left)) state.subqueues place there queue _ at
+      ends = λ there. set_cases (λ o. is_busy (slice_get state.subqueues there) ≡ true → is_busy o ≡ false → (left : ℕ) × (Admit sender url place ≡ Done there) × (told.Accepted place (next_message queue sender url).number ≡ told.Count left)) state.subqueues place there queue _ at
           (λ here found busy idle. let was = rw found at busy in absurd (cc))
           (λ apart busy idle. absurd (cc));
     }
@@ -89,16 +80,16 @@ put_effect state sender url place queue at within =
 admit_effect : (state : State) (sender : ℕ) (url : List ℕ) (place : ℕ) (queue : Option Subqueue) → slice_get state.subqueues place ≡ queue → ((found : Subqueue) → slice_get state.subqueues place ≡ Some found → found.taken ≤ length found.accepted) → QueueEffect state (Admit sender url place) (admit_to state sender url place queue)
 admit_effect state sender url place None at within = same_queues state (Admit sender url place) _ refl (λ there. refl) (λ there. refl)
 admit_effect state sender url place (Some queue) at within =
-    cond_both (QueueEffect state (Admit sender url place)) (not (holds state sender)) _ _
+    cond_both (QueueEffect state (Admit sender url place)) (not (holds state.gate sender)) _ _
     (λ _. same_queues state (Admit sender url place) _ refl (λ there. refl) (λ there. refl))
-    (λ _. cond_both (QueueEffect state (Admit sender url place)) (is_accepted queue url) _ _
+    (λ _. cond_both (QueueEffect state (Admit sender url place)) (has_url queue.accepted url) _ _
     (λ _. same_queues state (Admit sender url place) _ refl (λ there. refl) (λ there. refl))
     (λ _. put_effect state sender url place queue at (within queue at)))
 
-oldest_effect : (state : State) (place : ℕ) (queue : Subqueue) → slice_get state.subqueues place ≡ Some queue → queue.busy ≡ false → (message : Option Message) → slice_get queue.accepted queue.taken ≡ message → QueueEffect state (Take place) (take_oldest state place queue message)
+oldest_effect : (state : State) (place : ℕ) (queue : Subqueue) → slice_get state.subqueues place ≡ Some queue → queue.busy ≡ false → (message : Option Message) → oldest queue ≡ message → QueueEffect state (Take place) (take_oldest state place queue message)
 oldest_effect state place queue at idle None none = same_queues state (Take place) _ refl (λ there. refl) (λ there. refl)
-oldest_effect state place queue at idle (Some message) oldest =
-    let one_more = take_one_more queue.accepted queue.taken message oldest in
+oldest_effect state place queue at idle (Some message) first =
+    let one_more = take_one_more queue.accepted queue.taken message first in
     record {
       accepts = λ there. set_cases (λ o. messages o ≡ messages (slice_get state.subqueues there) ++ []) state.subqueues place there queue _ at
           (λ here found. rw found (append_nil queue.accepted))
@@ -119,7 +110,7 @@ take_effect state place None at = same_queues state (Take place) _ refl (λ ther
 take_effect state place (Some queue) at =
     cond_both (QueueEffect state (Take place)) queue.busy _ _
     (λ _. same_queues state (Take place) _ refl (λ there. refl) (λ there. refl))
-    (λ idle. oldest_effect state place queue at idle (slice_get queue.accepted queue.taken) refl)
+    (λ idle. oldest_effect state place queue at idle (oldest queue) refl)
 
 done_effect : (state : State) (place : ℕ) (queue : Option Subqueue) → slice_get state.subqueues place ≡ queue → QueueEffect state (Done place) (done_with state place queue)
 done_effect state place None at = same_queues state (Done place) _ refl (λ there. refl) (λ there. refl)
@@ -133,24 +124,22 @@ done_effect state place (Some queue) at =
           (λ here found. rw found (append_nil (urls_taken (Some queue))))
           (λ apart. append_nil (urls_taken (slice_get state.subqueues there)));
       begins = λ there url taken. absurd (cc);
-      ends = λ there. set_cases (λ o. is_busy (slice_get state.subqueues there) ≡ true → is_busy o ≡ false → (left : ℕ) × (Done place ≡ Done there) × (told.Count (count_of (with_subqueue state place (record queue { busy = false }))) ≡ told.Count left)) state.subqueues place there queue _ at
-          (λ here found busy ended. (count_of (with_subqueue state place (record queue { busy = false })), ap Done (eqb-true place there here), refl))
+      ends = λ there. set_cases (λ o. is_busy (slice_get state.subqueues there) ≡ true → is_busy o ≡ false → (left : ℕ) × (Done place ≡ Done there) × (told.Count (count_of (with_subqueue state place (after_finishing queue))) ≡ told.Count left)) state.subqueues place there queue _ at
+          (λ here found busy ended. (count_of (with_subqueue state place (after_finishing queue)), ap Done (eqb-true place there here), refl))
           (λ apart busy ended. let clash : true ≡ false = sym busy ∙ ended in absurd (true≢false clash));
     })
     (λ _. same_queues state (Done place) _ refl (λ there. refl) (λ there. refl))
 
+-- the gate's steps leave the subqueues
+gate_step : (state : State) (event : Event) (done : GateTurn) → ((queue : ℕ) → accepted_by queue event done.reply ≡ None) → ((queue : ℕ) → taken_by queue event done.reply ≡ None) → QueueEffect state event (by_gate state done)
+gate_step state event done accepts takes = same_queues state event (by_gate state done) refl accepts takes
+
 pub queue_effect : (state : State) (event : Event) → ((place : ℕ) (queue : Subqueue) → slice_get state.subqueues place ≡ Some queue → queue.taken ≤ length queue.accepted) → QueueEffect state event (turn state event)
-queue_effect state (Look sender) within = same_queues state (Look sender) _ refl (λ queue. refl) (λ queue. refl)
-queue_effect state (Enter sender) within =
-    same_queues state (Enter sender) _
-    (cond_both (λ t. t.state.subqueues ≡ state.subqueues) (holds state sender) _ _ (λ _. refl) (λ _. enter_keeps state sender (lookup (is_at (nat_cmp sender)) state.remembered)))
-    (λ queue. refl) (λ queue. refl)
+queue_effect state (Look sender) within = gate_step state (Look sender) _ (λ queue. refl) (λ queue. refl)
+queue_effect state (Enter sender) within = gate_step state (Enter sender) _ (λ queue. refl) (λ queue. refl)
 queue_effect state (Admit sender url place) within = admit_effect state sender url place (slice_get state.subqueues place) refl (within place)
-queue_effect state (Back sender) within =
-    same_queues state (Back sender) _ (cond_both (λ t. t.state.subqueues ≡ state.subqueues) (holds state sender) _ _ (λ _. refl) (λ _. refl)) (λ queue. refl) (λ queue. refl)
-queue_effect state EndSeeds within =
-    same_queues state EndSeeds _ (cond_both (λ t. t.state.subqueues ≡ state.subqueues) state.opening _ _ (λ _. refl) (λ _. refl)) (λ queue. refl) (λ queue. refl)
+queue_effect state (Back sender) within = gate_step state (Back sender) _ (λ queue. refl) (λ queue. refl)
+queue_effect state EndSeeds within = gate_step state EndSeeds _ (λ queue. refl) (λ queue. refl)
 queue_effect state (Take place) within = take_effect state place (slice_get state.subqueues place) refl
 queue_effect state (Done place) within = done_effect state place (slice_get state.subqueues place) refl
-queue_effect state Close within =
-    same_queues state Close _ (cond_both (λ t. t.state.subqueues ≡ state.subqueues) (state.closed || nat_eq (count_of state) 0) _ _ (λ _. refl) (λ _. refl)) (λ queue. refl) (λ queue. refl)
+queue_effect state Close within = gate_step state Close _ (λ queue. refl) (λ queue. refl)

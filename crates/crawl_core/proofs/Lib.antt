@@ -1,5 +1,6 @@
 pub mod Counts
 pub mod Effects
+pub mod Holders
 pub mod Places
 pub mod RunLaws
 pub mod RunSteps

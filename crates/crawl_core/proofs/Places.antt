@@ -10,6 +10,11 @@ pub sum_at : {X : Type 0} (f : X → ℕ) (xs : List X) (place : ℕ) (old new :
 sum_at f xs place old new at =
     rw (get_or_from_slice_get xs place old old at) at (sum_by-set f xs place new old (slice_get_within xs place old at))
 
+pub length-slice_set : {X : Type 0} (xs : List X) (i : ℕ) (y : X) → length (slice_set xs i y) ≡ length xs
+length-slice_set [] i y = refl
+length-slice_set (z ∷ zs) zero y = refl
+length-slice_set (z ∷ zs) (suc i) y = ap suc (length-slice_set zs i y)
+
 get_set_same : {X : Type 0} (xs : List X) (i : ℕ) (x y : X) → slice_get xs i ≡ Some x → slice_get (slice_set xs i y) i ≡ Some y
 get_set_same [] i x y at = absurd (cc)
 get_set_same (z ∷ zs) zero x y at = refl

@@ -1,9 +1,9 @@
 -- The laws of whole runs.
 use Rattle.std.proofs.Common.{eq-eqb, cond, ◌≡◌, inl, inr, ℕ, zero, suc, ◌+◌, ◌-◌, ◌<◌, ◌≤◌, Bool, true, false, List, [], ◌∷◌, ◌++◌, length, take, drop, map, nat_eq, replicate, slice_get, Option, Some, None, refl, sym, ap, subst, ◌∙◌, arith, eqb-true, true≢false, mul-zero, zero-add, ◌||◌, not, filter_map}
 use Rattle.std.specs.Bool.{if◌then◌else◌}
-use Rattle.std.specs.List.{sum_by, flat_map, zip, cons_option, Contains, list_any}
+use Rattle.std.specs.List.{sum_by, zip, cons_option, Contains, list_any}
 use Rattle.std.specs.Option.{option_to_list, option_map}
-use Rattle.std.proofs.lemmas.List.{length-append, length-map, length-drop, append_assoc}
+use Rattle.std.proofs.lemmas.List.{append_assoc}
 use Rattle.std.proofs.lemmas.Bool.{cases_lt}
 use Rattle.std.proofs.lemmas.List.Sums.{sum_by-cons}
 use Rattle.std.proofs.lemmas.List.Folds.{sum_by-replicate}
@@ -14,11 +14,15 @@ use Rattle.crawl_core.specs.declared.event.Event.{Event}
 use Rattle.crawl_core.specs.declared.event.Event.TheVariants.{Look, Enter, Admit, Back, EndSeeds, Take, Done, Close}
 use Rattle.crawl_core.specs.declared.reply.Reply.{Reply}
 use Rattle.crawl_core.specs.declared.reply.Reply.TheVariants as told
-use Rattle.crawl_core.specs.State.{State, Subqueue, Message, start, count_of, unfinished, finished, one_if, is_accepted}
-use Rattle.crawl_core.specs.Step.{Step, turn, Turn, holds, admit_to}
+use Rattle.crawl_core.specs.Flags.{one_if}
+use Rattle.crawl_core.specs.Messages.{Message, has_url}
+use Rattle.crawl_core.specs.Subqueue.{Subqueue, empty_subqueue, unfinished}
+use Rattle.crawl_core.specs.GateSide.{holds}
+use Rattle.crawl_core.specs.State.{State, start, count_of}
+use Rattle.crawl_core.specs.Step.{Step, turn, Turn, admit_to}
 use Rattle.crawl_core.specs.Run.{Run, IsRun}
 use Rattle.crawl_core.specs.History.{accepted_by, taken_by, accepted_in, accepted_urls, taken_urls, is_quiet, TakesInOrder, AcceptsOnce, LeavesInOrder, FetchesOneAtATime, AssignsEachUrl, IsAdmitted, TakesOnce, TakesWhereAdmitted, StaysClosed}
-use Rattle.crawl_core.specs.Invariants.{SubqueueInvariant, EachSubqueue, GateInvariant, IsFinished, units_of, OfMessage, Opening}
+use Rattle.crawl_core.specs.Invariants.{SubqueueInvariant, EachSubqueue, GateInvariant, IsFinished}
 use Rattle.crawl_core.proofs.Places.{from_filter_map, at_rank, rank_below, zip_first, slice_get-map}
 use Rattle.crawl_core.proofs.Effects.{QueueEffect, queue_effect, messages, urls_taken, is_busy, cond_both}
 use Rattle.crawl_core.proofs.Sound.{Sound, gate_effect, some_is, none_unfinished}
@@ -65,9 +69,6 @@ run_at old (y ∷ ys) (suc place) x new run at =
 
 -- ## The first state, and every one
 
-abbrev empty_subqueue : Subqueue
-empty_subqueue = record { accepted = []; taken = 0; busy = false }
-
 get-replicate : {X : Type 0} (n : ℕ) (x : X) (i : ℕ) (y : X) → slice_get (replicate n x) i ≡ Some y → y ≡ x
 get-replicate zero x i y at = absurd (cc)
 get-replicate (suc n) x zero y at = sym (some_is at)
@@ -77,16 +78,16 @@ start_sound : (workers max : ℕ) → Sound (start workers max)
 start_sound workers max = record {
   empty = λ closed. absurd (true≢false (sym closed));
   met = λ _. refl;
+  holders = tt;
   queues = λ place queue at. rw (get-replicate workers _ place queue at) (record {
     within = omega arith;
-    parts = refl;
     distinct = λ i j m n at_i at_j same. absurd (cc);
     numbered = λ k m at_k. absurd (cc);
     begun = omega arith;
   });
 }
 
-run_sound : (workers max : ℕ) (history : List (Event × Reply)) (state : State) → Run (start workers max) history state → Sound state
+pub run_sound : (workers max : ℕ) (history : List (Event × Reply)) (state : State) → Run (start workers max) history state → Sound state
 run_sound workers max history state run =
     run_keeps Sound (λ s sound event. (gate_effect s sound event).sound) (start workers max) history state (start_sound workers max) run
 
@@ -113,25 +114,13 @@ one_run workers max events replies others run other =
 
 -- ## The gate's invariant
 
-units_of_queues : (queues : List Subqueue) → length (flat_map (λ (queue : Subqueue). map OfMessage (drop (finished queue) queue.accepted)) queues) ≡ sum_by unfinished queues
-units_of_queues [] = refl
-units_of_queues (q ∷ qs) =
-    rw (length-append, length-map, length-drop, sum_by-cons unfinished q qs) (ap (λ n. unfinished q + n) (units_of_queues qs))
-
-counts_units : (state : State) → count_of state ≡ length (units_of state)
-counts_units state = rw (length-append, length-append, length-map, units_of_queues state.subqueues) (by_flag state.opening)
-  where
-    by_flag : (b : Bool) → one_if b + length state.holders + sum_by unfinished state.subqueues ≡ length (if b then Opening ∷ [] else []) + (length state.holders + sum_by unfinished state.subqueues)
-    by_flag true = omega arith
-    by_flag false = omega arith
-
-start_count : (workers max : ℕ) → count_of (start workers max) ≡ 1
+pub start_count : (workers max : ℕ) → count_of (start workers max) ≡ 1
 start_count workers max = rw (sum_by-replicate unfinished workers empty_subqueue, mul-zero workers) refl
 
-pub gate_invariant : (workers max : ℕ) (history : List (Event × Reply)) (state : State) → 1 ≤ max → Run (start workers max) history state → GateInvariant state
+pub gate_invariant : (workers max : ℕ) (history : List (Event × Reply)) (state : State) → 1 ≤ max → Run (start workers max) history state → GateInvariant state.gate (count_of state)
 gate_invariant workers max history state some run =
-    let both = run_keeps (λ s. Sound s × (count_of s ≤ s.max)) (λ s sound event. let effect = gate_effect s sound.0 event in (effect.sound, effect.within sound.1)) (start workers max) history state (start_sound workers max, rw (start_count workers max) some) run in
-    record { counts_units = counts_units state; within = both.1; empty = both.0.empty; met = both.0.met }
+    let both = run_keeps (λ s. Sound s × (count_of s ≤ s.gate.max)) (λ s sound event. let effect = gate_effect s sound.0 event in (effect.sound, effect.within sound.1)) (start workers max) history state (start_sound workers max, rw (start_count workers max) some) run in
+    record { within = both.1; empty = both.0.empty; met = both.0.met }
 
 -- ## Closing
 
@@ -143,8 +132,8 @@ no_length (x ∷ xs) e = absurd (omega (arith, e))
 -- where no unit is out, all is finished
 finished_at_zero : (state : State) → Sound state → count_of state ≡ 0 → IsFinished state
 finished_at_zero state sound none = record {
-  opened = no_flag state.opening (omega (arith, none));
-  nobody = no_length state.holders (omega (arith, none));
+  opened = no_flag state.gate.opening (omega (arith, none));
+  nobody = no_length state.gate.holders (omega (arith, none));
   done = λ place queue at.
       let inv = sound.queues place queue at in
       let unfinished_none = none_unfinished state place queue at none in
@@ -174,7 +163,7 @@ closed_means_finished workers max front back event end run =
     let sound = run_sound workers max front last.0 last.1 in
     let effect = gate_effect last.0 sound event in
     let state_is : parts.0 ≡ (turn last.0 event).state = last.2.2 ∙ last.2.1.state_is in
-    let closed : (turn last.0 event).state.closed ≡ true = effect.closes (sym last.2.1.reply_is) in
+    let closed : (turn last.0 event).state.gate.closed ≡ true = effect.closes (sym last.2.1.reply_is) in
     let finished : IsFinished (turn last.0 event).state = finished_at_zero (turn last.0 event).state effect.sound (effect.sound.empty closed) in
     (parts.0, parts.1, subst IsFinished (sym state_is) finished)
 
@@ -193,8 +182,8 @@ closed_for_good workers max events replies run i j event later below at_i at_j =
     let first = run_at (start workers max) history i (event, told.Closed) run.end run.run at_i in
     let sound = run_sound workers max (take i history) first.before first.came in
     let effect = gate_effect first.before sound event in
-    let closing : Sound (turn first.before event).state × ((turn first.before event).state.closed ≡ true) = (effect.sound, effect.closes (sym first.step.reply_is)) in
-    let P : State → Type 0 = λ s. Sound s × (s.closed ≡ true) in
+    let closing : Sound (turn first.before event).state × ((turn first.before event).state.gate.closed ≡ true) = (effect.sound, effect.closes (sym first.step.reply_is)) in
+    let P : State → Type 0 = λ s. Sound s × (s.gate.closed ≡ true) in
     let after = subst P (sym first.step.state_is) closing in
     let second = run_at first.after (drop (suc i) history) (j - suc i) later run.end first.goes (later_place history i j later below at_j) in
     let before = run_keeps P (λ s p e. let kept = gate_effect s p.0 e in (kept.sound, (kept.stays p.1).0)) first.after (take (j - suc i) (drop (suc i) history)) second.before after second.came in
@@ -500,8 +489,8 @@ seen_by : (state : State) (sender place : ℕ) (url : List ℕ) (o : Option Subq
 seen_by state sender place url None = λ e. absurd (cc)
 seen_by state sender place url (Some queue) =
     let P : Turn → Type 0 = λ t. told.Seen ≡ t.reply → Contains (map (λ (m : Message). m.url) queue.accepted) url in
-    cond_both P (not (holds state sender)) _ _ (λ _ e. absurd (cc))
-    (λ _. cond_both P (is_accepted queue url) _ _ (λ seen e. accepted_among queue.accepted url seen) (λ _ e. absurd (cc)))
+    cond_both P (not (holds state.gate sender)) _ _ (λ _ e. absurd (cc))
+    (λ _. cond_both P (has_url queue.accepted url) _ _ (λ seen e. accepted_among queue.accepted url seen) (λ _ e. absurd (cc)))
 
 pub seen_means_accepted : (workers max : ℕ) (front back : List (Event × Reply)) (sender queue : ℕ) (url : List ℕ) (end : State) → Run (start workers max) (front ++ (Admit sender url queue, told.Seen) ∷ back) end → Contains (accepted_urls queue front) url
 seen_means_accepted workers max front back sender queue url end run =

@@ -14,17 +14,20 @@ use Rattle.std.proofs.lemmas.List.Sums.{sum_by-cons, sum_by_push}
 use Rattle.std.proofs.lemmas.Bool.Decides.{nat_tests}
 use Rattle.std.proofs.lemmas.Map.Text.{is_eq-slice_cmp}
 use Rattle.std.proofs.lemmas.Option.{slice_get_within}
-use Rattle.crawl_core.specs.declared.word.Word.{Word}
 use Rattle.crawl_core.specs.declared.event.Event.{Event}
 use Rattle.crawl_core.specs.declared.event.Event.TheVariants.{Look, Enter, Admit, Back, EndSeeds, Take, Done, Close}
 use Rattle.crawl_core.specs.declared.reply.Reply.{Reply}
 use Rattle.crawl_core.specs.declared.reply.Reply.TheVariants as told
 use Rattle.crawl_core.specs.declared.reply.Refusal.TheVariants as why
-use Rattle.crawl_core.specs.State.{State, word_of, Subqueue, Message, start, count_of, count_from, is_accepted, unfinished, one_if}
+use Rattle.crawl_core.specs.Flags.{one_if}
+use Rattle.crawl_core.specs.Messages.{Message, has_url, count_from}
+use Rattle.crawl_core.specs.Subqueue.{Subqueue, empty_subqueue, unfinished, oldest, next_message, after_accepting, after_taking, after_finishing}
+use Rattle.crawl_core.specs.GateSide.{GateTurn, new_gate, holds, look, enter, back, end_seeds, close}
+use Rattle.crawl_core.specs.State.{State, start}
 use Rattle.crawl_core.specs.Step as step
 use Rattle.crawl_core.specs.Step.{Step, Turn, turn}
 use Rattle.crawl_core.specs.Kept.{Kept, KeptQueue, empty_queue, outstanding, number_at}
-use Rattle.crawl_core.specs.Moves.{Moves, Move, move, counted, enter_with, admit_to, take_from, take_oldest, done_with, accepting}
+use Rattle.crawl_core.specs.Moves.{Moves, Move, move, by_gate, counted, admit_to, take_from, take_oldest, done_with, accepting}
 use Rattle.crawl_core.specs.Shows.{Shows, ShowsQueue, Makes}
 use Rattle.crawl_core.proofs.Sets.{list_any-insert_key, lookup-insert_entry}
 
@@ -62,7 +65,7 @@ drop-slice_get (x ∷ xs) (suc n) = drop-slice_get xs n
 -- what is kept of a subqueue has as many URLs out as the subqueue
 outstanding-unfinished : (kept : KeptQueue) (queue : Subqueue) → ShowsQueue kept queue → outstanding kept ≡ unfinished queue
 outstanding-unfinished kept queue shown =
-    let waits : length kept.waiting ≡ length queue.accepted - queue.taken = rw (shown.waiting, length-map, length-drop) refl in
+    let waits : length kept.waiting ≡ length queue.accepted - queue.taken = rw (shown.waits, length-map, length-drop) refl in
     let busy = ap one_if shown.busy in
     omega (arith, waits, busy, shown.begun, shown.within)
 
@@ -88,14 +91,14 @@ or_none true false = refl
 or_none false true = refl
 or_none false false = refl
 
-accepted_shows : (kept : KeptQueue) (queue : Subqueue) (url : List ℕ) (sender : ℕ) → ShowsQueue kept queue → ShowsQueue (accepting kept url sender) (record queue { accepted = queue.accepted ++ record { url = url; sender = sender; number = count_from queue.accepted sender } ∷ [] })
+accepted_shows : (kept : KeptQueue) (queue : Subqueue) (url : List ℕ) (sender : ℕ) → ShowsQueue kept queue → ShowsQueue (accepting kept url sender) (after_accepting queue (next_message queue sender url))
 accepted_shows kept queue url sender shown =
-    let message : Message = record { url = url; sender = sender; number = count_from queue.accepted sender } in
+    let message = next_message queue sender url in
     record {
-      waiting =
+      waits =
           let past : drop queue.taken (queue.accepted ++ message ∷ []) ≡ drop queue.taken queue.accepted ++ message ∷ [] = drop-append-le queue.taken queue.accepted (message ∷ []) shown.within in
-          rw (past, map-append, shown.waiting) refl;
-      seen = λ u. rw (list_any-insert_key nat_list_cmp_total u url kept.seen, shown.seen u, is_eq-slice_cmp u url, list_any-append, nat_list_eq_equiv.symm u url) (or_none (bytes_eq url u) (is_accepted queue u));
+          rw (past, map-append, shown.waits) refl;
+      seen = λ u. rw (list_any-insert_key nat_list_cmp_total u url kept.seen, shown.seen u, is_eq-slice_cmp u url, list_any-append, nat_list_eq_equiv.symm u url) (or_none (bytes_eq url u) (has_url queue.accepted u));
       numbers = λ s.
           rw (lookup-insert_entry nat_cmp_total s sender (suc (number_at kept.numbers sender)) kept.numbers, sum_by_push (λ (m : Message). cond (nat_eq m.sender s) 1 0) queue.accepted message, is_at_number s sender)
           (numbered (nat_eq sender s) (lookup (is_at (nat_cmp s)) kept.numbers) (number_at kept.numbers sender) (count_from queue.accepted s) (shown.numbers s) (λ same. shown.numbers sender ∙ ap (count_from queue.accepted) (eqb-true sender s same)));
@@ -104,9 +107,9 @@ accepted_shows kept queue url sender shown =
       within = rw length_push (omega (arith, shown.within));
     }
 
-taken_shows : (kept : KeptQueue) (queue : Subqueue) (message : Message) → ShowsQueue kept queue → slice_get queue.accepted queue.taken ≡ Some message → ShowsQueue (record kept { waiting = map (λ m. m.url) (drop (suc queue.taken) queue.accepted); busy = true }) (record queue { taken = suc queue.taken; busy = true })
+taken_shows : (kept : KeptQueue) (queue : Subqueue) (message : Message) → ShowsQueue kept queue → oldest queue ≡ Some message → ShowsQueue (record kept { waiting = map (λ m. m.url) (drop (suc queue.taken) queue.accepted); busy = true }) (after_taking queue)
 taken_shows kept queue message shown at = record {
-  waiting = refl;
+  waits = refl;
   seen = shown.seen;
   numbers = shown.numbers;
   busy = refl;
@@ -114,9 +117,9 @@ taken_shows kept queue message shown at = record {
   within = let within = slice_get_within queue.accepted queue.taken message at in omega arith;
 }
 
-finished_shows : (kept : KeptQueue) (queue : Subqueue) → ShowsQueue kept queue → ShowsQueue (record kept { busy = false }) (record queue { busy = false })
+finished_shows : (kept : KeptQueue) (queue : Subqueue) → ShowsQueue kept queue → ShowsQueue (record kept { busy = false }) (after_finishing queue)
 finished_shows kept queue shown = record {
-  waiting = shown.waiting;
+  waits = shown.waits;
   seen = shown.seen;
   numbers = shown.numbers;
   busy = refl;
@@ -128,14 +131,7 @@ finished_shows kept queue shown = record {
 
 -- a state, with these queues in the place of its subqueues
 abbrev pub keeping : List KeptQueue → State → Kept
-keeping queues state = record {
-  queues = queues;
-  holders = state.holders;
-  remembered = state.remembered;
-  opening = state.opening;
-  closed = state.closed;
-  max = state.max;
-}
+keeping queues state = record { gate = state.gate; queues = queues }
 
 -- the move is the step's: the same reply, and what is kept is the state's
 pub record Agrees (made : Move) (done : Turn) : Type 0 where
@@ -155,14 +151,9 @@ unchanged queues state shown reply = record { queues = queues; shown = shown; is
 counted_agrees : (queues : List KeptQueue) (state : State) → AllZip ShowsQueue queues state.subqueues → Agrees (counted (keeping queues state)) (step.counted state)
 counted_agrees queues state shown = record { queues = queues; shown = shown; is_move = rw (sums queues state.subqueues shown) refl }
 
-enter_agrees : (queues : List KeptQueue) (state : State) → AllZip ShowsQueue queues state.subqueues → (sender : ℕ) (word : Option Word) → Agrees (enter_with (keeping queues state) sender word) (step.enter_with state sender word)
-enter_agrees queues state shown sender None = unchanged queues state shown (told.Refused why.Nothing)
-enter_agrees queues state shown sender (Some word) =
-    rw (sums queues state.subqueues shown)
-    (agrees_if (not (step.same_word word (word_of state))) _ _ _ _ (unchanged queues state shown told.Lost)
-    (agrees_if state.closed _ _ _ _ (unchanged queues state shown (told.Refused why.Closed))
-    (agrees_if (nat_eq (count_of state) state.max) _ _ _ _ (unchanged queues state shown (told.Refused why.Full))
-    (record { queues = queues; shown = shown; is_move = refl }))))
+-- a step of the gate, which is told how many messages are not done
+gate_agrees : (queues : List KeptQueue) (state : State) → AllZip ShowsQueue queues state.subqueues → (done : ℕ → GateTurn) → Agrees (by_gate (keeping queues state) (done (sum_by outstanding queues))) (step.by_gate state (done (sum_by unfinished state.subqueues)))
+gate_agrees queues state shown done = record { queues = queues; shown = shown; is_move = rw (sums queues state.subqueues shown) refl }
 
 admit_agrees : (queues : List KeptQueue) (state : State) → AllZip ShowsQueue queues state.subqueues → (sender : ℕ) (url : List ℕ) (place : ℕ) (kept : Option KeptQueue) (queue : Option Subqueue) → Both ShowsQueue kept queue → Agrees (admit_to (keeping queues state) sender url place kept) (step.admit_to state sender url place queue)
 admit_agrees queues state shown sender url place None None both = unchanged queues state shown (told.Refused why.NoSuch)
@@ -170,21 +161,21 @@ admit_agrees queues state shown sender url place None (Some queue) both = absurd
 admit_agrees queues state shown sender url place (Some kept) None both = absurd both
 admit_agrees queues state shown sender url place (Some kept) (Some queue) both =
     rw (both.seen url)
-    (agrees_if (not (step.holds state sender)) _ _ _ _ (unchanged queues state shown (told.Refused why.Nothing))
-    (agrees_if (is_accepted queue url) _ _ _ _ (unchanged queues state shown told.Seen)
+    (agrees_if (not (holds state.gate sender)) _ _ _ _ (unchanged queues state shown (told.Refused why.Nothing))
+    (agrees_if (has_url queue.accepted url) _ _ _ _ (unchanged queues state shown told.Seen)
     (record {
       queues = slice_set queues place (accepting kept url sender);
       shown = AllZip-slice_set ShowsQueue queues state.subqueues place _ _ shown (accepted_shows kept queue url sender both);
       is_move = rw (both.numbers sender) refl;
     })))
 
-oldest_agrees : (queues : List KeptQueue) (state : State) → AllZip ShowsQueue queues state.subqueues → (place : ℕ) (kept : KeptQueue) (queue : Subqueue) → ShowsQueue kept queue → (message : Option Message) → slice_get queue.accepted queue.taken ≡ message → Agrees (take_oldest (keeping queues state) place kept kept.waiting) (step.take_oldest state place queue message)
+oldest_agrees : (queues : List KeptQueue) (state : State) → AllZip ShowsQueue queues state.subqueues → (place : ℕ) (kept : KeptQueue) (queue : Subqueue) → ShowsQueue kept queue → (message : Option Message) → oldest queue ≡ message → Agrees (take_oldest (keeping queues state) place kept kept.waiting) (step.take_oldest state place queue message)
 oldest_agrees queues state shown place kept queue both None at =
     let rest = rw at at (drop-slice_get queue.accepted queue.taken) in
-    rw (both.waiting, rest) (unchanged queues state shown told.Empty)
+    rw (both.waits, rest) (unchanged queues state shown told.Empty)
 oldest_agrees queues state shown place kept queue both (Some message) at =
     let rest = rw at at (drop-slice_get queue.accepted queue.taken) in
-    rw (both.waiting, rest) (record {
+    rw (both.waits, rest) (record {
       queues = slice_set queues place (record kept { waiting = map (λ m. m.url) (drop (suc queue.taken) queue.accepted); busy = true });
       shown = AllZip-slice_set ShowsQueue queues state.subqueues place _ _ shown (taken_shows kept queue message both at);
       is_move = refl;
@@ -197,48 +188,39 @@ take_agrees queues state shown place (Some kept) None both = absurd both
 take_agrees queues state shown place (Some kept) (Some queue) both =
     rw (both.busy)
     (agrees_if queue.busy _ _ _ _ (unchanged queues state shown (told.Refused why.Busy))
-    (oldest_agrees queues state shown place kept queue both (slice_get queue.accepted queue.taken) refl))
+    (oldest_agrees queues state shown place kept queue both (oldest queue) refl))
 
 done_agrees : (queues : List KeptQueue) (state : State) → AllZip ShowsQueue queues state.subqueues → (place : ℕ) (kept : Option KeptQueue) (queue : Option Subqueue) → Both ShowsQueue kept queue → Agrees (done_with (keeping queues state) place kept) (step.done_with state place queue)
 done_agrees queues state shown place None None both = unchanged queues state shown (told.Refused why.NoSuch)
 done_agrees queues state shown place None (Some queue) both = absurd both
 done_agrees queues state shown place (Some kept) None both = absurd both
 done_agrees queues state shown place (Some kept) (Some queue) both =
-    let set = AllZip-slice_set ShowsQueue queues state.subqueues place (record kept { busy = false }) (record queue { busy = false }) shown (finished_shows kept queue both) in
+    let set = AllZip-slice_set ShowsQueue queues state.subqueues place (record kept { busy = false }) (after_finishing queue) shown (finished_shows kept queue both) in
     rw (both.busy)
-    (agrees_if queue.busy _ _ _ _ (counted_agrees _ (step.with_subqueue state place (record queue { busy = false })) set)
+    (agrees_if queue.busy _ _ _ _ (counted_agrees _ (step.with_subqueue state place (after_finishing queue)) set)
     (unchanged queues state shown (told.Refused why.Nothing)))
 
 agrees : (queues : List KeptQueue) (state : State) → AllZip ShowsQueue queues state.subqueues → (event : Event) → Agrees (move (keeping queues state) event) (turn state event)
-agrees queues state shown (Look sender) = record { queues = queues; shown = shown; is_move = rw (sums queues state.subqueues shown) refl }
-agrees queues state shown (Enter sender) =
-    agrees_if (step.holds state sender) _ _ _ _ (unchanged queues state shown (told.Refused why.Busy))
-    (enter_agrees queues state shown sender (lookup (is_at (nat_cmp sender)) state.remembered))
+agrees queues state shown (Look sender) = gate_agrees queues state shown (λ messages. look state.gate messages sender)
+agrees queues state shown (Enter sender) = gate_agrees queues state shown (λ messages. enter state.gate messages sender)
 agrees queues state shown (Admit sender url place) = admit_agrees queues state shown sender url place (slice_get queues place) (slice_get state.subqueues place) (AllZip-slice_get ShowsQueue queues state.subqueues place shown)
-agrees queues state shown (Back sender) =
-    agrees_if (step.holds state sender) _ _ _ _ (counted_agrees queues (step.let_go state sender) shown)
-    (unchanged queues state shown (told.Refused why.Nothing))
-agrees queues state shown EndSeeds =
-    agrees_if state.opening _ _ _ _ (counted_agrees queues (record state { opening = false }) shown)
-    (unchanged queues state shown (told.Refused why.Nothing))
+agrees queues state shown (Back sender) = gate_agrees queues state shown (λ messages. back state.gate messages sender)
+agrees queues state shown EndSeeds = gate_agrees queues state shown (end_seeds state.gate)
 agrees queues state shown (Take place) = take_agrees queues state shown place (slice_get queues place) (slice_get state.subqueues place) (AllZip-slice_get ShowsQueue queues state.subqueues place shown)
 agrees queues state shown (Done place) = done_agrees queues state shown place (slice_get queues place) (slice_get state.subqueues place) (AllZip-slice_get ShowsQueue queues state.subqueues place shown)
-agrees queues state shown Close =
-    rw (sums queues state.subqueues shown)
-    (agrees_if (state.closed || nat_eq (count_of state) 0) _ _ _ _ (record { queues = queues; shown = shown; is_move = refl })
-    (unchanged queues state shown (told.Pending (count_of state))))
+agrees queues state shown Close = gate_agrees queues state shown (close state.gate)
 
 pub makes : (old : Kept) (event : Event) (reply : Reply) (new : Kept) → Moves old event reply new → Makes old event reply new
 makes old event reply new moves = record {
   step = λ state shown.
-      let same : old ≡ keeping old.queues state = rw (← shown.holders, ← shown.remembered, ← shown.opening, ← shown.closed, ← shown.max) refl in
+      let same : old ≡ keeping old.queues state = rw (← shown.gate) refl in
       let P : Kept → Type 0 = λ kept. Agrees (move kept event) (turn state event) in
       let moved = subst P (sym same) (agrees old.queues state shown.queues event) in
       let after : Kept → Type 0 = λ kept. Shows kept (turn state event).state in
       let kept : keeping moved.queues (turn state event).state ≡ new = sym (moves.kept_is ∙ ap (λ m. m.kept) moved.is_move) in (
         (turn state event).state,
         record { reply_is = moves.reply_is ∙ ap (λ m. m.reply) moved.is_move; state_is = refl },
-        subst after kept (record { queues = moved.shown; holders = refl; remembered = refl; opening = refl; closed = refl; max = refl }),
+        subst after kept (record { gate = refl; queues = moved.shown }),
       );
 }
 
@@ -248,12 +230,8 @@ IfOk-weaker (Ok a) P Q weaker p = weaker a p
 IfOk-weaker (Err e) P Q weaker p = tt
 
 -- an empty machine shows the first state
-pub shows_start : (workers max : ℕ) → Shows (record { queues = replicate workers empty_queue; holders = []; remembered = []; opening = true; closed = false; max = max }) (start workers max)
+pub shows_start : (workers max : ℕ) → Shows (record { gate = new_gate max; queues = replicate workers empty_queue }) (start workers max)
 shows_start workers max = record {
-  queues = AllZip-replicate ShowsQueue workers empty_queue (record { accepted = []; taken = 0; busy = false }) (record { waiting = refl; seen = λ url. refl; numbers = λ sender. refl; busy = refl; begun = omega arith; within = omega arith });
-  holders = refl;
-  remembered = refl;
-  opening = refl;
-  closed = refl;
-  max = refl;
+  gate = refl;
+  queues = AllZip-replicate ShowsQueue workers empty_queue empty_subqueue (record { waits = refl; seen = λ url. refl; numbers = λ sender. refl; busy = refl; begun = omega arith; within = omega arith });
 }

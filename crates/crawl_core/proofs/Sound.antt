@@ -1,5 +1,5 @@
 -- The invariants, and that each step keeps them.
-use Rattle.std.proofs.Common.{unwrap_or, ◌≡◌, inl, inr, ℕ, zero, suc, ◌+◌, ◌≤◌, Bool, true, false, cond, not, ◌&&◌, ◌||◌, List, [], ◌∷◌, ◌++◌, length, nat_eq, slice_get, Option, Some, None, refl, sym, ap, subst, ◌∙◌, arith, eqb-true, true≢false, Ordering}
+use Rattle.std.proofs.Common.{unwrap_or, ◌≡◌, inl, inr, ℕ, zero, suc, ◌+◌, ◌≤◌, Bool, true, false, cond, not, ◌&&◌, ◌||◌, List, [], ◌∷◌, length, nat_eq, slice_get, Option, Some, None, refl, sym, ap, subst, ◌∙◌, arith, eqb-true, true≢false, Ordering}
 use Rattle.std.specs.declared.cmp.Ordering.TheVariants.{Less, Equal, Greater}
 use Rattle.std.specs.List.{list_any, list_all}
 use Rattle.std.specs.Ordering.{nat_cmp, is_eq, match_ordering}
@@ -10,7 +10,6 @@ use Rattle.std.specs.Map.{lookup, remove_entry}
 use Rattle.std.proofs.lemmas.Cmp.{nat_list_eq_equiv}
 use Rattle.std.proofs.lemmas.List.{take-append-le, length_push}
 use Rattle.std.proofs.Math.Seq.{take-length}
-use Rattle.std.proofs.lemmas.List.{take-append-drop}
 use Rattle.std.proofs.lemmas.Bool.{eqb-false}
 use Rattle.std.proofs.lemmas.Map.Made.{length-remove_key}
 use Rattle.std.proofs.lemmas.Option.{slice_get_within}
@@ -20,34 +19,64 @@ use Rattle.crawl_core.specs.declared.event.Event.TheVariants.{Look, Enter, Admit
 use Rattle.crawl_core.specs.declared.reply.Reply.{Reply}
 use Rattle.crawl_core.specs.declared.reply.Reply.TheVariants as told
 use Rattle.crawl_core.specs.declared.reply.Refusal.TheVariants as why
-use Rattle.crawl_core.specs.State.{State, Subqueue, Message, count_of, count_from, is_accepted, unfinished, one_if, word_of}
-use Rattle.crawl_core.specs.Step.{Turn, turn, holds, let_go, with_subqueue, same_word, enter_with, put, admit_to, take_oldest, take_from, done_with}
-use Rattle.crawl_core.specs.History.{is_quiet}
+use Rattle.crawl_core.specs.Flags.{one_if}
+use Rattle.crawl_core.specs.Messages.{Message, has_url}
+use Rattle.crawl_core.specs.Subqueue.{Subqueue, empty_subqueue, unfinished, oldest, next_message, after_accepting, after_taking, after_finishing}
+use Rattle.crawl_core.specs.GateSide.{GateSide, GateTurn, units_out, holds, let_go, same_word, enter_with, close}
+use Rattle.crawl_core.specs.State.{State, unfinished_in, count_of, word_of}
+use Rattle.crawl_core.specs.Step.{Turn, turn, by_gate, with_subqueue, put, admit_to, take_oldest, take_from, done_with}
+use Rattle.crawl_core.specs.History.{is_quiet, came_out, came_back, told_count}
 use Rattle.crawl_core.specs.Invariants.{SubqueueInvariant, EachSubqueue}
-use Rattle.crawl_core.proofs.Places.{sum_at, set_cases, push_cases}
+use Rattle.crawl_core.proofs.Places.{sum_at, set_cases, push_cases, length-slice_set}
+use Rattle.crawl_core.proofs.Holders.{Rising, Rising-insert_key, Rising-remove_key}
 use Rattle.crawl_core.proofs.Effects.{cond_both}
 
 -- what every state of a run meets, but that the count is at most the maximum
 pub record Sound (state : State) : Type 0 where
-  pub empty : state.closed ≡ true → count_of state ≡ 0
-  pub met : state.closed ≡ false → list_all (λ entry. not entry.1.closed) state.remembered ≡ true
+  pub empty : state.gate.closed ≡ true → count_of state ≡ 0
+  pub met : state.gate.closed ≡ false → list_all (λ entry. not entry.1.closed) state.gate.remembered ≡ true
+  pub holders : Rising 0 state.gate.holders
   pub queues : EachSubqueue SubqueueInvariant state
 
--- a turn keeps the invariants, and a closed gate stays closed and quiet
+-- a turn keeps the invariants, the maximum and the number of subqueues, and a closed gate stays closed and quiet; and the
+-- number of units changes by those that the reply tells of, and is the one that it tells
 pub record GateEffect (old : State) (done : Turn) : Type 0 where
   pub sound : Sound done.state
-  pub within : count_of old ≤ old.max → count_of done.state ≤ done.state.max
-  pub closes : done.reply ≡ told.Closed → done.state.closed ≡ true
-  pub stays : old.closed ≡ true → (done.state.closed ≡ true) × (is_quiet done.reply ≡ true)
+  pub within : count_of old ≤ old.gate.max → count_of done.state ≤ done.state.gate.max
+  pub closes : done.reply ≡ told.Closed → done.state.gate.closed ≡ true
+  pub stays : old.gate.closed ≡ true → (done.state.gate.closed ≡ true) × (is_quiet done.reply ≡ true)
+  pub max : done.state.gate.max ≡ old.gate.max
+  pub as_many : length done.state.subqueues ≡ length old.subqueues
+  pub units : count_of done.state + came_back done.reply ≡ count_of old + came_out done.reply
+  pub tells : (count : ℕ) → told_count done.reply ≡ Some count → count_of done.state ≡ count
 
 -- a reply that changes nothing
-still : (state : State) → Sound state → (reply : Reply) → is_quiet reply ≡ true → (reply ≡ told.Closed → ⊥) → GateEffect state (record { reply = reply; state = state })
-still state sound reply quiet other = record {
+still : (state : State) → Sound state → (reply : Reply) → is_quiet reply ≡ true → (reply ≡ told.Closed → ⊥) → came_back reply ≡ came_out reply → ((count : ℕ) → told_count reply ≡ Some count → count_of state ≡ count) → GateEffect state (record { reply = reply; state = state })
+still state sound reply quiet other even tells = record {
   sound = sound;
   within = λ within. within;
   closes = λ closed. absurd (other closed);
   stays = λ closed. (closed, quiet);
+  max = refl;
+  as_many = refl;
+  units = omega (arith, even);
+  tells = tells;
 }
+
+-- one that tells of no unit either
+abbrev is_silent : Reply → Bool
+is_silent told.Lost = true
+is_silent told.Seen = true
+is_silent told.Empty = true
+is_silent (told.Refused reason) = true
+is_silent _ = false
+
+silent : (state : State) → Sound state → (reply : Reply) → is_silent reply ≡ true → GateEffect state (record { reply = reply; state = state })
+silent state sound told.Lost is = still state sound told.Lost refl (λ e. absurd (cc)) refl (λ count e. absurd (cc))
+silent state sound told.Seen is = still state sound told.Seen refl (λ e. absurd (cc)) refl (λ count e. absurd (cc))
+silent state sound told.Empty is = still state sound told.Empty refl (λ e. absurd (cc)) refl (λ count e. absurd (cc))
+silent state sound (told.Refused reason) is = still state sound (told.Refused reason) refl (λ e. absurd (cc)) refl (λ count e. absurd (cc))
+silent state sound _ is = absurd (true≢false (sym is))
 
 pub some_is : {A : Type 0} {x y : A} → Some x ≡ Some y → x ≡ y
 some_is {A} {x} {y} e = ap (λ o. unwrap_or o x) e
@@ -82,7 +111,7 @@ list_all-remove_entry {X} p test (e ∷ es) all = at_first (test e.0) (p e.1) re
 
 -- ## Senders that hold a unit
 
-length-insert_key : (holders : List ℕ) (k : ℕ) → list_any (is_at (nat_cmp k)) holders ≡ false → length (insert_key nat_cmp holders k) ≡ suc (length holders)
+pub length-insert_key : (holders : List ℕ) (k : ℕ) → list_any (is_at (nat_cmp k)) holders ≡ false → length (insert_key nat_cmp holders k) ≡ suc (length holders)
 length-insert_key [] k absent = refl
 length-insert_key (x ∷ xs) k absent = at_first (nat_cmp k x) absent (length-insert_key xs k)
   where
@@ -92,58 +121,125 @@ length-insert_key (x ∷ xs) k absent = at_first (nat_cmp k x) absent (length-in
     at_first Greater none more = ap suc (more none)
 
 -- one that holds a unit is counted
-holder_counts : (state : State) (sender : ℕ) → holds state sender ≡ true → count_of (let_go state sender) + 1 ≡ count_of state
-holder_counts state sender held = let fewer = length-remove_key (is_at (nat_cmp sender)) state.holders held in omega (arith, fewer)
+pub holder_counts : (gate : GateSide) (messages sender : ℕ) → holds gate sender ≡ true → units_out (let_go gate sender) messages + 1 ≡ units_out gate messages
+holder_counts gate messages sender held = let fewer = length-remove_key (is_at (nat_cmp sender)) gate.holders held in omega (arith, fewer)
 
 -- ## One subqueue of a closed gate
 
 -- nothing is unfinished in it where nothing is out
 pub none_unfinished : (state : State) (place : ℕ) (queue : Subqueue) → slice_get state.subqueues place ≡ Some queue → count_of state ≡ 0 → unfinished queue ≡ 0
 none_unfinished state place queue at none =
-    let sum = sum_at unfinished state.subqueues place queue (record { accepted = []; taken = 0; busy = false }) at in
+    let sum = sum_at unfinished state.subqueues place queue empty_subqueue at in
     omega (arith, sum, none)
 
--- ## Each kind of turn
+-- ## The gate's turns
 
-enter_sound : (state : State) → Sound state → (sender : ℕ) → holds state sender ≡ false → (word : Option Word) → GateEffect state (enter_with state sender word)
-enter_sound state sound sender free None = still state sound (told.Refused why.Nothing) refl (λ e. absurd (cc))
+-- what a turn of the gate alone has to keep
+abbrev GateKeeps : State → GateTurn → Type 0
+GateKeeps state done = GateEffect state (by_gate state done)
+
+enter_sound : (state : State) → Sound state → (sender : ℕ) → holds state.gate sender ≡ false → (word : Option Word) → GateKeeps state (enter_with state.gate (unfinished_in state) sender word)
+enter_sound state sound sender free None = silent state sound (told.Refused why.Nothing) refl
 enter_sound state sound sender free (Some word) =
-    cond_both (GateEffect state) (not (same_word word (word_of state))) _ _
-    (λ _. still state sound told.Lost refl (λ e. absurd (cc)))
-    (λ _. cond_both (GateEffect state) state.closed _ _
-    (λ _. still state sound (told.Refused why.Closed) refl (λ e. absurd (cc)))
-    (λ opened. cond_both (GateEffect state) (nat_eq (count_of state) state.max) _ _
-    (λ _. still state sound (told.Refused why.Full) refl (λ e. absurd (cc)))
+    cond_both (GateKeeps state) (not (same_word word (word_of state))) _ _
+    (λ _. silent state sound told.Lost refl)
+    (λ _. cond_both (GateKeeps state) state.gate.closed _ _
+    (λ _. silent state sound (told.Refused why.Closed) refl)
+    (λ opened. cond_both (GateKeeps state) (nat_eq (count_of state) state.gate.max) _ _
+    (λ _. silent state sound (told.Refused why.Full) refl)
     (λ below.
-    let one_more = length-insert_key state.holders sender free in
-    let apart = eqb-false (count_of state) state.max below in
+    let one_more = length-insert_key state.gate.holders sender free in
+    let apart = eqb-false (count_of state) state.gate.max below in
     record {
       sound = record {
         empty = λ closed. absurd (true≢false (sym closed ∙ opened));
-        met = λ _. list_all-remove_entry (λ (w : Word). not w.closed) (is_at (nat_cmp sender)) state.remembered (sound.met opened);
+        met = λ _. list_all-remove_entry (λ (w : Word). not w.closed) (is_at (nat_cmp sender)) state.gate.remembered (sound.met opened);
+        holders = Rising-insert_key 0 state.gate.holders sender (omega arith) sound.holders;
         queues = sound.queues;
       };
       within = λ within. grind (arith, one_more, apart, within);
       closes = λ e. absurd (cc);
       stays = λ closed. absurd (true≢false (sym closed ∙ opened));
+      max = refl;
+      as_many = refl;
+      units = omega (arith, one_more);
+      tells = λ count is. let told_is : suc (count_of state) ≡ count = some_is is in omega (arith, one_more, told_is);
     })))
 
+-- a turn that gives a unit back: the same state with a smaller count
+fewer_sound : (state after : State) → Sound state → count_of after + 1 ≡ count_of state → after.gate.closed ≡ state.gate.closed → after.gate.max ≡ state.gate.max → after.gate.remembered ≡ state.gate.remembered → Rising 0 after.gate.holders → length after.subqueues ≡ length state.subqueues → EachSubqueue SubqueueInvariant after → GateEffect state (record { reply = told.Count (count_of after); state = after })
+fewer_sound state after sound fewer closed_is max_is remembered_is holders as_many queues = record {
+  sound = record {
+    empty = λ closed. let none = sound.empty (sym closed_is ∙ closed) in absurd (omega (arith, none, fewer));
+    met = λ opened. rw remembered_is (sound.met (sym closed_is ∙ opened));
+    holders = holders;
+    queues = queues;
+  };
+  within = λ within. rw max_is (omega (arith, within, fewer));
+  closes = λ e. absurd (cc);
+  stays = λ closed. (closed_is ∙ closed, refl);
+  max = max_is;
+  as_many = as_many;
+  units = omega (arith, fewer);
+  tells = λ count is. some_is is;
+}
+
+close_sound : (state : State) → Sound state → GateKeeps state (close state.gate (unfinished_in state))
+close_sound state sound =
+    cond_both (GateKeeps state) (state.gate.closed || nat_eq (count_of state) 0) _ _
+    (λ may. record {
+      sound = record { empty = λ _. closing_empty state sound may; met = λ opened. absurd (true≢false opened); holders = sound.holders; queues = sound.queues };
+      within = λ within. within;
+      closes = λ _. refl;
+      stays = λ _. (refl, refl);
+      max = refl;
+      as_many = refl;
+      units = refl;
+      tells = λ count is. closing_empty state sound may ∙ some_is is;
+    })
+    (λ _. still state sound (told.Pending (count_of state)) refl (λ e. absurd (cc)) refl (λ count is. some_is is))
+  where
+    closing_empty : (state : State) → Sound state → (state.gate.closed || nat_eq (count_of state) 0) ≡ true → count_of state ≡ 0
+    closing_empty state sound may = by_flag state.gate.closed refl may
+      where
+        by_flag : (b : Bool) → state.gate.closed ≡ b → (b || nat_eq (count_of state) 0) ≡ true → count_of state ≡ 0
+        by_flag true closed may = sound.empty closed
+        by_flag false opened may = eqb-true (count_of state) 0 may
+
+look_sound : (state : State) → Sound state → (sender : ℕ) → GateEffect state (turn state (Look sender))
+look_sound state sound sender = record {
+  sound = record {
+    empty = sound.empty;
+    met = λ opened. list_all-insert_entry (λ (w : Word). not w.closed) nat_cmp state.gate.remembered sender (word_of state) (sound.met opened) (ap not opened);
+    holders = sound.holders;
+    queues = sound.queues;
+  };
+  within = λ within. within;
+  closes = λ e. absurd (cc);
+  stays = λ closed. (closed, refl);
+  max = refl;
+  as_many = refl;
+  units = refl;
+  tells = λ count is. some_is is;
+}
+
+-- ## The turns of a subqueue
+
 -- a message that the subqueue has accepted is not one of a URL that it has not
-unseen_differs : (accepted : List Message) (url : List ℕ) (i : ℕ) (m : Message) → list_any (λ (m : Message). bytes_eq m.url url) accepted ≡ false → slice_get accepted i ≡ Some m → m.url ≡ url → ⊥
+unseen_differs : (accepted : List Message) (url : List ℕ) (i : ℕ) (m : Message) → has_url accepted url ≡ false → slice_get accepted i ≡ Some m → m.url ≡ url → ⊥
 unseen_differs [] url i m unseen at same = absurd (cc)
 unseen_differs (x ∷ xs) url zero m unseen at same =
     let is_x : x ≡ m = some_is at in
     let tied : bytes_eq x.url url ≡ true = rw (is_x, same) (nat_list_eq_equiv.refl url) in
     let clash = rw tied at unseen in
     true≢false clash
-unseen_differs (x ∷ xs) url (suc i) m unseen at same = unseen_differs xs url i m (or_second (bytes_eq x.url url) (list_any (λ (m : Message). bytes_eq m.url url) xs) unseen) at same
+unseen_differs (x ∷ xs) url (suc i) m unseen at same = unseen_differs xs url i m (or_second (bytes_eq x.url url) (has_url xs url) unseen) at same
 
-accepting_sound : (queue : Subqueue) (sender : ℕ) (url : List ℕ) → is_accepted queue url ≡ false → SubqueueInvariant queue → SubqueueInvariant (record queue { accepted = queue.accepted ++ record { url = url; sender = sender; number = count_from queue.accepted sender } ∷ [] })
+accepting_sound : (queue : Subqueue) (sender : ℕ) (url : List ℕ) → has_url queue.accepted url ≡ false → SubqueueInvariant queue → SubqueueInvariant (after_accepting queue (next_message queue sender url))
 accepting_sound queue sender url unseen inv =
-    let message : Message = record { url = url; sender = sender; number = count_from queue.accepted sender } in
+    let message = next_message queue sender url in
     record {
       within = rw length_push (omega (arith, inv.within));
-      parts = sym (take-append-drop queue.taken (queue.accepted ++ message ∷ []));
       distinct = λ i j m n at_i at_j same. elim (push_cases queue.accepted message i m at_i) [
         | inl old_i ↦ elim (push_cases queue.accepted message j n at_j) [
           | inl old_j ↦ inv.distinct i j m n old_i old_j same
@@ -161,47 +257,56 @@ accepting_sound queue sender url unseen inv =
       begun = inv.begun;
     }
 
-put_sound : (state : State) → Sound state → (sender : ℕ) (url : List ℕ) (place : ℕ) (queue : Subqueue) → slice_get state.subqueues place ≡ Some queue → holds state sender ≡ true → is_accepted queue url ≡ false → GateEffect state (put state sender url place queue)
+-- each subqueue after a write at a place
+each_after : (state : State) (place : ℕ) (queue next : Subqueue) → slice_get state.subqueues place ≡ Some queue → EachSubqueue SubqueueInvariant state → SubqueueInvariant next → EachSubqueue SubqueueInvariant (with_subqueue state place next)
+each_after state place queue next at each inv there =
+    set_cases (λ o. (found : Subqueue) → o ≡ Some found → SubqueueInvariant found) state.subqueues place there queue next at
+    (λ here was found is. subst SubqueueInvariant (some_is is) inv)
+    (λ apart. each there)
+
+put_sound : (state : State) → Sound state → (sender : ℕ) (url : List ℕ) (place : ℕ) (queue : Subqueue) → slice_get state.subqueues place ≡ Some queue → holds state.gate sender ≡ true → has_url queue.accepted url ≡ false → GateEffect state (put state sender url place queue)
 put_sound state sound sender url place queue at held unseen =
     let inv = sound.queues place queue at in
-    let message : Message = record { url = url; sender = sender; number = count_from queue.accepted sender } in
-    let next : Subqueue = record queue { accepted = queue.accepted ++ message ∷ [] } in
-    let fewer = holder_counts state sender held in
+    let next : Subqueue = after_accepting queue (next_message queue sender url) in
+    let fewer = holder_counts state.gate (unfinished_in state) sender held in
     let sum = sum_at unfinished state.subqueues place queue next at in
-    let longer : length (queue.accepted ++ message ∷ []) ≡ length queue.accepted + 1 = length_push queue.accepted message in
-    let same : count_of (let_go (with_subqueue state place next) sender) ≡ count_of state = omega (arith, fewer, sum, longer, inv.within) in
+    let longer : length next.accepted ≡ length queue.accepted + 1 = length_push queue.accepted (next_message queue sender url) in
+    let same : count_of (put state sender url place queue).state ≡ count_of state = omega (arith, fewer, sum, longer, inv.within) in
     record {
       sound = record {
         empty = λ closed. same ∙ sound.empty closed;
         met = sound.met;
-        queues = λ there. set_cases (λ o. (found : Subqueue) → o ≡ Some found → SubqueueInvariant found) state.subqueues place there queue next at
-            (λ here was found is. subst SubqueueInvariant (some_is is) (accepting_sound queue sender url unseen inv))
-            (λ apart. sound.queues there);
+        holders = Rising-remove_key 0 (is_at (nat_cmp sender)) state.gate.holders sound.holders;
+        queues = each_after state place queue next at sound.queues (accepting_sound queue sender url unseen inv);
       };
       within = λ within. rw same within;
       closes = λ e. absurd (cc);
       stays = λ closed. let none = sound.empty closed in absurd (omega (arith, fewer, none));
+      max = refl;
+      as_many = length-slice_set state.subqueues place next;
+      units = omega (arith, same);
+      tells = λ count is. absurd (cc);
     }
 
 admit_sound : (state : State) → Sound state → (sender : ℕ) (url : List ℕ) (place : ℕ) (queue : Option Subqueue) → slice_get state.subqueues place ≡ queue → GateEffect state (admit_to state sender url place queue)
-admit_sound state sound sender url place None at = still state sound (told.Refused why.NoSuch) refl (λ e. absurd (cc))
+admit_sound state sound sender url place None at = silent state sound (told.Refused why.NoSuch) refl
 admit_sound state sound sender url place (Some queue) at =
-    by_holder (holds state sender) refl
+    by_holder (holds state.gate sender) refl
   where
-    by_holder : (b : Bool) → holds state sender ≡ b → GateEffect state (admit_to state sender url place (Some queue))
-    by_holder false free = rw free (still state sound (told.Refused why.Nothing) refl (λ e. absurd (cc)))
+    by_holder : (b : Bool) → holds state.gate sender ≡ b → GateEffect state (admit_to state sender url place (Some queue))
+    by_holder false free = rw free (silent state sound (told.Refused why.Nothing) refl)
     by_holder true held =
         rw held
-        (cond_both (GateEffect state) (is_accepted queue url) _ _
-        (λ _. still state sound told.Seen refl (λ e. absurd (cc)))
+        (cond_both (GateEffect state) (has_url queue.accepted url) _ _
+        (λ _. silent state sound told.Seen refl)
         (λ unseen. put_sound state sound sender url place queue at held unseen))
 
-oldest_sound : (state : State) → Sound state → (place : ℕ) (queue : Subqueue) → slice_get state.subqueues place ≡ Some queue → queue.busy ≡ false → (message : Option Message) → slice_get queue.accepted queue.taken ≡ message → GateEffect state (take_oldest state place queue message)
-oldest_sound state sound place queue at idle None none = still state sound told.Empty refl (λ e. absurd (cc))
-oldest_sound state sound place queue at idle (Some message) oldest =
+oldest_sound : (state : State) → Sound state → (place : ℕ) (queue : Subqueue) → slice_get state.subqueues place ≡ Some queue → queue.busy ≡ false → (message : Option Message) → oldest queue ≡ message → GateEffect state (take_oldest state place queue message)
+oldest_sound state sound place queue at idle None none = silent state sound told.Empty refl
+oldest_sound state sound place queue at idle (Some message) first =
     let inv = sound.queues place queue at in
-    let next : Subqueue = record queue { taken = suc queue.taken; busy = true } in
-    let below = slice_get_within queue.accepted queue.taken message oldest in
+    let next : Subqueue = after_taking queue in
+    let below = slice_get_within queue.accepted queue.taken message first in
     let was_idle : one_if queue.busy ≡ 0 = ap one_if idle in
     let sum = sum_at unfinished state.subqueues place queue next at in
     let same : count_of (with_subqueue state place next) ≡ count_of state = omega (arith, sum, was_idle, below) in
@@ -209,94 +314,57 @@ oldest_sound state sound place queue at idle (Some message) oldest =
       sound = record {
         empty = λ closed. same ∙ sound.empty closed;
         met = sound.met;
-        queues = λ there. set_cases (λ o. (found : Subqueue) → o ≡ Some found → SubqueueInvariant found) state.subqueues place there queue next at
-            (λ here was found is. subst SubqueueInvariant (some_is is) (record { within = omega (arith, below); parts = sym (take-append-drop (suc queue.taken) queue.accepted); distinct = inv.distinct; numbered = inv.numbered; begun = omega arith }))
-            (λ apart. sound.queues there);
+        holders = sound.holders;
+        queues = each_after state place queue next at sound.queues (record { within = omega (arith, below); distinct = inv.distinct; numbered = inv.numbered; begun = omega arith });
       };
       within = λ within. rw same within;
       closes = λ e. absurd (cc);
       stays = λ closed. let none = none_unfinished state place queue at (sound.empty closed) in absurd (omega (arith, none, was_idle, below));
+      max = refl;
+      as_many = length-slice_set state.subqueues place next;
+      units = omega (arith, same);
+      tells = λ count is. absurd (cc);
     }
 
 take_sound : (state : State) → Sound state → (place : ℕ) (queue : Option Subqueue) → slice_get state.subqueues place ≡ queue → GateEffect state (take_from state place queue)
-take_sound state sound place None at = still state sound (told.Refused why.NoSuch) refl (λ e. absurd (cc))
+take_sound state sound place None at = silent state sound (told.Refused why.NoSuch) refl
 take_sound state sound place (Some queue) at =
     cond_both (GateEffect state) queue.busy _ _
-    (λ _. still state sound (told.Refused why.Busy) refl (λ e. absurd (cc)))
-    (λ idle. oldest_sound state sound place queue at idle (slice_get queue.accepted queue.taken) refl)
-
--- a turn that gives a unit back: the same state with a smaller count
-fewer_sound : (state after : State) → Sound state → count_of after + 1 ≡ count_of state → after.closed ≡ state.closed → after.max ≡ state.max → after.remembered ≡ state.remembered → EachSubqueue SubqueueInvariant after → GateEffect state (record { reply = told.Count (count_of after); state = after })
-fewer_sound state after sound fewer closed_is max_is remembered_is queues = record {
-  sound = record {
-    empty = λ closed. let none = sound.empty (sym closed_is ∙ closed) in absurd (omega (arith, none, fewer));
-    met = λ opened. rw remembered_is (sound.met (sym closed_is ∙ opened));
-    queues = queues;
-  };
-  within = λ within. rw max_is (omega (arith, within, fewer));
-  closes = λ e. absurd (cc);
-  stays = λ closed. (closed_is ∙ closed, refl);
-}
+    (λ _. silent state sound (told.Refused why.Busy) refl)
+    (λ idle. oldest_sound state sound place queue at idle (oldest queue) refl)
 
 done_sound : (state : State) → Sound state → (place : ℕ) (queue : Option Subqueue) → slice_get state.subqueues place ≡ queue → GateEffect state (done_with state place queue)
-done_sound state sound place None at = still state sound (told.Refused why.NoSuch) refl (λ e. absurd (cc))
+done_sound state sound place None at = silent state sound (told.Refused why.NoSuch) refl
 done_sound state sound place (Some queue) at =
     cond_both (GateEffect state) queue.busy _ _
     (λ busy.
     let inv = sound.queues place queue at in
-    let next : Subqueue = record queue { busy = false } in
+    let next : Subqueue = after_finishing queue in
     let was_busy : one_if queue.busy ≡ 1 = ap one_if busy in
     let sum = sum_at unfinished state.subqueues place queue next at in
     let begun : 1 ≤ queue.taken = omega (arith, inv.begun, was_busy) in
     let fewer : count_of (with_subqueue state place next) + 1 ≡ count_of state = omega (arith, sum, was_busy, begun, inv.within) in
-    fewer_sound state (with_subqueue state place next) sound fewer refl refl refl
-    (λ there. set_cases (λ o. (found : Subqueue) → o ≡ Some found → SubqueueInvariant found) state.subqueues place there queue next at
-    (λ here was found is. subst SubqueueInvariant (some_is is) (record { within = inv.within; parts = inv.parts; distinct = inv.distinct; numbered = inv.numbered; begun = omega arith }))
-    (λ apart. sound.queues there)))
-    (λ _. still state sound (told.Refused why.Nothing) refl (λ e. absurd (cc)))
+    fewer_sound state (with_subqueue state place next) sound fewer refl refl refl sound.holders (length-slice_set state.subqueues place next)
+    (each_after state place queue next at sound.queues (record { within = inv.within; distinct = inv.distinct; numbered = inv.numbered; begun = omega arith })))
+    (λ _. silent state sound (told.Refused why.Nothing) refl)
 
-close_sound : (state : State) → Sound state → GateEffect state (turn state Close)
-close_sound state sound =
-    cond_both (GateEffect state) (state.closed || nat_eq (count_of state) 0) _ _
-    (λ may. record {
-      sound = record { empty = λ _. closing_empty state sound may; met = λ opened. absurd (true≢false opened); queues = sound.queues };
-      within = λ within. within;
-      closes = λ _. refl;
-      stays = λ _. (refl, refl);
-    })
-    (λ _. still state sound (told.Pending (count_of state)) refl (λ e. absurd (cc)))
-  where
-    closing_empty : (state : State) → Sound state → (state.closed || nat_eq (count_of state) 0) ≡ true → count_of state ≡ 0
-    closing_empty state sound may = by_flag state.closed refl may
-      where
-        by_flag : (b : Bool) → state.closed ≡ b → (b || nat_eq (count_of state) 0) ≡ true → count_of state ≡ 0
-        by_flag true closed may = sound.empty closed
-        by_flag false opened may = eqb-true (count_of state) 0 may
+-- ## Each event
 
 pub gate_effect : (state : State) → Sound state → (event : Event) → GateEffect state (turn state event)
-gate_effect state sound (Look sender) = record {
-  sound = record {
-    empty = sound.empty;
-    met = λ opened. list_all-insert_entry (λ (w : Word). not w.closed) nat_cmp state.remembered sender (word_of state) (sound.met opened) (ap not opened);
-    queues = sound.queues;
-  };
-  within = λ within. within;
-  closes = λ e. absurd (cc);
-  stays = λ closed. (closed, refl);
-}
+gate_effect state sound (Look sender) = look_sound state sound sender
 gate_effect state sound (Enter sender) =
-    cond_both (GateEffect state) (holds state sender) _ _
-    (λ _. still state sound (told.Refused why.Busy) refl (λ e. absurd (cc)))
-    (λ free. enter_sound state sound sender free (lookup (is_at (nat_cmp sender)) state.remembered))
+    cond_both (GateKeeps state) (holds state.gate sender) _ _
+    (λ _. silent state sound (told.Refused why.Busy) refl)
+    (λ free. enter_sound state sound sender free (lookup (is_at (nat_cmp sender)) state.gate.remembered))
 gate_effect state sound (Admit sender url place) = admit_sound state sound sender url place (slice_get state.subqueues place) refl
 gate_effect state sound (Back sender) =
-    cond_both (GateEffect state) (holds state sender) _ _
-    (λ held. fewer_sound state (let_go state sender) sound (holder_counts state sender held) refl refl refl sound.queues)
-    (λ _. still state sound (told.Refused why.Nothing) refl (λ e. absurd (cc)))
+    cond_both (GateKeeps state) (holds state.gate sender) _ _
+    (λ held. fewer_sound state (record state { gate = let_go state.gate sender }) sound (holder_counts state.gate (unfinished_in state) sender held) refl refl refl (Rising-remove_key 0 (is_at (nat_cmp sender)) state.gate.holders sound.holders) refl sound.queues)
+    (λ _. silent state sound (told.Refused why.Nothing) refl)
 gate_effect state sound EndSeeds =
-    cond_both (GateEffect state) state.opening _ _
-    (λ out. let opened : one_if state.opening ≡ 1 = ap one_if out in fewer_sound state (record state { opening = false }) sound (omega (arith, opened)) refl refl refl sound.queues)
-    (λ _. still state sound (told.Refused why.Nothing) refl (λ e. absurd (cc)))
+    cond_both (GateKeeps state) state.gate.opening _ _
+    (λ out. let opened : one_if state.gate.opening ≡ 1 = ap one_if out in fewer_sound state (record state { gate = record state.gate { opening = false } }) sound (omega (arith, opened)) refl refl refl sound.holders refl sound.queues)
+    (λ _. silent state sound (told.Refused why.Nothing) refl)
 gate_effect state sound (Take place) = take_sound state sound place (slice_get state.subqueues place) refl
 gate_effect state sound (Done place) = done_sound state sound place (slice_get state.subqueues place) refl
 gate_effect state sound Close = close_sound state sound

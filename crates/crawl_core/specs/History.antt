@@ -1,11 +1,11 @@
 -- What a history, a list of events with their replies, says of each subqueue.
-use Rattle.std.specs.Prelude.{◌≡◌, ℕ, ◌<◌, List, map, take, length, nat_eq, slice_get, if◌then◌else◌, Option, Some, None, Bool, true, false}
+use Rattle.std.specs.Prelude.{◌≡◌, ℕ, ◌<◌, List, map, length, nat_eq, slice_get, if◌then◌else◌, Option, Some, None, Bool, true, false}
 use Rattle.std.specs.List.{filter_map}
 use Rattle.crawl_core.specs.declared.event.Event.{Event}
 use Rattle.crawl_core.specs.declared.event.Event.TheVariants.{Admit, Take, Done}
 use Rattle.crawl_core.specs.declared.reply.Reply.{Reply}
 use Rattle.crawl_core.specs.declared.reply.Reply.TheVariants as told
-use Rattle.crawl_core.specs.State.{Message, count_from}
+use Rattle.crawl_core.specs.Messages.{Message}
 
 -- the message that the subqueue accepted, if it did
 abbrev pub accepted_by : ℕ → Event → Reply → Option Message
@@ -39,11 +39,6 @@ abbrev pub AcceptsOnce : List (Event × Reply) → Type 0
 AcceptsOnce history =
     (queue i j : ℕ) (url : List ℕ) → slice_get (accepted_urls queue history) i ≡ Some url → slice_get (accepted_urls queue history) j ≡ Some url → i ≡ j
 
--- a message's number is how many earlier ones of its sender stand before it
-abbrev pub NumbersInOrder : List Message → Type 0
-NumbersInOrder accepted =
-    (k : ℕ) (m : Message) → slice_get accepted k ≡ Some m → m.number ≡ count_from (take k accepted) m.sender
-
 -- messages of one sender leave a subqueue in the order of their numbers: the k-th that leaves is the k-th accepted
 abbrev pub LeavesInOrder : List (Event × Reply) → Type 0
 LeavesInOrder history =
@@ -72,6 +67,24 @@ TakesOnce history =
 abbrev pub TakesWhereAdmitted : List Event → List (Event × Reply) → Type 0
 TakesWhereAdmitted events history =
     (i j : ℕ) (sender queue there : ℕ) (url : List ℕ) → slice_get history i ≡ Some (Take queue, told.Taken url) → slice_get events j ≡ Some (Admit sender url there) → queue ≡ there
+
+-- a reply says that a unit came out, and that one came back
+abbrev pub came_out : Reply → ℕ
+came_out (told.Entered count) = 1
+came_out _ = 0
+
+abbrev pub came_back : Reply → ℕ
+came_back (told.Count count) = 1
+came_back _ = 0
+
+-- how many units the reply says are out after its event, if it says so
+abbrev pub told_count : Reply → Option ℕ
+told_count (told.Word count closed) = Some count
+told_count (told.Entered count) = Some count
+told_count (told.Count count) = Some count
+told_count (told.Pending count) = Some count
+told_count told.Closed = Some 0
+told_count _ = None
 
 -- whether a reply says nothing of a URL or a unit that comes in or goes out to a worker
 abbrev pub is_quiet : Reply → Bool

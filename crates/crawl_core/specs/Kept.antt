@@ -1,12 +1,15 @@
--- What the machine keeps of a state: queues, sets and maps in place of lists that grow for good.
-use Rattle.std.specs.Prelude.{◌≡◌, ℕ, ◌+◌, ◌^◌, ◌≤◌, Bool, false, List, [], length, unwrap_or}
+-- What the machine keeps of a state: the gate's half as it is, and of each subqueue queues, sets and maps in place of lists
+-- that grow for good.
+use Rattle.std.specs.Prelude.{◌≡◌, ℕ, ◌+◌, ◌≤◌, Bool, false, List, [], length, unwrap_or}
 use Rattle.std.specs.List.{sum_by, list_any}
 use Rattle.std.specs.Ordering.{nat_cmp}
 use Rattle.std.specs.Cmp.Lexicographic.{slice_cmp}
 use Rattle.std.specs.BTreeMap.{is_at}
 use Rattle.std.specs.Map.{lookup}
 use Rattle.crawl_core.specs.declared.word.Word.{Word}
-use Rattle.crawl_core.specs.State.{one_if}
+use Rattle.crawl_core.specs.Flags.{one_if}
+use Rattle.crawl_core.specs.Limits.{pending_limit}
+use Rattle.crawl_core.specs.GateSide.{GateSide, units_out, shown_word}
 
 -- of a subqueue: the URLs that wait, oldest first; those that it ever accepted, in ascending order; how many of each
 -- sender it accepted, by ascending sender; whether the one taken last is not done yet
@@ -16,14 +19,9 @@ pub record KeptQueue : Type 0 where
   pub numbers : List (ℕ × ℕ)
   pub busy : Bool
 
--- of a state; all but the subqueues are kept as they are
 pub record Kept : Type 0 where
+  pub gate : GateSide
   pub queues : List KeptQueue
-  pub holders : List ℕ
-  pub remembered : List (ℕ × Word)
-  pub opening : Bool
-  pub closed : Bool
-  pub max : ℕ
 
 abbrev pub empty_queue : KeptQueue
 empty_queue = record { waiting = []; seen = []; numbers = []; busy = false }
@@ -32,9 +30,17 @@ empty_queue = record { waiting = []; seen = []; numbers = []; busy = false }
 abbrev pub outstanding : KeptQueue → ℕ
 outstanding queue = length queue.waiting + one_if queue.busy
 
+-- how many URLs are not done
+abbrev pub outstanding_in : Kept → ℕ
+outstanding_in kept = sum_by outstanding kept.queues
+
 -- how many units are out
 abbrev pub kept_count : Kept → ℕ
-kept_count kept = one_if kept.opening + length kept.holders + sum_by outstanding kept.queues
+kept_count kept = units_out kept.gate (outstanding_in kept)
+
+-- the word that the gate shows
+abbrev pub kept_word : Kept → Word
+kept_word kept = shown_word kept.gate (outstanding_in kept)
 
 -- whether the subqueue accepted the URL
 abbrev pub has_seen : KeptQueue → List ℕ → Bool
@@ -51,5 +57,5 @@ AreFew queue = (sender : ℕ) → number_at queue.numbers sender ≤ length queu
 -- the count that is stored is the one of what is kept, at most the maximum, and that is small
 pub record IsCounted (kept : Kept) (count : ℕ) : Type 0 where
   pub counted : count ≡ kept_count kept
-  pub within : count ≤ kept.max
-  pub small : kept.max ≤ 2 ^ 40
+  pub within : count ≤ kept.gate.max
+  pub small : kept.gate.max ≤ pending_limit

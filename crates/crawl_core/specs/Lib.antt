@@ -1,9 +1,14 @@
 pub mod ErrorText
+pub mod Flags
+pub mod GateSide
 pub mod History
 pub mod Invariants
 pub mod Kept
+pub mod Limits
+pub mod Messages
 pub mod Moves
 pub mod Run
 pub mod Shows
 pub mod State
 pub mod Step
+pub mod Subqueue

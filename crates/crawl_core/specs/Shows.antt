@@ -1,17 +1,20 @@
 -- What is kept, and the states of which it may be.
-use Rattle.std.specs.Prelude.{◌≡◌, ℕ, ◌≤◌, List, map, length, drop}
+use Rattle.std.specs.Prelude.{◌≡◌, ℕ, ◌≤◌, List, map, length}
 use Rattle.std.specs.List.{AllZip}
 use Rattle.crawl_core.specs.declared.event.Event.{Event}
 use Rattle.crawl_core.specs.declared.reply.Reply.{Reply}
-use Rattle.crawl_core.specs.State.{Subqueue, State, one_if, is_accepted, count_from}
+use Rattle.crawl_core.specs.Flags.{one_if}
+use Rattle.crawl_core.specs.Messages.{has_url, count_from}
+use Rattle.crawl_core.specs.Subqueue.{Subqueue, waiting}
+use Rattle.crawl_core.specs.State.{State}
 use Rattle.crawl_core.specs.Step.{Step}
 use Rattle.crawl_core.specs.Kept.{Kept, KeptQueue, has_seen, number_at}
 
 -- what is kept of a subqueue is this one's: the URLs after those taken wait, those accepted are seen, and each sender's
 -- number is how many it has there
 pub record ShowsQueue (kept : KeptQueue) (queue : Subqueue) : Type 0 where
-  pub waiting : kept.waiting ≡ map (λ m. m.url) (drop queue.taken queue.accepted)
-  pub seen : (url : List ℕ) → has_seen kept url ≡ is_accepted queue url
+  pub waits : kept.waiting ≡ map (λ m. m.url) (waiting queue)
+  pub seen : (url : List ℕ) → has_seen kept url ≡ has_url queue.accepted url
   pub numbers : (sender : ℕ) → number_at kept.numbers sender ≡ count_from queue.accepted sender
   pub busy : kept.busy ≡ queue.busy
   pub begun : one_if queue.busy ≤ queue.taken
@@ -19,12 +22,8 @@ pub record ShowsQueue (kept : KeptQueue) (queue : Subqueue) : Type 0 where
 
 -- what is kept is this state's
 pub record Shows (kept : Kept) (state : State) : Type 0 where
+  pub gate : kept.gate ≡ state.gate
   pub queues : AllZip ShowsQueue kept.queues state.subqueues
-  pub holders : kept.holders ≡ state.holders
-  pub remembered : kept.remembered ≡ state.remembered
-  pub opening : kept.opening ≡ state.opening
-  pub closed : kept.closed ≡ state.closed
-  pub max : kept.max ≡ state.max
 
 -- whatever state was kept, the event had the step's reply, and what is kept after it is the state after the step
 pub record Makes (old : Kept) (event : Event) (reply : Reply) (new : Kept) : Type 0 where

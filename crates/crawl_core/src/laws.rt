@@ -2,7 +2,9 @@
 //! when it is called.
 ghost use Rattle.std.specs.Prelude.{◌≡◌, ℕ, ◌≤◌, List, ◌++◌, ◌∷◌, [], map, slice_get, Some};
 ghost use Rattle.std.specs.List.{zip, Contains};
-ghost use Rattle.crawl_core.specs.State.{State, Subqueue, Message, start};
+ghost use Rattle.crawl_core.specs.Messages.{Message};
+ghost use Rattle.crawl_core.specs.Subqueue.{Subqueue};
+ghost use Rattle.crawl_core.specs.State.{State, start, count_of};
 ghost use Rattle.crawl_core.specs.Run.{Run, IsRun};
 ghost use Rattle.crawl_core.specs.History.{TakesInOrder, AcceptsOnce, LeavesInOrder, FetchesOneAtATime, AssignsEachUrl, IsAdmitted, TakesOnce, TakesWhereAdmitted, StaysClosed, accepted_urls, taken_urls};
 ghost use Rattle.crawl_core.specs.Invariants.{GateInvariant, SubqueueInvariant, EachSubqueue, IsFinished};
@@ -54,6 +56,6 @@ pub fn closed_for_good()
 
 /// Every state of a run meets the gate's invariant and, in each subqueue, the subqueue's.
 pub fn invariants_in_runs()
-    ensures gate { (workers max : ℕ) (history : List (Event × Reply)) (state : State) → 1 ≤ max → Run (start workers max) history state → GateInvariant state }
+    ensures gate { (workers max : ℕ) (history : List (Event × Reply)) (state : State) → 1 ≤ max → Run (start workers max) history state → GateInvariant state.gate (count_of state) }
     ensures subqueues { (workers max : ℕ) (history : List (Event × Reply)) (state : State) → Run (start workers max) history state → EachSubqueue SubqueueInvariant state }
 {}

@@ -9,11 +9,11 @@ mod limits;
 mod machine;
 mod reply;
 mod runs;
-mod subqueue;
-mod subqueues;
 #[cfg(test)]
 mod tests;
 mod text;
+mod url_queue;
+mod url_queues;
 mod word;
 
 pub use error::{CoreError, NoMemory};

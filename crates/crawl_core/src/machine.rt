@@ -1,16 +1,16 @@
 //! The machine: what it keeps, how it begins, and one step of it.
 ghost use Rattle.std.specs.Prelude.{◌≡◌, ◌<◌, ◌≤◌, ◌⊎◌, ◌↔◌, Err, IfOk, OnErr};
+ghost use Rattle.crawl_core.specs.Limits.{worker_limit, pending_limit};
 ghost use Rattle.crawl_core.specs.State.{start};
 ghost use Rattle.crawl_core.specs.Shows.{Shows, Makes};
 ghost use Rattle.crawl_core.specs.Moves.{Moves};
 ghost use Rattle.crawl_core.specs.declared.error.CoreError.{CoreError};
-ghost use Rattle.crawl_core.specs.declared.limits.TheConstants.{WORKER_LIMIT, PENDING_LIMIT};
 
 use crate::error::{CoreError, NoMemory};
 use crate::event::Event;
 use crate::limits::{PENDING_LIMIT, WORKER_LIMIT};
 use crate::reply::Reply;
-use crate::subqueues::Subqueues;
+use crate::url_queues::UrlQueues;
 use crate::word::Word;
 use std::alloc::Global;
 use std::collections::{BTreeMap, BTreeSet};
@@ -22,7 +22,7 @@ mod queues;
 /// A frontier as a pure machine: one subqueue for each worker, and the gate's word.
 #[derive(Drop)]
 pub struct Core {
-    queues: Subqueues,
+    queues: UrlQueues,
     /// The senders that hold a unit.
     holders: BTreeSet<u64>,
     /// The word that each sender read last, unless it entered by it.
@@ -40,9 +40,9 @@ impl Model for Core {
 
     ghost Value = { Kept };
 
-    ghost view = { λ c. record { queues = c.queues; holders = c.holders.keys; remembered = c.remembered.entries; opening = c.opening; closed = c.closed; max = c.max } };
+    ghost view = { λ c. record { gate = record { holders = c.holders.keys; remembered = c.remembered.entries; opening = c.opening; closed = c.closed; max = c.max }; queues = c.queues } };
 
-    ghost invariant = { λ c. IsCounted (record { queues = c.queues; holders = c.holders.keys; remembered = c.remembered.entries; opening = c.opening; closed = c.closed; max = c.max }) c.count };
+    ghost invariant = { λ c. IsCounted (record { gate = record { holders = c.holders.keys; remembered = c.remembered.entries; opening = c.opening; closed = c.closed; max = c.max }; queues = c.queues }) c.count };
 }
 
 impl Core {
@@ -52,8 +52,8 @@ impl Core {
     /// `BadWorkers`, then `BadMax`, for a number beyond its limits; `NoMemory` where a growth was refused.
     pub fn new(alloc: Global, workers: u32, max: u64) -> Result<Core, CoreError>
         ensures start { IfOk result (λ core. Shows core (start workers max)) }
-        ensures bad_workers { (result ≡ Err CoreError.BadWorkers) ↔ ((workers < 1) ⊎ (WORKER_LIMIT < workers)) }
-        ensures bad_max { (result ≡ Err CoreError.BadMax) ↔ ((1 ≤ workers) × (workers ≤ WORKER_LIMIT) × ((max < 1) ⊎ (PENDING_LIMIT < max))) }
+        ensures bad_workers { (result ≡ Err CoreError.BadWorkers) ↔ ((workers < 1) ⊎ (worker_limit < workers)) }
+        ensures bad_max { (result ≡ Err CoreError.BadMax) ↔ ((1 ≤ workers) × (workers ≤ worker_limit) × ((max < 1) ⊎ (pending_limit < max))) }
     {
         if workers < 1 || workers > WORKER_LIMIT {
             return Err(CoreError::BadWorkers);
@@ -62,7 +62,7 @@ impl Core {
             return Err(CoreError::BadMax);
         }
         Ok(Core {
-            queues: Subqueues::new(alloc, workers)?,
+            queues: UrlQueues::new(alloc, workers)?,
             holders: BTreeSet::new(alloc),
             remembered: BTreeMap::new(alloc),
             opening: true,

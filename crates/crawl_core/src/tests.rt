@@ -19,11 +19,11 @@ fn core_limits(rt: HostRuntime) {
     let alloc = rt.alloc();
     for (workers, max, want) in [
         (0, 1, Some(CoreError::BadWorkers)),
-        (65, 1, Some(CoreError::BadWorkers)),
-        (65, 0, Some(CoreError::BadWorkers)),
+        (513, 1, Some(CoreError::BadWorkers)),
+        (513, 0, Some(CoreError::BadWorkers)),
         (1, 0, Some(CoreError::BadMax)),
         (1, 1_099_511_627_777, Some(CoreError::BadMax)),
-        (64, 1_099_511_627_776, None),
+        (512, 1_099_511_627_776, None),
         (1, 1, None),
     ] {
         assert_eq!(rt;

@@ -1,6 +1,7 @@
 //! The events on the gate's word.
 ghost use Rattle.std.specs.Prelude.{◌≡◌, IfOk, OnErr};
-ghost use Rattle.crawl_core.specs.Moves.{Moves, kept_word};
+ghost use Rattle.crawl_core.specs.Kept.{kept_word};
+ghost use Rattle.crawl_core.specs.Moves.{Moves};
 ghost use Rattle.crawl_core.specs.declared.event.Event.{Event};
 
 use super::Core;

@@ -1,6 +1,6 @@
 use Rattle.std.proofs.Common.{◌≡◌, replicate}
 use Rattle.crawl_core.specs.Kept.{empty_queue}
-use Rattle.crawl_core.proofs.subqueues.Subqueues.new.Given as goal
+use Rattle.crawl_core.proofs.url_queues.UrlQueues.new.Given as goal
 
 abbrev pub invariant-loop-made : goal.invariant-loop-made
 invariant-loop-made l = l.queues.items ≡ replicate l._made empty_queue

@@ -11,7 +11,7 @@ use std::marker::Model;
 
 /// A queue of URLs that wait, and what it has to remember of those that it accepted.
 #[derive(Drop)]
-pub struct Subqueue {
+pub struct UrlQueue {
     /// Oldest first.
     waiting: VecDeque<Text>,
     /// All that were ever accepted.
@@ -22,7 +22,7 @@ pub struct Subqueue {
     busy: bool,
 }
 
-impl Model for Subqueue {
+impl Model for UrlQueue {
     ghost use Rattle.crawl_core.specs.Kept.{KeptQueue, AreFew};
 
     ghost Value = { KeptQueue };
@@ -32,12 +32,12 @@ impl Model for Subqueue {
     ghost invariant = { λ q. AreFew (record { waiting = q.waiting.items; seen = q.seen.keys; numbers = q.numbers.entries; busy = q.busy }) };
 }
 
-impl Subqueue {
+impl UrlQueue {
     /// Takes no memory.
-    pub fn new(alloc: Global) -> Subqueue
+    pub fn new(alloc: Global) -> UrlQueue
         ensures { result ≡ empty_queue }
     {
-        Subqueue {
+        UrlQueue {
             waiting: VecDeque::new(alloc),
             seen: BTreeSet::new(alloc),
             numbers: BTreeMap::new(alloc),

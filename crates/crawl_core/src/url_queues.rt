@@ -5,18 +5,18 @@ ghost use Rattle.crawl_core.specs.Kept.{KeptQueue, empty_queue, has_seen, number
 ghost use Rattle.crawl_core.specs.Moves.{accepting};
 
 use crate::error::NoMemory;
-use crate::subqueue::Subqueue;
 use crate::text::Text;
+use crate::url_queue::UrlQueue;
 use std::alloc::Global;
 use std::marker::Model;
 
 /// One subqueue for each worker.
 #[derive(Drop)]
-pub struct Subqueues {
-    queues: Vec<Subqueue>,
+pub struct UrlQueues {
+    queues: Vec<UrlQueue>,
 }
 
-impl Model for Subqueues {
+impl Model for UrlQueues {
     ghost use Rattle.std.specs.Prelude.{List};
     ghost use Rattle.crawl_core.specs.Kept.{KeptQueue};
 
@@ -25,16 +25,16 @@ impl Model for Subqueues {
     ghost view = { λ s. s.queues.items };
 }
 
-impl Subqueues {
+impl UrlQueues {
     /// That many subqueues in which nothing was ever accepted.
-    pub fn new(alloc: Global, workers: u32) -> Result<Subqueues, NoMemory>
+    pub fn new(alloc: Global, workers: u32) -> Result<UrlQueues, NoMemory>
         ensures { IfOk result (λ queues. queues ≡ replicate workers empty_queue) }
     {
         let mut queues = Vec::with_capacity(alloc, workers as usize)?;
         for _made in 0..workers {
-            queues.push(Subqueue::new(alloc))?;
+            queues.push(UrlQueue::new(alloc))?;
         }
-        Ok(Subqueues { queues })
+        Ok(UrlQueues { queues })
     }
 
     /// Whether the subqueue is busy, if there is one.

@@ -1,0 +1,10 @@
+-- Flags as numbers, and whether two are the same.
+use Rattle.std.specs.Prelude.{ℕ, Bool, true, false, not}
+
+abbrev pub one_if : Bool → ℕ
+one_if true = 1
+one_if false = 0
+
+abbrev pub same_flag : Bool → Bool → Bool
+same_flag true b = b
+same_flag false b = not b

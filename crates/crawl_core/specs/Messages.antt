@@ -1,0 +1,28 @@
+-- Messages, and what a list of them is asked. Nothing here speaks of the machine.
+use Rattle.std.specs.Prelude.{◌≡◌, ℕ, Bool, List, take, nat_eq, slice_get, Some}
+use Rattle.std.specs.List.{count_by, list_any}
+use Rattle.std.specs.Str.{bytes_eq}
+
+-- a URL that a subqueue accepted; its number is how many earlier ones of the same sender the subqueue accepted
+pub record Message : Type 0 where
+  pub url : List ℕ
+  pub sender : ℕ
+  pub number : ℕ
+
+-- whether the URL is that of one of the messages
+abbrev pub has_url : List Message → List ℕ → Bool
+has_url messages url = list_any (λ m. bytes_eq m.url url) messages
+
+-- how many of them are the sender's
+abbrev pub count_from : List Message → ℕ → ℕ
+count_from messages sender = count_by (λ m. nat_eq m.sender sender) messages
+
+-- no two of them have one URL
+abbrev pub UrlsDiffer : List Message → Type 0
+UrlsDiffer messages =
+    (i j : ℕ) (m n : Message) → slice_get messages i ≡ Some m → slice_get messages j ≡ Some n → m.url ≡ n.url → i ≡ j
+
+-- a message's number is how many earlier ones of its sender stand before it
+abbrev pub NumbersInOrder : List Message → Type 0
+NumbersInOrder messages =
+    (k : ℕ) (m : Message) → slice_get messages k ≡ Some m → m.number ≡ count_from (take k messages) m.sender
