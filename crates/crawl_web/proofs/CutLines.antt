@@ -7,7 +7,7 @@ use Rattle.std.proofs.lemmas.Str.{is_utf8-from_IsUtf8, IsUtf8-from_is_utf8}
 use Rattle.std.proofs.lemmas.List.Splits.{slice_split_first, slice_split_none, length-slice_split}
 use Rattle.std.proofs.lemmas.List.Sums.{fails_before_first}
 use Rattle.crawl_web.specs.declared.lines.LineError.TheVariants.{NotText}
-use Rattle.crawl_web.specs.declared.lines.TheConstants.{LINE_LIMIT}
+use Rattle.crawl_web.specs.Limits.{line_limit}
 use Rattle.crawl_web.specs.Lines.{text_of}
 
 abbrev is_lf : ℕ → Bool
@@ -51,8 +51,8 @@ refuted : (b : Bool) → (b ≡ true → ⊥) → b ≡ false
 refuted true never = absurd (never refl)
 refuted false never = refl
 
-pub text_of-utf8 : (number : ℕ) (line : List ℕ) → length line ≤ LINE_LIMIT → IsUtf8 line → text_of number line ≡ Ok line
-text_of-utf8 number line short utf8 = rw (le-ltb LINE_LIMIT (length line) short, is_utf8-from_IsUtf8 line utf8) refl
+pub text_of-utf8 : (number : ℕ) (line : List ℕ) → length line ≤ line_limit → IsUtf8 line → text_of number line ≡ Ok line
+text_of-utf8 number line short utf8 = rw (le-ltb line_limit (length line) short, is_utf8-from_IsUtf8 line utf8) refl
 
-pub text_of-other : (number : ℕ) (line : List ℕ) → length line ≤ LINE_LIMIT → ¬ (IsUtf8 line) → text_of number line ≡ Err (NotText number)
-text_of-other number line short other = rw (le-ltb LINE_LIMIT (length line) short, refuted (is_utf8 line) (λ e. other (IsUtf8-from_is_utf8 line e))) refl
+pub text_of-other : (number : ℕ) (line : List ℕ) → length line ≤ line_limit → ¬ (IsUtf8 line) → text_of number line ≡ Err (NotText number)
+text_of-other number line short other = rw (le-ltb line_limit (length line) short, refuted (is_utf8 line) (λ e. other (IsUtf8-from_is_utf8 line e))) refl

@@ -1,5 +1,5 @@
 -- What is known of a saved web while its lines are read one by one.
-use Rattle.std.proofs.Common.{◌≡◌, ◌⊎◌, inl, inr, ℕ, ◌+◌, ◌==◌, Bool, true, false, ◌||◌, not, cond, List, [], ◌∷◌, ◌++◌, length, Option, Some, None, is_some, refl, sym, ap, subst, ◌∙◌, arith, append_assoc, append-nil, length-append, ne_eqb}
+use Rattle.std.proofs.Common.{◌≡◌, ◌⊎◌, inl, inr, ℕ, ◌+◌, ◌==◌, Bool, true, false, ◌||◌, not, cond, List, [], ◌∷◌, ◌++◌, length, Option, Some, None, Result, Ok, Err, codes, is_some, refl, sym, ap, subst, ◌∙◌, arith, append_assoc, append-nil, length-append, ne_eqb}
 use Rattle.std.specs.Bool.{if◌then◌else◌}
 use Rattle.std.specs.Borrow.{Bor}
 use Rattle.std.specs.BTreeMap.{btree_map_len, get, is_at}
@@ -12,18 +12,26 @@ use Rattle.std.specs.Ordering.{nat_cmp}
 use Rattle.std.specs.Str.{bytes_eq}
 use Rattle.std.specs.Str.Lines.{lines}
 use Rattle.std.proofs.lemmas.List.Folds.{list_any-append}
-use Rattle.crawl_web.specs.SavedWeb.{is_page, is_page_at, page_url, lines_behind, line_fault, fault_after}
-use Rattle.crawl_web.specs.KnownPages.{KnownPages, has_some, has, known_behind, Adds}
-use Rattle.crawl_web.specs.WebFaults.{SoundAfter, IsLeastFault, IsFault}
+use Rattle.crawl_keys.specs.Outcome.{IsRefusal}
+use Rattle.crawl_web.specs.LeastFault.{SoundAfter, IsLeastFault}
+use Rattle.crawl_web.specs.SavedWeb.{lines_behind}
+use Rattle.crawl_web.specs.WebLines.{is_page, is_link, is_moved_line, is_page_at, page_url}
+use Rattle.crawl_web.specs.WebChecks.{is_second, under_last_page, before, line_fault, fault_after}
+use Rattle.crawl_web.specs.KnownPages.{KnownPages, has_some, has, known_behind, kept_before, Adds, Follows}
+use Rattle.crawl_web.specs.WebFaults.{IsWebFault, IsWebRefusal, checked}
+use Rattle.crawl_web.specs.declared.saved_web.add.Above.{Above}
 use Rattle.crawl_web.specs.declared.saved_web.error.WebError.{WebError}
 use Rattle.crawl_web.specs.declared.saved_web.error.WebError.TheVariants as wrong
 
 -- the earlier lines are sound and their pages are known; what is left holds the others
-pub record ReadTo (bytes rest : List ℕ) (number : ℕ) (pages : KnownPages) : Type 0 where
+pub record ReadTo (bytes rest : List ℕ) (number : ℕ) (above : Above) (pages : KnownPages) : Type 0 where
   pub earlier : List (List ℕ)
   pub cut : lines bytes ≡ earlier ++ lines rest
   pub numbered : number ≡ length earlier
-  pub sound : SoundAfter [] earlier
+  pub sound : SoundAfter fault_after [] earlier
+  pub second : above.second ≡ is_second earlier
+  pub link : above.link ≡ list_any is_link (under_last_page earlier)
+  pub moved : above.moved ≡ list_any is_moved_line (under_last_page earlier)
   pub some_page : has_some pages ≡ list_any is_page earlier
   pub known : (url : List ℕ) → has pages url ≡ list_any (is_page_at url) earlier
   pub found : (url : List ℕ) → lines_behind (lines bytes) url ≡ option_or (known_behind pages url) (lines_behind (lines rest) url)
@@ -78,10 +86,18 @@ adds_behind old new (Some url) bytes more adds q =
 -- ---- one more line
 
 -- what is known of the pages says which check a line fails
-fault_known : (bytes rest : List ℕ) (number : ℕ) (pages : KnownPages) (line : List ℕ) → (k : ReadTo bytes rest number pages) → line_fault (number + 1) (has_some pages) (has pages) line ≡ fault_after k.earlier line
-fault_known bytes rest number pages line k = λ i. line_fault (k.numbered i + 1) (k.some_page i) (λ url. k.known url i) line
+fault_known : (bytes rest : List ℕ) (number : ℕ) (above : Above) (pages : KnownPages) (line : List ℕ) → (k : ReadTo bytes rest number above pages) → line_fault (kept_before (number + 1) pages above) line ≡ fault_after k.earlier line
+fault_known bytes rest number above pages line k =
+    λ i. line_fault (record {
+      number = k.numbered i + 1;
+      second = k.second i;
+      some_page = k.some_page i;
+      link = k.link i;
+      moved = k.moved i;
+      known = λ url. k.known url i;
+    }) line
 
-sound_more : (front earlier : List (List ℕ)) (line : List ℕ) → SoundAfter front earlier → fault_after (front ++ earlier) line ≡ None → SoundAfter front (earlier ++ line ∷ [])
+sound_more : (front earlier : List (List ℕ)) (line : List ℕ) → SoundAfter fault_after front earlier → fault_after (front ++ earlier) line ≡ None → SoundAfter fault_after front (earlier ++ line ∷ [])
 sound_more front [] line sound passes = (rw append-nil at passes, tt)
 sound_more front (x ∷ xs) line sound passes =
     let P : List (List ℕ) → Type 0 = λ e. fault_after e line ≡ None in
@@ -91,12 +107,55 @@ any_more : (p : List ℕ → Bool) (b : Bool) (earlier : List (List ℕ)) (line 
 any_more p b earlier line e =
     ap (λ x. list_any p earlier || x) (sym e ∙ or_false (p line)) ∙ sym (list_any-append p earlier (line ∷ []))
 
-pub read_more : (bytes rest : List ℕ) (number : ℕ) (pages : KnownPages) (line : List ℕ) (more : Bor (List ℕ)) (new : KnownPages) → lines rest ≡ line ∷ lines more.now → line_fault (number + 1) (has_some pages) (has pages) line ≡ None → Adds pages new (page_url line) more → is_page line ≡ is_some (page_url line) → ReadTo bytes rest number pages → ReadTo bytes more.now (number + 1) new
-read_more bytes rest number pages line more new first passes adds page k = record {
+-- ---- what stands under the last page, one line more
+
+-- one line alone
+one_under : (page : Bool) (line : List ℕ) → (if page || false then [] else line ∷ []) ≡ (if page then [] else [] ++ line ∷ [])
+one_under true line = refl
+one_under false line = refl
+
+more_under : (some page : Bool) (x : List ℕ) (xs : List (List ℕ)) (line : List ℕ) → under_last_page (xs ++ line ∷ []) ≡ (if page then [] else under_last_page xs ++ line ∷ []) → (if some || page then under_last_page (xs ++ line ∷ []) else x ∷ xs ++ line ∷ []) ≡ (if page then [] else (if some then under_last_page xs else x ∷ xs) ++ line ∷ [])
+more_under true true x xs line e = e
+more_under true false x xs line e = e
+more_under false false x xs line e = refl
+more_under false true x xs line e = e
+
+under_more : (earlier : List (List ℕ)) (line : List ℕ) → under_last_page (earlier ++ line ∷ []) ≡ (if is_page line then [] else under_last_page earlier ++ line ∷ [])
+under_more [] line = one_under (is_page line) line
+under_more (x ∷ xs) line =
+    ap (λ b. if b then under_last_page (xs ++ line ∷ []) else x ∷ xs ++ line ∷ []) (list_any-append is_page (x ∷ xs) (line ∷ []) ∙ ap (λ b. list_any is_page (x ∷ xs) || b) (sym (or_false (is_page line))))
+    ∙ more_under (list_any is_page (x ∷ xs)) (is_page line) x xs line (under_more xs line)
+
+any_one : (page : Bool) (p : List ℕ → Bool) (old : Bool) (under : List (List ℕ)) (line : List ℕ) → old ≡ list_any p under → (if page then false else old || p line) ≡ list_any p (if page then [] else under ++ line ∷ [])
+any_one true p old under line e = refl
+any_one false p old under line e = ap (λ b. b || p line) e ∙ any_more p (p line) under line refl
+
+any_under : (p : List ℕ → Bool) (old : Bool) (earlier : List (List ℕ)) (line : List ℕ) → old ≡ list_any p (under_last_page earlier) → (if is_page line then false else old || p line) ≡ list_any p (under_last_page (earlier ++ line ∷ []))
+any_under p old earlier line e =
+    any_one (is_page line) p old (under_last_page earlier) line e ∙ ap (list_any p) (sym (under_more earlier line))
+
+second_more : (number : ℕ) (second : Bool) (earlier : List (List ℕ)) (line : List ℕ) → number ≡ length earlier → second ≡ is_second earlier → (if number + 1 == 1 then bytes_eq line (codes "savedweb 2") else second) ≡ is_second (earlier ++ line ∷ [])
+second_more number second [] line numbered e = rw numbered refl
+second_more number second (x ∷ xs) line numbered e = rw (ne_eqb (number + 1) 1 (λ first. omega (arith, numbered))) e
+
+-- no fault is expected
+none_expected : (expected : Option WebError) → checked expected ≡ Ok tt → expected ≡ None
+none_expected None e = refl
+none_expected (Some fault) e = absurd (cc)
+
+some_expected : (expected : Option WebError) (fault : WebError) → checked expected ≡ Err fault → expected ≡ Some fault
+some_expected None fault e = absurd (cc)
+some_expected (Some other) fault e = cc
+
+pub read_more : (bytes rest : List ℕ) (number : ℕ) (above : Above) (pages : KnownPages) (line : List ℕ) (more : Bor (List ℕ)) (after : Above) (new : KnownPages) → lines rest ≡ line ∷ lines more.now → checked (line_fault (kept_before (number + 1) pages above) line) ≡ Ok tt → Adds pages new (page_url line) more → is_page line ≡ is_some (page_url line) → Follows (number + 1) line above after → ReadTo bytes rest number above pages → ReadTo bytes more.now (number + 1) after new
+read_more bytes rest number above pages line more after new first passes adds page follows k = record {
   earlier = k.earlier ++ line ∷ [];
   cut = k.cut ∙ ap (λ ls. k.earlier ++ ls) first ∙ sym (append_assoc k.earlier (line ∷ []) (lines more.now));
   numbered = ap (λ n. n + 1) k.numbered ∙ sym (length-append k.earlier (line ∷ []));
-  sound = sound_more [] k.earlier line k.sound (sym (fault_known bytes rest number pages line k) ∙ passes);
+  sound = sound_more [] k.earlier line k.sound (sym (fault_known bytes rest number above pages line k) ∙ none_expected _ passes);
+  second = follows.second ∙ second_more number above.second k.earlier line k.numbered k.second;
+  link = follows.link ∙ any_under is_link above.link k.earlier line k.link;
+  moved = follows.moved ∙ any_under is_moved_line above.moved k.earlier line k.moved;
   some_page =
       adds_some pages new (page_url line) more adds ∙ ap (λ b. b || is_some (page_url line)) k.some_page
       ∙ any_more is_page (is_some (page_url line)) k.earlier line page;
@@ -110,17 +169,17 @@ read_more bytes rest number pages line more new first passes adds page k = recor
 
 -- ---- a line that fails
 
-is_fault : (all : List (List ℕ)) (fault : WebError) → IsLeastFault all fault → IsFault all fault
+is_fault : (all : List (List ℕ)) (fault : WebError) → IsLeastFault fault_after all fault → IsWebFault all fault
 is_fault [] fault least = absurd (omega (arith, ap length least.split, length-append least.front (least.line ∷ least.rest)))
 is_fault (line ∷ more) fault least = least
 
-pub read_fault : (bytes rest : List ℕ) (number : ℕ) (pages : KnownPages) (line more : List ℕ) (fault : WebError) → lines rest ≡ line ∷ lines more → (line_fault (number + 1) (has_some pages) (has pages) line ≡ Some fault) ⊎ (fault ≡ wrong.NoMemory) → ReadTo bytes rest number pages → IsFault (lines bytes) fault ⊎ (fault ≡ wrong.NoMemory)
-read_fault bytes rest number pages line more fault first (inr e) k = inr e
-read_fault bytes rest number pages line more fault first (inl fails) k = inl (is_fault (lines bytes) fault (record {
+pub read_fault : (bytes rest : List ℕ) (number : ℕ) (above : Above) (pages : KnownPages) (line more : List ℕ) (fault : WebError) → lines rest ≡ line ∷ lines more → IsRefusal wrong.NoMemory (checked (line_fault (kept_before (number + 1) pages above) line)) fault → ReadTo bytes rest number above pages → IsWebRefusal (lines bytes) fault
+read_fault bytes rest number above pages line more fault first (inr e) k = inr e
+read_fault bytes rest number above pages line more fault first (inl fails) k = inl (is_fault (lines bytes) fault (record {
   front = k.earlier;
   line = line;
   rest = lines more;
   split = k.cut ∙ ap (λ ls. k.earlier ++ ls) first;
   sound = k.sound;
-  fails = sym (fault_known bytes rest number pages line k) ∙ fails;
+  fails = sym (fault_known bytes rest number above pages line k) ∙ some_expected _ fault fails;
 }))

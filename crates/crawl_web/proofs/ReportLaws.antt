@@ -17,7 +17,7 @@ use Rattle.std.proofs.lemmas.Map.Text.{is_eq-slice_cmp}
 use Rattle.std.proofs.lemmas.Slice.Eq.{bytes_eq-Decides}
 use Rattle.crawl_web.specs.declared.page.Page.TheVariants.{Missing}
 use Rattle.crawl_web.specs.declared.page.PageResult.{PageResult}
-use Rattle.crawl_web.specs.ReportText.{result_line, is_found, is_missing, total_line, is_before, results_by_url, report, results_at, IsInOrder, HasEachUrlOnce}
+use Rattle.crawl_web.specs.ReportText.{result_line, is_found, is_missing, is_moved, total_line, is_before, results_by_url, report, results_at, IsInOrder, HasEachUrlOnce}
 use Rattle.crawl_web.proofs.ReportOrder.{filter-kept, filter-dropped, filter-stable_sort, sorted-stable_sort, stable_sort-from_sort, map-stable_sort, IsPermutation-stable_sort}
 
 -- ---- the order
@@ -73,7 +73,8 @@ total_line-results_by_url results =
     let all = length_permutation results (results_by_url results) moved in
     let found = sum_by-IsPermutation (λ r. cond (is_found r.page) 1 0) results (results_by_url results) moved in
     let missing = sum_by-IsPermutation (λ r. cond (is_missing r.page) 1 0) results (results_by_url results) moved in
-    rw (all, found, missing) refl
+    let gone = sum_by-IsPermutation (λ r. cond (is_moved r.page) 1 0) results (results_by_url results) moved in
+    rw (all, found, missing, gone) refl
 
 pub report_across : (results others : List PageResult) → ((url : List ℕ) → results_at url results ≡ results_at url others) → report results ≡ report others
 report_across results others same =

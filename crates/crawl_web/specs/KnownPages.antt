@@ -1,14 +1,19 @@
--- The pages that are known: from each canonical URL to the bytes behind the page's line.
-use Rattle.std.specs.Prelude.{◌≡◌, ℕ, ◌+◌, ◌==◌, Bool, not, List, Option, Some, None, is_some}
+-- What a reader keeps of the lines that it has read: their pages, from each canonical URL to the bytes behind the page's line,
+-- and what it remembers besides.
+use Rattle.std.specs.Prelude.{◌≡◌, ℕ, ◌+◌, ◌==◌, Bool, false, ◌||◌, not, List, codes, if◌then◌else◌, Option, Some, None, is_some}
 use Rattle.std.specs.Borrow.{Bor}
 use Rattle.std.specs.BTreeMap.{BTreeMap, btree_map_len, get, IsUnchanged, Updates}
 use Rattle.std.specs.Cmp.Lexicographic.{slice_cmp}
 use Rattle.std.specs.Option.{option_map}
 use Rattle.std.specs.Ordering.{nat_cmp}
+use Rattle.std.specs.Str.{bytes_eq}
 use Rattle.std.specs.Str.Lines.{lines}
 use Rattle.crawl_web.specs.SavedWeb.{page_behind}
+use Rattle.crawl_web.specs.WebChecks.{Before}
+use Rattle.crawl_web.specs.WebLines.{is_page, is_link, is_moved_line}
 use Rattle.crawl_web.specs.declared.page.Page.{Page}
 use Rattle.crawl_web.specs.declared.saved_web.SavedWeb.{SavedWeb}
+use Rattle.crawl_web.specs.declared.saved_web.add.Above.{Above}
 
 -- a map from texts to bytes that are pointed to
 abbrev pub KnownPages : Type 0
@@ -32,6 +37,23 @@ Adds old new None bytes = IsUnchanged old new
 Adds old new (Some url) bytes =
     (get (slice_cmp nat_cmp) old url ≡ None) × Updates (slice_cmp nat_cmp) old new url (Some bytes)
     × (btree_map_len new ≡ btree_map_len old + 1)
+
+-- what the checks of the line with this number ask, as far as it is kept
+abbrev pub kept_before : ℕ → KnownPages → Above → Before
+kept_before number pages above = record {
+  number = number;
+  second = above.second;
+  some_page = has_some pages;
+  link = above.link;
+  moved = above.moved;
+  known = has pages;
+}
+
+-- what is remembered behind one more line, the one with this number
+pub record Follows (number : ℕ) (line : List ℕ) (old new : Above) : Type 0 where
+  pub second : new.second ≡ (if number == 1 then bytes_eq line (codes "savedweb 2") else old.second)
+  pub link : new.link ≡ (if is_page line then false else old.link || is_link line)
+  pub moved : new.moved ≡ (if is_page line then false else old.moved || is_moved_line line)
 
 -- the page that is known at a URL
 abbrev pub known_page : KnownPages → List ℕ → Page

@@ -1,8 +1,11 @@
 pub mod KnownPages
 pub mod LeastFault
+pub mod Limits
 pub mod Lines
 pub mod Pages
 pub mod Parts
 pub mod ReportText
 pub mod SavedWeb
+pub mod WebChecks
 pub mod WebFaults
+pub mod WebLines

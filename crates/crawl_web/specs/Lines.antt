@@ -2,14 +2,14 @@
 use Rattle.std.specs.Prelude.{ℕ, List, length, nat_lt, if◌then◌else◌, Result, Ok, Err}
 use Rattle.std.specs.Borrow.{Bor}
 use Rattle.std.specs.Str.{is_utf8}
+use Rattle.crawl_web.specs.Limits.{line_limit}
 use Rattle.crawl_web.specs.declared.lines.LineError.{LineError}
 use Rattle.crawl_web.specs.declared.lines.LineError.TheVariants.{TooLong, NotText}
-use Rattle.crawl_web.specs.declared.lines.TheConstants.{LINE_LIMIT}
 
 -- the line itself, or the first check that it fails
 abbrev pub text_of : ℕ → List ℕ → Result (List ℕ) LineError
 text_of number line =
-    if nat_lt LINE_LIMIT (length line) then Err (TooLong number)
+    if nat_lt line_limit (length line) then Err (TooLong number)
     else if is_utf8 line then Ok line
     else Err (NotText number)
 

@@ -1,5 +1,5 @@
 -- The report of results: a line for each in ascending order of URL, then the total.
-use Rattle.std.specs.Prelude.{◌≡◌, ◌≢◌, ℕ, ◌+◌, Bool, true, false, List, [], ◌∷◌, ◌++◌, length, codes, count_by, filter, AllPairs, if◌then◌else◌}
+use Rattle.std.specs.Prelude.{◌≡◌, ◌≢◌, ℕ, ◌+◌, ◌==◌, Bool, true, false, List, [], ◌∷◌, ◌++◌, length, codes, count_by, filter, AllPairs, if◌then◌else◌}
 use Rattle.std.specs.List.{flat_map}
 use Rattle.std.specs.List.Sorted.{IsSortedByKey}
 use Rattle.std.specs.Fmt.{decimal}
@@ -7,7 +7,7 @@ use Rattle.std.specs.Ordering.{is_lt, nat_cmp}
 use Rattle.std.specs.Cmp.Lexicographic.{slice_cmp}
 use Rattle.std.specs.Str.{bytes_eq}
 use Rattle.crawl_web.specs.declared.page.Page.{Page}
-use Rattle.crawl_web.specs.declared.page.Page.TheVariants.{Found, Missing}
+use Rattle.crawl_web.specs.declared.page.Page.TheVariants.{Found, Moved, Missing}
 use Rattle.crawl_web.specs.declared.page.PageResult.{PageResult}
 
 -- ---- the lines
@@ -15,6 +15,7 @@ use Rattle.crawl_web.specs.declared.page.PageResult.{PageResult}
 -- what a line says of the page at a URL: how many links it has, those that are skipped too, and how many are skipped
 abbrev pub page_text : List ℕ → Page → List ℕ
 page_text url (Found links skipped) = codes "ok " ++ decimal (length links + skipped) ++ codes " " ++ decimal skipped ++ codes " " ++ url
+page_text url (Moved to) = codes "moved " ++ url
 page_text url Missing = codes "missing " ++ url
 
 abbrev pub result_text : PageResult → List ℕ
@@ -22,17 +23,26 @@ result_text r = page_text r.url r.page
 
 abbrev pub is_found : Page → Bool
 is_found (Found links skipped) = true
-is_found Missing = false
+is_found _ = false
 
 abbrev pub is_missing : Page → Bool
-is_missing (Found links skipped) = false
 is_missing Missing = true
+is_missing _ = false
 
--- how many results there are, how many of them found a page, and how many are missing
+abbrev pub is_moved : Page → Bool
+is_moved (Moved to) = true
+is_moved _ = false
+
+-- how many moved, where some did
+abbrev pub moved_part : ℕ → List ℕ
+moved_part count = if count == 0 then [] else codes " moved " ++ decimal count
+
+-- how many results there are, how many of them found a page, how many are missing, and how many moved, where some did
 abbrev pub total_text : List PageResult → List ℕ
 total_text results =
     codes "total " ++ decimal (length results) ++ codes " ok " ++ decimal (count_by (λ r. is_found r.page) results)
     ++ codes " missing " ++ decimal (count_by (λ r. is_missing r.page) results)
+    ++ moved_part (count_by (λ r. is_moved r.page) results)
 
 -- each line ends in LF
 abbrev pub result_line : PageResult → List ℕ

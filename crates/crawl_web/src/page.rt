@@ -1,4 +1,4 @@
-//! What a fetch of a URL gives: its links, or that there is no page.
+//! What a fetch of a URL gives: its links, where it moved to, or that there is no page.
 ghost use Rattle.std.specs.Prelude.{◌≡◌};
 ghost use Rattle.std.specs.Str.{bytes_eq};
 ghost use Rattle.std.specs.Cmp.{partial_equiv_from_equiv};
@@ -73,6 +73,11 @@ pub enum Page {
         /// How many links it has besides, that are no URL or neither http nor https.
         skipped: u64,
     },
+    /// The page has moved.
+    Moved {
+        /// Where to, if that has a canonical URL.
+        to: Option<CanonUrl>,
+    },
     /// There is no page at the URL.
     Missing,
 }
@@ -86,12 +91,14 @@ pub struct PageResult {
     pub page: Page,
 }
 
-/// The links that a crawl follows from the page: none where it is missing. Every crawl asks for links here.
+/// The links that a crawl follows from the page: where it moved to, if it moved to a URL, and none where it is missing. Every
+/// crawl asks for links here.
 pub fn links_of(page: &Page) -> &[CanonUrl]
     ensures { result.now ≡ links_of page.now }
 {
     match page {
         Page::Found { links, .. } => links.as_slice(),
+        Page::Moved { to } => to.as_slice(),
         Page::Missing => &[],
     }
 }

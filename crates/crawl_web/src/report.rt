@@ -1,7 +1,7 @@
 //! The report of a crawl: a line for each result, then the total.
 ghost use Rattle.std.specs.Prelude.{◌≡◌, ◌+◌, ◌++◌, Some, IfOk, OnOk, length, map, count_by, string_bytes};
 ghost use Rattle.std.specs.List.{flat_map};
-ghost use Rattle.crawl_web.specs.ReportText.{result_text, result_line, total_line, results_by_url, report, is_found, is_missing};
+ghost use Rattle.crawl_web.specs.ReportText.{result_text, result_line, total_line, results_by_url, report, moved_part, is_found, is_missing, is_moved};
 
 use crate::page::{Links, Page, PageResult};
 use std::alloc::{AllocError, Global};
@@ -13,8 +13,9 @@ pub type NoMemory = AllocError;
 /// The report of the results, each line ended by LF.
 ///
 /// First a line for each result, in ascending byte order of URL; results with one URL stay in the order given. The line is
-/// `ok LINKS SKIPPED URL` where a page was found, LINKS counting the skipped ones too, and else `missing URL`. Then
-/// `total N ok A missing B`, where A of the N results were found and B are missing.
+/// `ok LINKS SKIPPED URL` where a page was found, LINKS counting the skipped ones too, `moved URL` where it has moved, and
+/// else `missing URL`. Then `total N ok A missing B`, where A of the N results were found and B are missing; it ends in
+/// ` moved C` where some have moved, C of them.
 ///
 /// # Errors
 /// Want of memory alone.
@@ -59,7 +60,18 @@ fn push_total(text: &mut String, results: &[PageResult]) -> Result<(), NoMemory>
     let all = results.len();
     let found = count_found(results);
     let missing = count_missing(results);
-    writeln!(text, "total {all} ok {found} missing {missing}")
+    write!(text, "total {all} ok {found} missing {missing}")?;
+    push_moved(text, count_moved(results))?;
+    writeln!(text)
+}
+
+fn push_moved(text: &mut String, count: usize) -> Result<(), NoMemory>
+    ensures { OnOk result (string_bytes text.new ≡ string_bytes text.old ++ moved_part count) }
+{
+    if count == 0 {
+        return Ok(());
+    }
+    write!(text, " moved {count}")
 }
 
 fn count_found(results: &[PageResult]) -> usize
@@ -74,6 +86,12 @@ fn count_missing(results: &[PageResult]) -> usize
     results.iter().filter(|one| is_missing(&one.page)).count()
 }
 
+fn count_moved(results: &[PageResult]) -> usize
+    ensures { result ≡ count_by (λ r. is_moved r.page) results.now }
+{
+    results.iter().filter(|one| is_moved(&one.page)).count()
+}
+
 fn is_found(page: &Page) -> bool
     ensures { result ≡ is_found page.now }
 {
@@ -84,6 +102,12 @@ fn is_missing(page: &Page) -> bool
     ensures { result ≡ is_missing page.now }
 {
     matches!(page, Page::Missing)
+}
+
+fn is_moved(page: &Page) -> bool
+    ensures { result ≡ is_moved page.now }
+{
+    matches!(page, Page::Moved { .. })
 }
 
 /// A result as the report's reader sees it.
@@ -100,6 +124,7 @@ impl fmt::Display for ResultText<'_> {
                 let count = count_links(links, *skipped);
                 write!(f, "ok {count} {skipped} {url}")
             }
+            Page::Moved { .. } => write!(f, "moved {url}"),
             Page::Missing => write!(f, "missing {url}"),
         }
     }

@@ -1,9 +1,10 @@
 //! Saved webs: pages and their links, written down in lines.
-ghost use Rattle.std.specs.Prelude.{◌≡◌, ℕ, ◌⊎◌, List, IfOk, IfErr, MatchResult};
+ghost use Rattle.std.specs.Prelude.{◌≡◌, ℕ, List, Ok, Err, IfOk, IfErr};
+ghost use Rattle.crawl_keys.specs.Outcome.{Gives};
 ghost use Rattle.std.specs.Str.Lines.{lines};
 ghost use Rattle.crawl_web.specs.SavedWeb.{page_of};
 ghost use Rattle.crawl_web.specs.KnownPages.{known_page, page_at};
-ghost use Rattle.crawl_web.specs.WebFaults.{IsSound, IsFault};
+ghost use Rattle.crawl_web.specs.WebFaults.{IsSound, IsWebFault, IsWebRefusal};
 
 mod add;
 mod error;
@@ -13,7 +14,7 @@ mod links;
 use crate::fetch::{Fetch, FetchError};
 use crate::lines::first_line;
 use crate::page::Page;
-use add::add_line;
+use add::{Above, add_line};
 use crawl_keys::CanonUrl;
 pub use error::WebError;
 use links::page_behind;
@@ -38,10 +39,10 @@ impl<'a> SavedWeb<'a> {
         // At every URL it has the page that the lines say.
         ensures pages { IfOk result (λ web. (url : List ℕ) → page_at web url ≡ page_of (lines bytes.now) url) }
         // An error is the fault of the first line that has one, unless a growth was refused.
-        ensures fault { IfErr result (λ told. IsFault (lines bytes.now) told ⊎ (told ≡ WebError.NoMemory)) }
+        ensures fault { IfErr result (λ told. IsWebRefusal (lines bytes.now) told) }
         // The other way round: sound lines are read, and lines with a fault are refused for it.
-        ensures reads { IsSound (lines bytes.now) → IfErr result (λ told. told ≡ WebError.NoMemory) }
-        ensures tells { (fault : WebError) → IsFault (lines bytes.now) fault → MatchResult result (λ _. ⊥) (λ told. (told ≡ fault) ⊎ (told ≡ WebError.NoMemory)) }
+        ensures reads { IsSound (lines bytes.now) → Gives WebError.NoMemory page_at result (Ok (page_of (lines bytes.now))) }
+        ensures tells { (fault : WebError) → IsWebFault (lines bytes.now) fault → Gives WebError.NoMemory page_at result (Err fault) }
     {
         Ok(SavedWeb {
             pages: known_pages(alloc, bytes)?,
@@ -53,15 +54,20 @@ impl<'a> SavedWeb<'a> {
 fn known_pages(alloc: Global, bytes: &[u8]) -> Result<BTreeMap<CanonUrl, &[u8]>, WebError>
     ensures sound { IfOk result (λ _. IsSound (lines bytes.now)) }
     ensures pages { IfOk result (λ pages. (url : List ℕ) → known_page pages url ≡ page_of (lines bytes.now) url) }
-    ensures fault { IfErr result (λ told. IsFault (lines bytes.now) told ⊎ (told ≡ WebError.NoMemory)) }
+    ensures fault { IfErr result (λ told. IsWebRefusal (lines bytes.now) told) }
 {
     let mut pages = BTreeMap::new(alloc);
     let mut rest = bytes;
     let mut number: u64 = 0;
+    let mut above = Above {
+        second: false,
+        link: false,
+        moved: false,
+    };
     while let Some((line, more)) = first_line(rest) {
         rest = more;
         number += 1;
-        add_line(alloc, &mut pages, number, line, more)?;
+        above = add_line(alloc, &mut pages, number, above, line, more)?;
     }
     if number == 0 {
         return Err(WebError::BadHeader);

@@ -1,17 +1,30 @@
 //! The checks of a line of a saved web, and the page that it adds.
-ghost use Rattle.std.specs.Prelude.{◌≡◌, OnOk, is_some};
+ghost use Rattle.std.specs.Prelude.{◌≡◌, OnOk, IfOk, is_some};
 ghost use Rattle.crawl_keys.specs.CanonicalText.{canonical};
+ghost use Rattle.crawl_keys.specs.Outcome.{Gives};
 ghost use Rattle.std.specs.Result.{result_ok};
-ghost use Rattle.crawl_web.specs.SavedWeb.{header_fault, page_fault, line_fault, page_url, is_page};
+ghost use Rattle.crawl_web.specs.WebChecks.{header_of, page_fault, under_fault, line_fault};
+ghost use Rattle.crawl_web.specs.WebLines.{page_url, is_page};
 ghost use Rattle.crawl_web.specs.WebFaults.{Tells};
-ghost use Rattle.crawl_web.specs.KnownPages.{has_some, has, Adds};
+ghost use Rattle.crawl_web.specs.KnownPages.{kept_before, has, Adds, Follows};
 
 use crate::lines::text_of;
 use crate::saved_web::error::WebError;
-use crate::saved_web::line::{Line, said_by};
+use crate::saved_web::line::{Line, line_of_text};
 use crawl_keys::{CanonUrl, KeyError, canonical};
 use std::alloc::Global;
 use std::collections::BTreeMap;
+
+/// What the checks of a line ask of the lines above it, besides their pages and how many they are.
+#[derive(Clone, Copy)]
+pub struct Above {
+    /// The web has version 2.
+    pub second: bool,
+    /// A link stands under the last page.
+    pub link: bool,
+    /// A moved line stands under the last page.
+    pub moved: bool,
+}
 
 /// Checks the line with this number, behind the lines whose pages are known, and adds the page that it is, if it is
 /// one, with the bytes behind it.
@@ -19,31 +32,68 @@ pub fn add_line<'a>(
     alloc: Global,
     pages: &mut BTreeMap<CanonUrl, &'a [u8]>,
     number: u64,
+    above: Above,
     line: &[u8],
     behind: &'a [u8],
-) -> Result<(), WebError>
-    ensures tells { Tells result (line_fault number (has_some pages.old) (has pages.old) line.now) }
+) -> Result<Above, WebError>
+    ensures tells { Tells result (line_fault (kept_before number pages.old above) line.now) }
     ensures adds { OnOk result (Adds pages.old pages.new (page_url line.now) behind.entry) }
     // A page that passes the checks has a URL.
     ensures page { OnOk result (is_page line.now ≡ is_some (page_url line.now)) }
+    ensures follows { IfOk result (λ new. Follows number line.now above new) }
 {
     let text = text_of(number, line)?;
+    let Above {
+        second,
+        link,
+        moved,
+    } = above;
     if number == 1 {
-        return check_header(text);
+        let second = header(text)?;
+        return Ok(Above {
+            second,
+            link,
+            moved,
+        });
     }
-    match said_by(text) {
-        Line::Page(url) => add_page(alloc, pages, number, url, behind),
-        Line::Link(_) if pages.is_empty() => Err(WebError::LinkBeforePage(number)),
-        Line::Link(_) | Line::Empty => Ok(()),
+    match line_of_text(text) {
+        Line::Page(url) => {
+            add_page(alloc, pages, number, url, behind)?;
+            Ok(Above {
+                second,
+                link: false,
+                moved: false,
+            })
+        }
+        Line::Link(_) => {
+            check_under(number, !pages.is_empty(), moved)?;
+            Ok(Above {
+                second,
+                link: true,
+                moved,
+            })
+        }
+        Line::Moved(_) if !second => Err(WebError::BadLine(number)),
+        Line::Moved(_) => {
+            check_under(number, !pages.is_empty(), link || moved)?;
+            Ok(Above {
+                second,
+                link,
+                moved: true,
+            })
+        }
+        Line::Empty => Ok(above),
         Line::Other => Err(WebError::BadLine(number)),
     }
 }
 
-fn check_header(text: &str) -> Result<(), WebError>
-    ensures { Tells result (header_fault text.now) }
+/// Whether the first line says version 2.
+fn header(text: &str) -> Result<bool, WebError>
+    ensures { Gives WebError.NoMemory (λ second. second) result (header_of text.now) }
 {
     match text {
-        "savedweb 1" => Ok(()),
+        "savedweb 1" => Ok(false),
+        "savedweb 2" => Ok(true),
         _ => Err(WebError::BadHeader),
     }
 }
@@ -67,4 +117,17 @@ fn add_page<'a>(
         None => Ok(()),
         Some(_) => Err(WebError::PageTwice(number)),
     }
+}
+
+/// A line that needs a page above it, and must not be mixed with what stands under that page.
+fn check_under(number: u64, some_page: bool, mixed: bool) -> Result<(), WebError>
+    ensures { Tells result (under_fault number some_page mixed) }
+{
+    if !some_page {
+        return Err(WebError::LinkBeforePage(number));
+    }
+    if mixed {
+        return Err(WebError::MovedMixed(number));
+    }
+    Ok(())
 }

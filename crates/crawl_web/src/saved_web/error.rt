@@ -1,6 +1,6 @@
 //! Why bytes are no saved web.
 ghost use Rattle.std.specs.Prelude.{◌≡◌};
-ghost use Rattle.crawl_web.specs.SavedWeb.{fault_of};
+ghost use Rattle.crawl_web.specs.WebChecks.{fault_of};
 ghost use Rattle.crawl_web.specs.declared.saved_web.error.WebError.TheVariants as wrong;
 
 use crate::lines::LineError;
@@ -13,13 +13,16 @@ pub enum WebError {
     LineTooLong(u64),
     /// The line with this number is not UTF-8.
     NotText(u64),
-    /// The first line is not `savedweb 1`, or there is no line at all.
+    /// The first line is neither `savedweb 1` nor `savedweb 2`, or there is no line at all.
     BadHeader,
     /// The line with this number, after the first, is not empty and begins neither with `page` and a space nor with
-    /// `link` and a space.
+    /// `link` and a space, nor, in version 2, with `moved` and a space.
     BadLine(u64),
-    /// The line with this number is a link before the first page.
+    /// The line with this number is a link or a moved line before the first page.
     LinkBeforePage(u64),
+    /// The line with this number is a moved line under a page that has a link or a moved line, or a link under a page that
+    /// has a moved line.
+    MovedMixed(u64),
     /// The line with this number is a page whose text has no canonical `http` or `https` URL.
     BadPageUrl(u64),
     /// The line with this number is a page with the canonical URL of an earlier one.

@@ -1,6 +1,6 @@
 //! What a line of a saved web says.
 ghost use Rattle.std.specs.Prelude.{◌≡◌};
-ghost use Rattle.crawl_web.specs.SavedWeb.{pointed, said_by, line_of};
+ghost use Rattle.crawl_web.specs.WebLines.{pointed, line_of_text, line_of};
 
 use crate::parts::split_space;
 
@@ -11,6 +11,8 @@ pub enum Line<T> {
     Page(T),
     /// `link TEXT`: a link of the last page, with its text, which may be empty.
     Link(T),
+    /// `moved TEXT`: where the last page moved to, with its text, which may be empty.
+    Moved(T),
     /// Nothing stands there.
     Empty,
     /// Anything else.
@@ -18,12 +20,13 @@ pub enum Line<T> {
 }
 
 /// What a line says that has this text.
-pub fn said_by(text: &str) -> Line<&str>
-    ensures { pointed result ≡ said_by text.now }
+pub fn line_of_text(text: &str) -> Line<&str>
+    ensures { pointed result ≡ line_of_text text.now }
 {
     match split_space(text) {
         Some(("page", url)) => Line::Page(url),
         Some(("link", link)) => Line::Link(link),
+        Some(("moved", to)) => Line::Moved(to),
         None if text.is_empty() => Line::Empty,
         _ => Line::Other,
     }
@@ -34,7 +37,7 @@ pub fn line_of(line: &[u8]) -> Line<&str>
     ensures { pointed result ≡ line_of line.now }
 {
     match str::from_utf8(line) {
-        Ok(text) => said_by(text),
+        Ok(text) => line_of_text(text),
         Err(_) => Line::Other,
     }
 }

@@ -1,7 +1,9 @@
-//! The links of a page of a saved web, read from the lines behind the page's own.
+//! What stands under a page of a saved web, read from the lines behind the page's own.
 ghost use Rattle.std.specs.Prelude.{◌≡◌, ◌<◌, ◌∷◌, [], Some, length, IfOk, IfErr, IfSome, MatchOption};
+ghost use Rattle.std.specs.Option.{option_map};
 ghost use Rattle.std.specs.Str.Lines.{lines};
-ghost use Rattle.crawl_web.specs.SavedWeb.{link_texts, page_behind};
+ghost use Rattle.crawl_web.specs.SavedWeb.{link_texts, link_url, moved_text, found_page, page_behind};
+ghost use Rattle.crawl_web.specs.declared.page.Page.TheVariants.{Moved};
 
 use crate::fetch::FetchError;
 use crate::lines::first_line;
@@ -18,6 +20,29 @@ pub fn page_behind(alloc: Global, url: &CanonUrl, bytes: &[u8]) -> Result<Page, 
     let Ok(base) = Base::new(alloc, url) else {
         return Err(FetchError::NoMemory);
     };
+    match moved_text(bytes) {
+        Some(text) => moved_page(alloc, &base, text),
+        None => found_page(alloc, &base, bytes),
+    }
+}
+
+/// The page that has moved to where this text leads.
+fn moved_page(alloc: Global, base: &Base, text: &str) -> Result<Page, FetchError>
+    ensures page { IfOk result (λ page. page ≡ Moved (link_url base.now text.now)) }
+    ensures refused { IfErr result (λ e. e ≡ FetchError.NoMemory) }
+{
+    match base.resolve(alloc, text) {
+        Ok(url) => Ok(Page::Moved { to: Some(url) }),
+        Err(KeyError::NoMemory) => Err(FetchError::NoMemory),
+        Err(KeyError::NotUrl | KeyError::NotHttp) => Ok(Page::Moved { to: None }),
+    }
+}
+
+/// The page with the links among these lines, up to the next page.
+fn found_page(alloc: Global, base: &Base, bytes: &[u8]) -> Result<Page, FetchError>
+    ensures page { IfOk result (λ page. page ≡ found_page base.now (link_texts (lines bytes.now))) }
+    ensures refused { IfErr result (λ e. e ≡ FetchError.NoMemory) }
+{
     let mut links = Vec::new(alloc);
     let mut skipped: u64 = 0;
     let mut rest = bytes;
@@ -46,6 +71,22 @@ fn next_link(bytes: &[u8]) -> Option<(&str, &[u8])>
         match line_of(line) {
             Line::Page(_) => return None,
             Line::Link(text) => return Some((text, rest)),
+            Line::Moved(_) | Line::Empty | Line::Other => {}
+        }
+    }
+    None
+}
+
+/// The text of the moved line, where one comes before any page or link.
+fn moved_text(bytes: &[u8]) -> Option<&str>
+    ensures { option_map (λ text. text.now) result ≡ moved_text (lines bytes.now) }
+{
+    let mut rest = bytes;
+    while let Some((line, more)) = first_line(rest) {
+        rest = more;
+        match line_of(line) {
+            Line::Page(_) | Line::Link(_) => return None,
+            Line::Moved(text) => return Some(text),
             Line::Empty | Line::Other => {}
         }
     }

@@ -4,8 +4,17 @@ use std::alloc::Global;
 use std::process::Abort;
 use std::test::Fail;
 
-// A URL, and how many links its page has and how many are skipped; nothing where it is missing.
-type Row = (&'static str, Option<(usize, u64)>);
+// What is at a URL.
+#[derive(Clone, Copy)]
+enum Kind {
+    // A page with so many links, and so many that are skipped.
+    Found(usize, u64),
+    // A page that moved to this URL, if it moved to one.
+    Moved(Option<&'static str>),
+    Missing,
+}
+
+type Row = (&'static str, Kind);
 
 fn links_to(alloc: Global, url: &CanonUrl, count: usize) -> Result<Links, KeyError> {
     let mut urls = Vec::new(alloc);
@@ -18,8 +27,12 @@ fn links_to(alloc: Global, url: &CanonUrl, count: usize) -> Result<Links, KeyErr
 fn result_of(alloc: Global, row: Row) -> Result<PageResult, KeyError> {
     let url = canonical(alloc, row.0)?;
     let page = match row.1 {
-        None => Page::Missing,
-        Some((links, skipped)) => Page::Found {
+        Kind::Missing => Page::Missing,
+        Kind::Moved(None) => Page::Moved { to: None },
+        Kind::Moved(Some(to)) => Page::Moved {
+            to: Some(canonical(alloc, to)?),
+        },
+        Kind::Found(links, skipped) => Page::Found {
             links: links_to(alloc, &url, links)?,
             skipped,
         },
@@ -51,10 +64,10 @@ const GONE: &str = "http://c.test/gone";
 
 #[test]
 fn reports_in_any_order_of_arrival(rt: HostRuntime) -> Result<(), Fail> {
-    let a: Row = (A, Some((2, 1)));
-    let b: Row = (B, Some((2, 0)));
-    let c: Row = (C, Some((2, 0)));
-    let gone: Row = (GONE, None);
+    let a: Row = (A, Kind::Found(2, 1));
+    let b: Row = (B, Kind::Found(2, 0));
+    let c: Row = (C, Kind::Found(2, 0));
+    let gone: Row = (GONE, Kind::Missing);
     let ring =
         "ok 3 1 http://a.test/\nok 2 0 http://b.test/\nok 2 0 http://c.test/\nmissing http://c.test/gone\ntotal 4 ok 3 missing 1\n";
     for rows in [
@@ -65,9 +78,9 @@ fn reports_in_any_order_of_arrival(rt: HostRuntime) -> Result<(), Fail> {
     ] {
         report_of(&rt, rt.alloc(), &rows, ring)?;
     }
-    let start: Row = (A, Some((2, 0)));
-    let one: Row = (A1, None);
-    let two: Row = (A2, None);
+    let start: Row = (A, Kind::Found(2, 0));
+    let one: Row = (A1, Kind::Missing);
+    let two: Row = (A2, Kind::Missing);
     let two_links =
         "ok 2 0 http://a.test/\nmissing http://a.test/1\nmissing http://a.test/2\ntotal 3 ok 1 missing 2\n";
     for rows in [[start, one, two], [two, start, one], [one, two, start]] {
@@ -81,11 +94,11 @@ fn reports_in_any_order_of_arrival(rt: HostRuntime) -> Result<(), Fail> {
 #[test]
 fn reports_in_byte_order(rt: HostRuntime) -> Result<(), Fail> {
     let rows: [Row; 5] = [
-        ("https://a.test/", None),
-        ("http://a.test/b", None),
-        ("http://a.test/9", None),
-        ("http://a.test/B", None),
-        ("http://a.test/10", None),
+        ("https://a.test/", Kind::Missing),
+        ("http://a.test/b", Kind::Missing),
+        ("http://a.test/9", Kind::Missing),
+        ("http://a.test/B", Kind::Missing),
+        ("http://a.test/10", Kind::Missing),
     ];
     report_of(
         &rt,
@@ -97,10 +110,10 @@ fn reports_in_byte_order(rt: HostRuntime) -> Result<(), Fail> {
 
 #[test]
 fn results_of_one_url_stay_as_given(rt: HostRuntime) -> Result<(), Fail> {
-    let first: Row = (A, Some((1, 0)));
-    let second: Row = (A, Some((1, 1)));
-    let third: Row = (A, None);
-    let other: Row = (A2, None);
+    let first: Row = (A, Kind::Found(1, 0));
+    let second: Row = (A, Kind::Found(1, 1));
+    let third: Row = (A, Kind::Missing);
+    let other: Row = (A2, Kind::Missing);
     for (rows, expected) in [
         (
             [other, first, second, third],
@@ -132,8 +145,32 @@ fn links_past_the_greatest_number_are_counted(rt: HostRuntime) -> Result<(), Fai
             "ok 18446744073709551618 18446744073709551615 http://a.test/\ntotal 1 ok 1 missing 0\n",
         ),
     ] {
-        let row: Row = (A, Some((links, u64::MAX)));
+        let row: Row = (A, Kind::Found(links, u64::MAX));
         report_of(&rt, rt.alloc(), &[row], expected)?;
+    }
+    Ok(())
+}
+
+// Where a page moved to is no part of its line, and a total without moved pages does not name them.
+#[test]
+fn reports_moved_pages(rt: HostRuntime) -> Result<(), Fail> {
+    let a: Row = (A, Kind::Moved(Some(B)));
+    let b: Row = (B, Kind::Moved(None));
+    let c: Row = (C, Kind::Found(1, 0));
+    let gone: Row = (GONE, Kind::Missing);
+    let text =
+        "moved http://a.test/\nmoved http://b.test/\nok 1 0 http://c.test/\nmissing http://c.test/gone\ntotal 4 ok 1 missing 1 moved 2\n";
+    for rows in [[a, b, c, gone], [gone, c, b, a], [c, a, gone, b]] {
+        report_of(&rt, rt.alloc(), &rows, text)?;
+    }
+    for (rows, text) in [
+        (
+            [b],
+            "moved http://b.test/\ntotal 1 ok 0 missing 0 moved 1\n",
+        ),
+        ([c], "ok 1 0 http://c.test/\ntotal 1 ok 1 missing 0\n"),
+    ] {
+        report_of(&rt, rt.alloc(), &rows, text)?;
     }
     Ok(())
 }

@@ -35,6 +35,7 @@ fn has_page(
             }
             assert_eq!(rt; skipped, expected_skipped, "{url}");
         }
+        Page::Moved { .. } => assert!(rt; false, "{url} has moved"),
         Page::Missing => assert!(rt; false, "{url} is missing"),
     }
     Ok(())
@@ -42,6 +43,23 @@ fn has_page(
 
 fn is_missing(rt: &impl Abort, alloc: Global, web: &SavedWeb, url: &str) -> Result<(), Fail> {
     assert_eq!(rt; page_by(web, alloc, url)?, Page::Missing, "{url}");
+    Ok(())
+}
+
+// The web has a page at the URL that moved to this one, or to none.
+fn has_moved(
+    rt: &impl Abort,
+    alloc: Global,
+    web: &SavedWeb,
+    url: &str,
+    expected: Option<&str>,
+) -> Result<(), Fail> {
+    match page_by(web, alloc, url)? {
+        Page::Moved { to: Some(to) } => assert_eq!(rt; Some(to.as_str()), expected, "{url}"),
+        Page::Moved { to: None } => assert_eq!(rt; None, expected, "{url}"),
+        Page::Found { .. } => assert!(rt; false, "{url} is found"),
+        Page::Missing => assert!(rt; false, "{url} is missing"),
+    }
     Ok(())
 }
 
@@ -101,7 +119,7 @@ fn first_faults(rt: HostRuntime) {
         rt.alloc(),
         &[
             (b"\xff\nx\n", Some(WebError::NotText(1))),
-            (b"savedweb 2\nx\n", Some(WebError::BadHeader)),
+            (b"savedweb 3\nx\n", Some(WebError::BadHeader)),
             (b"savedweb 1 \n", Some(WebError::BadHeader)),
             (
                 b"savedweb 1\nlink x\n\xff\n",
@@ -259,4 +277,140 @@ link gone
         0,
     )?;
     is_missing(&rt, alloc, &web, "http://a.test/1")
+}
+
+#[test]
+fn mixed_pages(rt: HostRuntime) {
+    have_faults(
+        &rt,
+        rt.alloc(),
+        &[
+            (b"savedweb 2\nmoved x", Some(WebError::LinkBeforePage(2))),
+            (
+                b"savedweb 2\npage http://a.test/\nmoved x\nmoved y",
+                Some(WebError::MovedMixed(4)),
+            ),
+            (
+                b"savedweb 2\npage http://a.test/\nlink x\nmoved y",
+                Some(WebError::MovedMixed(4)),
+            ),
+            (
+                b"savedweb 2\npage http://a.test/\nmoved x\nlink y",
+                Some(WebError::MovedMixed(4)),
+            ),
+        ],
+    );
+}
+
+#[test]
+fn versions(rt: HostRuntime) {
+    have_faults(
+        &rt,
+        rt.alloc(),
+        &[
+            (
+                b"savedweb 1\npage http://a.test/\nmoved x",
+                Some(WebError::BadLine(3)),
+            ),
+            (b"savedweb 3", Some(WebError::BadHeader)),
+            (b"savedweb 2", None),
+            (b"savedweb 2\r\n", None),
+            (b"savedweb 2\r", Some(WebError::BadHeader)),
+            (b"savedweb 2 ", Some(WebError::BadHeader)),
+            (b"savedweb 02", Some(WebError::BadHeader)),
+            (b"savedweb 12", Some(WebError::BadHeader)),
+        ],
+    );
+}
+
+// In the order of the checks; a page of its own lets a moved line stand, empty lines do not.
+#[test]
+fn checks_around_a_moved_line(rt: HostRuntime) -> Result<(), Fail> {
+    let alloc = rt.alloc();
+    let mut long = Vec::new(alloc);
+    long.extend_from_slice(b"savedweb 2\nmoved ")?;
+    for _ in 0..4091 {
+        long.push(255)?;
+    }
+    have_faults(
+        &rt,
+        alloc,
+        &[
+            (&long, Some(WebError::LineTooLong(2))),
+            (b"savedweb 2\nmoved \xff", Some(WebError::NotText(2))),
+            (b"savedweb 1\nmoved x", Some(WebError::BadLine(2))),
+            (
+                b"savedweb 1\npage http://a.test/\nlink x\nmoved y",
+                Some(WebError::BadLine(4)),
+            ),
+            (b"savedweb 2\nmoved", Some(WebError::BadLine(2))),
+            (b"savedweb 2\n moved x", Some(WebError::BadLine(2))),
+            (b"savedweb 2\nMoved x", Some(WebError::BadLine(2))),
+            (b"savedweb 2\nlink x", Some(WebError::LinkBeforePage(2))),
+            (b"savedweb 2\n\nmoved ", Some(WebError::LinkBeforePage(3))),
+            (
+                b"savedweb 2\npage http://a.test/\nmoved x\n\nmoved y\npage x",
+                Some(WebError::MovedMixed(5)),
+            ),
+            (
+                b"savedweb 2\npage http://a.test/\nmoved x\npage x\nmoved y\nmoved z",
+                Some(WebError::BadPageUrl(4)),
+            ),
+            (
+                b"savedweb 2\npage http://a.test/\nmoved x\npage http://a.test/#f\nmoved y",
+                Some(WebError::PageTwice(4)),
+            ),
+            (
+                b"savedweb 2\npage http://a.test/\nmoved x\npage http://b.test/\nlink x\nlink y\npage http://c.test/\nmoved y",
+                None,
+            ),
+        ],
+    );
+    Ok(())
+}
+
+#[test]
+fn pages_that_moved(rt: HostRuntime) -> Result<(), Fail> {
+    let alloc = rt.alloc();
+    let web = SavedWeb::read(
+        alloc,
+        b"savedweb 2
+page http://a.test/
+moved http://b.test/
+page http://b.test/
+moved mailto:x
+page http://c.test/
+link gone
+",
+    )?;
+    has_moved(&rt, alloc, &web, "http://a.test/", Some("http://b.test/"))?;
+    has_moved(&rt, alloc, &web, "http://b.test/", None)?;
+    has_page(
+        &rt,
+        alloc,
+        &web,
+        "http://c.test/",
+        &["http://c.test/gone"],
+        0,
+    )?;
+    is_missing(&rt, alloc, &web, "http://c.test/gone")?;
+    // Against the page, not against the root of its host; the text may be empty.
+    let web = SavedWeb::read(
+        alloc,
+        b"savedweb 2\npage HTTP://A.test:80/d/e?q#f\n\nmoved g\npage http://a.test/d/g\nmoved ",
+    )?;
+    has_moved(
+        &rt,
+        alloc,
+        &web,
+        "http://a.test/d/e?q",
+        Some("http://a.test/d/g"),
+    )?;
+    has_moved(
+        &rt,
+        alloc,
+        &web,
+        "http://a.test/d/g",
+        Some("http://a.test/d/g"),
+    )
 }

@@ -7,11 +7,11 @@ pub loop-line-preserved : goal.loop-line-preserved
 loop-line-preserved c = record {
   few = omega (arith, c.in-Some.ensures.shorter);
   read =
-      read_more c.args.bytes.now c.loop-line.rest.now c.loop-line.number c.loop-line.pages c.in-Some.line.now c.in-Some.more c.add_line.new.pages c.in-Some.ensures.cut c.in_ok-add_line.ensures.tells c.in_ok-add_line.ensures.adds c.in_ok-add_line.ensures.page c.loop-line.invariant.read;
+      read_more c.args.bytes.now c.loop-line.rest.now c.loop-line.number c.loop-line.above c.loop-line.pages c.in-Some.line.now c.in-Some.more c.in_ok-above.above c.add_line.new.pages c.in-Some.ensures.cut c.in_ok-above.ensures.tells c.in_ok-above.ensures.adds c.in_ok-above.ensures.page c.in_ok-above.ensures.follows c.loop-line.invariant.read;
 }
 
-pub returns-in_err-add_line-clause-fault : goal.returns-in_err-add_line-clause-fault
-returns-in_err-add_line-clause-fault c =
+pub returns-in_err-above-clause-fault : goal.returns-in_err-above-clause-fault
+returns-in_err-above-clause-fault c =
     let p = err_from_is_err_and c.from_residual.result c.from_residual.ensures.1 in
     rw (p.1, p.2)
-    (read_fault c.args.bytes.now c.loop-line.rest.now c.loop-line.number c.loop-line.pages c.in-Some.line.now c.in-Some.more.now c.in_err-add_line.field-0.0 c.in-Some.ensures.cut c.in_err-add_line.ensures.tells c.loop-line.invariant.read)
+    (read_fault c.args.bytes.now c.loop-line.rest.now c.loop-line.number c.loop-line.above c.loop-line.pages c.in-Some.line.now c.in-Some.more.now c.in_err-above.field-0.0 c.in-Some.ensures.cut c.in_err-above.ensures.tells c.loop-line.invariant.read)

@@ -5,7 +5,7 @@ use Rattle.crawl_web.proofs.saved_web.known_pages.Given as goal
 abbrev pub invariant-loop-line : goal.invariant-loop-line
 invariant-loop-line l = record {
   few : l.number + length l.rest ≤ length l.bytes;
-  read : ReadTo l.bytes l.rest l.number l.pages;
+  read : ReadTo l.bytes l.rest l.number l.above l.pages;
 }
 
 abbrev pub decreases-loop-line : goal.decreases-loop-line
