@@ -4,10 +4,10 @@ use Rattle.std.specs.declared.alloc.Global.{Global}
 use Rattle.std.specs.Borrow.{Bor}
 use Rattle.std.specs.Option.{option_map}
 use Rattle.std.specs.Str.{bytes_eq}
-use Rattle.crawl_core.specs.declared.limits.TheConstants.{WORKER_LIMIT}
+use Rattle.crawl_core.specs.Limits.{worker_limit}
 use Rattle.mercator.specs.Limits.{default_workers, default_max_pending}
 use Rattle.mercator.specs.Numbers.{number_of}
-use Rattle.mercator.specs.ScriptContent.{AreLimits}
+use Rattle.crawl_core.specs.Limits.{AreLimits}
 use Rattle.mercator.specs.declared.commands.command.Command.{Command}
 use Rattle.mercator.specs.declared.commands.command.Command.TheVariants as asks
 
@@ -23,7 +23,7 @@ pointed (asks.Key url workers) = asks.Key url.now workers
 
 -- a number of workers, if a frontier can have so many
 abbrev pub if_workers : ℕ → Option ℕ
-if_workers number = if nat_le 1 number && nat_le number WORKER_LIMIT then Some number else None
+if_workers number = if nat_le 1 number && nat_le number worker_limit then Some number else None
 
 abbrev pub workers_of : List ℕ → Option ℕ
 workers_of number = option_and_then if_workers (number_of 32 number)
@@ -69,4 +69,4 @@ command_of [] = None
 abbrev pub HasLimits : {U S : Type 0} → Command U S → Type 0
 HasLimits asks.Replay = Unit {0}
 HasLimits (asks.Crawl workers max seeds) = AreLimits workers max
-HasLimits (asks.Key url workers) = (1 ≤ workers) × (workers ≤ WORKER_LIMIT)
+HasLimits (asks.Key url workers) = (1 ≤ workers) × (workers ≤ worker_limit)

@@ -4,7 +4,7 @@ use Rattle.std.specs.Str.Lines.{lines}
 use Rattle.crawl_keys.specs.CanonicalText.{canonical}
 use Rattle.crawl_web.specs.SavedWeb.{page_of}
 use Rattle.crawl_keys.specs.declared.error.KeyError.{KeyError}
-use Rattle.crawl_web.specs.WebFaults.{IsSound, IsFault}
+use Rattle.crawl_web.specs.WebFaults.{IsSound, IsWebFault}
 use Rattle.mercator.specs.declared.commands.fault.Fault.{Fault}
 use Rattle.mercator.specs.declared.commands.fault.Fault.TheVariants as wrong
 use Rattle.crawl_web.specs.ReportText.{report}
@@ -41,7 +41,7 @@ IsSeedFault texts _ = ⊥
 -- why bytes and seeds are refused, in this order: the bytes are no saved web, by this fault; the first seed that has no
 -- canonical URL, by its refusal; or want of memory
 abbrev pub IsRefused : List ℕ → List (List ℕ) → Fault → Type 0
-IsRefused bytes texts (wrong.Web fault) = IsFault (lines bytes) fault
+IsRefused bytes texts (wrong.Web fault) = IsWebFault (lines bytes) fault
 IsRefused bytes texts (wrong.Seed place refusal) = IsSound (lines bytes) × IsFirstBadSeed texts place refusal
 IsRefused bytes texts wrong.NoMemory = Unit {0}
 IsRefused bytes texts _ = ⊥

@@ -2,7 +2,7 @@
 ghost use Rattle.std.specs.Prelude.{◌≡◌, ℕ, ◌≤◌, List, [], ◌∷◌, ◌++◌, true, IfOk, OnOk, if◌then◌else◌};
 ghost use Rattle.std.specs.List.{All, Contains};
 ghost use Rattle.std.specs.Option.{option_to_list};
-ghost use Rattle.crawl_core.specs.declared.limits.TheConstants.{WORKER_LIMIT, PENDING_LIMIT};
+ghost use Rattle.crawl_core.specs.Limits.{AreLimits, worker_limit};
 ghost use Rattle.mercator.specs.Results.{ArePages, AreApart, IsWhole, urls_of};
 ghost use Rattle.mercator.specs.ByCore.{Going, Crawling, Taking, CrawlEnd, with_offers};
 
@@ -28,10 +28,7 @@ pub fn crawl_by_core<F: Fetch, R: Wait>(
     workers: u32,
     max: u64,
 ) -> Result<(Vec<PageResult>, u64), NoMemory>
-    requires some { 1 ≤ workers }
-    requires few { workers ≤ WORKER_LIMIT }
-    requires least { 1 ≤ max }
-    requires most { max ≤ PENDING_LIMIT }
+    requires { AreLimits workers max }
     // Each result has the page that the fetcher means by its URL, and no two results have one URL.
     ensures pages { IfOk result (λ x. ArePages (F.meaning fetcher.now) x.0.items) }
     ensures apart { IfOk result (λ x. AreApart (urls_of x.0.items)) }
@@ -62,7 +59,7 @@ struct Crawl<'a, F: Fetch> {
     fetcher: &'a F,
     workers: u32,
     ghost some: { 1 ≤ workers },
-    ghost few: { workers ≤ WORKER_LIMIT },
+    ghost few: { workers ≤ worker_limit },
 }
 
 /// How far a crawl has come.
@@ -130,10 +127,7 @@ impl<'a, F: Fetch> Crawl<'a, F> {
 }
 
 fn new_core(alloc: Global, workers: u32, max: u64) -> Result<Core, NoMemory>
-    requires some { 1 ≤ workers }
-    requires few { workers ≤ WORKER_LIMIT }
-    requires least { 1 ≤ max }
-    requires most { max ≤ PENDING_LIMIT }
+    requires { AreLimits workers max }
     ensures { IfOk result (λ core. Going workers max core [] []) }
 {
     match Core::new(alloc, workers, max) {
@@ -153,8 +147,8 @@ fn offer_all(
     sender: u64,
     urls: &[CanonUrl],
 ) -> Result<u64, NoMemory>
-    requires some { 1 ≤ workers }
-    requires few { workers ≤ WORKER_LIMIT }
+    requires some_worker { 1 ≤ workers }
+    requires few_workers { workers ≤ worker_limit }
     ensures { IfOk result (λ refused. (max : ℕ) (taken offers : List (List ℕ)) → Going workers max core.old taken offers → Going workers max core.new taken (with_offers refused offers urls.now)) }
 {
     let mut refused = 0;
@@ -174,8 +168,8 @@ fn offer(
     sender: u64,
     url: &CanonUrl,
 ) -> Result<bool, NoMemory>
-    requires some { 1 ≤ workers }
-    requires few { workers ≤ WORKER_LIMIT }
+    requires some_worker { 1 ≤ workers }
+    requires few_workers { workers ≤ worker_limit }
     ensures { IfOk result (λ offered. (max : ℕ) (taken offers : List (List ℕ)) → Going workers max core.old taken offers → Going workers max core.new taken (if offered then offers ++ url.now ∷ [] else offers)) }
 {
     core.step(&Event::Look { sender })?;
@@ -193,8 +187,8 @@ fn admit(
     sender: u64,
     url: &CanonUrl,
 ) -> Result<bool, NoMemory>
-    requires some { 1 ≤ workers }
-    requires few { workers ≤ WORKER_LIMIT }
+    requires some_worker { 1 ≤ workers }
+    requires few_workers { workers ≤ worker_limit }
     ensures { IfOk result (λ offered. (max : ℕ) (taken offers : List (List ℕ)) → Going workers max core.old taken offers → Going workers max core.new taken (if offered then offers ++ url.now ∷ [] else offers)) }
 {
     let queue = url.subqueue(workers);

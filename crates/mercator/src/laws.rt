@@ -1,7 +1,9 @@
 //! Laws over the definitions of the crates below, together. None does anything when it is called.
 ghost use Rattle.std.specs.Prelude.{◌≡◌, ℕ, List, map, slice_get, Some};
 ghost use Rattle.std.specs.List.{zip};
-ghost use Rattle.crawl_core.specs.State.{State, Subqueue, Message, start};
+ghost use Rattle.crawl_core.specs.State.{State, start};
+ghost use Rattle.crawl_core.specs.Subqueue.{Subqueue};
+ghost use Rattle.crawl_core.specs.Messages.{Message};
 ghost use Rattle.crawl_core.specs.Run.{Run, IsRun};
 ghost use Rattle.crawl_core.specs.History.{TakesOnce};
 ghost use Rattle.crawl_core.specs.declared.event.Event.{Event};

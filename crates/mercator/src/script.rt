@@ -3,10 +3,11 @@ ghost use Rattle.std.specs.Prelude.{◌≡◌, ◌⊎◌, ◌+◌, ◌^◌, ◌<
 ghost use Rattle.std.specs.Str.Lines.{lines};
 ghost use Rattle.crawl_keys.specs.Outcome.{Gives};
 ghost use Rattle.mercator.specs.Script.{header_in, events_of, script_of};
-ghost use Rattle.mercator.specs.ScriptContent.{content, AreLimits};
+ghost use Rattle.mercator.specs.ScriptContent.{content};
+ghost use Rattle.crawl_core.specs.Limits.{AreLimits};
 ghost use Rattle.mercator.specs.Assignment.{IsAssigned};
 ghost use Rattle.mercator.specs.LeastFault.{IsScriptFault};
-ghost use Rattle.crawl_core.specs.declared.limits.TheConstants.{WORKER_LIMIT};
+ghost use Rattle.crawl_core.specs.Limits.{worker_limit};
 
 mod error;
 mod event;
@@ -77,9 +78,9 @@ fn header_in(line: &[u8]) -> Result<Header, ScriptError>
 
 /// The events of the lines after the first.
 fn events_of(alloc: Global, workers: u32, bytes: &[u8]) -> Result<Vec<Event>, ScriptError>
-    requires some { 1 ≤ workers }
-    requires few { workers ≤ WORKER_LIMIT }
-    requires short { length bytes.now + 1 < 2 ^ 64 }
+    requires some_worker { 1 ≤ workers }
+    requires few_workers { workers ≤ worker_limit }
+    requires room_to_count { length bytes.now + 1 < 2 ^ 64 }
     ensures exact { Gives ScriptError.NoMemory (λ events. events.items) result (events_of workers 2 (lines bytes.now)) }
     ensures assigned { IfOk result (λ events. IsAssigned workers events.items) }
 {

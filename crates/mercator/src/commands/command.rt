@@ -1,7 +1,7 @@
 //! The words of the commands, read by hand until the command line is built.
 ghost use Rattle.std.specs.Prelude.{◌≡◌, ◌≤◌, map, string_bytes, IfSome};
 ghost use Rattle.std.specs.Option.{option_map};
-ghost use Rattle.crawl_core.specs.declared.limits.TheConstants.{WORKER_LIMIT};
+ghost use Rattle.crawl_core.specs.Limits.{worker_limit};
 ghost use Rattle.mercator.specs.Commands.{HasLimits, pointed, command_of, replay_of, crawl_of, crawl_by, key_of, workers_of};
 
 use crate::numbers::number32;
@@ -76,7 +76,7 @@ fn crawl_of(words: &[String]) -> Option<Command<&str, &[String]>>
 
 fn crawl_by(workers: u32, words: &[String]) -> Option<Command<&str, &[String]>>
     requires some_worker { 1 ≤ workers }
-    requires few_workers { workers ≤ WORKER_LIMIT }
+    requires few_workers { workers ≤ worker_limit }
     ensures asked { option_map pointed result ≡ crawl_by workers (map string_bytes words.now) }
     ensures limits { IfSome result HasLimits }
 {
@@ -110,7 +110,7 @@ fn key_of(words: &[String]) -> Option<Command<&str, &[String]>>
 fn workers_of(number: &str) -> Option<u32>
     ensures number { result ≡ workers_of number.now }
     ensures some_worker { IfSome result (λ workers. 1 ≤ workers) }
-    ensures few_workers { IfSome result (λ workers. workers ≤ WORKER_LIMIT) }
+    ensures few_workers { IfSome result (λ workers. workers ≤ worker_limit) }
 {
     let workers = number32(number)?;
     if 1 <= workers && workers <= WORKER_LIMIT {

@@ -1,11 +1,11 @@
 //! What each command tells.
 ghost use Rattle.std.specs.Prelude.{◌≡◌, ◌≢◌, ◌≤◌, Ok, map, string_bytes, IfOk, IfErr, IfSome};
-ghost use Rattle.crawl_core.specs.declared.limits.TheConstants.{WORKER_LIMIT};
+ghost use Rattle.crawl_core.specs.Limits.{worker_limit};
 ghost use Rattle.mercator.specs.Commands.{HasLimits, pointed};
 ghost use Rattle.mercator.specs.Ending.{IfText};
 ghost use Rattle.mercator.specs.Replay.{IsReplay};
 ghost use Rattle.mercator.specs.KeyLine.{IsKeyLine};
-ghost use Rattle.mercator.specs.ScriptContent.{AreLimits};
+ghost use Rattle.crawl_core.specs.Limits.{AreLimits};
 ghost use Rattle.mercator.specs.WebCrawl.{IsCrawlable, IsCrawlReport};
 ghost use Rattle.mercator.specs.Told.{IsTold, IsKey, MayLose, Fails, FailsReplay, FailsCrawl, FailsKey};
 ghost use Rattle.mercator.specs.declared.commands.ending.Told.TheVariants.{Incomplete};
@@ -76,7 +76,7 @@ fn tell_crawl<R: Wait, I: Read>(
 
 fn tell_key(alloc: Global, url: &str, workers: u32) -> Result<Told, Fault>
     requires some_worker { 1 ≤ workers }
-    requires few_workers { workers ≤ WORKER_LIMIT }
+    requires few_workers { workers ≤ worker_limit }
     ensures text { IfOk result (λ told. IfText told (IsKeyLine url.now workers)) }
     ensures complete { result ≢ Ok Incomplete }
     ensures fault { IfErr result (FailsKey url.now) }

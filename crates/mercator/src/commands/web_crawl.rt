@@ -1,6 +1,6 @@
 //! A crawl of a saved web, from its bytes to the report.
 ghost use Rattle.std.specs.Prelude.{◌≡◌, Ok, map, string_bytes, IfOk, IfErr};
-ghost use Rattle.mercator.specs.ScriptContent.{AreLimits};
+ghost use Rattle.crawl_core.specs.Limits.{AreLimits};
 ghost use Rattle.mercator.specs.Ending.{IfText};
 ghost use Rattle.mercator.specs.WebCrawl.{AreSeeds, IsCrawlable, IsCrawlReport, IsRefused, IsSeedFault};
 ghost use Rattle.mercator.specs.declared.commands.ending.Told.TheVariants.{Incomplete};

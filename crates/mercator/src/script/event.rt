@@ -1,6 +1,6 @@
 //! A line of a script after the first, and the event that it says.
 ghost use Rattle.std.specs.Prelude.{◌≡◌, ℕ, ◌≤◌, Ok, IfOk, IfSome};
-ghost use Rattle.crawl_core.specs.declared.limits.TheConstants.{WORKER_LIMIT};
+ghost use Rattle.crawl_core.specs.Limits.{worker_limit};
 ghost use Rattle.std.specs.Option.{option_map};
 ghost use Rattle.crawl_keys.specs.Outcome.{Gives};
 ghost use Rattle.crawl_keys.specs.Assignment.{subqueue_of};
@@ -25,8 +25,8 @@ pub fn said_by(
     number: u64,
     line: &[u8],
 ) -> Result<Option<Event>, ScriptError>
-    requires some { 1 ≤ workers }
-    requires few { workers ≤ WORKER_LIMIT }
+    requires some_worker { 1 ≤ workers }
+    requires few_workers { workers ≤ worker_limit }
     ensures exact { Gives ScriptError.NoMemory (λ said. said) result (said_by workers number line.now) }
     ensures addressed { IfOk result (λ said. IfSome said (IsAddressed workers)) }
 {
@@ -38,8 +38,8 @@ pub fn said_by(
 }
 
 fn event_of(alloc: Global, workers: u32, number: u64, text: &str) -> Result<Event, ScriptError>
-    requires some { 1 ≤ workers }
-    requires few { workers ≤ WORKER_LIMIT }
+    requires some_worker { 1 ≤ workers }
+    requires few_workers { workers ≤ worker_limit }
     ensures exact { Gives ScriptError.NoMemory (λ event. event) result (event_of workers number text.now) }
     ensures addressed { IfOk result (IsAddressed workers) }
 {
@@ -91,8 +91,8 @@ fn numbered_event(word: &str, number: &str) -> Option<Event>
 
 /// The event of an `admit` line, by what follows its first space: a sender, a space and a URL.
 fn admit_of(alloc: Global, workers: u32, number: u64, rest: &str) -> Result<Event, ScriptError>
-    requires some { 1 ≤ workers }
-    requires few { workers ≤ WORKER_LIMIT }
+    requires some_worker { 1 ≤ workers }
+    requires few_workers { workers ≤ worker_limit }
     ensures exact { Gives ScriptError.NoMemory (λ event. event) result (admit_of workers number rest.now) }
     ensures addressed { IfOk result (IsAddressed workers) }
 {
@@ -117,8 +117,8 @@ fn address_of(
     number: u64,
     text: &str,
 ) -> Result<(Text, u32), ScriptError>
-    requires some { 1 ≤ workers }
-    requires few { workers ≤ WORKER_LIMIT }
+    requires some_worker { 1 ≤ workers }
+    requires few_workers { workers ≤ worker_limit }
     ensures exact { Gives ScriptError.NoMemory (λ address. (address.0, address.1)) result (address_of workers number text.now) }
     ensures canonical { IfOk result (λ address. canonical address.0 ≡ Ok address.0) }
     ensures assigned { IfOk result (λ address. address.1 ≡ subqueue_of address.0 workers) }

@@ -1,5 +1,4 @@
-ghost use Rattle.std.specs.Prelude.{◌≤◌};
-ghost use Rattle.crawl_core.specs.declared.limits.TheConstants.{PENDING_LIMIT};
+ghost use Rattle.crawl_core.specs.Limits.{AreLimits};
 
 use crate::commands::command::Command;
 use crate::commands::ending::end;
@@ -76,7 +75,7 @@ fn empty_web_small_web_and_two_links(rt: HostRuntime) -> Result<(), Fail> {
         ),
         (
             RING,
-            &["crawl", "--workers", "64", "-", "http://a.test/"],
+            &["crawl", "--workers", "512", "-", "http://a.test/"],
             RING_REPORT,
         ),
         (
@@ -101,8 +100,7 @@ fn ending(
     seeds: &[&str],
     max: u64,
 ) -> Result<(Ending, Vec<u8>), AllocError>
-    requires least { 1 ≤ max }
-    requires most { max ≤ PENDING_LIMIT }
+    requires { AreLimits 1 max }
 {
     let seeds = words(alloc, seeds)?;
     let mut out = Vec::new(alloc);
@@ -185,8 +183,7 @@ fn counts<F: Fetch>(
     fetcher: &F,
     max: u64,
 ) -> Result<(usize, u64), NoMemory>
-    requires least { 1 ≤ max }
-    requires most { max ≤ PENDING_LIMIT }
+    requires { AreLimits 1 max }
 {
     let Ok(seed) = canonical(alloc, "http://a.test/") else {
         return Err(AllocError);

@@ -91,7 +91,7 @@ fn words_that_are_no_command(rt: HostRuntime) -> Result<(), Fail> {
         &["key"],
         &["key", "http://a.test/", "--workers"],
         &["key", "http://a.test/", "--workers", "0"],
-        &["key", "http://a.test/", "--workers", "65"],
+        &["key", "http://a.test/", "--workers", "513"],
         &["key", "http://a.test/", "--workers", "+2"],
         &["key", "http://a.test/", "--worker", "2"],
         &["crawl"],
@@ -99,7 +99,7 @@ fn words_that_are_no_command(rt: HostRuntime) -> Result<(), Fail> {
         &["crawl", "ring.web", "http://a.test/"],
         &["crawl", "--workers", "2", "-"],
         &["crawl", "--workers", "0", "-", "http://a.test/"],
-        &["crawl", "--workers", "65", "-", "http://a.test/"],
+        &["crawl", "--workers", "513", "-", "http://a.test/"],
         &["crawl", "--worker", "2", "-", "http://a.test/"],
         &[
             "crawl",
