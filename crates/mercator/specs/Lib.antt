@@ -14,5 +14,6 @@ pub mod Results
 pub mod Script
 pub mod ScriptContent
 pub mod ScriptFaults
+pub mod ScriptLines
 pub mod Told
 pub mod WebCrawl
