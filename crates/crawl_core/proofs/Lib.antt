@@ -1,8 +1,11 @@
 pub mod Counts
 pub mod Effects
 pub mod Holders
+pub mod Leaving
 pub mod Places
+pub mod QueueHistory
 pub mod RunLaws
+pub mod RunParts
 pub mod RunSteps
 pub mod Sets
 pub mod Simulation

@@ -25,7 +25,7 @@ use Rattle.crawl_core.specs.Subqueue.{Subqueue, empty_subqueue, unfinished, olde
 use Rattle.crawl_core.specs.GateSide.{GateSide, GateTurn, units_out, holds, let_go, same_word, enter_with, close}
 use Rattle.crawl_core.specs.State.{State, unfinished_in, count_of, word_of}
 use Rattle.crawl_core.specs.Step.{Turn, turn, by_gate, with_subqueue, put, admit_to, take_oldest, take_from, done_with}
-use Rattle.crawl_core.specs.History.{is_quiet, came_out, came_back, told_count}
+use Rattle.crawl_core.specs.History.{is_quiet, says_closed, comes_out, comes_back, told_count}
 use Rattle.crawl_core.specs.Invariants.{SubqueueInvariant, EachSubqueue}
 use Rattle.crawl_core.proofs.Places.{sum_at, set_cases, push_cases, length-slice_set}
 use Rattle.crawl_core.proofs.Holders.{Rising, Rising-insert_key, Rising-remove_key}
@@ -44,22 +44,32 @@ pub record GateEffect (old : State) (done : Turn) : Type 0 where
   pub sound : Sound done.state
   pub within : count_of old ≤ old.gate.max → count_of done.state ≤ done.state.gate.max
   pub closes : done.reply ≡ told.Closed → done.state.gate.closed ≡ true
+  pub closing : done.state.gate.closed ≡ (old.gate.closed || says_closed done.reply)
   pub stays : old.gate.closed ≡ true → (done.state.gate.closed ≡ true) × (is_quiet done.reply ≡ true)
   pub max : done.state.gate.max ≡ old.gate.max
   pub as_many : length done.state.subqueues ≡ length old.subqueues
-  pub units : count_of done.state + came_back done.reply ≡ count_of old + came_out done.reply
+  pub units : count_of done.state + cond (comes_back done.reply) 1 0 ≡ count_of old + cond (comes_out done.reply) 1 0
   pub tells : (count : ℕ) → told_count done.reply ≡ Some count → count_of done.state ≡ count
 
+or_nothing : (b : Bool) → b ≡ (b || false)
+or_nothing true = refl
+or_nothing false = refl
+
+or_always : (b : Bool) → true ≡ (b || true)
+or_always true = refl
+or_always false = refl
+
 -- a reply that changes nothing
-still : (state : State) → Sound state → (reply : Reply) → is_quiet reply ≡ true → (reply ≡ told.Closed → ⊥) → came_back reply ≡ came_out reply → ((count : ℕ) → told_count reply ≡ Some count → count_of state ≡ count) → GateEffect state (record { reply = reply; state = state })
-still state sound reply quiet other even tells = record {
+still : (state : State) → Sound state → (reply : Reply) → is_quiet reply ≡ true → (reply ≡ told.Closed → ⊥) → says_closed reply ≡ false → comes_back reply ≡ comes_out reply → ((count : ℕ) → told_count reply ≡ Some count → count_of state ≡ count) → GateEffect state (record { reply = reply; state = state })
+still state sound reply quiet other open_still even tells = record {
   sound = sound;
   within = λ within. within;
   closes = λ closed. absurd (other closed);
+  closing = rw open_still (or_nothing state.gate.closed);
   stays = λ closed. (closed, quiet);
   max = refl;
   as_many = refl;
-  units = omega (arith, even);
+  units = rw even refl;
   tells = tells;
 }
 
@@ -72,10 +82,10 @@ is_silent (told.Refused reason) = true
 is_silent _ = false
 
 silent : (state : State) → Sound state → (reply : Reply) → is_silent reply ≡ true → GateEffect state (record { reply = reply; state = state })
-silent state sound told.Lost is = still state sound told.Lost refl (λ e. absurd (cc)) refl (λ count e. absurd (cc))
-silent state sound told.Seen is = still state sound told.Seen refl (λ e. absurd (cc)) refl (λ count e. absurd (cc))
-silent state sound told.Empty is = still state sound told.Empty refl (λ e. absurd (cc)) refl (λ count e. absurd (cc))
-silent state sound (told.Refused reason) is = still state sound (told.Refused reason) refl (λ e. absurd (cc)) refl (λ count e. absurd (cc))
+silent state sound told.Lost is = still state sound told.Lost refl (λ e. absurd (cc)) refl refl (λ count e. absurd (cc))
+silent state sound told.Seen is = still state sound told.Seen refl (λ e. absurd (cc)) refl refl (λ count e. absurd (cc))
+silent state sound told.Empty is = still state sound told.Empty refl (λ e. absurd (cc)) refl refl (λ count e. absurd (cc))
+silent state sound (told.Refused reason) is = still state sound (told.Refused reason) refl (λ e. absurd (cc)) refl refl (λ count e. absurd (cc))
 silent state sound _ is = absurd (true≢false (sym is))
 
 pub some_is : {A : Type 0} {x y : A} → Some x ≡ Some y → x ≡ y
@@ -159,6 +169,7 @@ enter_sound state sound sender free (Some word) =
       };
       within = λ within. grind (arith, one_more, apart, within);
       closes = λ e. absurd (cc);
+      closing = or_nothing state.gate.closed;
       stays = λ closed. absurd (true≢false (sym closed ∙ opened));
       max = refl;
       as_many = refl;
@@ -177,6 +188,7 @@ fewer_sound state after sound fewer closed_is max_is remembered_is holders as_ma
   };
   within = λ within. rw max_is (omega (arith, within, fewer));
   closes = λ e. absurd (cc);
+  closing = closed_is ∙ or_nothing state.gate.closed;
   stays = λ closed. (closed_is ∙ closed, refl);
   max = max_is;
   as_many = as_many;
@@ -191,13 +203,14 @@ close_sound state sound =
       sound = record { empty = λ _. closing_empty state sound may; met = λ opened. absurd (true≢false opened); holders = sound.holders; queues = sound.queues };
       within = λ within. within;
       closes = λ _. refl;
+      closing = or_always state.gate.closed;
       stays = λ _. (refl, refl);
       max = refl;
       as_many = refl;
       units = refl;
       tells = λ count is. closing_empty state sound may ∙ some_is is;
     })
-    (λ _. still state sound (told.Pending (count_of state)) refl (λ e. absurd (cc)) refl (λ count is. some_is is))
+    (λ _. still state sound (told.Pending (count_of state)) refl (λ e. absurd (cc)) refl refl (λ count is. some_is is))
   where
     closing_empty : (state : State) → Sound state → (state.gate.closed || nat_eq (count_of state) 0) ≡ true → count_of state ≡ 0
     closing_empty state sound may = by_flag state.gate.closed refl may
@@ -216,6 +229,7 @@ look_sound state sound sender = record {
   };
   within = λ within. within;
   closes = λ e. absurd (cc);
+  closing = or_nothing state.gate.closed;
   stays = λ closed. (closed, refl);
   max = refl;
   as_many = refl;
@@ -281,6 +295,7 @@ put_sound state sound sender url place queue at held unseen =
       };
       within = λ within. rw same within;
       closes = λ e. absurd (cc);
+      closing = or_nothing state.gate.closed;
       stays = λ closed. let none = sound.empty closed in absurd (omega (arith, fewer, none));
       max = refl;
       as_many = length-slice_set state.subqueues place next;
@@ -319,6 +334,7 @@ oldest_sound state sound place queue at idle (Some message) first =
       };
       within = λ within. rw same within;
       closes = λ e. absurd (cc);
+      closing = or_nothing state.gate.closed;
       stays = λ closed. let none = none_unfinished state place queue at (sound.empty closed) in absurd (omega (arith, none, was_idle, below));
       max = refl;
       as_many = length-slice_set state.subqueues place next;

@@ -1,16 +1,16 @@
--- What a history, a list of events with their replies, says of each subqueue.
-use Rattle.std.specs.Prelude.{◌≡◌, ℕ, ◌<◌, List, map, length, nat_eq, slice_get, if◌then◌else◌, Option, Some, None, Bool, true, false}
-use Rattle.std.specs.List.{filter_map}
+-- What a history, a list of events with their replies, says of each subqueue and of the units.
+use Rattle.std.specs.Prelude.{◌≡◌, ℕ, suc, ◌+◌, ◌<◌, List, map, take, nat_eq, slice_get, if◌then◌else◌, Option, Some, None, Bool, true, false}
+use Rattle.std.specs.List.{filter_map, count_by, list_any}
 use Rattle.crawl_core.specs.declared.event.Event.{Event}
-use Rattle.crawl_core.specs.declared.event.Event.TheVariants.{Admit, Take, Done}
+use Rattle.crawl_core.specs.declared.event.Event.TheVariants.{Look, Admit, Take, Done}
 use Rattle.crawl_core.specs.declared.reply.Reply.{Reply}
 use Rattle.crawl_core.specs.declared.reply.Reply.TheVariants as told
-use Rattle.crawl_core.specs.Messages.{Message}
+use Rattle.crawl_core.specs.Messages.{Message, message_with, numbers_of}
 
--- the message that the subqueue accepted, if it did
+-- the message that the subqueue accepted, if the reply says that it did
 abbrev pub accepted_by : ℕ → Event → Reply → Option Message
 accepted_by queue (Admit sender url place) (told.Accepted there number) =
-    if nat_eq place queue then Some (record { url = url; sender = sender; number = number }) else None
+    if nat_eq there queue then Some (record { url = url; sender = sender; number = number }) else None
 accepted_by queue _ _ = None
 
 -- the URL that was taken from the subqueue, if one was
@@ -29,6 +29,20 @@ accepted_urls queue history = map (λ m. m.url) (accepted_in queue history)
 abbrev pub taken_urls : ℕ → List (Event × Reply) → List (List ℕ)
 taken_urls queue history = filter_map (λ x. taken_by queue x.0 x.1) history
 
+-- whether a fetch of the subqueue was done
+abbrev pub done_by : ℕ → Event → Reply → Bool
+done_by queue (Done place) (told.Count left) = nat_eq place queue
+done_by queue _ _ = false
+
+-- how many fetches of the subqueue were done
+abbrev pub done_in : ℕ → List (Event × Reply) → ℕ
+done_in queue history = count_by (λ x. done_by queue x.0 x.1) history
+
+-- the messages that left the subqueue, in the order in which their URLs were taken: of each URL the message that the
+-- subqueue accepted with it
+abbrev pub left_in : ℕ → List (Event × Reply) → List Message
+left_in queue history = filter_map (message_with (accepted_in queue history)) (taken_urls queue history)
+
 -- the k-th URL that was taken from a subqueue is the k-th that it accepted
 abbrev pub TakesInOrder : List (Event × Reply) → Type 0
 TakesInOrder history =
@@ -39,10 +53,11 @@ abbrev pub AcceptsOnce : List (Event × Reply) → Type 0
 AcceptsOnce history =
     (queue i j : ℕ) (url : List ℕ) → slice_get (accepted_urls queue history) i ≡ Some url → slice_get (accepted_urls queue history) j ≡ Some url → i ≡ j
 
--- messages of one sender leave a subqueue in the order of their numbers: the k-th that leaves is the k-th accepted
-abbrev pub LeavesInOrder : List (Event × Reply) → Type 0
-LeavesInOrder history =
-    (queue i j : ℕ) (m n : Message) → i < j → j < length (taken_urls queue history) → slice_get (accepted_in queue history) i ≡ Some m → slice_get (accepted_in queue history) j ≡ Some n → m.sender ≡ n.sender → m.number < n.number
+-- each URL that was taken is that of a message that left; and those of one sender left with the numbers 0, 1, 2, .. in
+-- this order
+pub record LeavesInOrder (history : List (Event × Reply)) : Type 0 where
+  pub leaves : (queue : ℕ) → map (λ m. m.url) (left_in queue history) ≡ taken_urls queue history
+  pub numbered : (queue sender k number : ℕ) → slice_get (numbers_of (left_in queue history) sender) k ≡ Some number → number ≡ k
 
 -- between two takes from a subqueue, the URL of the first is done
 abbrev pub FetchesOneAtATime : List (Event × Reply) → Type 0
@@ -68,14 +83,19 @@ abbrev pub TakesWhereAdmitted : List Event → List (Event × Reply) → Type 0
 TakesWhereAdmitted events history =
     (i j : ℕ) (sender queue there : ℕ) (url : List ℕ) → slice_get history i ≡ Some (Take queue, told.Taken url) → slice_get events j ≡ Some (Admit sender url there) → queue ≡ there
 
--- a reply says that a unit came out, and that one came back
-abbrev pub came_out : Reply → ℕ
-came_out (told.Entered count) = 1
-came_out _ = 0
+-- whether the reply says that a unit came out, and whether one came back
+abbrev pub comes_out : Reply → Bool
+comes_out (told.Entered count) = true
+comes_out _ = false
 
-abbrev pub came_back : Reply → ℕ
-came_back (told.Count count) = 1
-came_back _ = 0
+abbrev pub comes_back : Reply → Bool
+comes_back (told.Count count) = true
+comes_back _ = false
+
+-- this many units are out after a history: the opening one, and one more for each that came out, one less for each that
+-- came back
+abbrev pub AreOut : ℕ → List (Event × Reply) → Type 0
+AreOut count history = count + count_by (λ x. comes_back x.1) history ≡ 1 + count_by (λ x. comes_out x.1) history
 
 -- how many units the reply says are out after its event, if it says so
 abbrev pub told_count : Reply → Option ℕ
@@ -85,6 +105,29 @@ told_count (told.Count count) = Some count
 told_count (told.Pending count) = Some count
 told_count told.Closed = Some 0
 told_count _ = None
+
+-- the count that a reply tells is that of the units out by the history up to and with its event
+abbrev pub TellsUnits : List (Event × Reply) → Type 0
+TellsUnits history =
+    (k count : ℕ) (event : Event) (reply : Reply) → slice_get history k ≡ Some (event, reply) → told_count reply ≡ Some count → AreOut count (take (suc k) history)
+
+-- whether the reply says that the gate is closed, and whether one did
+abbrev pub says_closed : Reply → Bool
+says_closed told.Closed = true
+says_closed _ = false
+
+abbrev pub was_closed : List (Event × Reply) → Bool
+was_closed history = list_any (λ x. says_closed x.1) history
+
+-- a look finds the gate closed exactly if a reply before said so
+abbrev pub TellsClosing : List (Event × Reply) → Type 0
+TellsClosing history =
+    (k sender count : ℕ) (closed : Bool) → slice_get history k ≡ Some (Look sender, told.Word count closed) → closed ≡ was_closed (take k history)
+
+-- an acceptance is told of the subqueue that its event names
+abbrev pub NamesItsSubqueue : List (Event × Reply) → Type 0
+NamesItsSubqueue history =
+    (k sender queue there number : ℕ) (url : List ℕ) → slice_get history k ≡ Some (Admit sender url queue, told.Accepted there number) → there ≡ queue
 
 -- whether a reply says nothing of a URL or a unit that comes in or goes out to a worker
 abbrev pub is_quiet : Reply → Bool

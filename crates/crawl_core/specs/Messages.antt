@@ -1,6 +1,6 @@
 -- Messages, and what a list of them is asked. Nothing here speaks of the machine.
-use Rattle.std.specs.Prelude.{◌≡◌, ℕ, Bool, List, take, nat_eq, slice_get, Some}
-use Rattle.std.specs.List.{count_by, list_any}
+use Rattle.std.specs.Prelude.{◌≡◌, ℕ, Bool, List, map, take, nat_eq, slice_get, Option, Some}
+use Rattle.std.specs.List.{count_by, filter, find, list_any}
 use Rattle.std.specs.Str.{bytes_eq}
 
 -- a URL that a subqueue accepted; its number is how many earlier ones of the same sender the subqueue accepted
@@ -13,9 +13,17 @@ pub record Message : Type 0 where
 abbrev pub has_url : List Message → List ℕ → Bool
 has_url messages url = list_any (λ m. bytes_eq m.url url) messages
 
+-- the first of them that has the URL
+abbrev pub message_with : List Message → List ℕ → Option Message
+message_with messages url = find (λ m. bytes_eq m.url url) messages
+
 -- how many of them are the sender's
 abbrev pub count_from : List Message → ℕ → ℕ
 count_from messages sender = count_by (λ m. nat_eq m.sender sender) messages
+
+-- the numbers of those that are the sender's
+abbrev pub numbers_of : List Message → ℕ → List ℕ
+numbers_of messages sender = map (λ m. m.number) (filter (λ m. nat_eq m.sender sender) messages)
 
 -- no two of them have one URL
 abbrev pub UrlsDiffer : List Message → Type 0

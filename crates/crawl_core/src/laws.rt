@@ -1,24 +1,25 @@
 //! Laws of whole runs: what holds of any events and the replies that [`run`](crate::run) gives to them. None does anything
 //! when it is called.
-ghost use Rattle.std.specs.Prelude.{◌≡◌, ℕ, ◌≤◌, List, ◌++◌, ◌∷◌, [], map, slice_get, Some};
+ghost use Rattle.std.specs.Prelude.{◌≡◌, ℕ, List, ◌++◌, ◌∷◌, [], length, map, slice_get, Some};
 ghost use Rattle.std.specs.List.{zip, Contains};
 ghost use Rattle.crawl_core.specs.Messages.{Message};
 ghost use Rattle.crawl_core.specs.Subqueue.{Subqueue};
 ghost use Rattle.crawl_core.specs.State.{State, start, count_of};
 ghost use Rattle.crawl_core.specs.Run.{Run, IsRun};
-ghost use Rattle.crawl_core.specs.History.{TakesInOrder, AcceptsOnce, LeavesInOrder, FetchesOneAtATime, AssignsEachUrl, IsAdmitted, TakesOnce, TakesWhereAdmitted, StaysClosed, accepted_urls, taken_urls};
-ghost use Rattle.crawl_core.specs.Invariants.{GateInvariant, SubqueueInvariant, EachSubqueue, IsFinished};
+ghost use Rattle.crawl_core.specs.History.{TakesInOrder, AcceptsOnce, LeavesInOrder, FetchesOneAtATime, AssignsEachUrl, IsAdmitted, NamesItsSubqueue, TakesOnce, TakesWhereAdmitted, TellsUnits, TellsClosing, StaysClosed, accepted_urls, taken_urls, done_in};
+ghost use Rattle.crawl_core.specs.Invariants.{HasRoom, GateInvariant, SubqueueInvariant, EachSubqueue, IsState, IsFinished};
 ghost use Rattle.crawl_core.specs.declared.event.Event.{Event};
 ghost use Rattle.crawl_core.specs.declared.reply.Reply.{Reply};
 ghost use Rattle.crawl_core.specs.declared.reply.Reply.TheVariants as told;
 
-/// Events have one list of replies.
+/// Events have exactly one list of replies: there is one, and any two are equal.
 pub fn one_run()
-    ensures { (workers max : ℕ) (events : List Event) (replies others : List Reply) → IsRun workers max events replies → IsRun workers max events others → replies ≡ others }
+    ensures some { (workers max : ℕ) (events : List Event) → (replies : List Reply) × IsRun workers max events replies }
+    ensures one { (workers max : ℕ) (events : List Event) (replies others : List Reply) → IsRun workers max events replies → IsRun workers max events others → replies ≡ others }
 {}
 
-/// First in, first out, once: for each subqueue the k-th URL taken is the k-th accepted, no URL is accepted twice, messages
-/// of one sender leave in the order of their numbers, and one fetch is on at a time.
+/// First in, first out, once: for each subqueue the k-th URL taken is the k-th accepted, no URL is accepted twice, the
+/// messages of one sender leave with the numbers 0, 1, 2, .. in this order, and one fetch is on at a time.
 pub fn taken_once_in_order()
     ensures in_order { (workers max : ℕ) (events : List Event) (replies : List Reply) → IsRun workers max events replies → TakesInOrder (zip events replies) }
     ensures once { (workers max : ℕ) (events : List Event) (replies : List Reply) → IsRun workers max events replies → AcceptsOnce (zip events replies) }
@@ -30,9 +31,10 @@ pub fn taken_once_in_order()
     ensures where_admitted { (workers max : ℕ) (events : List Event) (replies : List Reply) → IsRun workers max events replies → AssignsEachUrl events → TakesWhereAdmitted events (zip events replies) }
 {}
 
-/// Nothing is made up: each URL that a subqueue has accepted, and each that was taken from it, was admitted to it by one of
-/// the events.
+/// Nothing is made up: an acceptance is told of the subqueue that its event names; and each URL that a subqueue has accepted,
+/// and each that was taken from it, was admitted to it by one of the events.
 pub fn admitted_before()
+    ensures named { (workers max : ℕ) (events : List Event) (replies : List Reply) → IsRun workers max events replies → NamesItsSubqueue (zip events replies) }
     ensures accepted { (workers max : ℕ) (history : List (Event × Reply)) (state : State) → Run (start workers max) history state → (queue k : ℕ) (found : Subqueue) (m : Message) → slice_get state.subqueues queue ≡ Some found → slice_get found.accepted k ≡ Some m → IsAdmitted (map (λ x. x.0) history) queue m.url }
     ensures taken { (workers max : ℕ) (events : List Event) (replies : List Reply) → IsRun workers max events replies → (place queue : ℕ) (url : List ℕ) → slice_get (zip events replies) place ≡ Some (Event.Take queue, told.Taken url) → IsAdmitted events queue url }
 {}
@@ -42,10 +44,17 @@ pub fn seen_means_accepted()
     ensures { (workers max : ℕ) (front back : List (Event × Reply)) (sender queue : ℕ) (url : List ℕ) (end : State) → Run (start workers max) (front ++ (Event.Admit sender url queue, told.Seen) ∷ back) end → Contains (accepted_urls queue front) url }
 {}
 
+/// Empty means taken: at a reply `Empty` every URL that the subqueue accepted was taken.
+pub fn empty_means_taken()
+    ensures { (workers max : ℕ) (front back : List (Event × Reply)) (queue : ℕ) (end : State) → Run (start workers max) (front ++ (Event.Take queue, told.Empty) ∷ back) end → taken_urls queue front ≡ accepted_urls queue front }
+{}
+
 /// Closed means done: at a reply `Closed` the opening unit is gone, nobody holds a unit, and every accepted message was
-/// taken and is done; so from each subqueue were taken exactly the URLs that it accepted, in order.
+/// taken and is done; so from each subqueue were taken exactly the URLs that it accepted, in order, and each of these fetches
+/// was answered as done.
 pub fn closed_means_finished()
     ensures drained { (workers max : ℕ) (front back : List (Event × Reply)) (event : Event) (end : State) → Run (start workers max) (front ++ (event, told.Closed) ∷ back) end → (queue : ℕ) → taken_urls queue front ≡ accepted_urls queue front }
+    ensures done { (workers max : ℕ) (front back : List (Event × Reply)) (event : Event) (end : State) → Run (start workers max) (front ++ (event, told.Closed) ∷ back) end → (queue : ℕ) → done_in queue front ≡ length (taken_urls queue front) }
     ensures finished { (workers max : ℕ) (front back : List (Event × Reply)) (event : Event) (end : State) → Run (start workers max) (front ++ (event, told.Closed) ∷ back) end → (state : State) × Run (start workers max) (front ++ (event, told.Closed) ∷ []) state × IsFinished state }
 {}
 
@@ -54,8 +63,12 @@ pub fn closed_for_good()
     ensures { (workers max : ℕ) (events : List Event) (replies : List Reply) → IsRun workers max events replies → StaysClosed (zip events replies) }
 {}
 
-/// Every state of a run meets the gate's invariant and, in each subqueue, the subqueue's.
+/// Every state of a run meets the gate's invariant and, in each subqueue, the subqueue's; it has the run's numbers, and it is
+/// what the history says. So are the counts that the replies tell, and whether a look finds the gate closed.
 pub fn invariants_in_runs()
-    ensures gate { (workers max : ℕ) (history : List (Event × Reply)) (state : State) → 1 ≤ max → Run (start workers max) history state → GateInvariant state.gate (count_of state) }
+    ensures gate { (workers max : ℕ) (history : List (Event × Reply)) (state : State) → HasRoom max → Run (start workers max) history state → GateInvariant state.gate (count_of state) }
     ensures subqueues { (workers max : ℕ) (history : List (Event × Reply)) (state : State) → Run (start workers max) history state → EachSubqueue SubqueueInvariant state }
+    ensures history { (workers max : ℕ) (history : List (Event × Reply)) (state : State) → Run (start workers max) history state → IsState workers max history state }
+    ensures told { (workers max : ℕ) (events : List Event) (replies : List Reply) → IsRun workers max events replies → TellsUnits (zip events replies) }
+    ensures told_closing { (workers max : ℕ) (events : List Event) (replies : List Reply) → IsRun workers max events replies → TellsClosing (zip events replies) }
 {}

@@ -1,6 +1,6 @@
 //! The machine: what it keeps, how it begins, and one step of it.
-ghost use Rattle.std.specs.Prelude.{◌≡◌, ◌<◌, ◌≤◌, ◌⊎◌, ◌↔◌, Err, IfOk, OnErr};
-ghost use Rattle.crawl_core.specs.Limits.{worker_limit, pending_limit};
+ghost use Rattle.std.specs.Prelude.{◌≡◌, ◌<◌, ◌≤◌, ◌⊎◌, ◌↔◌, Err, IfOk, OnOk, OnErr};
+ghost use Rattle.crawl_core.specs.Limits.{AreLimits, worker_limit, pending_limit};
 ghost use Rattle.crawl_core.specs.State.{start};
 ghost use Rattle.crawl_core.specs.Shows.{Shows, Makes};
 ghost use Rattle.crawl_core.specs.Moves.{Moves};
@@ -52,6 +52,7 @@ impl Core {
     /// `BadWorkers`, then `BadMax`, for a number beyond its limits; `NoMemory` where a growth was refused.
     pub fn new(alloc: Global, workers: u32, max: u64) -> Result<Core, CoreError>
         ensures start { IfOk result (λ core. Shows core (start workers max)) }
+        ensures limits { OnOk result (AreLimits workers max) }
         ensures bad_workers { (result ≡ Err CoreError.BadWorkers) ↔ ((workers < 1) ⊎ (worker_limit < workers)) }
         ensures bad_max { (result ≡ Err CoreError.BadMax) ↔ ((1 ≤ workers) × (workers ≤ worker_limit) × ((max < 1) ⊎ (pending_limit < max))) }
     {

@@ -1,6 +1,6 @@
 //! Whole runs.
-ghost use Rattle.std.specs.Prelude.{◌≡◌, ◌<◌, ◌≤◌, ◌⊎◌, ◌↔◌, Err, IfOk};
-ghost use Rattle.crawl_core.specs.Limits.{worker_limit, pending_limit};
+ghost use Rattle.std.specs.Prelude.{◌≡◌, ◌<◌, ◌≤◌, ◌⊎◌, ◌↔◌, Err, IfOk, OnOk};
+ghost use Rattle.crawl_core.specs.Limits.{AreLimits, worker_limit, pending_limit};
 ghost use Rattle.crawl_core.specs.Run.{IsRun};
 ghost use Rattle.crawl_core.specs.declared.error.CoreError.{CoreError};
 
@@ -16,6 +16,7 @@ use std::alloc::Global;
 /// Those of [`Core::new`]; `NoMemory` also where a step or a reply found no room.
 pub fn run(alloc: Global, workers: u32, max: u64, events: &[Event]) -> Result<Vec<Reply>, CoreError>
     ensures run { IfOk result (λ replies. IsRun workers max events.now replies.items) }
+    ensures limits { OnOk result (AreLimits workers max) }
     ensures bad_workers { (result ≡ Err CoreError.BadWorkers) ↔ ((workers < 1) ⊎ (worker_limit < workers)) }
     ensures bad_max { (result ≡ Err CoreError.BadMax) ↔ ((1 ≤ workers) × (workers ≤ worker_limit) × ((max < 1) ⊎ (pending_limit < max))) }
 {

@@ -1,6 +1,9 @@
 pub mod CutLines
+pub mod FirstVersion
 pub mod LeastLine
+pub mod PassedLines
 pub mod ReadWeb
 pub mod ReportLaws
 pub mod ReportOrder
+pub mod Unmixed
 pub mod WebLines

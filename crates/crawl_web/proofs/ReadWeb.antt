@@ -1,5 +1,5 @@
 -- What is known of a saved web while its lines are read one by one.
-use Rattle.std.proofs.Common.{◌≡◌, ◌⊎◌, inl, inr, ℕ, ◌+◌, ◌==◌, Bool, true, false, ◌||◌, not, cond, List, [], ◌∷◌, ◌++◌, length, Option, Some, None, Result, Ok, Err, codes, is_some, refl, sym, ap, subst, ◌∙◌, arith, append_assoc, append-nil, length-append, ne_eqb}
+use Rattle.std.proofs.Common.{◌≡◌, inl, inr, ℕ, ◌+◌, ◌==◌, Bool, true, false, ◌||◌, not, cond, List, [], ◌∷◌, ◌++◌, length, Option, Some, None, Ok, Err, codes, is_some, refl, sym, ap, subst, ◌∙◌, arith, append_assoc, append-nil, length-append, ne_eqb}
 use Rattle.std.specs.Bool.{if◌then◌else◌}
 use Rattle.std.specs.Borrow.{Bor}
 use Rattle.std.specs.BTreeMap.{btree_map_len, get, is_at}
@@ -16,7 +16,7 @@ use Rattle.crawl_keys.specs.Outcome.{IsRefusal}
 use Rattle.crawl_web.specs.LeastFault.{SoundAfter, IsLeastFault}
 use Rattle.crawl_web.specs.SavedWeb.{lines_behind}
 use Rattle.crawl_web.specs.WebLines.{is_page, is_link, is_moved_line, is_page_at, page_url}
-use Rattle.crawl_web.specs.WebChecks.{is_second, under_last_page, before, line_fault, fault_after}
+use Rattle.crawl_web.specs.WebChecks.{is_second, under_last_page, line_fault, fault_after}
 use Rattle.crawl_web.specs.KnownPages.{KnownPages, has_some, has, known_behind, kept_before, Adds, Follows}
 use Rattle.crawl_web.specs.WebFaults.{IsWebFault, IsWebRefusal, checked}
 use Rattle.crawl_web.specs.declared.saved_web.add.Above.{Above}
@@ -120,7 +120,7 @@ more_under true false x xs line e = e
 more_under false false x xs line e = refl
 more_under false true x xs line e = e
 
-under_more : (earlier : List (List ℕ)) (line : List ℕ) → under_last_page (earlier ++ line ∷ []) ≡ (if is_page line then [] else under_last_page earlier ++ line ∷ [])
+pub under_more : (earlier : List (List ℕ)) (line : List ℕ) → under_last_page (earlier ++ line ∷ []) ≡ (if is_page line then [] else under_last_page earlier ++ line ∷ [])
 under_more [] line = one_under (is_page line) line
 under_more (x ∷ xs) line =
     ap (λ b. if b then under_last_page (xs ++ line ∷ []) else x ∷ xs ++ line ∷ []) (list_any-append is_page (x ∷ xs) (line ∷ []) ∙ ap (λ b. list_any is_page (x ∷ xs) || b) (sym (or_false (is_page line))))

@@ -1,9 +1,9 @@
 -- The page that a saved web has at a URL.
-use Rattle.std.specs.Prelude.{ℕ, List, [], ◌∷◌, if◌then◌else◌, Option, Some, None, count_by, is_none}
-use Rattle.std.specs.List.{filter_map}
+use Rattle.std.specs.Prelude.{◌≡◌, ◌⊎◌, ℕ, not, List, [], ◌∷◌, if◌then◌else◌, Option, Some, None, count_by, is_none}
+use Rattle.std.specs.List.{filter_map, take_while}
 use Rattle.std.specs.Result.{result_ok}
 use Rattle.crawl_keys.specs.CanonicalText.{resolve}
-use Rattle.crawl_web.specs.WebLines.{line_of, is_page_at}
+use Rattle.crawl_web.specs.WebLines.{line_of, is_page, is_link, is_moved_line, is_page_at}
 use Rattle.crawl_web.specs.declared.page.Page.{Page}
 use Rattle.crawl_web.specs.declared.page.Page.TheVariants.{Found, Moved, Missing}
 use Rattle.crawl_web.specs.declared.saved_web.line.Line.{Line}
@@ -60,3 +60,14 @@ page_behind url (Some lines) = page_with url (moved_text lines) (link_texts line
 -- the page that the lines of a web say of a URL
 abbrev pub page_of : List (List ℕ) → List ℕ → Page
 page_of lines url = page_behind url (lines_behind lines url)
+
+-- ---- the words of the laws
+
+-- the lines among these up to the next page
+abbrev pub up_to_page : List (List ℕ) → List (List ℕ)
+up_to_page lines = take_while (λ line. not (is_page line)) lines
+
+-- no moved line stands among these; or one does, and no link
+abbrev pub IsUnmixed : List (List ℕ) → Type 0
+IsUnmixed lines =
+    (count_by is_moved_line lines ≡ 0) ⊎ ((count_by is_moved_line lines ≡ 1) × (count_by is_link lines ≡ 0))

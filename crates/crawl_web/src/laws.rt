@@ -1,7 +1,20 @@
-//! Laws of reports. None does anything when it is called.
-ghost use Rattle.std.specs.Prelude.{◌≡◌, ◌↔◌, ℕ, List, Contains, IsPermutation};
+//! Laws of saved webs and of reports. None does anything when it is called.
+ghost use Rattle.std.specs.Prelude.{◌≡◌, ◌↔◌, ℕ, false, List, Some, Contains, IsPermutation};
 ghost use Rattle.crawl_web.specs.declared.page.PageResult.{PageResult};
-ghost use Rattle.crawl_web.specs.ReportText.{results_by_url, report, results_at, IsInOrder, HasEachUrlOnce};
+ghost use Rattle.crawl_web.specs.SavedWeb.{page_of, lines_behind, up_to_page, IsUnmixed};
+ghost use Rattle.crawl_web.specs.WebChecks.{is_second};
+ghost use Rattle.crawl_web.specs.WebFaults.{IsSound};
+ghost use Rattle.crawl_web.specs.ReportText.{is_moved, results_by_url, report, results_at, IsInOrder, HasEachUrlOnce};
+
+/// In a saved web of version 1 no page has moved.
+pub fn none_moved_in_version_1()
+    ensures { (all : List (List ℕ)) (url : List ℕ) → IsSound all → is_second all ≡ false → is_moved (page_of all url) ≡ false }
+{}
+
+/// Under a page of a saved web stand links and no moved line, or one moved line and no link.
+pub fn none_mixed()
+    ensures { (all : List (List ℕ)) (url : List ℕ) (behind : List (List ℕ)) → IsSound all → lines_behind all url ≡ Some behind → IsUnmixed (up_to_page behind) }
+{}
 
 /// The lines of a report are those of all its results, in ascending order of URL, with the results of one URL as they were
 /// given. No other list is in that order.

@@ -1,5 +1,5 @@
 //! The checks of a line of a saved web, and the page that it adds.
-ghost use Rattle.std.specs.Prelude.{◌≡◌, OnOk, IfOk, is_some};
+ghost use Rattle.std.specs.Prelude.{◌≡◌, true, false, OnOk, IfOk, is_some};
 ghost use Rattle.crawl_keys.specs.CanonicalText.{canonical};
 ghost use Rattle.crawl_keys.specs.Outcome.{Gives};
 ghost use Rattle.std.specs.Result.{result_ok};
@@ -26,6 +26,48 @@ pub struct Above {
     pub moved: bool,
 }
 
+impl Above {
+    fn in_version(self, second: bool) -> Above
+        ensures { result ≡ record self { second = second } }
+    {
+        Above {
+            second,
+            link: self.link,
+            moved: self.moved,
+        }
+    }
+
+    fn under_new_page(self) -> Above
+        ensures { result ≡ record { second = self.second; link = false; moved = false } }
+    {
+        Above {
+            second: self.second,
+            link: false,
+            moved: false,
+        }
+    }
+
+    fn with_link(self) -> Above
+        ensures { result ≡ record self { link = true } }
+    {
+        Above {
+            second: self.second,
+            link: true,
+            moved: self.moved,
+        }
+    }
+
+    fn with_moved(self) -> Above
+        ensures { result ≡ record self { moved = true } }
+    {
+        Above {
+            second: self.second,
+            link: self.link,
+            moved: true,
+        }
+    }
+}
+
 /// Checks the line with this number, behind the lines whose pages are known, and adds the page that it is, if it is
 /// one, with the bytes behind it.
 pub fn add_line<'a>(
@@ -43,44 +85,22 @@ pub fn add_line<'a>(
     ensures follows { IfOk result (λ new. Follows number line.now above new) }
 {
     let text = text_of(number, line)?;
-    let Above {
-        second,
-        link,
-        moved,
-    } = above;
     if number == 1 {
-        let second = header(text)?;
-        return Ok(Above {
-            second,
-            link,
-            moved,
-        });
+        return Ok(above.in_version(header(text)?));
     }
     match line_of_text(text) {
         Line::Page(url) => {
             add_page(alloc, pages, number, url, behind)?;
-            Ok(Above {
-                second,
-                link: false,
-                moved: false,
-            })
+            Ok(above.under_new_page())
         }
         Line::Link(_) => {
-            check_under(number, !pages.is_empty(), moved)?;
-            Ok(Above {
-                second,
-                link: true,
-                moved,
-            })
+            check_under(number, !pages.is_empty(), above.moved)?;
+            Ok(above.with_link())
         }
-        Line::Moved(_) if !second => Err(WebError::BadLine(number)),
+        Line::Moved(_) if !above.second => Err(WebError::BadLine(number)),
         Line::Moved(_) => {
-            check_under(number, !pages.is_empty(), link || moved)?;
-            Ok(Above {
-                second,
-                link,
-                moved: true,
-            })
+            check_under(number, !pages.is_empty(), above.link || above.moved)?;
+            Ok(above.with_moved())
         }
         Line::Empty => Ok(above),
         Line::Other => Err(WebError::BadLine(number)),

@@ -1,4 +1,5 @@
-use Rattle.crawl_core.proofs.RunLaws.{takes_in_order, accepts_once, leaves_in_order, fetches_one_at_a_time, takes_once, takes_where_admitted}
+use Rattle.crawl_core.proofs.QueueHistory.{takes_in_order, accepts_once, leaves_in_order, fetches_one_at_a_time}
+use Rattle.crawl_core.proofs.RunLaws.{takes_once, takes_where_admitted}
 use Rattle.crawl_core.proofs.laws.taken_once_in_order.Goals as goal
 
 pub returns-clause-in_order : goal.returns-clause-in_order

@@ -1,0 +1,211 @@
+-- Parts of a run, and what every run keeps.
+use Rattle.std.proofs.Common.{Bool, true, false, ◌||◌, eq-eqb, cond, ◌≡◌, ℕ, zero, suc, ◌+◌, ◌-◌, ◌<◌, List, [], ◌∷◌, ◌++◌, length, take, drop, nat_eq, replicate, slice_get, Some, refl, sym, ap, subst, ◌∙◌, arith, true≢false, mul-zero, zero-add}
+use Rattle.std.specs.List.{count_by, zip}
+use Rattle.std.proofs.lemmas.List.{length-replicate}
+use Rattle.std.proofs.lemmas.List.Sums.{sum_by-cons}
+use Rattle.std.proofs.lemmas.List.Folds.{sum_by-replicate}
+use Rattle.crawl_core.specs.declared.event.Event.{Event}
+use Rattle.crawl_core.specs.declared.event.Event.TheVariants.{Look}
+use Rattle.crawl_core.specs.declared.reply.Reply.{Reply}
+use Rattle.crawl_core.specs.declared.reply.Reply.TheVariants as told
+use Rattle.crawl_core.specs.Subqueue.{empty_subqueue, unfinished}
+use Rattle.crawl_core.specs.GateSide.{holds}
+use Rattle.crawl_core.specs.State.{State, start, count_of}
+use Rattle.crawl_core.specs.Step.{Step, turn}
+use Rattle.crawl_core.specs.Run.{Run, IsRun}
+use Rattle.crawl_core.specs.History.{comes_out, comes_back, told_count, AreOut, TellsUnits, says_closed, was_closed, TellsClosing}
+use Rattle.crawl_core.proofs.Effects.{take_one_more}
+use Rattle.crawl_core.proofs.RunSteps.{Run-push}
+use Rattle.crawl_core.proofs.Sound.{Sound, gate_effect, some_is}
+
+pub eqb_same : (n : ℕ) → nat_eq n n ≡ true
+eqb_same n = eq-eqb n n refl
+
+pub pair_is : {A B : Type 0} {p : A × B} {a : A} {b : B} → p.0 ≡ a → p.1 ≡ b → p ≡ (a, b)
+pair_is e f = rw (← e, ← f) refl
+
+pub slice_get-drop : {A : Type 0} (xs : List A) (n k : ℕ) → slice_get (drop n xs) k ≡ slice_get xs (n + k)
+slice_get-drop xs zero k = rw (zero-add k) refl
+slice_get-drop [] (suc n) k = refl
+slice_get-drop (x ∷ xs) (suc n) k = let sum : suc n + k ≡ suc (n + k) = omega arith in slice_get-drop xs n k ∙ sym (ap (slice_get (x ∷ xs)) sum)
+
+-- a later place of a list, from what comes after an earlier one
+pub later_place : {A : Type 0} (xs : List A) (i j : ℕ) (x : A) → i < j → slice_get xs j ≡ Some x → slice_get (drop (suc i) xs) (j - suc i) ≡ Some x
+later_place xs i j x below at = let place : suc i + (j - suc i) ≡ j = omega arith in slice_get-drop xs (suc i) (j - suc i) ∙ ap (slice_get xs) place ∙ at
+
+-- ## Parts of a run
+
+-- what each turn keeps, a run keeps
+pub run_keeps : (P : State → Type 0) → ((state : State) → P state → (event : Event) → P (turn state event).state) → (old : State) (history : List (Event × Reply)) (new : State) → P old → Run old history new → P new
+run_keeps P keeps old [] new holds run = subst P (sym run) holds
+run_keeps P keeps old (x ∷ xs) new holds run = run_keeps P keeps run.0 xs new (subst P (sym run.1.state_is) (keeps old holds x.0)) run.2
+
+-- the state before an event of a run, and the one after it
+pub record Moment (old : State) (history : List (Event × Reply)) (place : ℕ) (x : Event × Reply) (new : State) : Type 0 where
+  pub before : State
+  pub after : State
+  pub came : Run old (take place history) before
+  pub step : Step before x.0 x.1 after
+  pub goes : Run after (drop (suc place) history) new
+
+pub run_at : (old : State) (history : List (Event × Reply)) (place : ℕ) (x : Event × Reply) (new : State) → Run old history new → slice_get history place ≡ Some x → Moment old history place x new
+run_at old [] place x new run at = absurd (cc)
+run_at old (y ∷ ys) zero x new run at = record {
+  before = old;
+  after = run.0;
+  came = refl;
+  step = subst (λ z. Step old z.0 z.1 run.0) (some_is at) run.1;
+  goes = run.2;
+}
+run_at old (y ∷ ys) (suc place) x new run at =
+    let rest = run_at run.0 ys place x new run.2 at in
+    record {
+      before = rest.before;
+      after = rest.after;
+      came = (run.0, run.1, rest.came);
+      step = rest.step;
+      goes = rest.goes;
+    }
+
+-- a run of two parts
+pub run_split : (old : State) (front back : List (Event × Reply)) (new : State) → Run old (front ++ back) new → (mid : State) × Run old front mid × Run mid back new
+run_split old [] back new run = (old, refl, run)
+run_split old (x ∷ xs) back new run = let rest = run_split run.0 xs back new run.2 in (rest.0, (run.0, run.1, rest.1), rest.2)
+
+-- ## The first state, and every one
+
+pub get-replicate : {X : Type 0} (n : ℕ) (x : X) (i : ℕ) (y : X) → slice_get (replicate n x) i ≡ Some y → y ≡ x
+get-replicate zero x i y at = absurd (cc)
+get-replicate (suc n) x zero y at = sym (some_is at)
+get-replicate (suc n) x (suc i) y at = get-replicate n x i y at
+
+pub start_sound : (workers max : ℕ) → Sound (start workers max)
+start_sound workers max = record {
+  empty = λ closed. absurd (true≢false (sym closed));
+  met = λ _. refl;
+  holders = tt;
+  queues = λ place queue at. rw (get-replicate workers _ place queue at) (record {
+    within = omega arith;
+    distinct = λ i j m n at_i at_j same. absurd (cc);
+    numbered = λ k m at_k. absurd (cc);
+    begun = omega arith;
+  });
+}
+
+pub run_sound : (workers max : ℕ) (history : List (Event × Reply)) (state : State) → Run (start workers max) history state → Sound state
+run_sound workers max history state run =
+    run_keeps Sound (λ s sound event. (gate_effect s sound event).sound) (start workers max) history state (start_sound workers max) run
+
+-- ## One run
+
+same_runs : (old : State) (events : List Event) (replies others : List Reply) (new new' : State) → length replies ≡ length events → length others ≡ length events → Run old (zip events replies) new → Run old (zip events others) new' → replies ≡ others
+same_runs old [] [] [] new new' n m run other = refl
+same_runs old [] (r ∷ rs) others new new' n m run other = absurd (omega (arith, n))
+same_runs old [] [] (r ∷ rs) new new' n m run other = absurd (omega (arith, m))
+same_runs old (e ∷ es) [] others new new' n m run other = absurd (omega (arith, n))
+same_runs old (e ∷ es) (r ∷ rs) [] new new' n m run other = absurd (omega (arith, m))
+same_runs old (e ∷ es) (r ∷ rs) (q ∷ qs) new new' n m run other =
+    let reply : r ≡ q = run.1.reply_is ∙ sym other.1.reply_is in
+    let next : other.0 ≡ run.0 = other.1.state_is ∙ sym run.1.state_is in
+    let rest = same_runs run.0 es rs qs new new' (omega (arith, n)) (omega (arith, m)) run.2 (rw next at other.2) in
+    rw (reply, rest) refl
+
+pub one_run : (workers max : ℕ) (events : List Event) (replies others : List Reply) → IsRun workers max events replies → IsRun workers max events others → replies ≡ others
+one_run workers max events replies others run other =
+    same_runs (start workers max) events replies others run.end other.end run.as_many other.as_many run.run other.run
+
+-- ## The units
+
+pub start_count : (workers max : ℕ) → count_of (start workers max) ≡ 1
+start_count workers max = rw (sum_by-replicate unfinished workers empty_subqueue, mul-zero workers) refl
+
+-- the units out change by those that came out and those that came back
+run_units : (old : State) (history : List (Event × Reply)) (new : State) → Sound old → Run old history new → count_of new + count_by (λ (x : Event × Reply). comes_back x.1) history ≡ count_of old + count_by (λ (x : Event × Reply). comes_out x.1) history
+run_units old [] new sound run = rw run refl
+run_units old (x ∷ xs) new sound run =
+    let effect = gate_effect old sound x.0 in
+    let after = subst Sound (sym run.1.state_is) effect.sound in
+    let here : count_of run.0 + cond (comes_back x.1) 1 0 ≡ count_of old + cond (comes_out x.1) 1 0 = rw (run.1.state_is, run.1.reply_is) effect.units in
+    let rest = run_units run.0 xs new after run.2 in
+    rw (sum_by-cons (λ (y : Event × Reply). cond (comes_back y.1) 1 0) x xs, sum_by-cons (λ (y : Event × Reply). cond (comes_out y.1) 1 0) x xs) (omega (arith, here, rest))
+
+pub units_out_of : (workers max : ℕ) (history : List (Event × Reply)) (state : State) → Run (start workers max) history state → AreOut (count_of state) history
+units_out_of workers max history state run =
+    let changes = run_units (start workers max) history state (start_sound workers max) run in
+    rw (start_count workers max) at changes
+
+pub tells_units : (workers max : ℕ) (events : List Event) (replies : List Reply) → IsRun workers max events replies → TellsUnits (zip events replies)
+tells_units workers max events replies run k count event reply at told_is =
+    let history = zip events replies in
+    let moment = run_at (start workers max) history k (event, reply) run.end run.run at in
+    let effect = gate_effect moment.before (run_sound workers max (take k history) moment.before moment.came) event in
+    let told_here : told_count (turn moment.before event).reply ≡ Some count = rw (← moment.step.reply_is) told_is in
+    let is_count : count_of moment.after ≡ count = rw moment.step.state_is (effect.tells count told_here) in
+    let whole : Run (start workers max) (take (suc k) history) moment.after = rw (take_one_more history k (event, reply) at) (Run-push (start workers max) (take k history) moment.before (event, reply) moment.after moment.came moment.step) in
+    rw (← is_count) (units_out_of workers max (take (suc k) history) moment.after whole)
+
+-- ## Closed or not
+
+or_three : (a b c : Bool) → ((a || b) || c) ≡ (a || (b || c))
+or_three true b c = refl
+or_three false b c = refl
+
+run_closes : (old : State) (history : List (Event × Reply)) (new : State) → Sound old → Run old history new → new.gate.closed ≡ (old.gate.closed || was_closed history)
+run_closes old [] new sound run = rw run (or_none old.gate.closed)
+  where
+    or_none : (b : Bool) → b ≡ (b || false)
+    or_none true = refl
+    or_none false = refl
+run_closes old (x ∷ xs) new sound run =
+    let effect = gate_effect old sound x.0 in
+    let after = subst Sound (sym run.1.state_is) effect.sound in
+    let here : run.0.gate.closed ≡ (old.gate.closed || says_closed x.1) = rw (run.1.state_is, run.1.reply_is) effect.closing in
+    let rest = run_closes run.0 xs new after run.2 in
+    rest ∙ ap (λ b. b || was_closed xs) here ∙ or_three old.gate.closed (says_closed x.1) (was_closed xs)
+
+pub closed_of : (workers max : ℕ) (history : List (Event × Reply)) (state : State) → Run (start workers max) history state → state.gate.closed ≡ was_closed history
+closed_of workers max history state run = run_closes (start workers max) history state (start_sound workers max) run
+
+flag_of_word : {a b : ℕ} {c d : Bool} → told.Word a c ≡ told.Word b d → c ≡ d
+flag_of_word e = cc
+
+pub tells_closing : (workers max : ℕ) (events : List Event) (replies : List Reply) → IsRun workers max events replies → TellsClosing (zip events replies)
+tells_closing workers max events replies run k sender count closed at =
+    let history = zip events replies in
+    let moment = run_at (start workers max) history k (Look sender, told.Word count closed) run.end run.run at in
+    flag_of_word moment.step.reply_is ∙ closed_of workers max (take k history) moment.before moment.came
+
+-- ## The numbers of a frontier
+
+pub record Shape (workers max : ℕ) (state : State) : Type 0 where
+  pub sound : Sound state
+  pub maximum : state.gate.max ≡ max
+  pub as_many : length state.subqueues ≡ workers
+
+pub run_shape : (workers max : ℕ) (history : List (Event × Reply)) (state : State) → Run (start workers max) history state → Shape workers max state
+run_shape workers max history state run =
+    run_keeps (Shape workers max) (λ s shape event. let effect = gate_effect s shape.sound event in record { sound = effect.sound; maximum = effect.max ∙ shape.maximum; as_many = effect.as_many ∙ shape.as_many }) (start workers max) history state (record { sound = start_sound workers max; maximum = refl; as_many = length-replicate workers empty_subqueue }) run
+
+-- ## A run for all events
+
+record Replied (old : State) (events : List Event) : Type 0 where
+  pub replies : List Reply
+  pub as_many : length replies ≡ length events
+  pub end : State
+  pub run : Run old (zip events replies) end
+
+replied : (old : State) (events : List Event) → Replied old events
+replied old [] = record { replies = []; as_many = refl; end = old; run = refl }
+replied old (e ∷ es) =
+    let rest = replied (turn old e).state es in
+    record {
+      replies = (turn old e).reply ∷ rest.replies;
+      as_many = ap suc rest.as_many;
+      end = rest.end;
+      run = ((turn old e).state, record { reply_is = refl; state_is = refl }, rest.run);
+    }
+
+pub some_run : (workers max : ℕ) (events : List Event) → (replies : List Reply) × IsRun workers max events replies
+some_run workers max events =
+    let all = replied (start workers max) events in
+    (all.replies, record { as_many = all.as_many; end = all.end; run = all.run })
