@@ -2,7 +2,7 @@
 use Rattle.std.proofs.Common.{◌≡◌, ℕ, zero, suc, ◌+◌, ◌<◌, Bool, true, false, cond, List, [], ◌∷◌, ◌++◌, length, map, filter_map, slice_get, slice_index_or, Option, Some, None, Result, Ok, Err, IfOk, refl, sym, ap, subst, ◌∙◌, arith, nat_eq, eq-eqb, inl, inr}
 use Rattle.std.specs.Bool.{if◌then◌else◌}
 use Rattle.std.specs.Option.{option_to_list}
-use Rattle.std.specs.List.{All, AllByRecursion, Contains, cons_option, zip}
+use Rattle.std.specs.List.{All, Contains, cons_option, zip}
 use Rattle.std.proofs.lemmas.List.{append_assoc, map-append, length-map, length_push}
 use Rattle.std.proofs.lemmas.Grind.{flat_map-append}
 use Rattle.std.proofs.lemmas.List.Elements.{All-push, All-nil, All-contains, All-weaker, All-map, All-contains_itself, recursion_from_All, Contains-append_left, Contains-append_right, Contains-append_cases, Contains-push, Contains-push_cases, Contains-get_or, filter_map-append}
@@ -24,9 +24,11 @@ use Rattle.crawl_keys.specs.CanonicalText.{canonical}
 use Rattle.crawl_web.specs.declared.page.Page.{Page}
 use Rattle.crawl_web.specs.declared.page.PageResult.{PageResult}
 use Rattle.crawl_web.specs.Pages.{links_of}
-use Rattle.mercator.specs.declared.by_core.Found.{Found}
-use Rattle.mercator.specs.Crawled.{AreApart, IsWhole, urls_of, wanted}
-use Rattle.mercator.specs.ByCore.{IsAddressed, taken_by_any, Going, Standing, Crawling, Taking, Crawled, claimed, with_offers}
+use Rattle.mercator.specs.declared.by_core.Progress.{Progress}
+use Rattle.mercator.specs.Assignment.{IsAddressed}
+use Rattle.mercator.specs.Results.{AreApart, IsWhole, urls_of, wanted}
+use Rattle.mercator.proofs.Assigned.{all_at}
+use Rattle.mercator.specs.ByCore.{taken_by_any, Going, Standing, Crawling, Taking, CrawlEnd, claimed, with_offers}
 
 -- ## Lists
 
@@ -79,11 +81,6 @@ wider_first (Some z) p implies fs gs y rest has = rw (implies z refl) (elim (Con
 wider : {X Y : Type 0} (f g : X → Option Y) → ((x : X) (y : Y) → f x ≡ Some y → g x ≡ Some y) → (xs : List X) (y : Y) → Contains (filter_map f xs) y → Contains (filter_map g xs) y
 wider f g implies [] y has = has
 wider f g implies (x ∷ xs) y has = wider_first (f x) (g x) (implies x) (filter_map f xs) (filter_map g xs) y (wider f g implies xs y) has
-
-all_at : {X : Type 0} (P : X → Type 0) (xs : List X) (i : ℕ) (x : X) → AllByRecursion P xs → slice_get xs i ≡ Some x → P x
-all_at P [] i x all at = absurd (cc)
-all_at P (y ∷ ys) zero x all at = let same : y ≡ x = cc in subst P same all.0
-all_at P (y ∷ ys) (suc i) x all at = all_at P ys i x all.1 at
 
 -- elements that come from different places differ, where each place gives its own
 abbrev OnePlace : {X Y : Type 0} → (X → Option Y) → List X → Type 0
@@ -376,7 +373,7 @@ wanted_more seeds results result =
     rw (flat_map-append (λ (r : PageResult). links_of r.page) results (result ∷ []), append_nil (links_of result.page)) (sym (append_assoc seeds _ _))
 
 -- a URL was fetched, and its links offered
-pub fetched : {workers max : ℕ} {meaning : List ℕ → Page} {seeds taken : List (List ℕ)} {url : List ℕ} {old : Found} (page : Page) (refused : ℕ) (new : Found) → page ≡ meaning url → (new.lost ≡ 0 → (old.lost ≡ 0) × (refused ≡ 0)) → new.results.items ≡ old.results.items ++ record { url = url; page = page } ∷ [] → Taking workers max meaning seeds taken url old → Going workers max new.core (taken ++ url ∷ []) (with_offers refused (claimed seeds old) (links_of page)) → Crawling workers max meaning seeds new
+pub fetched : {workers max : ℕ} {meaning : List ℕ → Page} {seeds taken : List (List ℕ)} {url : List ℕ} {old : Progress} (page : Page) (refused : ℕ) (new : Progress) → page ≡ meaning url → (new.lost ≡ 0 → (old.lost ≡ 0) × (refused ≡ 0)) → new.results.items ≡ old.results.items ++ record { url = url; page = page } ∷ [] → Taking workers max meaning seeds taken url old → Going workers max new.core (taken ++ url ∷ []) (with_offers refused (claimed seeds old) (links_of page)) → Crawling workers max meaning seeds new
 fetched {workers} {max} {meaning} {seeds} {taken} {url} {old} page refused new means both more taking going =
     let result : PageResult = record { url = url; page = page } in
     let wants : wanted seeds new.results.items ≡ wanted seeds old.results.items ++ links_of page = rw more (wanted_more seeds old.results.items result) in
@@ -387,7 +384,7 @@ fetched {workers} {max} {meaning} {seeds} {taken} {url} {old} page refused new m
     }
 
 -- a URL was lost
-pub lost_one : {workers max : ℕ} {meaning : List ℕ → Page} {seeds taken : List (List ℕ)} {url : List ℕ} {old : Found} (new : Found) → (new.lost ≡ 0 → ⊥) → new.results ≡ old.results → new.core ≡ old.core → Taking workers max meaning seeds taken url old → Crawling workers max meaning seeds new
+pub lost_one : {workers max : ℕ} {meaning : List ℕ → Page} {seeds taken : List (List ℕ)} {url : List ℕ} {old : Progress} (new : Progress) → (new.lost ≡ 0 → ⊥) → new.results ≡ old.results → new.core ≡ old.core → Taking workers max meaning seeds taken url old → Crawling workers max meaning seeds new
 lost_one {workers} {max} {meaning} {seeds} {taken} {url} {old} new some results core taking = record {
   taken = taken ++ url ∷ [];
   going = rw core (claim_none new.lost (wanted seeds new.results.items) some taking.going);
@@ -395,7 +392,7 @@ lost_one {workers} {max} {meaning} {seeds} {taken} {url} {old} new some results 
 }
 
 -- the crawl goes on where what was taken, the results and the losses are the same
-pub crawling_on : {workers max : ℕ} {meaning : List ℕ → Page} {seeds : List (List ℕ)} (old new : Found) → ((taken offers : List (List ℕ)) → Going workers max old.core taken offers → Going workers max new.core taken offers) → new.results ≡ old.results → new.lost ≡ old.lost → Crawling workers max meaning seeds old → Crawling workers max meaning seeds new
+pub crawling_on : {workers max : ℕ} {meaning : List ℕ → Page} {seeds : List (List ℕ)} (old new : Progress) → ((taken offers : List (List ℕ)) → Going workers max old.core taken offers → Going workers max new.core taken offers) → new.results ≡ old.results → new.lost ≡ old.lost → Crawling workers max meaning seeds old → Crawling workers max meaning seeds new
 crawling_on {workers} {max} {meaning} {seeds} old new goes results lost crawling = record {
   taken = crawling.taken;
   going = rw (results, lost) (goes crawling.taken (claimed seeds old) crawling.going);
@@ -403,7 +400,7 @@ crawling_on {workers} {max} {meaning} {seeds} old new goes results lost crawling
 }
 
 -- the seeds were offered
-pub begun : {workers max : ℕ} {seeds : List (List ℕ)} (meaning : List ℕ → Page) (found : Found) → found.results.items ≡ [] → Going workers max found.core [] (with_offers found.lost [] seeds) → Crawling workers max meaning seeds found
+pub begun : {workers max : ℕ} {seeds : List (List ℕ)} (meaning : List ℕ → Page) (found : Progress) → found.results.items ≡ [] → Going workers max found.core [] (with_offers found.lost [] seeds) → Crawling workers max meaning seeds found
 begun {workers} {max} {seeds} meaning found none going = record {
   taken = [];
   going = rw (none, append_nil seeds) going;
@@ -416,7 +413,7 @@ begun {workers} {max} {seeds} meaning found none going = record {
 }
 
 -- the gate closed
-pub crawled : {workers max : ℕ} {meaning : List ℕ → Page} {seeds : List (List ℕ)} (old new : Found) → ((taken offers : List (List ℕ)) → Going workers max old.core taken offers → All (Contains taken) offers) → new.results ≡ old.results → new.lost ≡ old.lost → Crawling workers max meaning seeds old → Crawled meaning seeds new
+pub crawled : {workers max : ℕ} {meaning : List ℕ → Page} {seeds : List (List ℕ)} (old new : Progress) → ((taken offers : List (List ℕ)) → Going workers max old.core taken offers → All (Contains taken) offers) → new.results ≡ old.results → new.lost ≡ old.lost → Crawling workers max meaning seeds old → CrawlEnd meaning seeds new
 crawled {workers} {max} {meaning} {seeds} old new whole results lost crawling = record {
   pages = rw results crawling.standing.pages;
   apart = rw results crawling.standing.apart;

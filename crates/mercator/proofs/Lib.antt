@@ -1,6 +1,10 @@
-pub mod Commands
+pub mod Assigned
 pub mod CoreCrawl
+pub mod EventLines
+pub mod HeaderWords
 pub mod Least
-pub mod Placing
+pub mod LineWords
+pub mod NumberText
 pub mod ReadLines
 pub mod ReadNumbers
+pub mod Seeds

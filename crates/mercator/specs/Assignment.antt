@@ -1,10 +1,16 @@
--- Which subqueue an admission names.
-use Rattle.std.specs.Prelude.{◌≡◌, ℕ, List, slice_get, Some}
+-- What an admission names.
+use Rattle.std.specs.Prelude.{◌≡◌, ℕ, List, Ok}
+use Rattle.std.specs.List.{All}
 use Rattle.crawl_core.specs.declared.event.Event.{Event}
 use Rattle.crawl_core.specs.declared.event.Event.TheVariants.{Admit}
 use Rattle.crawl_keys.specs.Assignment.{subqueue_of}
+use Rattle.crawl_keys.specs.CanonicalText.{canonical}
 
--- each admission names the subqueue that its URL's host key is assigned to
+-- an admission names a canonical URL, and the subqueue among so many that this URL's host key is assigned to
+abbrev pub IsAddressed : ℕ → Event → Type 0
+IsAddressed workers (Admit sender url queue) = (queue ≡ subqueue_of url workers) × (canonical url ≡ Ok url)
+IsAddressed workers _ = Unit {0}
+
+-- each admission does
 abbrev pub IsAssigned : ℕ → List Event → Type 0
-IsAssigned workers events =
-    (place sender : ℕ) (url : List ℕ) (queue : ℕ) → slice_get events place ≡ Some (Admit sender url queue) → queue ≡ subqueue_of url workers
+IsAssigned workers events = All (IsAddressed workers) events

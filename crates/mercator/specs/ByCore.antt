@@ -1,8 +1,8 @@
 -- Where a crawl that steps the machine stands. It goes with that crawl once the frontier is there.
-use Rattle.std.specs.Prelude.{◌≡◌, ℕ, zero, suc, List, [], ◌∷◌, ◌++◌, Option, Some, None, Ok}
+use Rattle.std.specs.Prelude.{◌≡◌, ℕ, zero, suc, List, [], ◌∷◌, ◌++◌, Option, Some, None}
 use Rattle.std.specs.List.{All, Contains, filter_map}
 use Rattle.crawl_core.specs.declared.event.Event.{Event}
-use Rattle.crawl_core.specs.declared.event.Event.TheVariants.{Admit, Take}
+use Rattle.crawl_core.specs.declared.event.Event.TheVariants.{Take}
 use Rattle.crawl_core.specs.declared.reply.Reply.{Reply}
 use Rattle.crawl_core.specs.declared.reply.Reply.TheVariants.{Taken}
 use Rattle.crawl_core.specs.State.{State, start}
@@ -11,16 +11,11 @@ use Rattle.crawl_core.specs.Shows.{Shows}
 use Rattle.crawl_core.specs.Run.{Run}
 use Rattle.crawl_core.specs.History.{accepted_urls}
 use Rattle.crawl_keys.specs.Assignment.{subqueue_of}
-use Rattle.crawl_keys.specs.CanonicalText.{canonical}
 use Rattle.crawl_web.specs.declared.page.Page.{Page}
 use Rattle.crawl_web.specs.declared.page.PageResult.{PageResult}
-use Rattle.mercator.specs.Crawled.{ArePages, AreApart, IsWhole, urls_of, wanted}
-use Rattle.mercator.specs.declared.by_core.Found.{Found}
-
--- an admission has a canonical URL and names its subqueue
-abbrev pub IsAddressed : ℕ → Event → Type 0
-IsAddressed workers (Admit sender url queue) = (queue ≡ subqueue_of url workers) × (canonical url ≡ Ok url)
-IsAddressed workers _ = Unit {0}
+use Rattle.mercator.specs.Assignment.{IsAddressed}
+use Rattle.mercator.specs.Results.{ArePages, AreApart, IsWhole, urls_of, wanted}
+use Rattle.mercator.specs.declared.by_core.Progress.{Progress}
 
 -- the URL that was taken, if one was
 abbrev pub taken_by_any : Event → Reply → Option (List ℕ)
@@ -51,22 +46,22 @@ pub record Standing (meaning : List ℕ → Page) (taken : List (List ℕ)) (res
   pub each : lost ≡ 0 → urls_of results ≡ taken
 
 -- what is accepted where nothing was lost
-abbrev pub claimed : List (List ℕ) → Found → List (List ℕ)
+abbrev pub claimed : List (List ℕ) → Progress → List (List ℕ)
 claimed seeds found = with_offers found.lost [] (wanted seeds found.results.items)
 
 -- the crawl has gone so far with these seeds
-pub record Crawling (workers max : ℕ) (meaning : List ℕ → Page) (seeds : List (List ℕ)) (found : Found) : Type 0 where
+pub record Crawling (workers max : ℕ) (meaning : List ℕ → Page) (seeds : List (List ℕ)) (found : Progress) : Type 0 where
   pub taken : List (List ℕ)
   pub going : Going workers max found.core taken (claimed seeds found)
   pub standing : Standing meaning taken found.results.items found.lost
 
 -- the crawl has gone so far, and now this URL was taken
-pub record Taking (workers max : ℕ) (meaning : List ℕ → Page) (seeds taken : List (List ℕ)) (url : List ℕ) (found : Found) : Type 0 where
+pub record Taking (workers max : ℕ) (meaning : List ℕ → Page) (seeds taken : List (List ℕ)) (url : List ℕ) (found : Progress) : Type 0 where
   pub going : Going workers max found.core (taken ++ url ∷ []) (claimed seeds found)
   pub standing : Standing meaning taken found.results.items found.lost
 
 -- the crawl is at its end
-pub record Crawled (meaning : List ℕ → Page) (seeds : List (List ℕ)) (found : Found) : Type 0 where
+pub record CrawlEnd (meaning : List ℕ → Page) (seeds : List (List ℕ)) (found : Progress) : Type 0 where
   pub pages : ArePages meaning found.results.items
   pub apart : AreApart (urls_of found.results.items)
   pub whole : found.lost ≡ 0 → IsWhole seeds found.results.items

@@ -1,6 +1,5 @@
 -- The replay of a script.
-use Rattle.std.specs.Prelude.{◌≡◌, ℕ, List, Option, Ok}
-use Rattle.std.specs.Io.KnownBytes.{Appends}
+use Rattle.std.specs.Prelude.{◌≡◌, ℕ, List, Ok}
 use Rattle.crawl_core.specs.declared.reply.Reply.{Reply}
 use Rattle.crawl_core.specs.Run.{IsRun}
 use Rattle.mercator.specs.Script.{Said, script_of}
@@ -13,9 +12,3 @@ pub record IsReplay (bytes text : List ℕ) : Type 0 where
   pub replies : List Reply
   pub run : IsRun script.workers script.max script.events replies
   pub written : text ≡ reply_lines replies
-
--- a writer that held the old bytes gained the replay of these bytes, where it says what it holds
-pub record GainsReplay (bytes : List ℕ) (old new : Option (List ℕ)) : Type 0 where
-  pub text : List ℕ
-  pub replay : IsReplay bytes text
-  pub gained : Appends old new text

@@ -5,7 +5,7 @@ use Rattle.std.specs.Str.{bytes_eq}
 use Rattle.std.specs.Str.Lines.{lines}
 use Rattle.crawl_core.specs.declared.event.Event.{Event}
 use Rattle.crawl_core.specs.declared.event.Event.TheVariants.{Look, Enter, Admit, Back, EndSeeds, Take, Done, Close}
-use Rattle.crawl_core.specs.declared.limits.TheConstants.{WORKER_LIMIT, PENDING_LIMIT}
+use Rattle.crawl_core.specs.Limits.{worker_limit, pending_limit}
 use Rattle.crawl_keys.specs.declared.error.KeyError.{KeyError}
 use Rattle.crawl_keys.specs.CanonicalText.{canonical}
 use Rattle.crawl_keys.specs.Assignment.{subqueue_of}
@@ -28,7 +28,7 @@ pub record Said : Type 0 where
 
 -- the limits of a frontier
 abbrev pub is_within : ℕ → ℕ → Bool
-is_within workers max = nat_le 1 workers && nat_le workers WORKER_LIMIT && nat_le 1 max && nat_le max PENDING_LIMIT
+is_within workers max = nat_le 1 workers && nat_le workers worker_limit && nat_le 1 max && nat_le max pending_limit
 
 abbrev pub header_with : ℕ → ℕ → Option Header
 header_with workers max = if is_within workers max then Some (record { workers = workers; max = max }) else None

@@ -2,9 +2,9 @@
 ghost use Rattle.std.specs.Prelude.{◌≡◌, ℕ, ◌≤◌, List, [], ◌∷◌, ◌++◌, true, IfOk, OnOk, if◌then◌else◌};
 ghost use Rattle.std.specs.List.{All, Contains};
 ghost use Rattle.std.specs.Option.{option_to_list};
-ghost use Rattle.crawl_core.specs.declared.limits.TheConstants.{WORKER_LIMIT, PENDING_LIMIT};
-ghost use Rattle.mercator.specs.Crawled.{ArePages, AreApart, IsWhole, urls_of};
-ghost use Rattle.mercator.specs.ByCore.{Going, Crawling, Taking, Crawled, with_offers};
+ghost use Rattle.crawl_core.specs.Limits.{AreLimits, worker_limit};
+ghost use Rattle.mercator.specs.Results.{ArePages, AreApart, IsWhole, urls_of};
+ghost use Rattle.mercator.specs.ByCore.{Going, Crawling, Taking, CrawlEnd, with_offers};
 
 use crawl_core::{Core, CoreError, Event, NoMemory, Reply, Text};
 use crawl_keys::{CanonUrl, canonical};
@@ -28,17 +28,14 @@ pub fn crawl_by_core<F: Fetch, R: Wait>(
     workers: u32,
     max: u64,
 ) -> Result<(Vec<PageResult>, u64), NoMemory>
-    requires some { 1 ≤ workers }
-    requires few { workers ≤ WORKER_LIMIT }
-    requires least { 1 ≤ max }
-    requires most { max ≤ PENDING_LIMIT }
+    requires { AreLimits workers max }
     // Each result has the page that the fetcher means by its URL, and no two results have one URL.
     ensures pages { IfOk result (λ x. ArePages (F.meaning fetcher.now) x.0.items) }
     ensures apart { IfOk result (λ x. AreApart (urls_of x.0.items)) }
     // Where nothing was lost, every seed and every link of a result is a result's URL.
     ensures whole { IfOk result (λ x. x.1 ≡ 0 → IsWhole seeds.now x.0.items) }
 {
-    let mut found = Found {
+    let mut found = Progress {
         core: new_core(alloc, workers, max)?,
         results: Vec::new(alloc),
         lost: 0,
@@ -51,7 +48,7 @@ pub fn crawl_by_core<F: Fetch, R: Wait>(
         workers,
     };
     crawl.run(rt, &mut found)?;
-    let Found { results, lost, .. } = found;
+    let Progress { results, lost, .. } = found;
     Ok((results, lost))
 }
 
@@ -62,12 +59,12 @@ struct Crawl<'a, F: Fetch> {
     fetcher: &'a F,
     workers: u32,
     ghost some: { 1 ≤ workers },
-    ghost few: { workers ≤ WORKER_LIMIT },
+    ghost few: { workers ≤ worker_limit },
 }
 
 /// How far a crawl has come.
 #[derive(Drop)]
-pub(crate) struct Found {
+pub(crate) struct Progress {
     core: Core,
     results: Vec<PageResult>,
     lost: u64,
@@ -75,8 +72,8 @@ pub(crate) struct Found {
 
 impl<'a, F: Fetch> Crawl<'a, F> {
     /// Rounds, until the gate closes.
-    fn run<R: Wait>(&self, rt: &R, found: &mut Found) -> Result<(), NoMemory>
-        ensures { OnOk result ((max : ℕ) (seeds : List (List ℕ)) → Crawling self.now.workers max (F.meaning self.now.fetcher.now) seeds found.old → Crawled (F.meaning self.now.fetcher.now) seeds found.new) }
+    fn run<R: Wait>(&self, rt: &R, found: &mut Progress) -> Result<(), NoMemory>
+        ensures { OnOk result ((max : ℕ) (seeds : List (List ℕ)) → Crawling self.now.workers max (F.meaning self.now.fetcher.now) seeds found.old → CrawlEnd (F.meaning self.now.fetcher.now) seeds found.new) }
     {
         for _ in rt.forever() {
             self.round(found)?;
@@ -88,7 +85,7 @@ impl<'a, F: Fetch> Crawl<'a, F> {
     }
 
     /// One turn of each subqueue.
-    fn round(&self, found: &mut Found) -> Result<(), NoMemory>
+    fn round(&self, found: &mut Progress) -> Result<(), NoMemory>
         ensures { OnOk result ((max : ℕ) (seeds : List (List ℕ)) → Crawling self.now.workers max (F.meaning self.now.fetcher.now) seeds found.old → Crawling self.now.workers max (F.meaning self.now.fetcher.now) seeds found.new) }
     {
         for queue in 0..self.workers {
@@ -98,7 +95,7 @@ impl<'a, F: Fetch> Crawl<'a, F> {
     }
 
     /// A turn of a subqueue: it takes a URL, if one waits, and its worker fetches it and is done.
-    fn turn(&self, found: &mut Found, queue: u32) -> Result<(), NoMemory>
+    fn turn(&self, found: &mut Progress, queue: u32) -> Result<(), NoMemory>
         ensures { OnOk result ((max : ℕ) (seeds : List (List ℕ)) → Crawling self.now.workers max (F.meaning self.now.fetcher.now) seeds found.old → Crawling self.now.workers max (F.meaning self.now.fetcher.now) seeds found.new) }
     {
         if let Some(url) = take(self.alloc, &mut found.core, queue)? {
@@ -109,7 +106,7 @@ impl<'a, F: Fetch> Crawl<'a, F> {
     }
 
     /// Fetches a URL that was taken, offers its links, and keeps the result.
-    fn fetch(&self, found: &mut Found, queue: u32, url: CanonUrl) -> Result<(), NoMemory>
+    fn fetch(&self, found: &mut Progress, queue: u32, url: CanonUrl) -> Result<(), NoMemory>
         ensures { OnOk result ((max : ℕ) (seeds taken : List (List ℕ)) → Taking self.now.workers max (F.meaning self.now.fetcher.now) seeds taken url found.old → Crawling self.now.workers max (F.meaning self.now.fetcher.now) seeds found.new) }
     {
         let Ok(page) = self.fetcher.fetch(self.alloc, &url) else {
@@ -130,10 +127,7 @@ impl<'a, F: Fetch> Crawl<'a, F> {
 }
 
 fn new_core(alloc: Global, workers: u32, max: u64) -> Result<Core, NoMemory>
-    requires some { 1 ≤ workers }
-    requires few { workers ≤ WORKER_LIMIT }
-    requires least { 1 ≤ max }
-    requires most { max ≤ PENDING_LIMIT }
+    requires { AreLimits workers max }
     ensures { IfOk result (λ core. Going workers max core [] []) }
 {
     match Core::new(alloc, workers, max) {
@@ -153,8 +147,8 @@ fn offer_all(
     sender: u64,
     urls: &[CanonUrl],
 ) -> Result<u64, NoMemory>
-    requires some { 1 ≤ workers }
-    requires few { workers ≤ WORKER_LIMIT }
+    requires some_worker { 1 ≤ workers }
+    requires few_workers { workers ≤ worker_limit }
     ensures { IfOk result (λ refused. (max : ℕ) (taken offers : List (List ℕ)) → Going workers max core.old taken offers → Going workers max core.new taken (with_offers refused offers urls.now)) }
 {
     let mut refused = 0;
@@ -174,8 +168,8 @@ fn offer(
     sender: u64,
     url: &CanonUrl,
 ) -> Result<bool, NoMemory>
-    requires some { 1 ≤ workers }
-    requires few { workers ≤ WORKER_LIMIT }
+    requires some_worker { 1 ≤ workers }
+    requires few_workers { workers ≤ worker_limit }
     ensures { IfOk result (λ offered. (max : ℕ) (taken offers : List (List ℕ)) → Going workers max core.old taken offers → Going workers max core.new taken (if offered then offers ++ url.now ∷ [] else offers)) }
 {
     core.step(&Event::Look { sender })?;
@@ -193,8 +187,8 @@ fn admit(
     sender: u64,
     url: &CanonUrl,
 ) -> Result<bool, NoMemory>
-    requires some { 1 ≤ workers }
-    requires few { workers ≤ WORKER_LIMIT }
+    requires some_worker { 1 ≤ workers }
+    requires few_workers { workers ≤ worker_limit }
     ensures { IfOk result (λ offered. (max : ℕ) (taken offers : List (List ℕ)) → Going workers max core.old taken offers → Going workers max core.new taken (if offered then offers ++ url.now ∷ [] else offers)) }
 {
     let queue = url.subqueue(workers);

@@ -1,7 +1,8 @@
 //! The line of a URL's key.
-ghost use Rattle.std.specs.Prelude.{◌≡◌, ◌⊎◌, ◌≤◌, Err, IfOk, IfErr, string_bytes};
+ghost use Rattle.std.specs.Prelude.{◌≡◌, ◌≤◌, IfOk, IfErr, string_bytes};
 ghost use Rattle.crawl_keys.specs.CanonicalText.{canonical};
-ghost use Rattle.crawl_keys.specs.declared.assignment.TheConstants.{SUBQUEUES_LIMIT};
+ghost use Rattle.crawl_keys.specs.Outcome.{IsRefusal};
+ghost use Rattle.crawl_keys.specs.Limits.{subqueues_limit};
 ghost use Rattle.mercator.specs.KeyLine.{IsKeyLine, key_line, parts_line};
 
 use crawl_keys::{CanonUrl, KeyError, canonical};
@@ -12,10 +13,10 @@ use std::alloc::{AllocError, Global};
 /// # Errors
 /// Those of [`canonical`]; `NoMemory` also where the line found no room.
 pub fn key_line(alloc: Global, text: &str, subqueues: u32) -> Result<Vec<u8>, KeyError>
-    requires some { 1 ≤ subqueues }
-    requires few { subqueues ≤ SUBQUEUES_LIMIT }
+    requires some_subqueue { 1 ≤ subqueues }
+    requires few_subqueues { subqueues ≤ subqueues_limit }
     ensures line { IfOk result (λ line. IsKeyLine text.now subqueues line.items) }
-    ensures err { IfErr result (λ e. (canonical text.now ≡ Err e) ⊎ (e ≡ KeyError.NoMemory)) }
+    ensures err { IfErr result (IsRefusal KeyError.NoMemory (canonical text.now)) }
 {
     let url = canonical(alloc, text)?;
     let line = line_of(alloc, &url, subqueues)?;
@@ -23,8 +24,8 @@ pub fn key_line(alloc: Global, text: &str, subqueues: u32) -> Result<Vec<u8>, Ke
 }
 
 fn line_of(alloc: Global, url: &CanonUrl, subqueues: u32) -> Result<String, AllocError>
-    requires some { 1 ≤ subqueues }
-    requires few { subqueues ≤ SUBQUEUES_LIMIT }
+    requires some_subqueue { 1 ≤ subqueues }
+    requires few_subqueues { subqueues ≤ subqueues_limit }
     ensures { IfOk result (λ line. string_bytes line ≡ key_line url.now subqueues) }
 {
     parts_line(alloc, url.as_str(), url.host_key(), url.subqueue(subqueues))

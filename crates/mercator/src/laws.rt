@@ -1,7 +1,9 @@
 //! Laws over the definitions of the crates below, together. None does anything when it is called.
-ghost use Rattle.std.specs.Prelude.{◌≡◌, ℕ, List, map, slice_get, Some};
+ghost use Rattle.std.specs.Prelude.{◌≡◌, ◌↔◌, ℕ, List, Option, Result, map, slice_get, Some};
 ghost use Rattle.std.specs.List.{zip};
-ghost use Rattle.crawl_core.specs.State.{State, Subqueue, Message, start};
+ghost use Rattle.crawl_core.specs.State.{State, start};
+ghost use Rattle.crawl_core.specs.Subqueue.{Subqueue};
+ghost use Rattle.crawl_core.specs.Messages.{Message};
 ghost use Rattle.crawl_core.specs.Run.{Run, IsRun};
 ghost use Rattle.crawl_core.specs.History.{TakesOnce};
 ghost use Rattle.crawl_core.specs.declared.event.Event.{Event};
@@ -10,6 +12,10 @@ ghost use Rattle.crawl_core.specs.declared.reply.Reply.{Reply};
 ghost use Rattle.crawl_core.specs.declared.reply.Reply.TheVariants.{Taken};
 ghost use Rattle.crawl_keys.specs.Assignment.{subqueue_of};
 ghost use Rattle.mercator.specs.Assignment.{IsAssigned};
+ghost use Rattle.mercator.specs.Script.{header_in, said_by};
+ghost use Rattle.mercator.specs.ScriptLines.{HeaderSays, LineSays};
+ghost use Rattle.mercator.specs.declared.script.header.Header.{Header};
+ghost use Rattle.mercator.specs.declared.script.error.ScriptError.{ScriptError};
 
 /// Hosts keep to their subqueues. Where each admission names its URL's subqueue, as those of a script that was read do: in
 /// every state of a run each message stands in its URL's subqueue; a URL is taken at most once; and it is taken from its
@@ -21,4 +27,13 @@ pub fn hosts_keep_to_their_subqueues()
 {
     crawl_core::laws::admitted_before();
     crawl_core::laws::taken_once_in_order();
+}
+
+/// The lines of a script mean what the format says. `header_in` and `said_by`, by which the meaning of a script is defined, say
+/// something of a line exactly where the line has the bytes that the format names for it: `workers N max M` for a header; for
+/// each event its word, spaces and digits, and the URL of an admission; and for each fault, what is wrong with the line.
+pub fn lines_mean_what_the_format_says()
+    ensures header { (line : List ℕ) (said : Result Header ScriptError) → (header_in line ≡ said) ↔ HeaderSays line said }
+    ensures line { (workers number : ℕ) (line : List ℕ) (said : Result (Option Event) ScriptError) → (said_by workers number line ≡ said) ↔ LineSays workers number line said }
+{
 }

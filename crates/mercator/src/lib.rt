@@ -1,12 +1,10 @@
-//! The program over the frontier: scripts of atomic steps, and the replies of the machine to them.
+//! The program over the frontier: scripts of atomic steps and the replies of the machine to them, keys, and crawls of saved
+//! webs.
 #![tactic(auto)]
 
 mod by_core;
-mod crawl_words;
-mod fault;
-mod input;
+mod commands;
 mod key;
-mod key_words;
 /// What holds of the definitions together.
 pub mod laws;
 mod numbers;
@@ -15,15 +13,12 @@ mod replies;
 mod script;
 #[cfg(test)]
 mod tests;
-mod web_crawl;
-mod words;
 
 pub use by_core::crawl_by_core;
+pub use commands::{
+    DEFAULT_MAX_PENDING, DEFAULT_WORKERS, Ending, Fault, INPUT_LIMIT, READ_LIMIT, run_words,
+};
 pub use crawl_web::LINE_LIMIT;
-pub use input::{INPUT_LIMIT, READ_LIMIT};
 pub use key::key_line;
-pub use key_words::DEFAULT_WORKERS;
 pub use replay::replay_text;
 pub use script::{Script, ScriptError, read_script};
-pub use web_crawl::DEFAULT_MAX_PENDING;
-pub use words::{BAD_COMMAND, DONE, FAULT, INCOMPLETE, run_words};

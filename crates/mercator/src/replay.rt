@@ -2,8 +2,8 @@
 ghost use Rattle.std.specs.Prelude.{IfOk, IfErr};
 ghost use Rattle.crawl_core.specs.Run.{IsRun};
 ghost use Rattle.mercator.specs.Script.{script_of};
-ghost use Rattle.mercator.specs.ScriptContent.{AreLimits};
-ghost use Rattle.mercator.specs.ScriptFaults.{IsFault};
+ghost use Rattle.crawl_core.specs.Limits.{AreLimits};
+ghost use Rattle.crawl_keys.specs.Outcome.{IsRefusal};
 ghost use Rattle.mercator.specs.Replay.{IsReplay};
 
 use crate::replies::reply_lines;
@@ -18,7 +18,7 @@ use std::alloc::{AllocError, Global};
 /// Those of [`read_script`]; `NoMemory` also where the machine or the lines found no room.
 pub fn replay_text(alloc: Global, bytes: &[u8]) -> Result<Vec<u8>, ScriptError>
     ensures ok { IfOk result (λ text. IsReplay bytes.now text.items) }
-    ensures err { IfErr result (λ fault. IsFault fault (script_of bytes.now)) }
+    ensures err { IfErr result (IsRefusal ScriptError.NoMemory (script_of bytes.now)) }
 {
     let script = read_script(alloc, bytes)?;
     let replies = replies_to(alloc, &script)?;

@@ -1,12 +1,13 @@
 //! Scripts: a header, and events in order, one a line.
-ghost use Rattle.std.specs.Prelude.{◌≡◌, ◌+◌, ◌^◌, ◌<◌, ◌≤◌, length, IfOk, IfErr};
+ghost use Rattle.std.specs.Prelude.{◌≡◌, ◌⊎◌, ◌+◌, ◌^◌, ◌<◌, ◌≤◌, length, IfOk, IfErr};
 ghost use Rattle.std.specs.Str.Lines.{lines};
-ghost use Rattle.mercator.specs.ScriptFaults.{Gives};
+ghost use Rattle.crawl_keys.specs.Outcome.{Gives};
 ghost use Rattle.mercator.specs.Script.{header_in, events_of, script_of};
-ghost use Rattle.mercator.specs.ScriptContent.{content, AreLimits};
+ghost use Rattle.mercator.specs.ScriptContent.{content};
+ghost use Rattle.crawl_core.specs.Limits.{AreLimits};
 ghost use Rattle.mercator.specs.Assignment.{IsAssigned};
-ghost use Rattle.mercator.specs.LeastFault.{IsWrong};
-ghost use Rattle.crawl_core.specs.declared.limits.TheConstants.{WORKER_LIMIT};
+ghost use Rattle.mercator.specs.LeastFault.{IsScriptFault};
+ghost use Rattle.crawl_core.specs.Limits.{worker_limit};
 
 mod error;
 mod event;
@@ -40,21 +41,22 @@ pub struct Script {
 /// # Errors
 /// That of the least line that has a fault, and there the first of the checks, in the order of [`ScriptError`];
 /// `NoMemory` where a growth was refused.
-#[tactic(auto, using(crate::proofs::Least::wrong_script, crate::proofs::Placing::read_assigned))]
+#[tactic(auto, using(crate::proofs::Least::least_of_script))]
 pub fn read_script(alloc: Global, bytes: &[u8]) -> Result<Script, ScriptError>
-    ensures exact { Gives content result (script_of bytes.now) }
+    ensures exact { Gives ScriptError.NoMemory content result (script_of bytes.now) }
     ensures limits { IfOk result (λ script. AreLimits script.workers script.max) }
-    // Each admission names the subqueue that its URL's host key is assigned to.
+    // Each admission names a canonical URL, and the subqueue that its host key is assigned to.
     ensures assigned { IfOk result (λ script. IsAssigned script.workers script.events.items) }
     // The fault is that of the least line that has one.
-    ensures least { IfErr result (λ fault. IsWrong (lines bytes.now) fault) }
+    ensures least { IfErr result (λ fault. IsScriptFault (lines bytes.now) fault ⊎ (fault ≡ ScriptError.NoMemory)) }
 {
     script_from(alloc, bytes)
 }
 
 fn script_from(alloc: Global, bytes: &[u8]) -> Result<Script, ScriptError>
-    ensures exact { Gives content result (script_of bytes.now) }
+    ensures exact { Gives ScriptError.NoMemory content result (script_of bytes.now) }
     ensures limits { IfOk result (λ script. AreLimits script.workers script.max) }
+    ensures assigned { IfOk result (λ script. IsAssigned script.workers script.events.items) }
 {
     let Some((line, rest)) = first_line(bytes) else {
         return Err(ScriptError::BadHeader);
@@ -76,10 +78,11 @@ fn header_in(line: &[u8]) -> Result<Header, ScriptError>
 
 /// The events of the lines after the first.
 fn events_of(alloc: Global, workers: u32, bytes: &[u8]) -> Result<Vec<Event>, ScriptError>
-    requires some { 1 ≤ workers }
-    requires few { workers ≤ WORKER_LIMIT }
-    requires short { length bytes.now + 1 < 2 ^ 64 }
-    ensures { Gives (λ events. events.items) result (events_of workers 2 (lines bytes.now)) }
+    requires some_worker { 1 ≤ workers }
+    requires few_workers { workers ≤ worker_limit }
+    requires room_to_count { length bytes.now + 1 < 2 ^ 64 }
+    ensures exact { Gives ScriptError.NoMemory (λ events. events.items) result (events_of workers 2 (lines bytes.now)) }
+    ensures assigned { IfOk result (λ events. IsAssigned workers events.items) }
 {
     let mut events = Vec::new(alloc);
     let mut rest = bytes;

@@ -1,5 +1,6 @@
 //! What no clause says: that calls succeed, the texts, and that the definitions mean the formats.
 mod crawls;
+mod inputs;
 mod keys;
 mod replays;
 mod runs;

@@ -1,7 +1,7 @@
 //! The program `mercator`.
 #![tactic(auto)]
 
-use mercator::{BAD_COMMAND, FAULT, run_words};
+use mercator::{Ending, Fault, run_words};
 use std::io::ErrorKind;
 use std::process::ExitCode;
 use std::rt::Env;
@@ -10,7 +10,7 @@ use std::{env, io};
 fn main(rt: HostRuntime) -> ExitCode {
     let words = match words(&rt) {
         Ok(words) => words,
-        Err(error) => return ExitCode::from(status_of(&error)),
+        Err(error) => return ExitCode::from(ending_by(&error).status()),
     };
     ExitCode::from(run_words(
         &rt,
@@ -27,11 +27,11 @@ fn words(rt: &(impl Env + AllocGlobal)) -> io::Result<Vec<String>> {
     Ok(env::args(rt)?.skip(1).collect(rt.alloc())?)
 }
 
-/// The status where the words cannot be had: for want of memory, or since one is no text.
-fn status_of(error: &io::Error) -> u8 {
+/// How the program ends where the words cannot be had: for want of memory, or since one is no text.
+fn ending_by(error: &io::Error) -> Ending {
     if error.kind() == ErrorKind::OutOfMemory {
-        FAULT
+        Ending::Fault(Fault::NoMemory)
     } else {
-        BAD_COMMAND
+        Ending::BadCommand
     }
 }

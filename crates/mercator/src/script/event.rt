@@ -1,8 +1,11 @@
 //! A line of a script after the first, and the event that it says.
-ghost use Rattle.std.specs.Prelude.{◌≡◌, ◌≤◌};
-ghost use Rattle.crawl_core.specs.declared.limits.TheConstants.{WORKER_LIMIT};
+ghost use Rattle.std.specs.Prelude.{◌≡◌, ℕ, ◌≤◌, Ok, IfOk, IfSome};
+ghost use Rattle.crawl_core.specs.Limits.{worker_limit};
 ghost use Rattle.std.specs.Option.{option_map};
-ghost use Rattle.mercator.specs.ScriptFaults.{Gives};
+ghost use Rattle.crawl_keys.specs.Outcome.{Gives};
+ghost use Rattle.crawl_keys.specs.Assignment.{subqueue_of};
+ghost use Rattle.crawl_keys.specs.CanonicalText.{canonical};
+ghost use Rattle.mercator.specs.Assignment.{IsAddressed};
 ghost use Rattle.mercator.specs.Script.{address_of, admit_parts, admit_of, plain_event, numbered_event, event_of, said_by};
 
 use crate::numbers::{number32, number64};
@@ -22,9 +25,10 @@ pub fn said_by(
     number: u64,
     line: &[u8],
 ) -> Result<Option<Event>, ScriptError>
-    requires some { 1 ≤ workers }
-    requires few { workers ≤ WORKER_LIMIT }
-    ensures { Gives (λ said. said) result (said_by workers number line.now) }
+    requires some_worker { 1 ≤ workers }
+    requires few_workers { workers ≤ worker_limit }
+    ensures exact { Gives ScriptError.NoMemory (λ said. said) result (said_by workers number line.now) }
+    ensures addressed { IfOk result (λ said. IfSome said (IsAddressed workers)) }
 {
     let text = text_of(number, line)?;
     if text.is_empty() {
@@ -34,20 +38,25 @@ pub fn said_by(
 }
 
 fn event_of(alloc: Global, workers: u32, number: u64, text: &str) -> Result<Event, ScriptError>
-    requires some { 1 ≤ workers }
-    requires few { workers ≤ WORKER_LIMIT }
-    ensures { Gives (λ event. event) result (event_of workers number text.now) }
+    requires some_worker { 1 ≤ workers }
+    requires few_workers { workers ≤ worker_limit }
+    ensures exact { Gives ScriptError.NoMemory (λ event. event) result (event_of workers number text.now) }
+    ensures addressed { IfOk result (IsAddressed workers) }
 {
     let event = match split_space(text) {
         None => plain_event(text),
         Some(("admit", rest)) => return admit_of(alloc, workers, number, rest),
         Some((word, rest)) => numbered_event(word, rest),
     };
-    event.ok_or(ScriptError::BadLine(number))
+    match event {
+        Some(event) => Ok(event),
+        None => Err(ScriptError::BadLine(number)),
+    }
 }
 
 fn plain_event(word: &str) -> Option<Event>
-    ensures { result ≡ plain_event word.now }
+    ensures exact { result ≡ plain_event word.now }
+    ensures addressed { (workers : ℕ) → IfSome result (IsAddressed workers) }
 {
     match word {
         "endseeds" => Some(Event::EndSeeds),
@@ -57,7 +66,8 @@ fn plain_event(word: &str) -> Option<Event>
 }
 
 fn numbered_event(word: &str, number: &str) -> Option<Event>
-    ensures { result ≡ numbered_event word.now number.now }
+    ensures exact { result ≡ numbered_event word.now number.now }
+    ensures addressed { (workers : ℕ) → IfSome result (IsAddressed workers) }
 {
     match word {
         "look" => Some(Event::Look {
@@ -81,9 +91,10 @@ fn numbered_event(word: &str, number: &str) -> Option<Event>
 
 /// The event of an `admit` line, by what follows its first space: a sender, a space and a URL.
 fn admit_of(alloc: Global, workers: u32, number: u64, rest: &str) -> Result<Event, ScriptError>
-    requires some { 1 ≤ workers }
-    requires few { workers ≤ WORKER_LIMIT }
-    ensures { Gives (λ event. event) result (admit_of workers number rest.now) }
+    requires some_worker { 1 ≤ workers }
+    requires few_workers { workers ≤ worker_limit }
+    ensures exact { Gives ScriptError.NoMemory (λ event. event) result (admit_of workers number rest.now) }
+    ensures addressed { IfOk result (IsAddressed workers) }
 {
     let Some((sender, url)) = admit_parts(rest) else {
         return Err(ScriptError::BadLine(number));
@@ -106,9 +117,11 @@ fn address_of(
     number: u64,
     text: &str,
 ) -> Result<(Text, u32), ScriptError>
-    requires some { 1 ≤ workers }
-    requires few { workers ≤ WORKER_LIMIT }
-    ensures { Gives (λ address. (address.0, address.1)) result (address_of workers number text.now) }
+    requires some_worker { 1 ≤ workers }
+    requires few_workers { workers ≤ worker_limit }
+    ensures exact { Gives ScriptError.NoMemory (λ address. (address.0, address.1)) result (address_of workers number text.now) }
+    ensures canonical { IfOk result (λ address. canonical address.0 ≡ Ok address.0) }
+    ensures assigned { IfOk result (λ address. address.1 ≡ subqueue_of address.0 workers) }
 {
     let url = match canonical(alloc, text) {
         Ok(url) => url,

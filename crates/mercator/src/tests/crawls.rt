@@ -1,11 +1,13 @@
-ghost use Rattle.std.specs.Prelude.{◌≤◌};
-ghost use Rattle.crawl_core.specs.declared.limits.TheConstants.{PENDING_LIMIT};
+ghost use Rattle.crawl_core.specs.Limits.{AreLimits};
 
-use crate::tests::runs::words;
-use crate::{BAD_COMMAND, DONE, FAULT, crawl_by_core, run_words};
+use crate::commands::command::Command;
+use crate::commands::ending::end;
+use crate::commands::tell::tell;
+use crate::{Ending, Fault, crawl_by_core};
+use crate::tests::runs::{DONE, answer, words};
 use crawl_core::NoMemory;
-use crawl_keys::{CanonUrl, canonical};
-use crawl_web::{Fetch, FetchError, Page, SavedWeb};
+use crawl_keys::{CanonUrl, KeyError, canonical};
+use crawl_web::{Fetch, FetchError, Page, SavedWeb, WebError};
 use std::alloc::{AllocError, Global};
 use std::sync::Wait;
 use std::test::Fail;
@@ -34,19 +36,6 @@ const TWO_LINKS_REPORT: &str = "ok 2 0 http://a.test/\n\
     missing http://a.test/1\n\
     missing http://a.test/2\n\
     total 3 ok 1 missing 2\n";
-
-// The status and what is written, for these words and this input.
-fn answer(
-    rt: &impl Wait,
-    alloc: Global,
-    row: &[&str],
-    web: &str,
-) -> Result<(u8, Vec<u8>), AllocError> {
-    let (mut out, mut err) = (Vec::new(alloc), Vec::new(alloc));
-    let words = words(alloc, row)?;
-    let status = run_words(rt, alloc, &words, &mut web.as_bytes(), &mut out, &mut err);
-    Ok((status, out))
-}
 
 #[test]
 fn empty_web_small_web_and_two_links(rt: HostRuntime) -> Result<(), Fail> {
@@ -86,7 +75,7 @@ fn empty_web_small_web_and_two_links(rt: HostRuntime) -> Result<(), Fail> {
         ),
         (
             RING,
-            &["crawl", "--workers", "64", "-", "http://a.test/"],
+            &["crawl", "--workers", "512", "-", "http://a.test/"],
             RING_REPORT,
         ),
         (
@@ -103,42 +92,72 @@ fn empty_web_small_web_and_two_links(rt: HostRuntime) -> Result<(), Fail> {
     Ok(())
 }
 
+/// How a crawl ends, with so many workers and that maximum, and what is written.
+fn ending(
+    rt: &impl Wait,
+    alloc: Global,
+    web: &str,
+    seeds: &[&str],
+    max: u64,
+) -> Result<(Ending, Vec<u8>), AllocError>
+    requires { AreLimits 1 max }
+{
+    let seeds = words(alloc, seeds)?;
+    let mut out = Vec::new(alloc);
+    let command = Command::Crawl {
+        workers: 1,
+        max,
+        seeds: seeds.as_slice(),
+    };
+    let told = tell(rt, alloc, command, &mut web.as_bytes());
+    let ending = end(&mut out, told);
+    Ok((ending, out))
+}
+
+#[test]
+fn a_full_gate_loses_a_link(rt: HostRuntime) -> Result<(), Fail> {
+    let alloc = rt.alloc();
+    let (full, out) = ending(&rt, alloc, TWO_LINKS, &["http://a.test/"], 2)?;
+    assert_eq!(rt; full, Ending::Incomplete);
+    assert_eq!(rt; full.status(), 2);
+    assert_eq!(rt; out.len(), 0);
+
+    let (done, out) = ending(&rt, alloc, TWO_LINKS, &["http://a.test/"], 3)?;
+    assert_eq!(rt; done, Ending::Done);
+    assert_eq!(rt; str::from_utf8(&out)?, TWO_LINKS_REPORT);
+    Ok(())
+}
+
 #[test]
 fn crawls_refused(rt: HostRuntime) -> Result<(), Fail> {
-    let rows: [(&str, &[&str], u8); 12] = [
-        ("", &["crawl", "-", "http://a.test/"], FAULT),
-        ("savedweb 2", &["crawl", "-", "http://a.test/"], FAULT),
+    let rows: [(&str, &[&str], Fault); 6] = [
+        ("", &["mailto:x"], Fault::Web(WebError::BadHeader)),
         (
             "savedweb 1\nlink x",
-            &["crawl", "-", "http://a.test/"],
-            FAULT,
+            &["mailto:x"],
+            Fault::Web(WebError::LinkBeforePage(2)),
         ),
-        (RING, &["crawl", "-", "mailto:x"], FAULT),
-        (RING, &["crawl", "-", "http://a.test/", "/x"], FAULT),
-        (RING, &["crawl", "-"], BAD_COMMAND),
-        (RING, &["crawl", "ring.web", "http://a.test/"], BAD_COMMAND),
-        (RING, &["crawl", "--workers", "2", "-"], BAD_COMMAND),
+        (RING, &["mailto:x"], Fault::Seed(1, KeyError::NotHttp)),
         (
             RING,
-            &["crawl", "--workers", "0", "-", "http://a.test/"],
-            BAD_COMMAND,
+            &["http://a.test/", "/x"],
+            Fault::Seed(2, KeyError::NotUrl),
         ),
         (
             RING,
-            &["crawl", "--workers", "65", "-", "http://a.test/"],
-            BAD_COMMAND,
+            &["http://a.test/", "/x", "mailto:x"],
+            Fault::Seed(2, KeyError::NotUrl),
         ),
         (
             RING,
-            &["crawl", "--worker", "2", "-", "http://a.test/"],
-            BAD_COMMAND,
+            &["http://a.test/", "", "/x"],
+            Fault::Seed(2, KeyError::NotUrl),
         ),
-        (RING, &["crawl"], BAD_COMMAND),
     ];
-    for (web, row, status) in rows {
-        let (ended, out) = answer(&rt, rt.alloc(), row, web)?;
-        assert_eq!(rt; ended, status, "{row:?}");
-        assert_eq!(rt; str::from_utf8(&out)?, "", "{row:?}");
+    for (web, seeds, fault) in rows {
+        let (ended, out) = ending(&rt, rt.alloc(), web, seeds, 9)?;
+        assert_eq!(rt; ended, Ending::Fault(fault), "{seeds:?}");
+        assert_eq!(rt; out.len(), 0, "{seeds:?}");
     }
     Ok(())
 }
@@ -164,8 +183,7 @@ fn counts<F: Fetch>(
     fetcher: &F,
     max: u64,
 ) -> Result<(usize, u64), NoMemory>
-    requires least { 1 ≤ max }
-    requires most { max ≤ PENDING_LIMIT }
+    requires { AreLimits 1 max }
 {
     let Ok(seed) = canonical(alloc, "http://a.test/") else {
         return Err(AllocError);

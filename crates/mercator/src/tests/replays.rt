@@ -239,7 +239,7 @@ fn odd_scripts(rt: HostRuntime) -> Result<(), Fail> {
         ),
         (
             "greatest numbers",
-            "workers 64 max 1099511627776\ntake 63",
+            "workers 512 max 1099511627776\ntake 511",
             "empty\n",
         ),
         (

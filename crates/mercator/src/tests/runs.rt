@@ -1,11 +1,19 @@
-use crate::{BAD_COMMAND, DONE, FAULT, run_words};
+use crate::run_words;
 use std::alloc::{AllocError, Global};
 use std::io::{self, ErrorKind, Read, Write};
+use std::sync::Wait;
 use std::test::Fail;
 
 const SCRIPT: &str = "workers 1 max 9\nlook 0\nenter 0\n";
 
 const REPLIES: &str = "word 1 open\nentered 2\n";
+
+/// The status of a command that is done, of one that ends by a fault, and of words that are none.
+pub const DONE: u8 = 0;
+
+pub const FAULT: u8 = 1;
+
+pub const BAD_COMMAND: u8 = 3;
 
 /// Gives what it has, and then fails.
 #[derive(Drop)]
@@ -50,45 +58,59 @@ pub fn words(alloc: Global, texts: &[&str]) -> Result<Vec<String>, AllocError> {
     Ok(words)
 }
 
+/// The status and what is written, for these words and this input.
+pub fn answer(
+    rt: &impl Wait,
+    alloc: Global,
+    row: &[&str],
+    input: &str,
+) -> Result<(u8, Vec<u8>), AllocError> {
+    let (mut out, mut err) = (Vec::new(alloc), Vec::new(alloc));
+    let words = words(alloc, row)?;
+    let status = run_words(rt, alloc, &words, &mut input.as_bytes(), &mut out, &mut err);
+    Ok((status, out))
+}
+
 #[test]
 fn replays_its_input(rt: HostRuntime) -> Result<(), Fail> {
-    let alloc = rt.alloc();
-    let (mut out, mut err) = (Vec::new(alloc), Vec::new(alloc));
-    let status = run_words(
-        &rt,
-        alloc,
-        &words(alloc, &["replay", "-"])?,
-        &mut SCRIPT.as_bytes(),
-        &mut out,
-        &mut err,
-    );
+    let (status, out) = answer(&rt, rt.alloc(), &["replay", "-"], SCRIPT)?;
     assert_eq!(rt; status, DONE);
     assert_eq!(rt; str::from_utf8(&out)?, REPLIES);
-    assert_eq!(rt; err.len(), 0);
     Ok(())
 }
 
 #[test]
-fn bad_commands(rt: HostRuntime) -> Result<(), Fail> {
-    let alloc = rt.alloc();
-    let rows: [&[&str]; 6] = [
+fn words_that_are_no_command(rt: HostRuntime) -> Result<(), Fail> {
+    let rows: [&[&str]; 20] = [
         &[],
         &["replay"],
         &["-", "replay"],
         &["replay", "file"],
         &["replay", "-", "-"],
         &["Replay", "-"],
+        &["key"],
+        &["key", "http://a.test/", "--workers"],
+        &["key", "http://a.test/", "--workers", "0"],
+        &["key", "http://a.test/", "--workers", "513"],
+        &["key", "http://a.test/", "--workers", "+2"],
+        &["key", "http://a.test/", "--worker", "2"],
+        &["crawl"],
+        &["crawl", "-"],
+        &["crawl", "ring.web", "http://a.test/"],
+        &["crawl", "--workers", "2", "-"],
+        &["crawl", "--workers", "0", "-", "http://a.test/"],
+        &["crawl", "--workers", "513", "-", "http://a.test/"],
+        &["crawl", "--worker", "2", "-", "http://a.test/"],
+        &[
+            "crawl",
+            "--workers",
+            "000000000000000000002",
+            "-",
+            "http://a.test/",
+        ],
     ];
     for row in rows {
-        let (mut out, mut err) = (Vec::new(alloc), Vec::new(alloc));
-        let status = run_words(
-            &rt,
-            alloc,
-            &words(alloc, row)?,
-            &mut SCRIPT.as_bytes(),
-            &mut out,
-            &mut err,
-        );
+        let (status, out) = answer(&rt, rt.alloc(), row, SCRIPT)?;
         assert_eq!(rt; status, BAD_COMMAND, "{row:?}");
         assert_eq!(rt; out.len(), 0, "{row:?}");
     }
@@ -96,22 +118,10 @@ fn bad_commands(rt: HostRuntime) -> Result<(), Fail> {
 }
 
 #[test]
-fn faults(rt: HostRuntime) -> Result<(), Fail> {
+fn a_read_or_a_write_fails(rt: HostRuntime) -> Result<(), Fail> {
     let alloc = rt.alloc();
     let replay = words(alloc, &["replay", "-"])?;
-    let mut err = Vec::new(alloc);
-
-    let mut out = Vec::new(alloc);
-    let status = run_words(
-        &rt,
-        alloc,
-        &replay,
-        &mut "workers 0 max 1".as_bytes(),
-        &mut out,
-        &mut err,
-    );
-    assert_eq!(rt; status, FAULT, "no script");
-    assert_eq!(rt; out.len(), 0, "no script");
+    let (mut out, mut err) = (Vec::new(alloc), Vec::new(alloc));
 
     let mut reader = BrokenReader {
         left: SCRIPT.as_bytes(),

@@ -36,7 +36,7 @@ fn script_headers(rt: HostRuntime) {
     for script in [
         "",
         "\nworkers 1 max 1\n",
-        "workers 65 max 1",
+        "workers 513 max 1",
         "workers 0 max 1",
         "workers 1 max 0",
         "workers 1 max 1099511627777",

@@ -1,0 +1,9 @@
+use Rattle.mercator.proofs.HeaderWords.{header_means}
+use Rattle.mercator.proofs.LineWords.{line_means}
+use Rattle.mercator.proofs.laws.lines_mean_what_the_format_says.Goals as goal
+
+pub returns-clause-header : goal.returns-clause-header
+returns-clause-header c = header_means
+
+pub returns-clause-line : goal.returns-clause-line
+returns-clause-line c = line_means

@@ -1,0 +1,33 @@
+-- The fault of a command that a refusal leads to: want of memory is one fault, wherever it comes.
+use Rattle.std.specs.Prelude.{ℕ}
+use Rattle.crawl_keys.specs.declared.error.KeyError.{KeyError}
+use Rattle.crawl_keys.specs.declared.error.KeyError.TheVariants as key
+use Rattle.crawl_web.specs.declared.saved_web.error.WebError.{WebError}
+use Rattle.crawl_web.specs.declared.saved_web.error.WebError.TheVariants as web
+use Rattle.mercator.specs.declared.commands.fault.Fault.{Fault}
+use Rattle.mercator.specs.declared.commands.fault.Fault.TheVariants as wrong
+use Rattle.mercator.specs.declared.commands.input.Unread.{Unread}
+use Rattle.mercator.specs.declared.commands.input.Unread.TheVariants as unread
+use Rattle.mercator.specs.declared.script.error.ScriptError.{ScriptError}
+use Rattle.mercator.specs.declared.script.error.ScriptError.TheVariants as script
+
+abbrev pub of_unread : Unread → Fault
+of_unread unread.NoMemory = wrong.NoMemory
+of_unread _ = wrong.CannotRead
+
+abbrev pub of_script : ScriptError → Fault
+of_script script.NoMemory = wrong.NoMemory
+of_script fault = wrong.Script fault
+
+abbrev pub of_web : WebError → Fault
+of_web web.NoMemory = wrong.NoMemory
+of_web fault = wrong.Web fault
+
+abbrev pub of_url : KeyError → Fault
+of_url key.NoMemory = wrong.NoMemory
+of_url refusal = wrong.Url refusal
+
+-- the fault of the seed with this number
+abbrev pub of_seed : ℕ → KeyError → Fault
+of_seed place key.NoMemory = wrong.NoMemory
+of_seed place refusal = wrong.Seed place refusal

@@ -1,0 +1,105 @@
+//! Why a command ends before it is done.
+ghost use Rattle.std.specs.Prelude.{◌≡◌};
+ghost use Rattle.mercator.specs.Faults.{of_script, of_web, of_url};
+ghost use Rattle.mercator.specs.declared.commands.fault.Fault.TheVariants as wrong;
+
+use crate::commands::input::Unread;
+use crate::script::ScriptError;
+use crawl_keys::KeyError;
+use crawl_web::WebError;
+use std::alloc::{AllocError, AllocFailed};
+
+/// Why a command ends before it is done.
+#[derive(Clone, Copy, Debug, PartialEq, Eq)]
+pub enum Fault {
+    /// A read failed, or the input is beyond a limit.
+    CannotRead,
+    /// The input is no script.
+    Script(ScriptError),
+    /// The input is no saved web.
+    Web(WebError),
+    /// A seed has no canonical URL: the first such seed, counted from 1, and why.
+    Seed(usize, KeyError),
+    /// The URL whose key is asked for has no canonical URL.
+    Url(KeyError),
+    /// A write or a flush failed.
+    CannotWrite,
+    /// A growth was refused. The other variants never hold this reason.
+    NoMemory,
+}
+
+impl Fault {
+    ghost use Rattle.mercator.specs.Faults as spec;
+
+    /// The fault of the seed with this number that was refused so.
+    pub fn of_seed(place: usize, refusal: KeyError) -> Fault
+        ensures { result ≡ spec.of_seed place refusal }
+    {
+        match refusal {
+            KeyError::NoMemory => Fault::NoMemory,
+            KeyError::NotUrl | KeyError::NotHttp => Fault::Seed(place, refusal),
+        }
+    }
+}
+
+impl From<Unread> for Fault {
+    ghost use Rattle.mercator.specs.Faults.{of_unread};
+
+    ghost from_gives = { λ unread fault. fault ≡ of_unread unread };
+
+    fn from(why: Unread) -> Fault {
+        match why {
+            Unread::Failed | Unread::Beyond => Fault::CannotRead,
+            Unread::NoMemory => Fault::NoMemory,
+        }
+    }
+}
+
+impl From<ScriptError> for Fault {
+    ghost from_gives = { λ script fault. fault ≡ of_script script };
+
+    fn from(fault: ScriptError) -> Fault {
+        match fault {
+            ScriptError::NoMemory => Fault::NoMemory,
+            _ => Fault::Script(fault),
+        }
+    }
+}
+
+impl From<WebError> for Fault {
+    ghost from_gives = { λ web fault. fault ≡ of_web web };
+
+    fn from(fault: WebError) -> Fault {
+        match fault {
+            WebError::NoMemory => Fault::NoMemory,
+            _ => Fault::Web(fault),
+        }
+    }
+}
+
+impl From<KeyError> for Fault {
+    ghost from_gives = { λ key fault. fault ≡ of_url key };
+
+    fn from(fault: KeyError) -> Fault {
+        match fault {
+            KeyError::NoMemory => Fault::NoMemory,
+            KeyError::NotUrl | KeyError::NotHttp => Fault::Url(fault),
+        }
+    }
+}
+
+impl<T: Drop> From<AllocFailed<T>> for Fault {
+    ghost from_gives = { λ _ fault. fault ≡ wrong.NoMemory };
+
+    fn from(_refused: AllocFailed<T>) -> Fault {
+        Fault::NoMemory
+    }
+}
+
+impl From<AllocError> for Fault {
+    ghost from_gives = { λ _ fault. fault ≡ wrong.NoMemory };
+
+    fn from(_refused: AllocError) -> Fault {
+        Fault::NoMemory
+    }
+}
