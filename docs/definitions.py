@@ -1,25 +1,28 @@
 #!/usr/bin/env python3
-"""The definitions that contracts reach.
+"""The definitions that contracts reach, and what each says.
 
-  docs/definitions.py            prints a reading list for each theorem of THEOREMS, and what the page lacks
-  docs/definitions.py --write    writes the lists into docs/DEFINITIONS.md, between its marks
-  docs/definitions.py --check    status 1 where a public contract reaches a definition that the page has no row for,
-                                 or where the lists of the page are not today's
+  docs/definitions.py            prints the parts of docs/DEFINITIONS.md that it writes
+  docs/definitions.py --write    writes them into the page, between its marks
+  docs/definitions.py --check    status 1 where the page is not today's, or a public contract reaches a definition that
+                                 has no row there
 
-It reads `specs/` and `src/` as text: a definition reaches the names that its text has and its file imports or defines.
+There is a reading list for each theorem of THEOREMS, and a table of each crate's definitions, in the words of the comments
+that stand above them in `specs/`; one without a comment stands with the one above it. The script reads `specs/` and `src/`
+as text: a definition reaches the names that its text has and its file imports or defines.
 """
 import os, re, sys
 
 ROOT = os.path.dirname(os.path.dirname(os.path.abspath(__file__)))
 PAGE = os.path.join(ROOT, "docs", "DEFINITIONS.md")
-BEGIN, END = "<!-- reading lists: written by docs/definitions.py -->", "<!-- end of the reading lists -->"
+MARK = "<!-- written by docs/definitions.py: %s -->"
+END = "<!-- end of what docs/definitions.py wrote -->"
 
 # title, and the public functions whose contracts it is: crate, file of src/, function
 THEOREMS = [
     ("The reply lines of a replay", [("mercator", "replay.rt", "replay_text")]),
     ("The machine and its laws", [("crawl_core", "runs.rt", "run"), ("crawl_core", "laws.rt", None)]),
-    ("The report of a crawl", [("mercator", "web_crawl.rt", "crawl_saved_web")]),
-    ("The gate", [("crawl_gate", "gate.rt", None), ("crawl_gate", "gate/load.rt", None), ("crawl_gate", "gate/enter.rt", None), ("crawl_gate", "gate/leave.rt", None), ("crawl_gate", "gate/close.rt", None), ("crawl_gate", "laws.rt", None)]),
+    ("The report of a crawl", [("mercator", "commands/web_crawl.rt", "crawl_saved_web")]),
+    ("The gate, for threads", [("crawl_gate", "gate.rt", None), ("crawl_gate", "gate/load.rt", None), ("crawl_gate", "gate/enter.rt", None), ("crawl_gate", "gate/leave.rt", None), ("crawl_gate", "gate/close.rt", None), ("crawl_gate", "laws.rt", None)]),
 ]
 
 # names of the kit that every page of mathematics has
@@ -219,51 +222,93 @@ def lists(crates):
     return "\n".join(out)
 
 
-def lacking(crates, page):
-    """Definitions that a public contract or ghost member reaches and the page has no row for."""
-    rows = set()
-    for line in re.sub(re.escape(BEGIN) + ".*?" + re.escape(END), "", page, flags=re.S).splitlines():
-        if line.startswith("|"):
-            rows |= set(re.findall(r"`([^`]+)`", line))
-    ours, kits = set(), set()
+def comment_above(lines, start):
+    """The comment that stands directly above a line, as one sentence."""
+    found = []
+    for line in reversed(lines[:start]):
+        m = re.match(r"-- ?(.*)", line)
+        if not m or re.match(r"(----|##)", m.group(1)):
+            break
+        found.append(m.group(1).strip())
+    return " ".join(reversed(found))
+
+
+def table_of(crates, crate):
+    """A table of a crate's definitions: file by file, each with the comment above it."""
+    out = []
+    for path in sorted(p for p in crates.files if p.split("/")[1] == crate):
+        lines = read(os.path.join(ROOT, path)).splitlines()
+        head = []
+        for line in lines:
+            if not line.startswith("--"):
+                break
+            head.append(line.lstrip("- ").strip())
+        out.append("**`%s`**: %s\n" % (path.replace("crates/%s/" % crate, ""), " ".join(head)))
+        rows = []
+        for k, line in enumerate(lines):
+            m = re.match(r"(?:(?:abbrev|unfoldable) pub|pub (?:record|data)|unfoldable|abbrev) ([^\s:(]+)", line)
+            if m:
+                said = comment_above(lines, k)
+                if said or not rows:
+                    rows.append(([m.group(1)], said))
+                else:
+                    rows[-1][0].append(m.group(1))
+        if rows:
+            out.append("| Definition | In plain words |\n|---|---|")
+            out += ["| %s | %s |" % (", ".join("`%s`" % n for n in names), said.replace("|", "\\|")) for names, said in rows]
+            out.append("")
+    return "\n".join(out)
+
+
+def reached_by_contracts(crates):
+    """Every definition that a public contract or a ghost member reaches."""
+    ours = set()
     for crate in sorted(os.listdir(os.path.join(ROOT, "crates"))):
         for folder, _, names in os.walk(os.path.join(ROOT, "crates", crate, "src")):
-            if "tests" in folder:
-                continue
             for name in names:
-                if name.endswith(".rt") and name != "tests.rt":
+                if name.endswith(".rt") and "tests" not in os.path.join(folder, name):
                     text = read(os.path.join(folder, name))
                     imported, modules = imports_of(text, True)
                     more, _ = crates.reached(public_clauses(text), imported, modules, {})
                     ours |= more
-    seen, _ = crates.closure(ours, set())
-    return sorted("%s: %s" % (path.replace("crates/", ""), name) for path, name in seen if name not in rows)
+    return crates.closure(ours, set())[0]
+
+
+def parts_of(crates):
+    """The parts of the page that are written here, by their marks."""
+    found = {"reading lists": lists(crates)}
+    for crate in sorted({path.split("/")[1] for path in crates.files}):
+        found["definitions of " + crate] = table_of(crates, crate)
+    return found
 
 
 def main():
     crates = Crates()
-    text = lists(crates)
-    page = read(PAGE)
-    block = "%s\n\n%s\n%s" % (BEGIN, text, END)
     mode = sys.argv[1] if len(sys.argv) > 1 else ""
+    old = page = read(PAGE)
+    wrong = []
+    for title, text in parts_of(crates).items():
+        mark = MARK % title
+        if mark not in page:
+            wrong.append("no mark for the %s: %s" % (title, mark))
+            continue
+        block = "%s\n\n%s\n%s" % (mark, text.strip() + "\n", END)
+        page = re.sub(re.escape(mark) + ".*?" + re.escape(END), lambda _: block, page, flags=re.S)
+        if not mode:
+            print(block)
     if mode == "--write":
-        if BEGIN not in page:
-            sys.exit("docs/DEFINITIONS.md has no marks for the lists")
-        page = re.sub(re.escape(BEGIN) + ".*?" + re.escape(END), lambda _: block, page, flags=re.S)
         with open(PAGE, "w", encoding="utf-8") as f:
             f.write(page)
-    missing = lacking(crates, page)
-    if mode == "--check":
-        stale = block not in page
-        for row in missing:
-            print("no row for " + row)
-        if stale:
-            print("the reading lists are not today's: docs/definitions.py --write")
-        sys.exit(1 if missing or stale else 0)
-    if mode != "--write":
-        print(text)
-    for row in missing:
-        print("no row for " + row, file=sys.stderr)
+    elif page != old:
+        wrong.append("the page is not today's: docs/definitions.py --write")
+    rows = set()
+    for line in page.splitlines():
+        if line.startswith("| `"):
+            rows |= set(re.findall(r"`([^`]+)`", line.split(" | ")[0]))
+    wrong += sorted("no row for %s: %s" % (path, name) for path, name in reached_by_contracts(crates) if name not in rows)
+    for line in wrong:
+        print(line, file=sys.stderr)
+    sys.exit(1 if wrong and mode != "" else 0)
 
 
 main()
