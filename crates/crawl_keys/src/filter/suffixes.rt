@@ -16,7 +16,7 @@ use std::marker::Model;
 /// Suffixes of hosts, each once.
 #[derive(Drop)]
 pub(super) struct Suffixes {
-    texts: BTreeSet<String>,
+    pub(super) texts: BTreeSet<String>,
 }
 
 // Contracts see the suffixes' bytes, in order.
