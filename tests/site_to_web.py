@@ -248,6 +248,8 @@ class TheShippedSite(Converting):
     def test_its_lines_are_those_of_the_rules(self):
         lines = self.web(SITE, "http://site.test/")
         self.assertEqual(pages_of(lines), {"http://site.test" + path: below for path, below in SHIPPED.items()})
+        links = sum(line.startswith("link ") for line in lines)
+        self.assertIn(f"{len(SHIPPED)} pages, 5 of them moved; {links} links; ", self.told)
 
     def test_its_stored_web_is_what_the_tool_writes(self):
         with open(os.path.join(ROOT, "examples", "site.web"), "rb") as stored:
@@ -642,8 +644,8 @@ class Documents(Converting):
                 self.assertEqual(self.links(document), [f"link {expected}"])
 
     def test_what_is_told_has_no_control_characters(self):
-        self.links(f'<a href="\x1b[2J{"x" * 9000}">')
-        self.assertIn("too long: ", self.told)
+        self.links(f'<a href="a\x1b[2J{"x" * 9000}">')
+        self.assertIn("page.html links to a\\x1b[2Jxxx", self.told)
         self.assertNotIn("\x1b", self.told)
         self.assertNotIn("page.html", run("--quiet", self.folder, "http://a.test/").told)
 
@@ -711,6 +713,7 @@ class Archives(WithArchives):
             },
         )
         self.assertIn("answers that are no page, status 404: 1\n", self.told)
+        self.assertNotIn("status none", self.told)
         self.assertIn("records of URLs that are neither http nor https: 2\n", self.told)
 
     def test_each_status(self):
@@ -743,6 +746,7 @@ class Archives(WithArchives):
             ("without its fragment", "x" * room + "#f", ["moved " + "x" * room]),
             ("too long", "x" * (room + 1), []),
             ("over two lines", "a\r\n b", ["moved a b"]),
+            ("two of them", "a\r\nLocation: b\r\n c", ["moved a"]),
         ):
             with self.subTest(name):
                 pages = self.read(record("response", "http://a.test/", answer(302, "", f"Location: {target}")))
@@ -763,6 +767,7 @@ class Archives(WithArchives):
         digest = "WARC-Payload-Digest: sha1:A"
         pages = self.read(
             record("response", "http://a.test/1", answer(200, '<a href="x">'), digest),
+            record("response", "http://a.test/1b", answer(200, '<base href="/b/"><a href="x">'), digest),
             record("revisit", "http://a.test/2", answer(200), digest),
             record("revisit", "http://a.test/3", answer(304), digest),
             record("revisit", "http://a.test/4", b"", digest),
@@ -771,7 +776,8 @@ class Archives(WithArchives):
             record("revisit", "http://a.test/7", answer(200), "WARC-Payload-Digest: sha1:B"),
         )
         below = dict.fromkeys([f"http://a.test/{number}" for number in range(1, 5)], ["link x"])
-        self.assertEqual(pages, {**below, "http://a.test/5": ["moved y"], "http://a.test/7": []})
+        others = {"1b": ["link http://a.test/b/x"], "5": ["moved y"], "7": []}
+        self.assertEqual(pages, {**below, **{f"http://a.test/{name}": lines for name, lines in others.items()}})
         self.assertIn("links not read, the record that is visited again is not there: http://a.test/7\n", self.told)
 
     def test_codings(self):
@@ -795,12 +801,12 @@ class Archives(WithArchives):
         self.assertIn("links not read, the body's coding is not known: http://a.test/\n", self.told)
 
     def test_the_servers_word_on_kind_and_encoding(self):
-        document = '<a href="?\u00fc">'.encode("latin-1")
+        document = b'<a href="\xf6?\xf6">'
         for kind, expected in {
-            "text/html": ["link ?%FC"],
-            "TEXT/HTML; Charset=ISO-8859-1": ["link ?%FC"],
-            'text/html; charset="koi8-r"': ["link ?%FC"],
-            "application/xhtml+xml": ["link ?%FC"],
+            "text/html": ["link \u00f6?%F6"],
+            "TEXT/HTML; Charset=ISO-8859-1": ["link \u00f6?%F6"],
+            'text/html; charset="koi8-r"': ["link \u0416?%F6"],
+            "application/xhtml+xml": ["link \u00f6?%F6"],
             "text/plain": [],
             "": [],
         }.items():

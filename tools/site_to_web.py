@@ -886,14 +886,13 @@ class Archive:
 
     def revisit(self, answer, url, digest):
         """Adds the page of a URL whose content is that of an earlier record, which may not be there."""
-        if answer.target() is None and (answer.is_page() or answer.status in (None, 304)):
-            if digest in self.by_digest:
-                self.web.again(url.text(), self.by_digest[digest])
-                return
+        if not answer.is_page() and answer.status not in (None, 304):
+            self.answer(answer, url, digest)
+        elif digest in self.by_digest:
+            self.web.again(url.text(), self.by_digest[digest])
+        else:
             self.web.tell("links not read, the record that is visited again is not there", url.text())
             self.web.page(url.text(), [])
-            return
-        self.answer(answer, url, digest)
 
     def document(self, body, url, kind, digest):
         """Adds a page with the links of its body."""
