@@ -50,6 +50,7 @@ canonical_text url valid web = record {
   web = web;
   bare = refl;
   spelled = refl;
+  parses = parse_url-without_fragment url valid web;
 }
 
 -- and it is the one of the URL
@@ -62,21 +63,15 @@ pub text_of-other : (url : Parts) → is_web url ≡ false → text_of url ≡ E
 unfolding text_of
 text_of-other url other = cond-false _ _ _ other
 
--- a canonical text parses to its URL
-pub parse_url-canonical : (text : List ℕ) → (key : IsCanonical text) → parse_url None text ≡ Ok key.url
-parse_url-canonical text key =
-    ap (parse_url None) (sym key.spelled)
-    ∙ parse_url-serialize_special key.url None key.valid (web_kind key.url key.web)
-
 -- the canonical text of a canonical text is itself
 pub canonical-canonical : (text : List ℕ) → IsCanonical text → canonical text ≡ Ok text
 canonical-canonical text key =
-    ap text_of_parse (parse_url-canonical text key) ∙ text_of-web key.url key.web
+    ap text_of_parse key.parses ∙ text_of-web key.url key.web
     ∙ ap Ok ((λ i. serialize (record key.url { fragment = sym key.bare i })) ∙ key.spelled)
 
 -- the URL that a canonical text parses to has that text
 pub serialize-parsed : (text : List ℕ) (url : Parts) → IsCanonical text → parse_url None text ≡ Ok url → serialize url ≡ text
 serialize-parsed text url key parsed =
-    let both : Ok key.url ≡ Ok url = sym (parse_url-canonical text key) ∙ parsed in
+    let both : Ok key.url ≡ Ok url = sym key.parses ∙ parsed in
     let same : key.url ≡ url = cc in
     ap serialize (sym same) ∙ key.spelled

@@ -1,3 +1,5 @@
 pub mod CanonicalLemmas
 pub mod LaidLemmas
 pub mod HashLemmas
+pub mod FilterLemmas
+pub mod InOrderLemmas

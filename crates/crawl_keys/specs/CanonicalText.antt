@@ -1,6 +1,6 @@
 -- Which text a URL of the web is known by. The parser and the serializer are those of the URL
 -- Standard, as the crate `url` states them.
-use Rattle.std.specs.Prelude.{◌≡◌, ◌⊎◌, ℕ, Bool, true, ◌||◌, List, bytes_eq, codes, Some, None, Result, Ok, Err, MatchResult, if◌then◌else◌}
+use Rattle.std.specs.Prelude.{◌≡◌, ℕ, Bool, true, ◌||◌, List, bytes_eq, codes, Some, None, Result, Ok, Err, if◌then◌else◌}
 use Rattle.url.specs.declared.error.ParseError.{ParseError}
 use Rattle.url.specs.declared.error.ParseError.TheVariants.{OutOfMemory, Overflow}
 use Rattle.url.specs.Parts.{Parts, serialize, IsValid}
@@ -38,18 +38,14 @@ resolve_from (Err _) text = Err NotUrl
 abbrev pub resolve : List ℕ → List ℕ → Result (List ℕ) KeyError
 resolve base text = resolve_from (parse_url None base) text
 
--- the result is the expected one, text or refusal, unless memory was wanting
-abbrev pub Answers : {T : Type 0} → Result T KeyError → Result T KeyError → Type 0
-Answers result expected =
-    MatchResult result (λ x. expected ≡ Ok x) (λ e. (expected ≡ Err e) ⊎ (e ≡ NoMemory))
-
--- the text is that of a valid web URL with no fragment
+-- the text is that of a valid web URL with no fragment, and parses to that very URL
 pub record IsCanonical (text : List ℕ) : Type 0 where
   pub url : Parts
   pub valid : IsValid url
   pub web : is_web url ≡ true
   pub bare : url.fragment ≡ None
   pub spelled : serialize url ≡ text
+  pub parses : parse_url None text ≡ Ok url
 
 -- the refusal that the parser's error leads to: what `url` cannot hold is want of memory
 abbrev pub key_error : ParseError → KeyError

@@ -3,3 +3,5 @@ pub mod HostKey
 pub mod Layout
 pub mod Assignment
 pub mod Outcome
+pub mod Limits
+pub mod HostFilter

@@ -1,6 +1,7 @@
 //! The subqueue that a host key is assigned to.
-ghost use Rattle.std.specs.Prelude.{◌≡◌, ◌<◌, ◌≤◌};
+ghost use Rattle.std.specs.Prelude.{◌≡◌, ◌↔◌, ◌<◌, ◌≤◌, IsTrue};
 ghost use Rattle.crawl_keys.specs.Assignment as spec;
+ghost use Rattle.crawl_keys.specs.Limits.{subqueues_limit};
 
 /// The greatest number of subqueues that keys are assigned to.
 pub const SUBQUEUES_LIMIT: u32 = 512;
@@ -19,10 +20,17 @@ pub fn hash(key: &str) -> u32
     hash
 }
 
+/// Whether keys can be assigned to n subqueues: 1 to [`SUBQUEUES_LIMIT`].
+pub fn can_assign(n: u32) -> bool
+    ensures { IsTrue result ↔ ((1 ≤ n) × (n ≤ subqueues_limit)) }
+{
+    1 <= n && n <= SUBQUEUES_LIMIT
+}
+
 /// Which of n subqueues a key is assigned to, from 0.
 pub fn assign(key: &str, n: u32) -> u32
     requires some { 1 ≤ n }
-    requires few { n ≤ SUBQUEUES_LIMIT }
+    requires few { n ≤ subqueues_limit }
     ensures value { result ≡ spec.assign key.now n }
     ensures below { result < n }
 {

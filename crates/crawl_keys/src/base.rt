@@ -1,7 +1,7 @@
 //! A page whose links are resolved.
-ghost use Rattle.std.specs.Prelude.{◌≡◌, IfOk, IfErr};
-ghost use Rattle.crawl_keys.specs.CanonicalText.{Answers};
+ghost use Rattle.std.specs.Prelude.{Ok};
 ghost use Rattle.crawl_keys.specs.CanonicalText as spec;
+ghost use Rattle.crawl_keys.specs.Outcome.{Gives};
 
 use crate::{CanonUrl, KeyError};
 use std::alloc::Global;
@@ -30,8 +30,7 @@ impl Model for Base {
 impl Base {
     /// The base for the links of the page at this URL; the only error is `NoMemory`.
     pub fn new(alloc: Global, page: &CanonUrl) -> Result<Base, KeyError>
-        ensures ok { IfOk result (λ base. base ≡ page.now) }
-        ensures err { IfErr result (λ e. e ≡ KeyError.NoMemory) }
+        ensures { Gives KeyError.NoMemory (λ base. base) result (Ok page.now) }
     {
         let url = Url::parse(alloc, page.as_str())?;
         Ok(Base { url })
@@ -40,7 +39,7 @@ impl Base {
     /// The canonical URL of a link on the page: what `resolve` answers with the page's URL, errors
     /// included.
     pub fn resolve(&self, alloc: Global, text: &str) -> Result<CanonUrl, KeyError>
-        ensures { Answers result (spec.resolve self.now text.now) }
+        ensures { Gives KeyError.NoMemory (λ url. url) result (spec.resolve self.now text.now) }
     {
         let url = self.url.join(text)?;
         CanonUrl::keep(alloc, &url)

@@ -1,10 +1,11 @@
 //! A canonical URL, the parts of it that callers ask for, and its copies.
-ghost use Rattle.std.specs.Prelude.{◌≡◌, ◌<◌, ◌≤◌, Ok, IfOk, IfErr};
-ghost use Rattle.crawl_keys.specs.declared.assignment.TheConstants.{SUBQUEUES_LIMIT};
+ghost use Rattle.std.specs.Prelude.{◌≡◌, ◌<◌, ◌≤◌, Ok};
 ghost use Rattle.crawl_keys.specs.Assignment.{subqueue_of};
-ghost use Rattle.crawl_keys.specs.CanonicalText.{Answers, IsCanonical, text_of};
+ghost use Rattle.crawl_keys.specs.CanonicalText.{IsCanonical, text_of};
 ghost use Rattle.crawl_keys.specs.CanonicalText as spec;
 ghost use Rattle.crawl_keys.specs.HostKey as spec_host;
+ghost use Rattle.crawl_keys.specs.Limits.{subqueues_limit};
+ghost use Rattle.crawl_keys.specs.Outcome.{Gives};
 
 use crate::{KeyError, assign};
 use std::alloc::{AllocError, Global};
@@ -58,7 +59,7 @@ impl Model for Laid {
 impl CanonUrl {
     /// The canonical URL of a parsed one.
     pub(crate) fn keep(alloc: Global, url: &Url) -> Result<CanonUrl, KeyError>
-        ensures { Answers result (text_of url.now) }
+        ensures { Gives KeyError.NoMemory (λ kept. kept) result (text_of url.now) }
     {
         let laid = Laid::keep(alloc, url)?;
         match Arc::new(alloc, laid) {
@@ -73,6 +74,8 @@ impl CanonUrl {
 
         // The canonical text of a canonical text is itself.
         ensures stable { spec.canonical self.now ≡ Ok self.now }
+
+        // It is the text of a valid web URL with no fragment, and parses to that very URL.
         ensures canonical { IsCanonical self.now }
     {
         self.shared.as_ref().as_str()
@@ -89,7 +92,7 @@ impl CanonUrl {
     /// Which of n subqueues the URL belongs to: the one that its host key is assigned to.
     pub fn subqueue(&self, n: u32) -> u32
         requires some { 1 ≤ n }
-        requires few { n ≤ SUBQUEUES_LIMIT }
+        requires few { n ≤ subqueues_limit }
         ensures value { result ≡ subqueue_of self.now n }
         ensures below { result < n }
     {
@@ -99,8 +102,7 @@ impl CanonUrl {
     /// The same URL once more, sharing the text: `clone`, with this crate's error. The only one is
     /// `NoMemory`, where the count of copies is at its limit.
     pub fn copy(&self) -> Result<CanonUrl, KeyError>
-        ensures ok { IfOk result (λ copy. copy ≡ self.now) }
-        ensures err { IfErr result (λ e. e ≡ KeyError.NoMemory) }
+        ensures { Gives KeyError.NoMemory (λ copy. copy) result (Ok self.now) }
     {
         let copy = self.clone()?;
         Ok(copy)

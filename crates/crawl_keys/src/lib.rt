@@ -5,12 +5,14 @@ mod assignment;
 mod base;
 mod canon_url;
 mod error;
+mod filter;
 mod read;
 
-pub use assignment::{SUBQUEUES_LIMIT, assign, hash};
+pub use assignment::{SUBQUEUES_LIMIT, assign, can_assign, hash};
 pub use base::Base;
 pub use canon_url::CanonUrl;
 pub use error::KeyError;
+pub use filter::{Filter, FilterError};
 pub use read::{canonical, resolve};
 
 #[cfg(test)]

@@ -1,6 +1,6 @@
 //! Canonical URLs read from texts.
-ghost use Rattle.crawl_keys.specs.CanonicalText.{Answers};
 ghost use Rattle.crawl_keys.specs.CanonicalText as spec;
+ghost use Rattle.crawl_keys.specs.Outcome.{Gives};
 
 use crate::{CanonUrl, KeyError};
 use std::alloc::Global;
@@ -11,7 +11,7 @@ use url::Url;
 /// `NotUrl` where the URL Standard's parser finds no URL, `NotHttp` where the URL's scheme is neither
 /// `http` nor `https`, `NoMemory` where memory is wanting or the URL would come to 4 GB.
 pub fn canonical(alloc: Global, text: &str) -> Result<CanonUrl, KeyError>
-    ensures { Answers result (spec.canonical text.now) }
+    ensures { Gives KeyError.NoMemory (λ url. url) result (spec.canonical text.now) }
 {
     let url = Url::parse(alloc, text)?;
     CanonUrl::keep(alloc, &url)
@@ -21,7 +21,7 @@ pub fn canonical(alloc: Global, text: &str) -> Result<CanonUrl, KeyError>
 ///
 /// For many links of one page make a `Base`, which parses the page's URL once.
 pub fn resolve(alloc: Global, base: &CanonUrl, text: &str) -> Result<CanonUrl, KeyError>
-    ensures { Answers result (spec.resolve base.now text.now) }
+    ensures { Gives KeyError.NoMemory (λ url. url) result (spec.resolve base.now text.now) }
 {
     let base = Url::parse(alloc, base.as_str())?;
     let url = base.join(text)?;

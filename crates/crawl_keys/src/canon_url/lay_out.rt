@@ -1,8 +1,9 @@
 //! Laying a URL out, and reading what was laid out.
 ghost use Rattle.std.specs.Prelude.{◌≡◌};
-ghost use Rattle.crawl_keys.specs.CanonicalText.{Answers, IsCanonical, text_of};
+ghost use Rattle.crawl_keys.specs.CanonicalText.{IsCanonical, text_of};
 ghost use Rattle.crawl_keys.specs.CanonicalText as spec;
 ghost use Rattle.crawl_keys.specs.HostKey as spec_host;
+ghost use Rattle.crawl_keys.specs.Outcome.{Gives};
 
 use super::Laid;
 use crate::KeyError;
@@ -12,7 +13,7 @@ use url::{Position, Url};
 impl Laid {
     /// Lays out the text of a web URL without its fragment, by one exact allocation.
     pub(super) fn keep(alloc: Global, url: &Url) -> Result<Laid, KeyError>
-        ensures { Answers result (text_of url.now) }
+        ensures { Gives KeyError.NoMemory (λ laid. laid) result (text_of url.now) }
     {
         if !is_web(url) {
             return Err(KeyError::NotHttp);

@@ -1,3 +1,4 @@
+use Rattle.std.proofs.Common.{Ok, ap, sym}
 use Rattle.crawl_keys.proofs.CanonicalLemmas.{serialize-parsed}
 use Rattle.crawl_keys.proofs.base.Base.new.Goals as goal
 
@@ -6,7 +7,7 @@ invariant_of-result c =
     let parsed = rw c.as_str.ensures.value at c.in_ok-url.ensures in
     rw (serialize-parsed _ _ c.as_str.ensures.canonical parsed) parsed
 
-pub returns-clause-ok : goal.returns-clause-ok
-returns-clause-ok c =
+pub returns : goal.returns
+returns c =
     let parsed = rw c.as_str.ensures.value at c.in_ok-url.ensures in
-    serialize-parsed _ _ c.as_str.ensures.canonical parsed
+    ap Ok (sym (serialize-parsed _ _ c.as_str.ensures.canonical parsed))

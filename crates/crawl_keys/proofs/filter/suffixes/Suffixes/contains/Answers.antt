@@ -1,0 +1,9 @@
+use Rattle.std.proofs.Common.{ap, ◌∙◌, bytes_eq}
+use Rattle.std.specs.List.{list_any}
+use Rattle.crawl_keys.proofs.FilterLemmas.{list_any-contains}
+use Rattle.crawl_keys.proofs.filter.suffixes.Suffixes.contains.Goals as goal
+
+pub returns : goal.returns
+returns c =
+    c.contains.ensures ∙ list_any-contains c.args.text.now c.self.inside.texts.keys
+    ∙ ap (list_any (bytes_eq c.args.text.now)) c.self.view_is

@@ -1,0 +1,100 @@
+//! Which hosts' URLs are wanted.
+ghost use Rattle.std.specs.Prelude.{◌≡◌, ◌↔◌, ℕ, List, Ok, IfOk, Contains, map, not, position};
+ghost use Rattle.std.specs.List.{list_all};
+ghost use Rattle.crawl_keys.specs.HostFilter as spec;
+ghost use Rattle.crawl_keys.specs.Outcome.{Gives};
+
+use crate::CanonUrl;
+use crate::filter::suffixes::Suffixes;
+use std::alloc::Global;
+use std::marker::Model;
+use std::sync::Arc;
+
+mod error;
+mod suffixes;
+
+pub use error::FilterError;
+
+/// A filter of URLs by their hosts.
+///
+/// With no suffix it allows every URL; else those whose host key is one of its suffixes, or ends
+/// with a dot and one. The suffixes are kept once and shared by all copies, in any threads.
+#[derive(Drop)]
+pub struct Filter {
+    shared: Arc<Suffixes>,
+}
+
+// Contracts see a filter as its suffixes, each once, in the order of their bytes.
+impl Model for Filter {
+    ghost use Rattle.std.specs.Prelude.{ℕ, List};
+    ghost use Rattle.std.specs.Arc.{arc_value};
+
+    ghost Value = { List (List ℕ) };
+
+    ghost view = { λ filter. arc_value filter.shared };
+}
+
+impl Filter {
+    /// The filter with these suffixes, in any order, and the same one more than once or not.
+    ///
+    /// `BadSuffix` has the place, from 0, of the first suffix that is empty or has a byte other than
+    /// `a` to `z`, `0` to `9`, `-` and `.`; `NoMemory` where memory is wanting.
+    pub fn new(alloc: Global, suffixes: &[&str]) -> Result<Filter, FilterError>
+        ensures exact { Gives FilterError.NoMemory (λ filter. filter) result (spec.filter_of (map (λ suffix. suffix.now) suffixes.now)) }
+
+        // The suffixes kept are those given, and allow the URLs that those do.
+        ensures keeps { IfOk result (λ filter. (suffix : List ℕ) → Contains filter suffix ↔ Contains (map (λ suffix. suffix.now) suffixes.now) suffix) }
+        ensures alike { IfOk result (λ filter. (url : List ℕ) → spec.allows filter url ≡ spec.allows (map (λ suffix. suffix.now) suffixes.now) url) }
+    {
+        if let Some(place) = first_bad(suffixes) {
+            return Err(FilterError::BadSuffix(place as u64));
+        }
+        let kept = Suffixes::keep(alloc, suffixes)?;
+        let shared = Arc::new(alloc, kept)?;
+        Ok(Filter { shared })
+    }
+
+    /// The same filter once more, sharing the suffixes. The only error is `NoMemory`, where the count
+    /// of copies is at its limit.
+    pub fn copy(&self) -> Result<Filter, FilterError>
+        ensures { Gives FilterError.NoMemory (λ copy. copy) result (Ok self.now) }
+    {
+        let shared = Arc::try_clone(&self.shared)?;
+        Ok(Filter { shared })
+    }
+
+    /// Whether the filter allows the URL. It takes no memory, and looks up the host key and what
+    /// stands behind each of its dots, however many suffixes there are.
+    pub fn allows(&self, url: &CanonUrl) -> bool
+        ensures { result ≡ spec.allows self.now url.now }
+    {
+        let suffixes = self.shared.as_ref();
+        suffixes.is_empty() || suffixes.have(url.host_key())
+    }
+}
+
+/// The place of the first bad suffix, from 0.
+fn first_bad(suffixes: &[&str]) -> Option<usize>
+    ensures { result ≡ position (λ suffix. not (spec.is_good suffix.now)) suffixes.now }
+{
+    suffixes.iter().position(|suffix| !is_good(suffix))
+}
+
+/// Whether a suffix has a byte, and only bytes of canonical hosts.
+fn is_good(suffix: &str) -> bool
+    ensures { result ≡ spec.is_good suffix.now }
+{
+    !suffix.is_empty() && has_suffix_bytes_alone(suffix)
+}
+
+fn has_suffix_bytes_alone(suffix: &str) -> bool
+    ensures { result ≡ list_all spec.is_suffix_byte suffix.now }
+{
+    suffix.as_bytes().iter().all(|byte| is_suffix_byte(*byte))
+}
+
+fn is_suffix_byte(byte: u8) -> bool
+    ensures { result ≡ spec.is_suffix_byte byte }
+{
+    matches!(byte, b'a'..=b'z' | b'0'..=b'9' | b'-' | b'.')
+}
