@@ -1,0 +1,112 @@
+-- When the books of a part agree with the list of a subqueue.
+use Rattle.std.proofs.Common.{◌≡◌, ◌≢◌, ◌⊎◌, ℕ, zero, suc, ◌+◌, ◌<◌, ◌≤◌, Bool, true, false, cond, eqb, List, [], ◌∷◌, ◌++◌, length, Some, slice_get, refl, sym, ap, ◌∙◌, subst, inl, inr, ⊎_elim, arith, length-append}
+use Rattle.std.proofs.lemmas.Bool.Decides.{nat_tests}
+use Rattle.crawl_frontier.specs.declared.entry.Entry.{Entry}
+use Rattle.crawl_frontier.specs.declared.book.Logged.{Logged}
+use Rattle.crawl_frontier.specs.declared.book.Logged.TheVariants.{Accepted, Seen}
+use Rattle.crawl_frontier.specs.Entries.{KeepsRule, has_url, count_of, entries_of}
+use Rattle.crawl_frontier.specs.Books.{BookId, sent_to, Numbered, IsBook, place_of}
+use Rattle.crawl_frontier.specs.Accounts.{At, Agrees}
+use Rattle.crawl_frontier.specs.Finishing.{Stands, LogStands, CountsStand, AgreesBelow, KeepRuleBelow}
+use Rattle.crawl_frontier.proofs.Entries.{count_of-snoc}
+
+-- the k-th entry of a numbered list has the k-th number
+numbered_at : (id n : ℕ) (xs : List Entry) (k : ℕ) (x : Entry) → Numbered id n xs → At xs k x → (x.sender ≡ id) × (x.number ≡ n + k)
+numbered_at id n [] k x all at = absurd (cc (at))
+numbered_at id n (y ∷ ys) zero x all at = let same : y ≡ x = cc in (ap (λ e. e.sender) (sym same) ∙ all.0, ap (λ e. e.number) (sym same) ∙ (all.1 ∙ omega arith))
+numbered_at id n (y ∷ ys) (suc k) x all at = let r = numbered_at id (n + 1) ys k x all.2 at in (r.0, omega (arith, r.1))
+
+-- two numbered lists of one length, where each entry of the first stands in the second
+pub same_numbered : (id n : ℕ) (xs ys : List Entry) → Numbered id n xs → Numbered id n ys → length xs ≡ length ys → ((j : ℕ) (x : Entry) → At xs j x → (k : ℕ) × At ys k x) → xs ≡ ys
+same_numbered id n [] [] a b len stands = refl
+same_numbered id n [] (y ∷ ys) a b len stands = absurd (omega arith)
+same_numbered id n (x ∷ xs) [] a b len stands = absurd (omega arith)
+same_numbered id n (x ∷ xs) (y ∷ ys) a b len stands =
+    let s = stands 0 x refl in
+    λ i. first s.0 s.1 i ∷ same_numbered id (n + 1) xs ys a.2 b.2 (omega arith) (λ j z at. let t = stands (suc j) z at in rest j z at t.0 t.1) i
+  where
+    first : (k : ℕ) → At (y ∷ ys) k x → x ≡ y
+    first zero at = cc
+    first (suc k) at = let r = numbered_at id (n + 1) ys k x b.2 at in absurd (omega (arith, r.1, a.1))
+
+    rest : (j : ℕ) (z : Entry) → At xs j z → (k : ℕ) → At (y ∷ ys) k z → (l : ℕ) × At ys l z
+    rest j z here zero at =
+        let r = numbered_at id (n + 1) xs j z a.2 here in
+        let same : y ≡ z = cc in
+        let number : y.number ≡ z.number = ap (λ e. e.number) same in
+        absurd (omega (arith, r.1, b.1, number))
+    rest j z here (suc k) at = (k, at)
+
+-- the entries of a sender in a list that keeps its rule
+pub rule-numbered : (n q id : ℕ) (before es : List Entry) → KeepsRule n q before es → Numbered id (count_of id before) (entries_of id es)
+rule-numbered n q id before [] rule = tt
+rule-numbered n q id before (e ∷ es) rule = by_case (eqb e.sender id) refl (rule-numbered n q id (before ++ e ∷ []) es rule.1)
+  where
+    more : (t : Bool) → eqb e.sender id ≡ t → count_of id (before ++ e ∷ []) ≡ count_of id before + cond t 1 0
+    more t is = count_of-snoc id before e ∙ (λ i. count_of id before + cond (is i) 1 0)
+
+    by_case : (t : Bool) → eqb e.sender id ≡ t → Numbered id (count_of id (before ++ e ∷ [])) (entries_of id es) → Numbered id (count_of id before) (cond t (e ∷ entries_of id es) (entries_of id es))
+    by_case true is rest =
+        let same : e.sender ≡ id = grind (arith, nat_tests) in
+        (same, rule.0.number ∙ ap (λ s. count_of s before) same, subst (λ m. Numbered id m (entries_of id es)) (more true is) rest)
+    by_case false is rest = subst (λ m. Numbered id m (entries_of id es)) (more false is ∙ omega arith) rest
+
+pub entries_of-length : (id : ℕ) (es : List Entry) → length (entries_of id es) ≡ count_of id es
+entries_of-length id [] = refl
+entries_of-length id (e ∷ es) = by_case (eqb e.sender id) (entries_of-length id es)
+  where
+    by_case : (t : Bool) → length (entries_of id es) ≡ count_of id es → length (cond t (e ∷ entries_of id es) (entries_of id es)) ≡ cond t 1 0 + count_of id es
+    by_case true r = omega arith
+    by_case false r = omega arith
+
+pub entries_of-at : (id : ℕ) (es : List Entry) (k : ℕ) (x : Entry) → At es k x → x.sender ≡ id → (j : ℕ) × At (entries_of id es) j x
+entries_of-at id [] k x at own = absurd (cc (at))
+entries_of-at id (e ∷ es) zero x at own = here (eqb e.sender id) refl
+  where
+    here : (t : Bool) → eqb e.sender id ≡ t → (j : ℕ) × At (cond t (e ∷ entries_of id es) (entries_of id es)) j x
+    here true is = (0, at)
+    here false is =
+        let same : e ≡ x = cc in
+        let sender : e.sender ≡ id = ap (λ z. z.sender) same ∙ own in
+        absurd (grind (arith, nat_tests))
+entries_of-at id (e ∷ es) (suc k) x at own = later (eqb e.sender id) (entries_of-at id es k x at own)
+  where
+    later : (t : Bool) → (j : ℕ) × At (entries_of id es) j x → (j : ℕ) × At (cond t (e ∷ entries_of id es) (entries_of id es)) j x
+    later true r = (suc r.0, r.1)
+    later false r = r
+
+-- each accepted entry of the log stands in the list
+pub sent_to-stands : (q : ℕ) (es : List Entry) (log : List Logged) → ((k : ℕ) (l : Logged) → At log k l → place_of l ≡ q → Stands es l) → (j : ℕ) (x : Entry) → At (sent_to q log) j x → (k : ℕ) × At es k x
+sent_to-stands q es [] stands j x at = absurd (cc (at))
+sent_to-stands q es (Seen u p ∷ ls) stands j x at = sent_to-stands q es ls (λ k. stands (suc k)) j x at
+sent_to-stands q es (Accepted e p ∷ ls) stands j x at = by_case (eqb p q) refl j at (λ i here. sent_to-stands q es ls (λ k. stands (suc k)) i x here)
+  where
+    by_case : (t : Bool) → eqb p q ≡ t → (j : ℕ) → At (cond t (e ∷ sent_to q ls) (sent_to q ls)) j x → ((i : ℕ) → At (sent_to q ls) i x → (k : ℕ) × At es k x) → (k : ℕ) × At es k x
+    by_case true is zero here rest =
+        let same : p ≡ q = grind (arith, nat_tests) in
+        let equal : e ≡ x = cc in
+        subst (λ z. (k : ℕ) × At es k z) equal (stands 0 (Accepted e p) refl same)
+    by_case true is (suc j) here rest = rest j here
+    by_case false is j here rest = rest j here
+
+-- what is compared is enough
+pub agrees : (workers least below : ℕ) (lists : List (List Entry)) (b : BookId) → IsBook workers b → least ≤ workers → KeepRuleBelow workers least lists
+    → below ≤ least → LogStands below lists b.log → (now : ℕ) → now ≤ below → CountsStand now lists b → AgreesBelow now lists b
+agrees workers least below lists b is within rule under stands now under' counts q es lt at = record {
+  sent = same_numbered b.id 0 (sent_to q b.log) (entries_of b.id es) (is.numbered q) (rule-numbered workers q b.id [] es (rule q es (omega arith) at)) len found;
+  seen = λ k url here. stands k (Seen url q) here (omega arith) es at;
+}
+  where
+    len : length (sent_to q b.log) ≡ length (entries_of b.id es)
+    len =
+        let counted : Some (length (sent_to q b.log)) ≡ Some (count_of b.id es) = sym (is.counted q (omega arith)) ∙ counts q es lt at in
+        let same : length (sent_to q b.log) ≡ count_of b.id es = cc in
+        same ∙ sym (entries_of-length b.id es)
+
+    in_list : (k : ℕ) (l : Logged) → At b.log k l → place_of l ≡ q → Stands es l
+    in_list k l here place = stands k l here (omega (arith, place)) es (subst (λ p. At lists p es) (sym place) at)
+
+    found : (j : ℕ) (x : Entry) → At (sent_to q b.log) j x → (k : ℕ) × At (entries_of b.id es) k x
+    found j x here =
+        let r = sent_to-stands q es b.log in_list j x here in
+        entries_of-at b.id es r.0 x r.1 (numbered_at b.id 0 (sent_to q b.log) j x (is.numbered q) here).0

@@ -1,0 +1,240 @@
+-- One subqueue more was settled; and what maps by number have after a change.
+use Rattle.std.proofs.Common.{◌≡◌, ◌≢◌, ◌⊎◌, ℕ, zero, suc, ◌+◌, ◌<◌, ◌≤◌, Bool, true, false, true≢false, cond, eqb, List, [], ◌∷◌, ◌++◌, length, map, Option, Some, None, get_or, slice_get, refl, sym, ap, ◌∙◌, subst, inl, inr, ⊎_elim, arith}
+use Rattle.std.proofs.lemmas.Bool.{cases_lt}
+use Rattle.std.proofs.lemmas.Bool.Decides.{nat_tests}
+use Rattle.std.proofs.lemmas.Option.{slice_get_read, slice_get-map}
+use Rattle.std.specs.Prelude.{option_map, is_some}
+use Rattle.std.specs.Cmp.{unsigned_ties}
+use Rattle.std.specs.Ordering.{nat_cmp}
+use Rattle.std.specs.BTreeMap.{BTreeMap, get, is_at}
+use Rattle.std.specs.BTreeSet.{BTreeSet, contains}
+use Rattle.crawl_gate.specs.Seat.{GateId}
+use Rattle.crawl_frontier.specs.declared.entry.Entry.{Entry}
+use Rattle.crawl_frontier.specs.declared.book.Book.{Book}
+use Rattle.crawl_frontier.specs.QueueId.{QueueId}
+use Rattle.crawl_frontier.specs.PassId.{PassId}
+use Rattle.crawl_frontier.specs.Entries.{KeepsRule}
+use Rattle.crawl_frontier.specs.Rule.{popping, home}
+use Rattle.crawl_frontier.specs.Books.{BookId, book_of}
+use Rattle.crawl_frontier.specs.Parts.{WorkerId, SenderId}
+use Rattle.crawl_frontier.specs.Accounts.{At, IsPart, HasWorkers, HasStranger, Accounts}
+use Rattle.crawl_frontier.specs.Finishing.{Slots, Placed, OwnRight, Settled, IdsOf, Stranger, AgreesBelow, Gathered, AllAre, SendersIn, HasBook}
+use Rattle.crawl_frontier.proofs.Gets.{get_snoc, get_within}
+
+key_is : (key q : ℕ) → is_at (nat_cmp key) q ≡ true → key ≡ q
+key_is key q e = let same : eqb key q ≡ true = unsigned_ties key q ∙ e in grind (arith, nat_tests)
+
+key_self : (key : ℕ) → is_at (nat_cmp key) key ≡ true
+key_self key = let same : eqb key key ≡ true = grind (arith, nat_tests) in sym (unsigned_ties key key) ∙ same
+
+pub same_at : {X : Type 0} (xs : List X) (k : ℕ) (a b : X) → At xs k a → At xs k b → a ≡ b
+same_at xs k a b p q = let both : Some a ≡ Some b = sym p ∙ q in cc
+
+-- the books of an element
+pub at_book : (books : List Book) (j : ℕ) (x : Book) → j < length books → x ≡ get_or books j x → At (map book_of books) j (book_of x)
+at_book books j x lt is = slice_get-map book_of books j ∙ ap (option_map book_of) (slice_get_read books (length books) j x refl lt is)
+
+pub mapped : (books : List Book) → length (map book_of books) ≡ length books
+mapped [] = refl
+mapped (b ∷ bs) = let r = mapped bs in omega arith
+
+pub removed : (key : ℕ) (m n : BTreeMap ℕ PassId) → ((q : ℕ) → get nat_cmp n q ≡ cond (is_at (nat_cmp key) q) None (get nat_cmp m q)) → (q : ℕ) → key < q → get nat_cmp n q ≡ get nat_cmp m q
+removed key m n h q lt = h q ∙ by_case (is_at (nat_cmp key) q) refl
+  where
+    by_case : (t : Bool) → is_at (nat_cmp key) q ≡ t → cond t None (get nat_cmp m q) ≡ get nat_cmp m q
+    by_case true is = let same : key ≡ q = key_is key q is in absurd (omega (arith, same, lt))
+    by_case false is = refl
+
+pub slots_more : (gate : GateId) (workers : ℕ) (queues : List QueueId) (closed : List WorkerId) (m n : BTreeMap ℕ PassId) (k : ℕ) (w : WorkerId) (r : PassId)
+    → Slots gate workers queues closed m → ((q : ℕ) → get nat_cmp n q ≡ cond (is_at (nat_cmp w.place) q) (Some r) (get nat_cmp m q)) → At closed k w
+    → r.view ≡ popping (home gate workers w.place) w.taken w.empty_pops → slice_get queues w.place ≡ Some r.queue → Slots gate workers queues closed n
+slots_more gate workers queues closed m n k w r old h at view queue q p e = by_case (is_at (nat_cmp w.place) q) refl (sym (h q) ∙ e)
+  where
+    by_case : (t : Bool) → is_at (nat_cmp w.place) q ≡ t → cond t (Some r) (get nat_cmp m q) ≡ Some p
+        → (k : ℕ) × (w : WorkerId) × At closed k w × (w.place ≡ q) × (p.view ≡ popping (home gate workers q) w.taken w.empty_pops) × (slice_get queues q ≡ Some p.queue)
+    by_case true is e =
+        let same : w.place ≡ q = key_is w.place q is in
+        let equal : r ≡ p = cc in
+        (k, w, at, same, ap (λ z. z.view) (sym equal) ∙ (view ∙ ap (λ (j : ℕ). popping (home gate workers j) w.taken w.empty_pops) same), ap (slice_get queues) (sym same) ∙ (queue ∙ ap (λ z. Some z.queue) equal))
+    by_case false is e = old q p e
+
+some_not_none : (o : Option PassId) (p : PassId) → o ≡ Some p → o ≡ None → ⊥
+some_not_none o p a b = let both : Some p ≡ None = sym a ∙ b in absurd (cc (both))
+
+-- no worker was taken apart
+pub placed-none : (gate : GateId) (workers : ℕ) (closed : List WorkerId) (rights : BTreeMap ℕ PassId) (alone : ℕ) → Placed gate workers closed (length closed) rights alone
+placed-none gate workers closed rights alone = record {
+  within = λ k w at le. past k w at le;
+  there = λ k w at le. past k w at le;
+  own = λ k w at le. past k w at le;
+  once = λ j k v w at there le le'. past j v at le;
+}
+  where
+    past : {X : Type 0} → (k : ℕ) (w : WorkerId) → At closed k w → length closed ≤ k → X
+    past k w at le = let lt = get_within closed k w at in absurd (omega arith)
+
+-- one closed worker more was taken apart, the n-th
+pub placed_more : (gate : GateId) (workers : ℕ) (closed : List WorkerId) (m m' : BTreeMap ℕ PassId) (n : ℕ) (w : WorkerId) (r : PassId) (alone alone' : ℕ)
+    → Placed gate workers closed (n + 1) m alone → At closed n w → w.place < workers
+    → ((q : ℕ) → get nat_cmp m' q ≡ cond (is_at (nat_cmp w.place) q) (Some r) (get nat_cmp m q))
+    → r.view ≡ popping (home gate workers w.place) w.taken w.empty_pops
+    → alone' ≤ alone → (w.place < alone' → get nat_cmp m w.place ≡ None) → Placed gate workers closed n m' alone'
+placed_more gate workers closed m m' n w r alone alone' old at below h view le none = record {
+  within = λ k v here from. ⊎_elim (λ e. subst (λ (z : WorkerId). z.place < workers) (is_w k v here e) below) (λ later. old.within k v here later) (first k from);
+  there = λ k v here from. ⊎_elim (λ e. subst (λ (z : WorkerId). is_some (get nat_cmp m' z.place) ≡ true) (is_w k v here e) (ap is_some mine)) (λ later. kept v.place (old.there k v here later)) (first k from);
+  own = λ k v here from small. ⊎_elim (λ e. subst (OwnRight gate workers m') (is_w k v here e) (r, mine, view)) (λ later. own k v here later small) (first k from);
+  once = λ j k u v at_j at_k from_j from_k same small. ⊎_elim (λ e. ⊎_elim (λ e'. e ∙ sym e') (λ later. absurd (clash k v at_k later (sym same ∙ sym (ap (λ z. z.place) (is_w j u at_j e))) small)) (first k from_k))
+      (λ later_j. ⊎_elim (λ e'. absurd (clash j u at_j later_j (same ∙ sym (ap (λ z. z.place) (is_w k v at_k e'))) (omega (arith, same, small)))) (λ later_k. old.once j k u v at_j at_k later_j later_k same (omega (arith, small, le))) (first k from_k))
+      (first j from_j);
+}
+  where
+    mine : get nat_cmp m' w.place ≡ Some r
+    mine = h w.place ∙ ap (λ t. cond t (Some r) (get nat_cmp m w.place)) (key_self w.place)
+
+    is_w : (k : ℕ) (v : WorkerId) → At closed k v → k ≡ n → w ≡ v
+    is_w k v here e = same_at closed k w v (subst (λ i. At closed i w) (sym e) at) here
+
+    first : (k : ℕ) → n ≤ k → (k ≡ n) ⊎ (n + 1 ≤ k)
+    first k from = ⊎_elim (λ lt. inr (omega (arith, lt))) (λ no. inl (omega (arith, from, no))) (cases_lt n k)
+
+    kept : (q : ℕ) → is_some (get nat_cmp m q) ≡ true → is_some (get nat_cmp m' q) ≡ true
+    kept q had = ap is_some (h q) ∙ by_case (is_at (nat_cmp w.place) q)
+      where
+        by_case : (t : Bool) → is_some (cond t (Some r) (get nat_cmp m q)) ≡ true
+        by_case true = refl
+        by_case false = had
+
+    clash : (k : ℕ) (v : WorkerId) → At closed k v → n + 1 ≤ k → v.place ≡ w.place → v.place < alone' → ⊥
+    clash k v here later same small =
+        let p = old.own k v here later (omega (arith, small, le)) in
+        some_not_none (get nat_cmp m v.place) p.0 p.1 (ap (get nat_cmp m) same ∙ none (omega (arith, same, small)))
+
+    own : (k : ℕ) (v : WorkerId) → At closed k v → n + 1 ≤ k → v.place < alone' → OwnRight gate workers m' v
+    own k v here later small = by_case (is_at (nat_cmp w.place) v.place) refl
+      where
+        by_case : (t : Bool) → is_at (nat_cmp w.place) v.place ≡ t → OwnRight gate workers m' v
+        by_case true is = absurd (clash k v here later (sym (key_is w.place v.place is)) small)
+        by_case false is =
+            let p = old.own k v here later (omega (arith, small, le)) in
+            (p.0, h v.place ∙ ((λ i. cond (is i) (Some r) (get nat_cmp m v.place)) ∙ p.1), p.2)
+
+pub settled_more : (workers : ℕ) (rights : BTreeMap ℕ PassId) (least least' : ℕ) (lists : List (List Entry)) (list : List Entry) (p : PassId) (ok : Bool)
+    → Settled workers rights least lists → least' ≤ least → (length lists < least' → ok ≡ true) → get nat_cmp rights (length lists) ≡ Some p
+    → (ok ≡ true → list ≡ p.view.taken) → (ok ≡ true → KeepsRule workers (length lists) [] list) → Settled workers rights least' (lists ++ list ∷ [])
+settled_more workers rights least least' lists list p ok old le good there taken rule q es lt at =
+    ⊎_elim (λ before. old q es (omega arith) before) (λ (t : (q ≡ length lists) × (list ≡ es)). last t.0 t.1) (get_snoc lists list es q at)
+  where
+    last : q ≡ length lists → list ≡ es → ((p : PassId) × (get nat_cmp rights q ≡ Some p) × (es ≡ p.view.taken)) × KeepsRule workers q [] es
+    last here equal =
+        let yes = good (omega arith) in
+        subst (λ (y : ℕ × List Entry). ((p : PassId) × (get nat_cmp rights y.0 ≡ Some p) × (y.1 ≡ p.view.taken)) × KeepsRule workers y.0 [] y.1) (λ i. (sym here i, equal i)) ((p, there, taken yes), rule yes)
+
+-- the ids of the first books
+abbrev pub IdsBelow : List BookId → ℕ → BTreeSet ℕ → Type 0
+IdsBelow books n ids =
+    ((s : ℕ) → contains nat_cmp ids s ≡ true → (j : ℕ) × (b : BookId) × At books j b × (b.id ≡ s))
+    × ((k : ℕ) (b : BookId) → k < n → At books k b → contains nat_cmp ids b.id ≡ true)
+
+pub ids_more : (books : List BookId) (ids ids' : BTreeSet ℕ) (n : ℕ) (b : BookId) → IdsBelow books n ids → At books n b
+    → ((q : ℕ) → contains nat_cmp ids' q ≡ cond (is_at (nat_cmp b.id) q) true (contains nat_cmp ids q)) → IdsBelow books (n + 1) ids'
+ids_more books ids ids' n b old at h = (of_books, all)
+  where
+    of_books : (s : ℕ) → contains nat_cmp ids' s ≡ true → (j : ℕ) × (b : BookId) × At books j b × (b.id ≡ s)
+    of_books s e = by_case (is_at (nat_cmp b.id) s) refl (sym (h s) ∙ e)
+      where
+        by_case : (t : Bool) → is_at (nat_cmp b.id) s ≡ t → cond t true (contains nat_cmp ids s) ≡ true → (j : ℕ) × (b : BookId) × At books j b × (b.id ≡ s)
+        by_case true is e = (n, b, at, key_is b.id s is)
+        by_case false is e = old.0 s e
+
+    kept : (s : ℕ) → contains nat_cmp ids s ≡ true → contains nat_cmp ids' s ≡ true
+    kept s had = h s ∙ by_case (is_at (nat_cmp b.id) s)
+      where
+        by_case : (t : Bool) → cond t true (contains nat_cmp ids s) ≡ true
+        by_case true = refl
+        by_case false = had
+
+    itself : contains nat_cmp ids' b.id ≡ true
+    itself = h b.id ∙ ap (λ t. cond t true (contains nat_cmp ids b.id)) (key_self b.id)
+
+    all : (k : ℕ) (c : BookId) → k < n + 1 → At books k c → contains nat_cmp ids' c.id ≡ true
+    all k c lt there = ⊎_elim (λ before. kept c.id (old.1 k c before there))
+        (λ after. let same : n ≡ k = omega arith in
+        subst (λ (d : BookId). contains nat_cmp ids' d.id ≡ true) (same_at books k b c (subst (λ m. At books m b) same at) there) itself)
+        (cases_lt k n)
+
+-- one book more agrees
+pub agree_more : (books : List BookId) (lists : List (List Entry)) (least least' j : ℕ) (b : BookId) → ((k : ℕ) (c : BookId) → k < j → At books k c → AgreesBelow least lists c) → least' ≤ least → At books j b → AgreesBelow least' lists b
+    → (k : ℕ) (c : BookId) → k < j + 1 → At books k c → AgreesBelow least' lists c
+agree_more books lists least least' j b old le at now k c lt there = ⊎_elim
+    (λ before. λ q es below here. old k c before there q es (omega arith) here)
+    (λ after. let same : j ≡ k = omega arith in subst (AgreesBelow least' lists) (same_at books k b c (subst (λ m. At books m b) same at) there) now)
+    (cases_lt k j)
+
+known_some : (o : Option PassId) → is_some o ≡ true → (p : PassId) × (o ≡ Some p)
+known_some None e = absurd (cc (e))
+known_some (Some p) e = (p, refl)
+
+has_at : {X : Type 0} (xs : List X) (k : ℕ) → k < length xs → (x : X) × At xs k x
+has_at [] k lt = absurd (omega arith)
+has_at (x ∷ xs) zero lt = (x, refl)
+has_at (x ∷ xs) (suc k) lt = has_at xs k (omega arith)
+
+-- with nothing left to take apart, the books of each part are here
+has_book : (workers : ℕ) (closed : List WorkerId) (senders : List SenderId) (books : List BookId) → Gathered workers closed senders [] [] books → (b : BookId) → IsPart closed senders b → HasBook books b
+has_book workers closed senders books g b part = ⊎_elim
+    (λ (t : (k : ℕ) × (w : WorkerId) × At closed k w × (w.book ≡ b)). subst (HasBook books) t.3 (⊎_elim (λ (lt : t.0 < 0). absurd (omega arith)) (λ h. h) (g.closed_in t.0 t.1 t.2)))
+    (λ (t : (k : ℕ) × (s : SenderId) × At senders k s × (s.book ≡ b)). subst (HasBook books) t.3 (⊎_elim (λ (lt : t.0 < 0). absurd (omega arith)) (λ h. h) (g.senders_in t.0 t.1 t.2)))
+    part
+
+-- each place that has a right to pop has a worker, and one that has none has none
+pub all_work : (gate : GateId) (workers : ℕ) (queues : List QueueId) (closed : List WorkerId) (rights : BTreeMap ℕ PassId)
+    → Slots gate workers queues closed rights → ((q : ℕ) → q < workers → is_some (get nat_cmp rights q) ≡ true) → HasWorkers workers closed
+all_work gate workers queues closed rights slots there q lt =
+    let s = known_some (get nat_cmp rights q) (there q lt) in
+    let t = slots q s.0 s.1 in
+    (t.0, t.1, t.2, t.3)
+
+pub one_is_missing : (gate : GateId) (workers : ℕ) (closed : List WorkerId) (rights : BTreeMap ℕ PassId) (alone q : ℕ)
+    → Placed gate workers closed 0 rights alone → q < workers → is_some (get nat_cmp rights q) ≡ false → ¬ HasWorkers workers closed
+one_is_missing gate workers closed rights alone q placed lt none has =
+    let t = has q lt in
+    true≢false (sym (placed.there t.0 t.1 t.2 (omega arith)) ∙ (ap (λ k. is_some (get nat_cmp rights k)) t.3 ∙ none))
+
+-- an entry whose sender is not among the ids of the books
+pub strangers : (workers : ℕ) (closed : List WorkerId) (senders : List SenderId) (books : List BookId) (ids : BTreeSet ℕ) (lists : List (List Entry))
+    → Gathered workers closed senders [] [] books → IdsOf books ids → ((q : ℕ) × (es : List Entry) × At lists q es × Stranger ids es) → HasStranger closed senders lists
+strangers workers closed senders books ids lists g of_ids s = (
+  s.0,
+  s.1,
+  s.3.0,
+  s.3.1,
+  s.2,
+  s.3.2,
+  λ b part same.
+      let h = has_book workers closed senders books g b part in
+      true≢false (sym (of_ids.all h.0 b h.1) ∙ (ap (contains nat_cmp ids) same ∙ s.3.3)),
+)
+
+-- with nothing left to take apart and all places compared, the lists are an account
+pub accounts : (gate : GateId) (workers : ℕ) (queues : List QueueId) (closed : List WorkerId) (senders : List SenderId) (rights : BTreeMap ℕ PassId) (books : List BookId) (lists : List (List Entry)) (alone least now : ℕ) (ids : BTreeSet ℕ)
+    → length lists ≡ workers → Slots gate workers queues closed rights → Placed gate workers closed 0 rights alone → Gathered workers closed senders [] [] books
+    → ((q : ℕ) → q < workers → is_some (get nat_cmp rights q) ≡ true) → Settled workers rights least lists
+    → IdsOf books ids → AllAre (SendersIn ids) lists → AllAre (AgreesBelow now lists) books → workers ≤ now → now ≤ least → least ≤ alone → Accounts workers closed senders lists
+accounts gate workers queues closed senders rights books lists alone least now ids len slots placed g there settled of_ids in_ids agree all le le' = record {
+  len = len;
+  worked = all_work gate workers queues closed rights slots there;
+  once = λ j k v w at_j at_k same. placed.once j k v w at_j at_k (omega arith) (omega arith) same (let lt = place k w at_k in omega (arith, lt));
+  taken = λ k w at.
+      let lt = place k w at in
+      let o = placed.own k w at (omega arith) (omega (arith, lt)) in
+      let x = has_at lists w.place (omega (arith, lt)) in
+      let s = (settled w.place x.0 (omega (arith, lt)) x.1).0 in
+      let both : Some s.0 ≡ Some o.0 = sym s.1 ∙ o.1 in
+      let same : s.0 ≡ o.0 = cc in
+      subst (At lists w.place) (s.2 ∙ (ap (λ z. z.view.taken) same ∙ ap (λ z. z.taken) o.2)) x.1;
+  agrees = λ q es at b part. let h = has_book workers closed senders books g b part in agree h.0 b h.1 q es (let lt = get_within lists q es at in omega arith) at;
+  parts = λ q es at k e here. let t = of_ids.of_books e.sender (in_ids q es at k e here) in (t.1, g.parts t.0 t.1 t.2, t.3);
+}
+  where
+    place : (k : ℕ) (w : WorkerId) → At closed k w → w.place < workers
+    place k w at = placed.within k w at (omega arith)

@@ -1,0 +1,7 @@
+use Rattle.std.proofs.Common.{map}
+use Rattle.crawl_frontier.specs.Books.{book_of}
+use Rattle.crawl_frontier.proofs.Settling.{IdsBelow}
+use Rattle.crawl_frontier.proofs.finish.compare.ids_of.Given as goal
+
+abbrev pub invariant-loop-book : goal.invariant-loop-book
+invariant-loop-book l = IdsBelow (map book_of l.books) l.book-index l.ids

@@ -1,0 +1,24 @@
+use Rattle.std.proofs.Common.{◌≤◌, [], map, vec_len, length}
+use Rattle.crawl_frontier.specs.Books.{book_of}
+use Rattle.crawl_frontier.specs.Finishing.{Slots, Placed, Gathered}
+use Rattle.crawl_frontier.proofs.finish.gather.gather.Given as goal
+
+abbrev pub invariant-loop-worker : goal.invariant-loop-worker
+invariant-loop-worker g l =
+    Slots g.K.Name.gate g.K.Name.workers g.K.Name.queues l.fn.closed.items l.rights
+    × Placed g.K.Name.gate g.K.Name.workers l.fn.closed.items (length l.closed.items) l.rights l.alone
+    × Gathered g.K.Name.workers l.fn.closed.items l.fn.senders.items l.closed.items l.fn.senders.items (map book_of l.books.items)
+    × (l.alone ≤ l.workers)
+
+abbrev pub decreases-loop-worker : goal.decreases-loop-worker
+decreases-loop-worker g l = vec_len l.closed
+
+abbrev pub invariant-loop-sender : goal.invariant-loop-sender
+invariant-loop-sender g l =
+    Slots g.K.Name.gate g.K.Name.workers g.K.Name.queues l.fn.closed.items l.rights
+    × Placed g.K.Name.gate g.K.Name.workers l.fn.closed.items 0 l.rights l.alone
+    × Gathered g.K.Name.workers l.fn.closed.items l.fn.senders.items [] l.senders.items (map book_of l.books.items)
+    × (l.alone ≤ l.workers)
+
+abbrev pub decreases-loop-sender : goal.decreases-loop-sender
+decreases-loop-sender g l = vec_len l.senders

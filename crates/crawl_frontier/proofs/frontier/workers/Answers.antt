@@ -1,0 +1,22 @@
+use Rattle.std.proofs.Common.{◌≡◌, ℕ, ◌+◌, ◌∙◌, rules, arith, ap, sym, length}
+use Rattle.crawl_gate.specs.View.{fresh_view}
+use Rattle.crawl_gate.specs.Seat.{GateId}
+use Rattle.crawl_frontier.specs.Books.{BookId, fresh_book}
+use Rattle.crawl_frontier.proofs.Lines.{fresh-snoc}
+use Rattle.crawl_frontier.proofs.frontier.workers.Goals as goal
+
+pub loop-right-preserved : goal.loop-right-preserved
+loop-right-preserved g c =
+    let i = c.loop-right.invariant in
+    let w = c.new-worker.result in
+    let is = c.new-worker.ensures in
+    let at : w.place ≡ length c.loop-right.made.items = omega (arith, ap (λ z. z.place) is, i.2, c.loop-right.made.ok.0) in
+    let same : c.args.count ≡ g.K.Name.workers = c.requires.count in
+    let book : w.book ≡ fresh_book w.place g.K.Name.workers = search (rules, same) in (
+      search rules,
+      search rules,
+      search rules,
+      search rules,
+      rw c.in_ok-push.ensures.items
+          (fresh-snoc g.K.Name.gate g.K.Name.workers 0 c.loop-right.made.items w i.4 (omega (arith, at)) (book ∙ ap (λ (k : ℕ). fresh_book k g.K.Name.workers) (omega (arith, at))) (ap (λ z. z.taken) is) (ap (λ z. z.empty_pops) is) (ap (λ z. z.seat.view) is ∙ (c.split_unit.ensures.fresh ∙ ap (λ (y : GateId). fresh_view y.max_pending) c.requires.gate))),
+    )

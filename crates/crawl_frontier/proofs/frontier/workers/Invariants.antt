@@ -1,0 +1,12 @@
+use Rattle.std.proofs.Common.{◌≡◌, ◌+◌, length, vec_len}
+use Rattle.crawl_frontier.specs.FreshParts.{AllPop, AllFresh}
+use Rattle.crawl_frontier.proofs.frontier.workers.Given as goal
+
+abbrev pub invariant-loop-right : goal.invariant-loop-right
+invariant-loop-right g l =
+    AllPop g.K.Name.gate g.K.Name.workers g.K.Name.queues l.place l.rights.items
+    × (l.place + length l.rights.items ≡ length l.fn.rights.items) × (vec_len l.made ≡ l.place)
+    × (l.opening ≡ l.initial.opening) × AllFresh g.K.Name.gate g.K.Name.workers 0 l.made.items
+
+abbrev pub decreases-loop-right : goal.decreases-loop-right
+decreases-loop-right g l = length l.rights.items

@@ -1,0 +1,12 @@
+use Rattle.std.proofs.Common.{rules, ap, sym, ◌∙◌, []}
+use Rattle.std.proofs.lemmas.List.{append-nil}
+use Rattle.crawl_frontier.proofs.Passing.{unites, compares}
+use Rattle.crawl_frontier.proofs.subqueue.Subqueue.is_all_taken.Goals as goal
+
+pub absorb-requires-clause-rule : goal.absorb-requires-clause-rule
+absorb-requires-clause-rule c = unites _ _ _ _ c.push.invariant.2 c.pop.invariant.2
+
+pub is_empty_as-requires-clause-rule : goal.is_empty_as-requires-clause-rule
+is_empty_as-requires-clause-rule c =
+    let is = c.absorb.ensures.rule in
+    compares _ _ (ap (λ v. v.sends) is) (ap (λ v. v.takes) is)

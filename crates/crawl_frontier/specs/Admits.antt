@@ -1,0 +1,21 @@
+-- What a shard's `admit` answers and does.
+use Rattle.std.specs.Prelude.{◌≡◌, ◌≢◌, ℕ, ◌^◌, ◌<◌, ◌≤◌, Bool, true, false, List, [], ◌∷◌, ◌++◌}
+use Rattle.crawl_gate.specs.Seat.{SeatId}
+use Rattle.crawl_frontier.specs.declared.shard.Admit.{Admit}
+use Rattle.crawl_frontier.specs.declared.shard.Admit.TheVariants.{Admitted, Crossed, Seen, TooFar, NoMemory}
+use Rattle.crawl_frontier.specs.Limits.{hops_limit}
+use Rattle.crawl_frontier.specs.Entries.{has_url, count_of, entry}
+use Rattle.crawl_frontier.specs.Parts.{ShardId, shard}
+
+-- Of the shard before and after, the URL, the sender's id and own count, the hops, the unit, and the answer. In this
+-- order: the counts differ, the URL stands in the list, the hops are above the limit; and else it is appended.
+abbrev pub Admits : ShardId → ShardId → List ℕ → ℕ → ℕ → ℕ → SeatId → Admit → Type 0
+Admits s t url id own hops unit (Admitted n) =
+    (n ≡ own) × (own < 2 ^ 63) × (count_of id s.sent ≡ own) × (has_url url s.sent ≡ false) × (hops ≤ hops_limit)
+    × (t ≡ shard s.place (s.sent ++ entry url id own hops ∷ []))
+Admits s t url id own hops unit (Crossed found u) = (found ≡ count_of id s.sent) × (found ≢ own) × (t ≡ s) × (u ≡ unit)
+Admits s t url id own hops unit (Seen there u) =
+    (count_of id s.sent ≡ own) × (has_url url s.sent ≡ true) × (there ≡ url) × (t ≡ s) × (u ≡ unit)
+Admits s t url id own hops unit (TooFar u) =
+    (count_of id s.sent ≡ own) × (has_url url s.sent ≡ false) × (hops_limit < hops) × (t ≡ s) × (u ≡ unit)
+Admits s t url id own hops unit (NoMemory u) = (t ≡ s) × (u ≡ unit)

@@ -1,0 +1,101 @@
+-- Inside `finish`: how far the parts were taken apart, settled and compared.
+use Rattle.std.specs.Prelude.{◌≡◌, ◌⊎◌, ℕ, ◌<◌, ◌≤◌, true, false, List, [], length, Some, slice_get, is_some}
+use Rattle.std.specs.Ordering.{nat_cmp}
+use Rattle.std.specs.BTreeMap.{BTreeMap, get}
+use Rattle.std.specs.BTreeSet.{BTreeSet, contains}
+use Rattle.crawl_gate.specs.Seat.{GateId}
+use Rattle.crawl_frontier.specs.declared.entry.Entry.{Entry}
+use Rattle.crawl_frontier.specs.declared.book.Logged.{Logged}
+use Rattle.crawl_frontier.specs.declared.book.Logged.TheVariants.{Accepted, Seen}
+use Rattle.crawl_frontier.specs.QueueId.{QueueId}
+use Rattle.crawl_frontier.specs.PassId.{PassId}
+use Rattle.crawl_frontier.specs.Rule.{popping, home}
+use Rattle.crawl_frontier.specs.Entries.{has_url, count_of, KeepsRule}
+use Rattle.crawl_frontier.specs.Books.{BookId, IsBook, place_of}
+use Rattle.crawl_frontier.specs.Parts.{WorkerId, SenderId}
+use Rattle.crawl_frontier.specs.Accounts.{At, IsPart, Agrees}
+
+-- what is left of a list that is used up from its end
+abbrev pub Begins : {X : Type 0} → List X → List X → Type 0
+Begins xs all = (k : ℕ) (x : _) → At xs k x → At all k x
+
+abbrev pub HasBook : List BookId → BookId → Type 0
+HasBook books b = (j : ℕ) × At books j b
+
+-- each part is left, or its books are here; and all books are some part's
+pub record Gathered (workers : ℕ) (closed : List WorkerId) (senders : List SenderId) (left : List WorkerId) (lefts : List SenderId) (books : List BookId) : Type 0 where
+  pub begin : Begins left closed
+  pub begins : Begins lefts senders
+  pub closed_in : (k : ℕ) (w : WorkerId) → At closed k w → (k < length left) ⊎ HasBook books w.book
+  pub senders_in : (k : ℕ) (s : SenderId) → At senders k s → (k < length lefts) ⊎ HasBook books s.book
+  pub parts : (j : ℕ) (b : BookId) → At books j b → IsPart closed senders b
+  pub are_books : (j : ℕ) (b : BookId) → At books j b → IsBook workers b
+
+-- the right to pop at each place is a closed worker's of this place
+abbrev pub Slots : GateId → ℕ → List QueueId → List WorkerId → BTreeMap ℕ PassId → Type 0
+Slots gate workers queues closed rights =
+    (q : ℕ) (p : PassId) → get nat_cmp rights q ≡ Some p
+    → (k : ℕ) × (w : WorkerId) × At closed k w × (w.place ≡ q) × (p.view ≡ popping (home gate workers q) w.taken w.empty_pops) × (slice_get queues q ≡ Some p.queue)
+
+-- the worker's own right to pop stands at its place
+abbrev pub OwnRight : GateId → ℕ → BTreeMap ℕ PassId → WorkerId → Type 0
+OwnRight gate workers rights w =
+    (p : PassId) × (get nat_cmp rights w.place ≡ Some p) × (p.view ≡ popping (home gate workers w.place) w.taken w.empty_pops)
+
+-- of the closed workers from `from` on: each has a place, and a right stands there; and at a place below `alone` that
+-- right is its own, and no other of them has the place
+pub record Placed (gate : GateId) (workers : ℕ) (closed : List WorkerId) (from : ℕ) (rights : BTreeMap ℕ PassId) (alone : ℕ) : Type 0 where
+  pub within : (k : ℕ) (w : WorkerId) → At closed k w → from ≤ k → w.place < workers
+  pub there : (k : ℕ) (w : WorkerId) → At closed k w → from ≤ k → is_some (get nat_cmp rights w.place) ≡ true
+  pub own : (k : ℕ) (w : WorkerId) → At closed k w → from ≤ k → w.place < alone → OwnRight gate workers rights w
+  pub once : (j k : ℕ) (v w : WorkerId) → At closed j v → At closed k w → from ≤ j → from ≤ k → v.place ≡ w.place → w.place < alone → j ≡ k
+
+-- each right is one of these queues'
+abbrev pub RightsOf : List QueueId → BTreeMap ℕ PassId → Type 0
+RightsOf queues rights = (q : ℕ) (p : PassId) → get nat_cmp rights q ≡ Some p → slice_get queues q ≡ Some p.queue
+
+-- below `least` each list is what the right to pop took, and keeps its rule
+abbrev pub Settled : ℕ → BTreeMap ℕ PassId → ℕ → List (List Entry) → Type 0
+Settled workers rights least lists =
+    (q : ℕ) (es : List Entry) → q < least → At lists q es
+    → ((p : PassId) × (get nat_cmp rights q ≡ Some p) × (es ≡ p.view.taken)) × KeepsRule workers q [] es
+
+-- the line of a log is true of these entries
+abbrev pub Stands : List Entry → Logged → Type 0
+Stands es (Accepted e q) = (k : ℕ) × At es k e
+Stands es (Seen u q) = has_url u es ≡ true
+
+abbrev pub StandsAt : List (List Entry) → Logged → Type 0
+StandsAt lists l = (es : List Entry) → At lists (place_of l) es → Stands es l
+
+-- below `least` each line of the log is true of its subqueue's list
+abbrev pub LogStands : ℕ → List (List Entry) → List Logged → Type 0
+LogStands least lists log = (k : ℕ) (l : Logged) → At log k l → place_of l < least → StandsAt lists l
+
+-- below `least` each count is that of the list
+abbrev pub CountsStand : ℕ → List (List Entry) → BookId → Type 0
+CountsStand least lists b = (q : ℕ) (es : List Entry) → q < least → At lists q es → slice_get b.counts q ≡ Some (count_of b.id es)
+
+-- below `least` the books agree with the lists
+abbrev pub AgreesBelow : ℕ → List (List Entry) → BookId → Type 0
+AgreesBelow least lists b = (q : ℕ) (es : List Entry) → q < least → At lists q es → Agrees q es b
+
+-- below `least` each list keeps its rule
+abbrev pub KeepRuleBelow : ℕ → ℕ → List (List Entry) → Type 0
+KeepRuleBelow workers least lists = (q : ℕ) (es : List Entry) → q < least → At lists q es → KeepsRule workers q [] es
+
+abbrev pub AllAre : {X : Type 0} → (X → Type 0) → List X → Type 0
+AllAre P xs = (j : ℕ) (x : _) → At xs j x → P x
+
+-- the set has the ids of the books, and no other
+pub record IdsOf (books : List BookId) (ids : BTreeSet ℕ) : Type 0 where
+  pub of_books : (s : ℕ) → contains nat_cmp ids s ≡ true → (j : ℕ) × (b : BookId) × At books j b × (b.id ≡ s)
+  pub all : (j : ℕ) (b : BookId) → At books j b → contains nat_cmp ids b.id ≡ true
+
+-- each entry's sender is in the set
+abbrev pub SendersIn : BTreeSet ℕ → List Entry → Type 0
+SendersIn ids es = (k : ℕ) (e : Entry) → At es k e → contains nat_cmp ids e.sender ≡ true
+
+-- some entry's sender is not in the set
+abbrev pub Stranger : BTreeSet ℕ → List Entry → Type 0
+Stranger ids es = (k : ℕ) × (e : Entry) × At es k e × (contains nat_cmp ids e.sender ≡ false)

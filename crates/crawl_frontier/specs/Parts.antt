@@ -1,0 +1,47 @@
+-- What contracts see of the parts of a shard.
+use Rattle.std.specs.Prelude.{ℕ, Bool, List}
+use Rattle.crawl_gate.specs.Seat.{SeatId}
+use Rattle.crawl_frontier.specs.declared.entry.Entry.{Entry}
+use Rattle.crawl_frontier.specs.declared.entry.Message.{Message}
+use Rattle.crawl_frontier.specs.Books.{BookId}
+
+-- a shard's place and the list sent
+pub record ShardId : Type 0 where
+  pub place : ℕ
+  pub sent : List Entry
+
+abbrev pub shard : ℕ → List Entry → ShardId
+shard place sent = record { place = place; sent = sent }
+
+-- a worker's place, its pass of the gate, the list that it took, how many of its pops found nothing, and its books
+pub record WorkerId : Type 0 where
+  pub place : ℕ
+  pub seat : SeatId
+  pub taken : List Entry
+  pub empty_pops : ℕ
+  pub book : BookId
+
+abbrev pub worker : ℕ → SeatId → List Entry → ℕ → BookId → WorkerId
+worker place seat taken empty_pops book = record { place = place; seat = seat; taken = taken; empty_pops = empty_pops; book = book }
+
+-- a worker with the message that it took
+pub record BusyId : Type 0 where
+  pub worker : WorkerId
+  pub message : Message
+
+abbrev pub busy : WorkerId → Message → BusyId
+busy worker message = record { worker = worker; message = message }
+
+-- a sender's books, and its pass of the gate
+pub record SenderId : Type 0 where
+  pub book : BookId
+  pub seat : SeatId
+
+abbrev pub sender_with : BookId → SeatId → SenderId
+sender_with book seat = record { book = book; seat = seat }
+
+-- the seeder's besides the opening unit
+pub record SeederId : Type 0 where
+  pub book : BookId
+  pub opening : SeatId
+  pub seat : SeatId

@@ -1,0 +1,10 @@
+-- What contracts see of a setup.
+use Rattle.std.specs.Prelude.{ℕ, List}
+use Rattle.crawl_gate.specs.Seat.{GateId}
+use Rattle.crawl_frontier.specs.QueueId.{QueueId}
+
+-- how many workers, which gate, and which subqueue at each place
+pub record SetupId : Type 0 where
+  pub workers : ℕ
+  pub gate : GateId
+  pub queues : List QueueId

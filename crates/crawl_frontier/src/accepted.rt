@@ -1,0 +1,68 @@
+//! What one subqueue accepted, once its shard is out of its lock.
+ghost use Rattle.std.specs.Prelude.{◌≡◌, ℕ, true, is_some};
+ghost use Rattle.crawl_frontier.specs.Entries.{has_url, count_of};
+ghost use Rattle.crawl_frontier.specs.Accounts.{At};
+
+use crate::entry::Entry;
+use crate::tables::{Counts, Places, count, kept};
+use crate::url_key::UrlKey;
+use std::marker::Model;
+
+/// The list sent, with the two tables that look it up. To a contract it is the list.
+#[derive(Drop)]
+pub struct AcceptedList {
+    pub(crate) sent: Vec<Entry>,
+    pub(crate) places: Places,
+    pub(crate) counts: Counts,
+}
+
+impl Model for AcceptedList {
+    ghost use Rattle.std.specs.Prelude.{◌≡◌, ℕ, List};
+    ghost use Rattle.crawl_frontier.specs.declared.entry.Entry.{Entry};
+    ghost use Rattle.crawl_frontier.specs.Entries.{has_url, count_of};
+    ghost use Rattle.crawl_frontier.specs.Tables.{count_in, has_in};
+
+    ghost Value = { List Entry };
+
+    ghost view = { λ s. s.sent.items };
+
+    ghost invariant = { λ s.
+        ((bs : List ℕ) → has_in s.places bs ≡ has_url bs s.sent.items)
+        × ((id : ℕ) → count_in s.counts id ≡ count_of id s.sent.items) };
+}
+
+impl AcceptedList {
+    /// The entries, oldest first.
+    pub fn entries(&self) -> &[Entry]
+        ensures { result.now ≡ self.now }
+    {
+        self.sent.as_slice()
+    }
+
+    /// Whether an equal entry stands in the list; its URL leads to it.
+    pub fn has_entry(&self, entry: &Entry, url: &UrlKey) -> bool
+        ensures { result ≡ true → (k : ℕ) × At self.now k entry.now }
+    {
+        match self.places.get(url) {
+            Some(place) => match self.sent.get(*place) {
+                Some(found) => found.is_same(entry),
+                None => false,
+            },
+            None => false,
+        }
+    }
+
+    /// Whether the URL stands in the list.
+    pub fn has_url(&self, url: &UrlKey) -> bool
+        ensures { result ≡ has_url url.now self.now }
+    {
+        kept(&self.places, url).is_some()
+    }
+
+    /// How many entries are of this sender.
+    pub fn count(&self, sender: u64) -> u64
+        ensures { result ≡ count_of sender self.now }
+    {
+        count(&self.counts, sender)
+    }
+}

@@ -1,0 +1,160 @@
+//! A worker with a URL in hand.
+ghost use Rattle.std.specs.Prelude.{◌≡◌, ◌+◌, ◌↔◌, false};
+ghost use Rattle.crawl_keys.specs.HostFilter.{allows};
+ghost use Rattle.crawl_frontier.specs.Turns.{Done};
+ghost use Rattle.crawl_frontier.specs.Parts.{worker};
+ghost use Rattle.crawl_frontier.specs.Offers.{OfferBooks, OfferWordsBeside, IsFiltered};
+
+use crate::book::Book;
+use crate::entry::Message;
+use crate::error::OfferError;
+use crate::frontier::Frontier;
+use crate::name::Name;
+use crate::offer::{Offer, deliver, give_back};
+use crate::rights::PopRight;
+use crate::url_key::UrlKey;
+use crate::worker::Worker;
+use crawl_gate::{Enter, Pass};
+use crawl_keys::CanonUrl;
+use std::marker::{Model, PhantomData};
+use std::mem;
+use std::sync::Wait;
+
+/// A worker with a URL whose fetch isn't done. [`Worker::next`] makes it.
+///
+/// It holds the URL's unit, so the gate stays open until [`BusyWorker::done`]; one that is dropped keeps it open for
+/// good. To a contract it is the worker and the message.
+#[derive(Drop)]
+pub struct BusyWorker<K: Name> {
+    pub(crate) place: u32,
+    pub(crate) right: PopRight,
+    pub(crate) pass: Pass,
+    pub(crate) book: Book,
+    pub(crate) message: Message,
+    pub(crate) of: PhantomData<K>,
+}
+
+impl<K: Name> Model for BusyWorker<K> {
+    ghost use Rattle.std.specs.Prelude.{◌≡◌, ◌<◌, Some, slice_get};
+    ghost use Rattle.crawl_gate.specs.Seat.{IsSeatOf};
+    ghost use Rattle.crawl_frontier.specs.Books.{IsBook, book_of};
+    ghost use Rattle.crawl_frontier.specs.Parts.{BusyId, worker};
+    ghost use Rattle.crawl_frontier.specs.Rule.{popping, home};
+
+    ghost Value = { BusyId };
+
+    ghost view = { λ w. record { worker = worker w.place w.pass w.right.view.taken w.right.view.empty_pops (book_of w.book); message = w.message } };
+
+    ghost invariant = { λ w.
+        (w.right.view ≡ popping (home K.gate K.workers w.place) w.right.view.taken w.right.view.empty_pops)
+        × (slice_get K.queues w.place ≡ Some w.right.queue)
+        × IsSeatOf K.gate w.pass × (w.place < K.workers) × IsBook K.workers (book_of w.book)
+        × IsSeatOf K.gate w.message.unit };
+}
+
+impl<K: Name> BusyWorker<K> {
+    /// The URL.
+    pub fn url(&self) -> &CanonUrl
+        ensures { result.now ≡ self.now.message.entry.url }
+    {
+        &self.message.entry.url
+    }
+
+    /// How many links away from a URL that a sender or the seeder offered.
+    pub fn hops(&self) -> u32
+        ensures { result ≡ self.now.message.entry.hops }
+    {
+        self.message.entry.hops
+    }
+
+    /// Offers a link of the page, with one hop more than the page. The answer is never `Closed`, for the page's unit is
+    /// held.
+    pub fn offer<R: Wait>(
+        &mut self,
+        rt: &R,
+        frontier: &Frontier<K>,
+        url: &CanonUrl,
+    ) -> Result<Offer, OfferError>
+        ensures books { OfferBooks K.workers self.old.worker.book self.new.worker.book url.now (self.old.message.entry.hops + 1) result }
+        ensures words { OfferWordsBeside self.old.message.unit self.new.message.unit self.old.worker.seat self.new.worker.seat result }
+        ensures filtered { IsFiltered result ↔ (allows K.filter url.now ≡ false) }
+        ensures entry { self.new.message.entry ≡ self.old.message.entry }
+        ensures same { self.new.worker ≡ worker self.old.worker.place self.new.worker.seat self.old.worker.taken self.old.worker.empty_pops self.new.worker.book }
+    {
+        if !frontier.filter().allows(url) {
+            return Err(OfferError::Filtered);
+        }
+        let Ok(url) = url.copy() else {
+            return Err(OfferError::NoMemory);
+        };
+        let Ok(()) = self.book.reserve() else {
+            return Err(OfferError::NoMemory);
+        };
+        let url = UrlKey::from(url);
+        let hops = u64::from(self.message.entry.hops) + 1;
+        let gate = frontier.gate();
+        let spare = gate.split_unit(&mut self.message.unit);
+        let pass = mem::replace(&mut self.pass, spare);
+        let unit = match gate.enter_beside(rt, &mut self.message.unit, pass) {
+            Enter::Entered(unit) => unit,
+            Enter::Full(pass) => {
+                self.pass = pass;
+                return Err(OfferError::Full);
+            }
+            Enter::Closed(_) => unreachable!(),
+            Enter::Lost(_) => unreachable!(),
+        };
+        deliver(
+            rt,
+            frontier,
+            &mut self.book,
+            &mut self.pass,
+            url,
+            hops,
+            unit,
+        )
+    }
+
+    /// As [`BusyWorker::offer`]. Where the URL was seen, `url` shares the text that the frontier keeps from then on, so
+    /// that a page's links cost no text of their own.
+    pub fn offer_shared<R: Wait>(
+        &mut self,
+        rt: &R,
+        frontier: &Frontier<K>,
+        url: &mut CanonUrl,
+    ) -> Result<Offer, OfferError>
+        ensures url { url.new ≡ url.old }
+        ensures books { OfferBooks K.workers self.old.worker.book self.new.worker.book url.old (self.old.message.entry.hops + 1) result }
+        ensures words { OfferWordsBeside self.old.message.unit self.new.message.unit self.old.worker.seat self.new.worker.seat result }
+        ensures filtered { IsFiltered result ↔ (allows K.filter url.old ≡ false) }
+        ensures entry { self.new.message.entry ≡ self.old.message.entry }
+        ensures same { self.new.worker ≡ worker self.old.worker.place self.new.worker.seat self.old.worker.taken self.old.worker.empty_pops self.new.worker.book }
+    {
+        let answer = self.offer(rt, frontier, url);
+        self.book.share_last(url);
+        answer
+    }
+
+    /// Gives the unit of the URL back: its fetch is done. It takes no lock and no memory.
+    pub fn done(self, frontier: &Frontier<K>) -> Worker<K>
+        ensures { Done self result }
+    {
+        let BusyWorker {
+            place,
+            right,
+            pass: _,
+            book,
+            message,
+            of,
+        } = self;
+        let Message { entry: _, unit } = message;
+        let pass = give_back(frontier, unit);
+        Worker {
+            place,
+            right,
+            pass,
+            book,
+            of,
+        }
+    }
+}

@@ -1,0 +1,67 @@
+//! A worker that has met the gate closed.
+ghost use Rattle.std.specs.Prelude.{◌≡◌, ◌<◌, Some, slice_get};
+ghost use Rattle.crawl_frontier.specs.Books.{IsBook, book_of};
+ghost use Rattle.crawl_frontier.specs.Rule.{popping, home};
+
+use crate::book::Book;
+use crate::name::Name;
+use crate::rights::PopRight;
+use crawl_gate::ClosedPass;
+use std::marker::{Model, PhantomData};
+
+/// A worker that was told that nothing is left and nothing will come. [`crate::Worker::next`] makes it, and
+/// [`crate::Frontier::finish`] takes it.
+///
+/// To a contract it is what the worker was.
+#[derive(Drop)]
+pub struct ClosedWorker<K: Name> {
+    pub(crate) place: u32,
+    pub(crate) right: PopRight,
+    pub(crate) pass: ClosedPass,
+    pub(crate) book: Book,
+    pub(crate) of: PhantomData<K>,
+}
+
+impl<K: Name> Model for ClosedWorker<K> {
+    ghost use Rattle.std.specs.Prelude.{◌≡◌, ◌<◌, true, Some, slice_get};
+    ghost use Rattle.crawl_gate.specs.View.{knows_closed};
+    ghost use Rattle.crawl_gate.specs.Seat.{IsSeatOf};
+    ghost use Rattle.crawl_frontier.specs.Books.{IsBook, book_of};
+    ghost use Rattle.crawl_frontier.specs.Parts.{WorkerId};
+    ghost use Rattle.crawl_frontier.specs.Rule.{popping, home};
+
+    ghost Value = { WorkerId };
+
+    ghost view = { λ w. record { place = w.place; seat = w.pass; taken = w.right.view.taken; empty_pops = w.right.view.empty_pops; book = book_of w.book } };
+
+    ghost invariant = { λ w.
+        (w.right.view ≡ popping (home K.gate K.workers w.place) w.right.view.taken w.right.view.empty_pops)
+        × (slice_get K.queues w.place ≡ Some w.right.queue)
+        × IsSeatOf K.gate w.pass × (w.place < K.workers) × IsBook K.workers (book_of w.book)
+        × (knows_closed w.pass.view ≡ true) };
+}
+
+impl<K: Name> ClosedWorker<K> {
+    /// The subqueue that was its own.
+    pub fn queue(&self) -> u32
+        ensures { (result ≡ self.now.place) × (result < K.workers) }
+    {
+        self.place
+    }
+
+    /// The right to pop, and the books.
+    pub(crate) fn into_parts(self) -> (PopRight, Book)
+        ensures right { (result.0.view ≡ popping (home K.gate K.workers self.place) self.taken self.empty_pops) × (slice_get K.queues self.place ≡ Some result.0.queue) }
+        ensures book { book_of result.1 ≡ self.book }
+        ensures is_book { IsBook K.workers (book_of result.1) }
+    {
+        let ClosedWorker {
+            place: _,
+            right,
+            pass: _,
+            book,
+            of: _,
+        } = self;
+        (right, book)
+    }
+}

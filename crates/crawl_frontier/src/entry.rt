@@ -1,0 +1,55 @@
+//! What lies in a subqueue.
+ghost use Rattle.std.specs.Prelude.{◌≡◌, true, IfOk};
+ghost use Rattle.crawl_frontier.specs.Entries.{entry};
+
+use crawl_gate::Unit;
+use crawl_keys::{CanonUrl, KeyError};
+
+/// An accepted URL.
+#[derive(Debug, Drop)]
+pub struct Entry {
+    pub url: CanonUrl,
+    /// The id of whoever offered it: a worker's is its place, the seeder's is the number of workers.
+    pub sender: u64,
+    /// How many URLs of this sender the subqueue accepted before.
+    pub number: u64,
+    /// How many links away from the first offer of a sender or the seeder: 0 for what they offered.
+    pub hops: u32,
+}
+
+/// An entry with the unit of the gate that it holds until its fetch is done.
+#[derive(Drop)]
+pub struct Message {
+    pub entry: Entry,
+    pub unit: Unit,
+}
+
+impl Entry {
+    /// An entry for one more owner of this URL's text.
+    pub(crate) fn of_copy(
+        url: &CanonUrl,
+        sender: u64,
+        number: u64,
+        hops: u32,
+    ) -> Result<Entry, KeyError>
+        ensures { IfOk result (λ e. e ≡ entry url.now sender number hops) }
+    {
+        let url = url.copy()?;
+        Ok(Entry {
+            url,
+            sender,
+            number,
+            hops,
+        })
+    }
+
+    /// Whether all four parts are equal.
+    pub(crate) fn is_same(&self, other: &Entry) -> bool
+        ensures { result ≡ true → self.now ≡ other.now }
+    {
+        self.sender == other.sender
+            && self.number == other.number
+            && self.hops == other.hops
+            && self.url == other.url
+    }
+}

@@ -1,0 +1,161 @@
+//! A frontier: the gate, the subqueues, and a lock round each shard.
+ghost use Rattle.std.specs.Prelude.{◌≡◌, ◌^◌, ◌<◌, Some, IfOk, MatchResult, slice_get, vec_len, length};
+ghost use Rattle.crawl_gate.specs.Seat.{IsSeatOf};
+ghost use Rattle.crawl_frontier.specs.Limits.{IsWorkers};
+ghost use Rattle.crawl_frontier.specs.Books.{fresh_book};
+ghost use Rattle.crawl_frontier.specs.FreshParts.{AllPush, AllPop, AllFresh};
+
+use crate::book::Book;
+use crate::error::FrontierError;
+use crate::name::Name;
+use crate::rights::{PopRight, PushRight};
+use crate::seeder::Seeder;
+use crate::setup::Setup;
+use crate::shard::Shard;
+use crate::subqueue::Subqueue;
+use crate::worker::Worker;
+use crawl_gate::{Gate, Unit};
+use crawl_keys::Filter;
+use std::alloc::{AllocError, Global};
+use std::collections::VecDeque;
+use std::sync::{Mutex, MutexGuard, Wait};
+
+/// The gate, the subqueues, and one lock round the shard of each subqueue. Threads share it by `&`.
+#[derive(Drop)]
+pub struct Frontier<K: Name> {
+    pub(crate) gate: Gate,
+    pub(crate) workers: u32,
+    pub(crate) queues: Vec<Subqueue>,
+    pub(crate) shards: Vec<Mutex<Shard<K>>>,
+    pub(crate) filter: Filter,
+    ghost gate_is: { gate ≡ K.gate },
+    ghost workers_are: { workers ≡ K.workers },
+    ghost queues_are: { queues.items ≡ K.queues },
+    ghost some: { IsWorkers workers },
+    ghost filter_is: { filter ≡ K.filter },
+    ghost queues_len: { vec_len queues ≡ workers },
+    ghost shards_len: { vec_len shards ≡ workers },
+}
+
+// An empty shard behind a lock for each place, in order.
+fn shards<K: Name>(
+    alloc: Global,
+    mut rights: VecDeque<PushRight>,
+) -> Result<Vec<Mutex<Shard<K>>>, AllocError>
+    requires push { AllPush K.gate K.workers K.queues 0 rights.items }
+    requires small { length rights.items < 2 ^ 32 }
+    ensures { IfOk result (λ v. vec_len v ≡ length rights.items) }
+{
+    let mut made = Vec::new(alloc);
+    let mut place = 0u32;
+    while let Some(right) = rights.pop_front() {
+        made.push(Mutex::new(Shard::new(alloc, place, right)))?;
+        place += 1;
+    }
+    Ok(made)
+}
+
+// A worker for each place, in order, each with a pass of its own.
+fn workers<K: Name>(
+    alloc: Global,
+    gate: &Gate,
+    opening: &mut Unit,
+    count: u32,
+    mut rights: VecDeque<PopRight>,
+) -> Result<Vec<Worker<K>>, AllocError>
+    requires gate { gate.now ≡ K.gate }
+    requires unit { IsSeatOf K.gate opening.old }
+    requires pop { AllPop K.gate K.workers K.queues 0 rights.items }
+    requires count { count ≡ K.workers }
+    requires all { length rights.items ≡ K.workers }
+    requires small { length rights.items < 2 ^ 32 }
+    ensures unit { opening.new ≡ opening.old }
+    ensures workers { IfOk result (λ v. (vec_len v ≡ K.workers) × AllFresh K.gate K.workers 0 v.items) }
+{
+    let mut made = Vec::new(alloc);
+    let mut place = 0u32;
+    while let Some(right) = rights.pop_front() {
+        let book = Book::new(alloc, u64::from(place), count)?;
+        let worker = Worker::new(place, right, gate.split_unit(opening), book);
+        made.push(worker)?;
+        place += 1;
+    }
+    Ok(made)
+}
+
+impl<K: Name> Frontier<K> {
+    /// The frontier of a setup, the worker of each subqueue by place, and the seeder. The filter is copied.
+    pub fn new(
+        alloc: Global,
+        setup: Setup,
+        filter: &Filter,
+    ) -> Result<(Frontier<K>, Vec<Worker<K>>, Seeder<K>), FrontierError>
+        requires gate { setup.gate ≡ K.gate }
+        requires workers { setup.workers ≡ K.workers }
+        requires queues { setup.queues ≡ K.queues }
+        requires filter { filter.now ≡ K.filter }
+        ensures { MatchResult result
+            (λ r. (vec_len r.1 ≡ K.workers) × AllFresh K.gate K.workers 0 r.1.items × (r.2.book ≡ fresh_book K.workers K.workers))
+            (λ e. e ≡ FrontierError.NoMemory) }
+    {
+        let Setup {
+            gate,
+            mut opening,
+            workers: count,
+            queues,
+            push_rights,
+            pop_rights,
+        } = setup;
+        let Ok(filter) = filter.copy() else {
+            return Err(FrontierError::NoMemory);
+        };
+        let shards = shards::<K>(alloc, push_rights)?;
+        let made = workers::<K>(alloc, &gate, &mut opening, count, pop_rights)?;
+        let book = Book::new(alloc, u64::from(count), count)?;
+        let pass = gate.split_unit(&mut opening);
+        let seeder = Seeder::new(opening, pass, book);
+        let frontier = Frontier {
+            gate,
+            workers: count,
+            queues,
+            shards,
+            filter,
+        };
+        Ok((frontier, made, seeder))
+    }
+
+    /// How many workers and subqueues it has.
+    pub fn workers(&self) -> u32
+        ensures { (result ≡ K.workers) × IsWorkers result }
+    {
+        self.workers
+    }
+
+    /// The filter that each offer asks first.
+    pub fn filter(&self) -> &Filter
+        ensures { result.now ≡ K.filter }
+    {
+        &self.filter
+    }
+
+    pub(crate) fn gate(&self) -> &Gate
+        ensures { result.now ≡ K.gate }
+    {
+        &self.gate
+    }
+
+    /// The subqueue of a place.
+    pub(crate) fn subqueue(&self, place: u32) -> &Subqueue
+        requires { place < K.workers }
+        ensures { slice_get K.queues place ≡ Some result.now }
+    {
+        &self.queues[place as usize]
+    }
+
+    /// The lock at a place, taken.
+    pub(crate) fn lock<R: Wait>(&self, rt: &R, place: u32) -> MutexGuard<'_, Shard<K>>
+        requires { place < K.workers }
+    {
+        self.shards[place as usize].lock(rt)
+    }
+}

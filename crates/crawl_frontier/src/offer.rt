@@ -1,0 +1,121 @@
+//! What an offer answers, and its half after it has entered the gate.
+ghost use Rattle.std.specs.Prelude.{◌≡◌, ◌<◌, vec_len, vec_capacity};
+ghost use Rattle.crawl_keys.specs.Assignment.{subqueue_of};
+ghost use Rattle.crawl_gate.specs.Seat.{IsSeatOf};
+ghost use Rattle.crawl_frontier.specs.Books.{IsBook, book_of};
+ghost use Rattle.crawl_frontier.specs.Offers.{Replies, OfferBooks, Delivers};
+ghost use Rattle.crawl_frontier.specs.Units.{GaveBack};
+
+use crate::book::{Book, Logged};
+use crate::entry::Entry;
+use crate::error::OfferError;
+use crate::frontier::Frontier;
+use crate::name::Name;
+use crate::shard::Admit;
+use crate::url_key::UrlKey;
+use crawl_gate::{Pass, Unit};
+use std::sync::Wait;
+
+/// What became of a URL that an offer was not refused.
+#[derive(Clone, Copy, Debug, PartialEq, Eq)]
+pub enum Offer {
+    /// It went to the end of this subqueue. The number is how many of the same sender the subqueue accepted before.
+    Accepted(u32, u64),
+    /// It was accepted before.
+    Seen,
+}
+
+/// Gives a unit back. The pass is what was the unit's seat.
+pub(crate) fn give_back<K: Name>(frontier: &Frontier<K>, unit: Unit) -> Pass
+    requires { IsSeatOf K.gate unit }
+    ensures gave { GaveBack unit result }
+    ensures gate { IsSeatOf K.gate result }
+{
+    let (pass, _left) = frontier.gate().leave(unit);
+    pass
+}
+
+// Admits the URL under the lock of its subqueue. A type can't say at which place its lock stands: where another shard
+// is found, the lock is given back and taken again. What stood there is known to the call of `admit` alone.
+fn admit_at<K: Name, R: Wait>(
+    rt: &R,
+    frontier: &Frontier<K>,
+    url: &UrlKey,
+    place: u32,
+    id: u64,
+    own: u64,
+    hops: u64,
+    unit: Unit,
+) -> Admit
+    requires place { place ≡ subqueue_of url.now K.workers }
+    requires within { place < K.workers }
+    requires unit { IsSeatOf K.gate unit }
+    ensures { Replies url.now own hops unit result }
+{
+    let queue = frontier.subqueue(place);
+    for _ in rt.forever() {
+        let mut shard = frontier.lock(rt, place);
+        if shard.place() == place {
+            return shard.admit(rt, queue, url, id, own, hops, unit);
+        }
+    }
+    unreachable!()
+}
+
+/// Offers a URL with the unit that it entered by. The log has room for one line more, so nothing of the part grows
+/// after the push. Where the URL was not accepted, `pass` becomes what was that unit's seat.
+pub(crate) fn deliver<K: Name, R: Wait>(
+    rt: &R,
+    frontier: &Frontier<K>,
+    book: &mut Book,
+    pass: &mut Pass,
+    url: UrlKey,
+    hops: u64,
+    unit: Unit,
+) -> Result<Offer, OfferError>
+    requires book { IsBook K.workers (book_of book.old) }
+    requires room { vec_len book.old.log < vec_capacity book.old.log }
+    requires pass { IsSeatOf K.gate pass.old }
+    requires unit { IsSeatOf K.gate unit }
+    ensures book { IsBook K.workers (book_of book.new) }
+    ensures books { OfferBooks K.workers (book_of book.old) (book_of book.new) url hops result }
+    ensures pass { IsSeatOf K.gate pass.new }
+    ensures delivers { Delivers pass.old pass.new unit result }
+{
+    let known = url.url();
+    let place = known.subqueue(frontier.workers());
+    let own = book.counts[place as usize];
+    let id = book.id;
+    match admit_at(rt, frontier, &url, place, id, own, hops, unit) {
+        Admit::Admitted(number) => {
+            book.counts[place as usize] = own + 1;
+            book.log.push_reserved(Logged::Accepted(
+                Entry {
+                    url: url.into_url(),
+                    sender: id,
+                    number,
+                    hops: hops as u32,
+                },
+                place,
+            ));
+            Ok(Offer::Accepted(place, number))
+        }
+        Admit::Seen(there, unit) => {
+            *pass = give_back(frontier, unit);
+            book.log.push_reserved(Logged::Seen(there, place));
+            Ok(Offer::Seen)
+        }
+        Admit::Crossed(found, unit) => {
+            *pass = give_back(frontier, unit);
+            Err(OfferError::Crossed(own, found))
+        }
+        Admit::TooFar(unit) => {
+            *pass = give_back(frontier, unit);
+            Err(OfferError::TooFar)
+        }
+        Admit::NoMemory(unit) => {
+            *pass = give_back(frontier, unit);
+            Err(OfferError::NoMemory)
+        }
+    }
+}

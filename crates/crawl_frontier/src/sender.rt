@@ -1,0 +1,111 @@
+//! A sender, which offers URLs from outside.
+ghost use Rattle.std.specs.Prelude.{◌≡◌, ◌↔◌, true, false};
+ghost use Rattle.crawl_gate.specs.Seat.{IsSeatOf};
+ghost use Rattle.crawl_gate.specs.View.{knows_closed};
+ghost use Rattle.crawl_frontier.specs.Books.{IsBook, book_of};
+ghost use Rattle.crawl_keys.specs.HostFilter.{allows};
+ghost use Rattle.crawl_frontier.specs.Parts.{sender_with};
+ghost use Rattle.crawl_frontier.specs.Offers.{OfferBooks, OfferWords, IsLate, IsFiltered};
+
+use crate::book::Book;
+use crate::error::OfferError;
+use crate::frontier::Frontier;
+use crate::name::Name;
+use crate::offer::{Offer, deliver};
+use crate::url_key::UrlKey;
+use crawl_gate::{Enter, Pass};
+use crawl_keys::CanonUrl;
+use std::marker::{Model, PhantomData};
+use std::mem;
+use std::sync::Wait;
+
+/// A part that offers URLs and takes none. [`crate::Seeder::another`] and [`crate::Seeder::end`] make one.
+///
+/// To a contract it is its books (id, counts and log) and its pass of the gate.
+#[derive(Drop)]
+pub struct Sender<K: Name> {
+    book: Book,
+    pass: Pass,
+    of: PhantomData<K>,
+}
+
+impl<K: Name> Model for Sender<K> {
+    ghost use Rattle.crawl_gate.specs.Seat.{IsSeatOf};
+    ghost use Rattle.crawl_frontier.specs.Parts.{SenderId};
+    ghost use Rattle.crawl_frontier.specs.Books.{IsBook, book_of};
+
+    ghost Value = { SenderId };
+
+    ghost view = { λ s. record { book = book_of s.book; seat = s.pass } };
+
+    ghost invariant = { λ s. IsSeatOf K.gate s.pass × IsBook K.workers (book_of s.book) };
+}
+
+impl<K: Name> Sender<K> {
+    pub(crate) fn new(book: Book, pass: Pass) -> Sender<K>
+        requires pass { IsSeatOf K.gate pass }
+        requires book { IsBook K.workers (book_of book) }
+        ensures { result ≡ sender_with (book_of book) pass }
+    {
+        Sender {
+            book,
+            pass,
+            of: PhantomData,
+        }
+    }
+
+    pub(crate) fn into_book(self) -> Book
+        ensures book { book_of result ≡ self.book }
+        ensures is_book { IsBook K.workers (book_of result) }
+    {
+        let Sender {
+            book,
+            pass: _,
+            of: _,
+        } = self;
+        book
+    }
+
+    /// Offers a URL, with hops 0.
+    ///
+    /// The sender's own pass enters the gate, so that one who was told `Closed` is told so from then on; where that is
+    /// spent on an accepted URL, a spare one that was split off before takes its place.
+    pub fn offer<R: Wait>(
+        &mut self,
+        rt: &R,
+        frontier: &Frontier<K>,
+        url: &CanonUrl,
+    ) -> Result<Offer, OfferError>
+        ensures books { OfferBooks K.workers self.old.book self.new.book url.now 0 result }
+        ensures words { OfferWords self.old.seat self.new.seat result }
+        ensures filtered { IsFiltered result ↔ (allows K.filter url.now ≡ false) }
+        ensures for_good { knows_closed self.old.seat.view ≡ true → IsLate result × (knows_closed self.new.seat.view ≡ true) }
+    {
+        if !frontier.filter().allows(url) {
+            return Err(OfferError::Filtered);
+        }
+        let Ok(url) = url.copy() else {
+            return Err(OfferError::NoMemory);
+        };
+        let Ok(()) = self.book.reserve() else {
+            return Err(OfferError::NoMemory);
+        };
+        let url = UrlKey::from(url);
+        let gate = frontier.gate();
+        let spare = gate.split(&mut self.pass);
+        let pass = mem::replace(&mut self.pass, spare);
+        let unit = match gate.enter(rt, pass) {
+            Enter::Entered(unit) => unit,
+            Enter::Closed(pass) => {
+                self.pass = pass;
+                return Err(OfferError::Closed);
+            }
+            Enter::Full(pass) => {
+                self.pass = pass;
+                return Err(OfferError::Full);
+            }
+            Enter::Lost(_) => unreachable!(),
+        };
+        deliver(rt, frontier, &mut self.book, &mut self.pass, url, 0, unit)
+    }
+}

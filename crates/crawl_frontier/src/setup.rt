@@ -1,0 +1,98 @@
+//! A gate and its subqueues, before they have a name.
+ghost use Rattle.std.specs.Prelude.{◌≡◌, IfOk, MatchResult};
+ghost use Rattle.crawl_gate.specs.GateError.{IsMaximum};
+ghost use Rattle.crawl_frontier.specs.Limits.{IsWorkers};
+ghost use Rattle.crawl_frontier.specs.FrontierErrors.{NoSetup};
+ghost use Rattle.crawl_frontier.specs.FreshParts.{Line};
+
+use crate::error::FrontierError;
+use crate::rights::{PopRight, PushRight};
+use crate::subqueue::Subqueue;
+use crawl_gate::{Gate, GateError, Unit};
+use std::alloc::{AllocError, Global};
+use std::collections::VecDeque;
+use std::marker::Model;
+
+/// The most workers: what a host key can be assigned to.
+pub const WORKERS_LIMIT: u32 = 512;
+
+/// A gate and the subqueues of its workers, of which [`crate::Frontier::new`] makes a frontier.
+///
+/// To a contract it is the number of workers, the gate, and the subqueues by place: what a [`crate::Name`] that stands
+/// for it has.
+#[derive(Drop)]
+pub struct Setup {
+    pub(crate) gate: Gate,
+    pub(crate) opening: Unit,
+    pub(crate) workers: u32,
+    pub(crate) queues: Vec<Subqueue>,
+    pub(crate) push_rights: VecDeque<PushRight>,
+    pub(crate) pop_rights: VecDeque<PopRight>,
+}
+
+impl Model for Setup {
+    ghost use Rattle.crawl_gate.specs.Seat.{IsSeatOf};
+    ghost use Rattle.crawl_gate.specs.View.{opening_view};
+    ghost use Rattle.std.specs.Prelude.{◌≡◌};
+    ghost use Rattle.crawl_frontier.specs.Limits.{IsWorkers};
+    ghost use Rattle.crawl_frontier.specs.SetupId.{SetupId};
+    ghost use Rattle.crawl_frontier.specs.FreshParts.{Line};
+
+    ghost Value = { SetupId };
+
+    ghost view = { λ s. record { workers = s.workers; gate = s.gate; queues = s.queues.items } };
+
+    ghost invariant = { λ s.
+        IsSeatOf s.gate s.opening × (s.opening.view ≡ opening_view s.gate.max_pending) × IsWorkers s.workers
+        × Line s.gate s.workers s.queues.items s.push_rights.items s.pop_rights.items s.workers };
+}
+
+// The subqueues with their rights, by place.
+fn subqueues(
+    alloc: Global,
+    gate: &Gate,
+    workers: u32,
+) -> Result<(Vec<Subqueue>, VecDeque<PushRight>, VecDeque<PopRight>), AllocError>
+    ensures { IfOk result (λ r. Line gate.now workers r.0.items r.1.items r.2.items workers) }
+{
+    let mut queues = Vec::new(alloc);
+    let mut push_rights = VecDeque::new(alloc);
+    let mut pop_rights = VecDeque::new(alloc);
+    for place in 0..workers {
+        let (queue, push, pop) = Subqueue::new(alloc, gate, workers, place)?;
+        queues.push(queue)?;
+        push_rights.push_back(push)?;
+        pop_rights.push_back(pop)?;
+    }
+    Ok((queues, push_rights, pop_rights))
+}
+
+impl Setup {
+    /// A gate for at most `max_pending` URLs that are offered, waiting or fetched at once, and a subqueue for each
+    /// worker.
+    pub fn new(alloc: Global, workers: u32, max_pending: u64) -> Result<Setup, FrontierError>
+        ensures { MatchResult result
+            (λ s. IsWorkers workers × IsMaximum max_pending × (s.workers ≡ workers) × (s.gate.max_pending ≡ max_pending))
+            (λ e. NoSetup workers max_pending e) }
+    {
+        if workers == 0 || workers > WORKERS_LIMIT {
+            return Err(FrontierError::BadWorkers);
+        }
+        let (gate, opening) = match Gate::new(alloc, max_pending) {
+            Ok(made) => made,
+            Err(GateError::BadLimit) => return Err(FrontierError::BadLimit),
+            Err(GateError::NoMemory) => return Err(FrontierError::NoMemory),
+        };
+        let Ok((queues, push_rights, pop_rights)) = subqueues(alloc, &gate, workers) else {
+            return Err(FrontierError::NoMemory);
+        };
+        Ok(Setup {
+            gate,
+            opening,
+            workers,
+            queues,
+            push_rights,
+            pop_rights,
+        })
+    }
+}

@@ -1,0 +1,190 @@
+//! What lies behind a subqueue's lock.
+ghost use Rattle.std.specs.Prelude.{◌≡◌, [], IfOk, Some, slice_get};
+ghost use Rattle.crawl_keys.specs.Assignment.{subqueue_of};
+ghost use Rattle.crawl_gate.specs.Seat.{IsSeatOf};
+ghost use Rattle.crawl_frontier.specs.Entries.{KeepsRule, entry};
+ghost use Rattle.crawl_frontier.specs.Admits.{Admits};
+ghost use Rattle.crawl_frontier.specs.Parts.{shard};
+ghost use Rattle.crawl_frontier.specs.Rule.{pushing, home};
+
+use crate::accepted::AcceptedList;
+use crate::entry::{Entry, Message};
+use crate::name::Name;
+use crate::rights::PushRight;
+use crate::subqueue::Subqueue;
+use crate::tables::{Counts, Places, count, forget, kept, note, raise, set_count};
+use crate::url_key::UrlKey;
+use crawl_gate::Unit;
+use crawl_keys::{CanonUrl, KeyError};
+use std::alloc::Global;
+use std::marker::{Model, PhantomData};
+use std::sync::Wait;
+
+/// What a subqueue accepted, oldest first, with the two tables that look it up, and the right to push.
+///
+/// To a contract it is its place and the list sent. Whenever its lock is free, the tables say what the list says.
+#[derive(Drop)]
+pub struct Shard<K: Name> {
+    place: u32,
+    sent: Vec<Entry>,
+    places: Places,
+    counts: Counts,
+    right: PushRight,
+    of: PhantomData<K>,
+}
+
+impl<K: Name> Model for Shard<K> {
+    ghost use Rattle.std.specs.Prelude.{◌≡◌, ℕ, List, [], Some, slice_get};
+    ghost use Rattle.crawl_frontier.specs.Parts.{ShardId};
+    ghost use Rattle.crawl_frontier.specs.Rule.{pushing, home};
+    ghost use Rattle.crawl_frontier.specs.Entries.{KeepsRule, has_url, count_of};
+    ghost use Rattle.crawl_frontier.specs.Tables.{count_in, has_in};
+
+    ghost Value = { ShardId };
+
+    ghost view = { λ s. record { place = s.place; sent = s.sent.items } };
+
+    ghost invariant = { λ s.
+        (s.right.view ≡ pushing (home K.gate K.workers s.place) s.sent.items)
+        × (slice_get K.queues s.place ≡ Some s.right.queue)
+        × KeepsRule K.workers s.place [] s.sent.items
+        × ((bs : List ℕ) → has_in s.places bs ≡ has_url bs s.sent.items)
+        × ((id : ℕ) → count_in s.counts id ≡ count_of id s.sent.items) };
+}
+
+/// The most hops of a URL: what the field of an entry holds.
+pub const HOPS_LIMIT: u64 = 4_294_967_295;
+
+/// What [`Shard::admit`] answers. The unit comes back where the URL was not sent.
+#[derive(Drop)]
+pub enum Admit {
+    /// The URL went to the end of the subqueue. The number is how many of the sender came before it.
+    Admitted(u64),
+    /// The shard's count of the sender is this one, and not the sender's own.
+    Crossed(u64, Unit),
+    /// The URL was accepted before. This is the copy of it that shares the shard's text.
+    Seen(CanonUrl, Unit),
+    /// The hops are above the limit.
+    TooFar(Unit),
+    /// A growth was refused.
+    NoMemory(Unit),
+}
+
+// What a push needs: the message's entry, the list's, and the table's key.
+fn copies(
+    url: &UrlKey,
+    sender: u64,
+    number: u64,
+    hops: u32,
+) -> Result<(Entry, Entry, UrlKey), KeyError>
+    ensures { IfOk result (λ r. (r.0 ≡ entry url.now sender number hops) × (r.1 ≡ entry url.now sender number hops) × (r.2 ≡ url.now)) }
+{
+    let sent = Entry::of_copy(url.url(), sender, number, hops)?;
+    let listed = Entry::of_copy(url.url(), sender, number, hops)?;
+    let key = url.copy()?;
+    Ok((sent, listed, key))
+}
+
+impl<K: Name> Shard<K> {
+    pub(crate) fn new(alloc: Global, place: u32, right: PushRight) -> Shard<K>
+        requires view { right.view ≡ pushing (home K.gate K.workers place) [] }
+        requires queue { slice_get K.queues place ≡ Some right.queue }
+        ensures { result ≡ shard place [] }
+    {
+        Shard {
+            place,
+            sent: Vec::new(alloc),
+            places: Places::new(alloc),
+            counts: Counts::new(alloc),
+            right,
+            of: PhantomData,
+        }
+    }
+
+    /// The list sent, and the right to push.
+    pub(crate) fn into_parts(self) -> (AcceptedList, PushRight)
+        ensures sent { result.0 ≡ self.sent }
+        ensures rule { KeepsRule K.workers self.place [] self.sent }
+        ensures right { (result.1.view ≡ pushing (home K.gate K.workers self.place) self.sent) × (slice_get K.queues self.place ≡ Some result.1.queue) }
+    {
+        let Shard {
+            place: _,
+            sent,
+            places,
+            counts,
+            right,
+            of: _,
+        } = self;
+        let list = AcceptedList {
+            sent,
+            places,
+            counts,
+        };
+        (list, right)
+    }
+
+    /// Which subqueue it is.
+    pub fn place(&self) -> u32
+        ensures { result ≡ self.now.place }
+    {
+        self.place
+    }
+
+    /// Sends the URL with its unit, or says why not and gives the unit back. It may wait, for a push may.
+    ///
+    /// All that grows comes before the push; if the push itself is refused, the tables are as before.
+    pub fn admit<R: Wait>(
+        &mut self,
+        rt: &R,
+        queue: &Subqueue,
+        url: &UrlKey,
+        sender: u64,
+        own: u64,
+        hops: u64,
+        unit: Unit,
+    ) -> Admit
+        requires place { subqueue_of url.now K.workers ≡ self.old.place }
+        requires queue { slice_get K.queues self.old.place ≡ Some queue.now }
+        requires unit { IsSeatOf K.gate unit }
+        ensures { Admits self.old self.new url.now sender own hops unit result }
+    {
+        let found = count(&self.counts, sender);
+        if found != own {
+            return Admit::Crossed(found, unit);
+        }
+        if let Some(there) = kept(&self.places, url) {
+            return match there.copy() {
+                Ok(there) => Admit::Seen(there, unit),
+                Err(_) => Admit::NoMemory(unit),
+            };
+        }
+        if hops > HOPS_LIMIT {
+            return Admit::TooFar(unit);
+        }
+        let Ok((sent, listed, key)) = copies(url, sender, own, hops as u32) else {
+            return Admit::NoMemory(unit);
+        };
+        let Ok(()) = self.sent.reserve(1) else {
+            return Admit::NoMemory(unit);
+        };
+        let Ok(()) = set_count(&mut self.counts, sender, own) else {
+            return Admit::NoMemory(unit);
+        };
+        let Ok(()) = note(&mut self.places, key, self.sent.len()) else {
+            return Admit::NoMemory(unit);
+        };
+        let message = Message { entry: sent, unit };
+        match queue.push(rt, &mut self.right, message) {
+            Ok(()) => {
+                raise(&mut self.counts, sender, own + 1);
+                self.sent.push_reserved(listed);
+                Admit::Admitted(own)
+            }
+            Err(message) => {
+                let Message { entry: _, unit } = message;
+                forget(&mut self.places, url);
+                Admit::NoMemory(unit)
+            }
+        }
+    }
+}

@@ -1,0 +1,121 @@
+//! A queue of messages under its rule.
+ghost use Rattle.std.specs.Prelude.{◌≡◌, ◌+◌, ◌++◌, ◌∷◌, [], IfOk, MatchOption, MatchResult, true};
+ghost use Rattle.crossbeam_queue.specs.SegTies.{IsSegPassOf};
+ghost use Rattle.crawl_gate.specs.Seat.{IsSeatOf};
+ghost use Rattle.crawl_frontier.specs.Entries.{MayFollow};
+ghost use Rattle.crawl_frontier.specs.Rule.{undivided, pushing, popping};
+
+use crate::entry::Message;
+use crate::rights::{Pass, PopRight, PushRight};
+use crate::rule::{
+    CountEmptyPop, Divide, PassView, Pop, Push, Reunite, Settle, Stamp, SubqueueRule,
+};
+use crawl_gate::Gate;
+use crossbeam_queue::RuledSegQueue;
+use std::alloc::{AllocError, Global};
+use std::marker::{Brand, Model};
+use std::sync::Wait;
+
+type Line = RuledSegQueue<Message, PassView, SubqueueRule>;
+
+/// The URLs that wait for one worker, first in, first out. Contracts see which subqueue it is.
+pub struct Subqueue {
+    line: Line,
+}
+
+impl Model for Subqueue {
+    ghost use Rattle.crawl_frontier.specs.QueueId.{QueueId};
+
+    ghost Value = { QueueId };
+
+    ghost view = { λ q. q.line.web };
+}
+
+impl Drop for Subqueue {
+    fn drop(self) {
+        let Self { line } = self;
+        line.destroy();
+    }
+}
+
+// Writes its home into the view of the pass that has both rights.
+fn settle<B: Stamp>(line: &Line, pass: &mut Pass, gate: &Gate, workers: u32, place: u32)
+    requires home { B.home ≡ record { gate = gate.now; workers = workers; place = place } }
+    requires pass { IsSegPassOf line.now pass.old }
+    requires undivided { pass.old.me.view.client ≡ undivided pass.old.me.view.client.home }
+    ensures pass { IsSegPassOf line.now pass.new }
+    ensures undivided { pass.new.me.view.client ≡ undivided record { gate = gate.now; workers = workers; place = place } }
+{
+    let _spent = line.another::<Settle<B>>(pass);
+}
+
+impl Subqueue {
+    /// The empty subqueue of a place, with its two rights.
+    pub(crate) fn new(
+        alloc: Global,
+        gate: &Gate,
+        workers: u32,
+        place: u32,
+    ) -> Result<(Subqueue, PushRight, PopRight), AllocError>
+        ensures { IfOk result (λ r.
+            (r.1.queue ≡ r.0) × (r.1.view ≡ pushing record { gate = gate.now; workers = workers; place = place } [])
+            × (r.2.queue ≡ r.0) × (r.2.view ≡ popping record { gate = gate.now; workers = workers; place = place } [] 0)) }
+    {
+        let (line, mut pass) = Line::with_rule(alloc)?;
+        settle::<Brand>(&line, &mut pass, gate, workers, place);
+        let other = line.another::<Divide>(&mut pass);
+        Ok((
+            Subqueue { line },
+            PushRight { pass },
+            PopRight { pass: other },
+        ))
+    }
+
+    /// Puts a message at the end. It comes back where memory ran out, or after nearly 2^62 pushes.
+    pub(crate) fn push<R: Wait>(
+        &self,
+        rt: &R,
+        right: &mut PushRight,
+        message: Message,
+    ) -> Result<(), Message>
+        requires queue { right.old.queue ≡ self.now }
+        requires unit { IsSeatOf right.old.view.home.gate message.unit }
+        requires follows { MayFollow right.old.view.home.workers right.old.view.home.place right.old.view.sent message.entry }
+        ensures queue { right.new.queue ≡ self.now }
+        ensures sent { MatchResult result
+            (λ _. right.new.view ≡ pushing right.old.view.home (right.old.view.sent ++ message.entry ∷ []))
+            (λ m. (m ≡ message) × (right.new.view ≡ right.old.view)) }
+    {
+        self.line.push_as::<Push, R>(rt, &mut right.pass, message)
+    }
+
+    /// Takes the message at the front, or counts a pop that found nothing.
+    pub(crate) fn pop<R: Wait>(&self, rt: &R, right: &mut PopRight) -> Option<Message>
+        requires queue { right.old.queue ≡ self.now }
+        ensures queue { right.new.queue ≡ self.now }
+        ensures taken { MatchOption result
+            (right.new.view ≡ popping right.old.view.home right.old.view.taken (right.old.view.empty_pops + 1))
+            (λ m. (right.new.view ≡ popping right.old.view.home (right.old.view.taken ++ m.entry ∷ []) right.old.view.empty_pops)
+            × IsSeatOf right.old.view.home.gate m.unit
+            × MayFollow right.old.view.home.workers right.old.view.home.place right.old.view.taken m.entry) }
+    {
+        match self.line.pop_as::<Pop, R>(rt, &mut right.pass) {
+            Some(message) => Some(message),
+            None => {
+                let _spent = self.line.another::<CountEmptyPop>(&mut right.pass);
+                None
+            }
+        }
+    }
+
+    /// Whether all that was sent was taken: `true` only if so. It uses both rights up, and waits for nobody.
+    pub(crate) fn is_all_taken(&self, push: PushRight, pop: PopRight) -> bool
+        requires queue { (push.queue ≡ self.now) × (pop.queue ≡ self.now) }
+        ensures { result ≡ true → push.view.sent ≡ pop.view.taken }
+    {
+        let PushRight { mut pass } = push;
+        let PopRight { pass: other } = pop;
+        self.line.absorb::<Reunite>(&mut pass, other);
+        self.line.is_empty_as::<Reunite>(&mut pass)
+    }
+}

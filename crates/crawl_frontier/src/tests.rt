@@ -1,0 +1,5 @@
+mod admission;
+mod crawler;
+mod parts;
+mod rows;
+mod threads;

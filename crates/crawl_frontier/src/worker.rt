@@ -1,0 +1,132 @@
+//! An idle worker, and what it finds.
+ghost use Rattle.std.specs.Prelude.{◌≡◌, ◌<◌, [], Some, slice_get};
+ghost use Rattle.crawl_gate.specs.Seat.{IsSeatOf};
+ghost use Rattle.crawl_frontier.specs.Books.{IsBook, book_of};
+ghost use Rattle.crawl_frontier.specs.Turns.{Turns};
+ghost use Rattle.crawl_frontier.specs.Parts.{worker};
+ghost use Rattle.crawl_frontier.specs.Rule.{popping, home};
+
+use crate::book::Book;
+use crate::busy_worker::BusyWorker;
+use crate::closed_worker::ClosedWorker;
+use crate::frontier::Frontier;
+use crate::name::Name;
+use crate::rights::PopRight;
+use crawl_gate::{Close, Pass};
+use std::marker::{Model, PhantomData};
+use std::sync::Wait;
+
+/// The one worker of a subqueue, with no URL in hand. [`Frontier::new`] makes one for each subqueue, and
+/// [`BusyWorker::done`] gives it back.
+///
+/// To a contract it is its place, its pass of the gate, the list that it took, how many of its pops found nothing, and
+/// its books.
+#[derive(Drop)]
+pub struct Worker<K: Name> {
+    pub(crate) place: u32,
+    pub(crate) right: PopRight,
+    pub(crate) pass: Pass,
+    pub(crate) book: Book,
+    pub(crate) of: PhantomData<K>,
+}
+
+impl<K: Name> Model for Worker<K> {
+    ghost use Rattle.std.specs.Prelude.{◌≡◌, ◌<◌, Some, slice_get};
+    ghost use Rattle.crawl_gate.specs.Seat.{IsSeatOf};
+    ghost use Rattle.crawl_frontier.specs.Books.{IsBook, book_of};
+    ghost use Rattle.crawl_frontier.specs.Parts.{WorkerId};
+    ghost use Rattle.crawl_frontier.specs.Rule.{popping, home};
+
+    ghost Value = { WorkerId };
+
+    ghost view = { λ w. record { place = w.place; seat = w.pass; taken = w.right.view.taken; empty_pops = w.right.view.empty_pops; book = book_of w.book } };
+
+    ghost invariant = { λ w.
+        (w.right.view ≡ popping (home K.gate K.workers w.place) w.right.view.taken w.right.view.empty_pops)
+        × (slice_get K.queues w.place ≡ Some w.right.queue)
+        × IsSeatOf K.gate w.pass × (w.place < K.workers) × IsBook K.workers (book_of w.book) };
+}
+
+/// What [`Worker::next`] found.
+#[derive(Drop)]
+pub enum Turn<K: Name> {
+    /// A URL.
+    Busy(BusyWorker<K>),
+    /// No URL, and the gate open with this many units held, at least 1: there may be more work to come.
+    Idle(Worker<K>, u64),
+    /// No URL, and the gate closed: nothing is left anywhere, and nothing will come.
+    Closed(ClosedWorker<K>),
+}
+
+impl<K: Name> Worker<K> {
+    pub(crate) fn new(place: u32, right: PopRight, pass: Pass, book: Book) -> Worker<K>
+        requires view { right.view ≡ popping (home K.gate K.workers place) [] 0 }
+        requires queue { slice_get K.queues place ≡ Some right.queue }
+        requires pass { IsSeatOf K.gate pass }
+        requires place { place < K.workers }
+        requires book { IsBook K.workers (book_of book) }
+        ensures { result ≡ worker place pass [] 0 (book_of book) }
+    {
+        Worker {
+            place,
+            right,
+            pass,
+            book,
+            of: PhantomData,
+        }
+    }
+
+    /// Its subqueue, which is also its id as a sender.
+    pub fn queue(&self) -> u32
+        ensures { result ≡ self.now.place }
+    {
+        self.place
+    }
+
+    /// Takes the oldest URL that waits in its subqueue, or tries to close the gate. It takes no lock and no memory; a
+    /// pop may wait for a push of the same subqueue that has begun.
+    pub fn next<R: Wait>(self, rt: &R, frontier: &Frontier<K>) -> Turn<K>
+        ensures { Turns K.workers self result }
+    {
+        let Worker {
+            place,
+            mut right,
+            pass,
+            book,
+            of,
+        } = self;
+        let gate = frontier.gate();
+        match frontier.subqueue(place).pop(rt, &mut right) {
+            Some(mut message) => {
+                gate.load_held(&mut message.unit);
+                Turn::Busy(BusyWorker {
+                    place,
+                    right,
+                    pass,
+                    book,
+                    message,
+                    of,
+                })
+            }
+            None => match gate.try_close(pass) {
+                Close::Closed(pass) => Turn::Closed(ClosedWorker {
+                    place,
+                    right,
+                    pass,
+                    book,
+                    of,
+                }),
+                Close::Pending(pass, count) => {
+                    let worker = Worker {
+                        place,
+                        right,
+                        pass,
+                        book,
+                        of,
+                    };
+                    Turn::Idle(worker, count)
+                }
+            },
+        }
+    }
+}
