@@ -14,7 +14,7 @@ use std::collections::BTreeSet;
 use std::marker::Model;
 
 /// Suffixes of hosts, each once.
-#[derive(Drop)]
+#[derive(Debug, Drop)]
 pub(super) struct Suffixes {
     pub(super) texts: BTreeSet<String>,
 }
