@@ -18,7 +18,7 @@ use Rattle.crawl_core.specs.Shows.{Shows, Makes}
 use Rattle.crawl_core.specs.Run.{IsRun}
 use Rattle.crawl_core.specs.History.{accepted_urls, accepted_by, taken_urls, taken_by, AssignsEachUrl}
 use Rattle.crawl_core.proofs.RunSteps.{Run-push}
-use Rattle.crawl_core.proofs.RunLaws.{seen_means_accepted, drained, takes_once, was_admitted}
+use Rattle.crawl_core.proofs.RunLaws.{seen_means_accepted, drained, takes_once, was_admitted, names_its_subqueue}
 use Rattle.crawl_keys.specs.Assignment.{subqueue_of}
 use Rattle.crawl_keys.specs.CanonicalText.{canonical}
 use Rattle.crawl_web.specs.declared.page.Page.{Page}
@@ -154,12 +154,22 @@ one_more {workers} {max} {core} {taken} {offers} url going has = record {
 eqb_same : (n : ℕ) → nat_eq n n ≡ true
 eqb_same n = eq-eqb n n refl
 
+-- the run as events and replies
+whole_run : {workers max : ℕ} {core : Kept} {taken offers : List (List ℕ)} → (going : Going workers max core taken offers) → IsRun workers max (map (λ (x : Event × Reply). x.0) going.history) (map (λ (x : Event × Reply). x.1) going.history)
+whole_run going = record { as_many = rw (length-map, length-map) refl; end = going.state; run = rw (zip_parts going.history) going.run }
+
+last_at : {A : Type 0} (xs : List A) (x : A) → slice_get (xs ++ x ∷ []) (length xs) ≡ Some x
+last_at [] x = refl
+last_at (y ∷ ys) x = last_at ys x
+
 -- an admission that is answered by `Accepted`
 pub going_accepted : {workers max : ℕ} {old : Kept} {taken offers : List (List ℕ)} (sender : ℕ) (url : List ℕ) (queue there number : ℕ) (new : Kept) → queue ≡ subqueue_of url workers → canonical url ≡ Ok url → Makes old (Admit sender url queue) (told.Accepted there number) new → Going workers max old taken offers → Going workers max new taken (offers ++ url ∷ [])
 going_accepted {workers} {max} {old} {taken} {offers} sender url queue there number new addressed stable makes going =
     let x : Event × Reply = (Admit sender url queue, told.Accepted there number) in
     let next = going_step (Admit sender url queue) (told.Accepted there number) new (addressed, stable) makes going in
-    let accepts : Contains (accepted_urls queue (going.history ++ x ∷ [])) url = rw (filter_map-append (λ (y : Event × Reply). accepted_by queue y.0 y.1) going.history (x ∷ []), map-append, eqb_same queue) (Contains-push (accepted_urls queue going.history) url) in
+    let last : slice_get next.history (length going.history) ≡ Some (Admit sender url queue, told.Accepted there number) = last_at going.history (Admit sender url queue, told.Accepted there number) in
+    let named : there ≡ queue = names_its_subqueue workers max _ _ (whole_run next) (length going.history) sender queue there number url (rw (zip_parts next.history) last) in
+    let accepts : Contains (accepted_urls queue (going.history ++ x ∷ [])) url = rw (filter_map-append (λ (y : Event × Reply). accepted_by queue y.0 y.1) going.history (x ∷ []), map-append, named, eqb_same queue) (Contains-push (accepted_urls queue going.history) url) in
     let more = one_more url next (rw (← addressed) accepts) in
     subst (λ urls. Going workers max new urls (offers ++ url ∷ [])) (append_nil taken) more
 
@@ -274,14 +284,6 @@ assigns workers history addressed i j sender other url queue there at_i at_j =
 
 pair_at : {A B : Type 0} (o : Option (A × B)) (x : A × B) (a : A) (b : B) → o ≡ Some x → x.0 ≡ a → x.1 ≡ b → o ≡ Some (a, b)
 pair_at o x a b e first second = rw (e, ← first, ← second) refl
-
--- the run as events and replies
-whole_run : {workers max : ℕ} {core : Kept} {taken offers : List (List ℕ)} → (going : Going workers max core taken offers) → IsRun workers max (map (λ (x : Event × Reply). x.0) going.history) (map (λ (x : Event × Reply). x.1) going.history)
-whole_run going = record { as_many = rw (length-map, length-map) refl; end = going.state; run = rw (zip_parts going.history) going.run }
-
-last_at : {A : Type 0} (xs : List A) (x : A) → slice_get (xs ++ x ∷ []) (length xs) ≡ Some x
-last_at [] x = refl
-last_at (y ∷ ys) x = last_at ys x
 
 -- a take that is answered by `Taken`
 pub going_taken : {workers max : ℕ} {old : Kept} {taken offers : List (List ℕ)} (queue : ℕ) (text url : List ℕ) (new : Kept) → Makes old (Take queue) (told.Taken text) new → canonical text ≡ Ok url → Going workers max old taken offers → Going workers max new (taken ++ url ∷ []) offers

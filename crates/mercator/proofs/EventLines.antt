@@ -1,5 +1,5 @@
 -- What a line after the first says, in the words of the format.
-use Rattle.std.proofs.Common.{◌≡◌, ◌≢◌, ◌⊎◌, ℕ, zero, suc, Bool, true, false, List, [], ◌∷◌, ◌++◌, length, nat_eq, Option, Some, None, Result, Ok, Err, refl, sym, ap, subst, ◌∙◌, codes, inl, inr}
+use Rattle.std.proofs.Common.{◌≡◌, ◌⊎◌, ℕ, Bool, true, false, List, ◌∷◌, ◌++◌, Option, Some, None, Result, Ok, Err, refl, sym, ap, subst, ◌∙◌, codes, inl, inr}
 use Rattle.std.specs.Prelude.{ok_or, option_and_then}
 use Rattle.std.specs.Bool.{if◌then◌else◌}
 use Rattle.std.specs.Option.{option_map}
@@ -7,13 +7,12 @@ use Rattle.std.specs.Str.{bytes_eq}
 use Rattle.std.proofs.lemmas.Slice.Eq.{bytes_eq-Decides}
 use Rattle.crawl_core.specs.declared.event.Event.{Event}
 use Rattle.crawl_core.specs.declared.event.Event.TheVariants.{Look, Enter, Admit, Back, EndSeeds, Take, Done, Close}
-use Rattle.crawl_keys.specs.Assignment.{subqueue_of}
 use Rattle.crawl_keys.specs.CanonicalText.{canonical}
 use Rattle.crawl_keys.specs.declared.error.KeyError.{KeyError}
 use Rattle.crawl_web.specs.Parts.{at_space}
 use Rattle.mercator.specs.Numbers.{number_of}
 use Rattle.mercator.specs.Script.{address_from, admit_at, admit_parts, admit_with, plain_event, numbered_event, event_from, event_of}
-use Rattle.mercator.specs.ScriptLines.{IsNumber, IsNumbered, IsAdmit, IsAdmission, IsBadAdmission, IsEventLine}
+use Rattle.mercator.specs.ScriptLines.{IsNumber, IsNumbered, IsAdmit, IsBadAdmission, IsEventLine}
 use Rattle.mercator.specs.declared.script.error.ScriptError.{ScriptError}
 use Rattle.mercator.specs.declared.script.error.ScriptError.TheVariants.{BadLine, BadUrl}
 use Rattle.mercator.proofs.NumberText.{number_is, number_of_is, at_space-joined, at_space-number, joined-at_space}
@@ -140,8 +139,8 @@ stands_from workers number line (Some p) split =
     let cut : line ≡ p.0 ++ 32 ∷ p.1 = joined-at_space line p split in
     stands_if workers number line (bytes_eq p.0 (codes "admit")) _ _
     (λ is. let same : p.0 ≡ codes "admit" = (bytes_eq-Decides p.0 (codes "admit")).0 is in
-      let behind : line ≡ codes "admit" ++ 32 ∷ p.1 = cut ∙ ap (λ w. w ++ 32 ∷ p.1) same in
-      stands_admit workers number p.1 line (admit_parts p.1) (λ q found. parts_by_space p.1 line (at_space p.1) q refl behind found))
+    let behind : line ≡ codes "admit" ++ 32 ∷ p.1 = cut ∙ ap (λ w. w ++ 32 ∷ p.1) same in
+    stands_admit workers number p.1 line (admit_parts p.1) (λ q found. parts_by_space p.1 line (at_space p.1) q refl behind found))
     (stands_plain workers number line (numbered_event p.0 p.1) (λ event found. numbered_sound workers p.0 p.1 line event cut found))
 
 pub stands : (workers number : ℕ) (line : List ℕ) → Stands workers number line (event_of workers number line)

@@ -1,5 +1,5 @@
 -- What the first line of a script says is what the format says of it.
-use Rattle.std.proofs.Common.{◌≡◌, ℕ, ◌≤◌, Bool, true, false, ◌&&◌, List, ◌∷◌, ◌++◌, nat_le, Option, Some, None, Result, Ok, Err, refl, sym, ap, subst, ◌∙◌, codes, ok_or, option_and_then}
+use Rattle.std.proofs.Common.{◌≡◌, ℕ, Bool, true, false, ◌&&◌, List, ◌∷◌, ◌++◌, nat_le, Option, Some, None, Result, Ok, Err, refl, sym, ap, subst, ◌∙◌, codes, ok_or, option_and_then}
 use Rattle.std.specs.Bool.{if◌then◌else◌}
 use Rattle.std.specs.Str.{bytes_eq}
 use Rattle.std.proofs.lemmas.Bool.{le-leb, leb-true, and_parts}
@@ -10,8 +10,8 @@ use Rattle.crawl_web.specs.Parts.{at_space}
 use Rattle.crawl_web.specs.declared.lines.LineError.{LineError}
 use Rattle.crawl_web.specs.declared.lines.LineError.TheVariants as without
 use Rattle.mercator.specs.Numbers.{number_of}
-use Rattle.mercator.specs.Script.{is_within, header_with, header_from, header_of, header_in, with_text}
-use Rattle.mercator.specs.ScriptLines.{IsLineText, IsNumber, IsHeaderLine, HeaderSays}
+use Rattle.mercator.specs.Script.{is_within, header_of, header_in, with_text}
+use Rattle.mercator.specs.ScriptLines.{IsLineText, IsHeaderLine, HeaderSays}
 use Rattle.mercator.specs.declared.script.header.Header.{Header}
 use Rattle.mercator.specs.declared.script.error.ScriptError.{ScriptError}
 use Rattle.mercator.specs.declared.script.error.ScriptError.TheVariants as wrong
@@ -73,7 +73,7 @@ header_stands line header e =
     let first_is = (bytes_eq-Decides a.0.0 (codes "workers")).0 both.0 in
     let second_is = (bytes_eq-Decides d.0.0 (codes "max")).0 both.1 in
     let written : line ≡ codes "workers" ++ 32 ∷ (b.0.0 ++ 32 ∷ (codes "max" ++ 32 ∷ d.0.1)) =
-        cut_a ∙ (λ i. first_is i ++ 32 ∷ cut_b i) ∙ ap (λ r. codes "workers" ++ 32 ∷ (b.0.0 ++ 32 ∷ r)) (cut_d ∙ ap (λ w. w ++ 32 ∷ d.0.1) second_is) in
+    cut_a ∙ (λ i. first_is i ++ 32 ∷ cut_b i) ∙ ap (λ r. codes "workers" ++ 32 ∷ (b.0.0 ++ 32 ∷ r)) (cut_d ∙ ap (λ w. w ++ 32 ∷ d.0.1) second_is) in
     let P : Header → Type 0 = λ h. IsHeaderLine h.workers h.max line in
     subst P made (record {
       first = b.0.0;

@@ -1,9 +1,9 @@
 -- A script's fault is that of the first of its lines that has one.
-use Rattle.std.proofs.Common.{◌≡◌, ◌⊎◌, ℕ, ◌+◌, List, [], ◌∷◌, ◌++◌, length, Option, Some, None, Result, Ok, Err, IfErr, refl, sym, ap, subst, ◌∙◌, arith, inl, inr, append-nil, append_assoc, length-append}
+use Rattle.std.proofs.Common.{◌≡◌, ◌⊎◌, ℕ, ◌+◌, List, [], ◌∷◌, ◌++◌, length, Option, Some, None, Result, Ok, Err, IfErr, refl, ap, subst, ◌∙◌, arith, inl, inr, append-nil, append_assoc, length-append}
 use Rattle.std.specs.Result.{result_err}
 use Rattle.std.specs.Str.Lines.{lines}
 use Rattle.crawl_core.specs.declared.event.Event.{Event}
-use Rattle.crawl_keys.specs.Outcome.{Gives, IsRefusal}
+use Rattle.crawl_keys.specs.Outcome.{Gives}
 use Rattle.crawl_web.specs.LeastFault.{SoundAfter, IsLeastFault}
 use Rattle.mercator.specs.declared.script.Script.{Script}
 use Rattle.mercator.specs.declared.script.header.Header.{Header}
@@ -11,7 +11,7 @@ use Rattle.mercator.specs.declared.script.error.ScriptError.{ScriptError}
 use Rattle.mercator.specs.declared.script.error.ScriptError.TheVariants as wrong
 use Rattle.mercator.specs.Script.{script_of, script_in, header_in, said_by, said_from, least_fault, events_in, unless_fault, with_events, with_header}
 use Rattle.mercator.specs.ScriptContent.{content}
-use Rattle.mercator.specs.LeastFault.{fault_after, workers_in, IsScriptFault}
+use Rattle.mercator.specs.LeastFault.{fault_after, IsScriptFault}
 
 -- the least fault of lines that stand behind a header and these earlier lines
 record FoundBehind (header : List ℕ) (earlier more : List (List ℕ)) (fault : ScriptError) : Type 0 where

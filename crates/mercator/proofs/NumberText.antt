@@ -1,5 +1,5 @@
 -- Which texts are numbers, and where the first space of a text stands.
-use Rattle.std.proofs.Common.{◌≡◌, ◌≢◌, ℕ, zero, suc, ◌+◌, ◌<◌, ◌≤◌, ◌^◌, Bool, true, false, cond, not, ◌&&◌, List, [], ◌∷◌, ◌++◌, length, take, drop, get_or, nat_lt, nat_eq, nat_le, Option, Some, None, refl, sym, ap, subst, ◌∙◌, arith, lt-ltb, ltb-true, append_assoc, ne_eqb}
+use Rattle.std.proofs.Common.{◌≡◌, ℕ, zero, suc, ◌+◌, ◌<◌, ◌≤◌, ◌^◌, Bool, true, false, not, ◌&&◌, List, [], ◌∷◌, ◌++◌, length, take, drop, get_or, nat_lt, nat_eq, nat_le, Option, Some, None, refl, sym, ap, subst, ◌∙◌, arith, lt-ltb, ltb-true, append_assoc, ne_eqb}
 use Rattle.std.specs.Bool.{if◌then◌else◌, Decides}
 use Rattle.std.specs.List.{All, list_all, position_or_len, prefix_len, before_first, after_first}
 use Rattle.std.specs.Char.{is_ascii_digit}
@@ -9,7 +9,7 @@ use Rattle.std.proofs.lemmas.Bool.Decides.{Decides-by_and, nat_tests}
 use Rattle.std.proofs.lemmas.List.{take_at, drop_at, length-append}
 use Rattle.std.proofs.lemmas.List.Sums.{split_at_first, prefix_len_stops}
 use Rattle.crawl_web.specs.Parts.{is_space, at_space}
-use Rattle.mercator.specs.Numbers.{is_number, number_of}
+use Rattle.mercator.specs.Numbers.{number_of}
 use Rattle.mercator.specs.ScriptLines.{IsNumber}
 
 digit : (b : ℕ) → Decides (is_ascii_digit b) ((48 ≤ b) × (b ≤ 57))

@@ -1,5 +1,5 @@
 -- The least fault of a script: that of the first of its lines that has one.
-use Rattle.std.specs.Prelude.{◌≡◌, ◌⊎◌, ℕ, ◌+◌, List, [], ◌∷◌, length, Option, Result, Ok, Err}
+use Rattle.std.specs.Prelude.{◌≡◌, ℕ, ◌+◌, List, [], ◌∷◌, length, Option, Result, Ok, Err}
 use Rattle.std.specs.Result.{result_err}
 use Rattle.crawl_web.specs.LeastFault.{IsLeastFault}
 use Rattle.mercator.specs.Script.{header_in, said_by}

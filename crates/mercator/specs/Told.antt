@@ -1,5 +1,5 @@
 -- What each command tells, by the bytes of its input where these are known.
-use Rattle.std.specs.Prelude.{◌≡◌, ℕ, List, Option, Result, Ok, Err, IfSome, IsSomeAnd, IsErr}
+use Rattle.std.specs.Prelude.{◌≡◌, ℕ, List, Option, Err, IfSome, IsSomeAnd, IsErr}
 use Rattle.std.specs.Io.KnownBytes.{Appends}
 use Rattle.crawl_keys.specs.CanonicalText.{canonical}
 use Rattle.mercator.specs.Commands.{Asked}

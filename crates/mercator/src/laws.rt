@@ -35,5 +35,4 @@ pub fn hosts_keep_to_their_subqueues()
 pub fn lines_mean_what_the_format_says()
     ensures header { (line : List ℕ) (said : Result Header ScriptError) → (header_in line ≡ said) ↔ HeaderSays line said }
     ensures line { (workers number : ℕ) (line : List ℕ) (said : Result (Option Event) ScriptError) → (said_by workers number line ≡ said) ↔ LineSays workers number line said }
-{
-}
+{}

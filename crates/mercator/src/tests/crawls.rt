@@ -3,8 +3,8 @@ ghost use Rattle.crawl_core.specs.Limits.{AreLimits};
 use crate::commands::command::Command;
 use crate::commands::ending::end;
 use crate::commands::tell::tell;
-use crate::{Ending, Fault, crawl_by_core};
 use crate::tests::runs::{DONE, answer, words};
+use crate::{Ending, Fault, crawl_by_core};
 use crawl_core::NoMemory;
 use crawl_keys::{CanonUrl, KeyError, canonical};
 use crawl_web::{Fetch, FetchError, Page, SavedWeb, WebError};
@@ -36,6 +36,38 @@ const TWO_LINKS_REPORT: &str = "ok 2 0 http://a.test/\n\
     missing http://a.test/1\n\
     missing http://a.test/2\n\
     total 3 ok 1 missing 2\n";
+
+const MOVED: &str = "savedweb 2\n\
+    page http://a.test/\n\
+    moved http://b.test/\n\
+    page http://b.test/\n\
+    moved mailto:x\n\
+    page http://c.test/\n\
+    link gone\n";
+
+const MOVED_REPORT: &str = "moved http://a.test/\n\
+    moved http://b.test/\n\
+    ok 1 0 http://c.test/\n\
+    missing http://c.test/gone\n\
+    total 4 ok 1 missing 1 moved 2\n";
+
+#[test]
+fn moved_report(rt: HostRuntime) -> Result<(), Fail> {
+    for workers in ["1", "3"] {
+        let row = [
+            "crawl",
+            "--workers",
+            workers,
+            "-",
+            "http://a.test/",
+            "http://c.test/",
+        ];
+        let (status, out) = answer(&rt, rt.alloc(), &row, MOVED)?;
+        assert_eq!(rt; status, DONE, "{workers} workers");
+        assert_eq!(rt; str::from_utf8(&out)?, MOVED_REPORT, "{workers} workers");
+    }
+    Ok(())
+}
 
 #[test]
 fn empty_web_small_web_and_two_links(rt: HostRuntime) -> Result<(), Fail> {

@@ -17,8 +17,8 @@ fn key_of_spelled_url_and_key_without_port(rt: HostRuntime) -> Result<(), Fail> 
 }
 
 #[test]
-fn keys_told(rt: HostRuntime) -> Result<(), Fail> {
-    let rows: [(&[&str], &str); 3] = [
+fn keys_told_and_key_of_512(rt: HostRuntime) -> Result<(), Fail> {
+    let rows: [(&[&str], &str); 7] = [
         (
             &["key", "http://A.test:80/x/../y#f", "--workers", "2"],
             "http://a.test/y a.test 1\n",
@@ -27,6 +27,22 @@ fn keys_told(rt: HostRuntime) -> Result<(), Fail> {
         (
             &["key", "http://a.test/", "--workers", "064"],
             "http://a.test/ a.test 63\n",
+        ),
+        (
+            &["key", "http://a.test/", "--workers", "512"],
+            "http://a.test/ a.test 511\n",
+        ),
+        (
+            &["key", "http://b.test/", "--workers", "512"],
+            "http://b.test/ b.test 158\n",
+        ),
+        (
+            &["key", "http://c.test/", "--workers", "512"],
+            "http://c.test/ c.test 317\n",
+        ),
+        (
+            &["key", "http://d.test/", "--workers", "512"],
+            "http://d.test/ d.test 476\n",
         ),
     ];
     for (row, text) in rows {

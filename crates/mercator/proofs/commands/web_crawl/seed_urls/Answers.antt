@@ -1,4 +1,4 @@
-use Rattle.std.proofs.Common.{Global, string_bytes, ap, sym, ◌∙◌, arith}
+use Rattle.std.proofs.Common.{Global, string_bytes}
 use Rattle.mercator.proofs.Seeds.{seed_fault}
 use Rattle.mercator.proofs.commands.web_crawl.seed_urls.Goals as goal
 
