@@ -1,7 +1,7 @@
 #!/bin/bash
 # Measures crawl_keys: URLs and links per second, instructions each by callgrind, and the bytes
-# that a URL keeps in a set, alone and with three copies. Wants `rt`, valgrind and GNU time in the
-# path.
+# that a URL keeps in a set, alone and with three copies; and what a filter's answer costs. Wants
+# `rt`, valgrind and GNU time in the path.
 #
 # usage: bench/keys.sh [URLS [LINKS]]      300000 URLs and 500000 links where none is given
 set -euo pipefail
@@ -54,9 +54,19 @@ kept() {
     printf '%s: %d bytes a URL\n' "$1" $((($(resident "$1" "$urls") - $(resident "$1" 1)) / urls))
 }
 
+# the instructions of one answer of a filter, which a round asks for 64 URLs
+answer() {
+    echo $((($(instructions "$1" 11) - $(instructions "$1" 1)) / 640))
+}
+
 "$program" canonical "$urls"
 "$program" texts "$urls"
 row canonical texts "$urls"
 row joined links "$links"
 kept kept
 kept shared
+
+one=$(answer one)
+many=$(answer many)
+printf 'allows: %d instructions among one suffix, %d among 100000, %d.%02d times as many\n' \
+    "$one" "$many" $((many / one)) $((100 * many / one % 100))

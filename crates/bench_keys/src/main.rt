@@ -1,8 +1,9 @@
 //! Work for `bench/keys.sh` to measure: `bench_keys WORK COUNT` prints how many bytes came out.
 //!
 //! WORK is `texts` (makes the texts of URLs), `canonical` (and canonicalises each), `links` (makes
-//! the texts of links), `joined` (and joins each to its page), `kept` (keeps each URL in a set) or
-//! `shared` (and three copies of it).
+//! the texts of links), `joined` (and joins each to its page), `kept` (keeps each URL in a set),
+//! `shared` (and three copies of it), `one` (asks a filter of one host for 64 URLs, COUNT times) or
+//! `many` (asks a filter of 100,000 hosts).
 #![tactic(auto)]
 
 mod work;

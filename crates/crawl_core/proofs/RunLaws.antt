@@ -26,6 +26,7 @@ use Rattle.crawl_core.proofs.Places.{from_filter_map, at_rank, rank_below, zip_f
 use Rattle.crawl_core.proofs.Holders.{rising_differ}
 use Rattle.crawl_core.proofs.Effects.{messages, urls_taken, finished_at, cond_both}
 use Rattle.crawl_core.proofs.RunParts.{eqb_same, pair_is, run_keeps, run_at, run_split, run_sound, start_sound, start_count, later_place, run_shape, units_out_of, closed_of}
+use Rattle.crawl_core.proofs.GateHistory.{opening_of, holders_of, words_of}
 use Rattle.crawl_core.proofs.QueueHistory.{History, history_at, url_at, takes_in_order, accepts_once}
 use Rattle.crawl_core.proofs.Sound.{Sound, gate_effect, some_is, none_unfinished}
 
@@ -79,6 +80,9 @@ state_of_history workers max history state run =
           (rw none at said.accepted, rw none at said.taken);
       units = units_out_of workers max history state run;
       closed = closed_of workers max history state run;
+      opening = opening_of workers max history state run;
+      holders = holders_of workers max history state run;
+      remembered = words_of workers max history state run;
     }
 
 -- ## Closing

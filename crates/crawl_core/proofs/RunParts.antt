@@ -84,6 +84,7 @@ start_sound workers max = record {
   empty = λ closed. absurd (true≢false (sym closed));
   met = λ _. refl;
   holders = tt;
+  words = tt;
   queues = λ place queue at. rw (get-replicate workers _ place queue at) (record {
     within = omega arith;
     distinct = λ i j m n at_i at_j same. absurd (cc);

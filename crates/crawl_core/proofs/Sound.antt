@@ -28,7 +28,7 @@ use Rattle.crawl_core.specs.Step.{Turn, turn, by_gate, with_subqueue, put, admit
 use Rattle.crawl_core.specs.History.{is_quiet, says_closed, comes_out, comes_back, told_count}
 use Rattle.crawl_core.specs.Invariants.{SubqueueInvariant, EachSubqueue}
 use Rattle.crawl_core.proofs.Places.{sum_at, set_cases, push_cases, length-slice_set}
-use Rattle.crawl_core.proofs.Holders.{Rising, Rising-insert_key, Rising-remove_key}
+use Rattle.crawl_core.proofs.Holders.{Rising, Rising-insert_key, Rising-remove_key, RisingKeys, RisingKeys-insert_entry, RisingKeys-remove_entry}
 use Rattle.crawl_core.proofs.Effects.{cond_both}
 
 -- what every state of a run meets, but that the count is at most the maximum
@@ -36,6 +36,7 @@ pub record Sound (state : State) : Type 0 where
   pub empty : state.gate.closed ≡ true → count_of state ≡ 0
   pub met : state.gate.closed ≡ false → list_all (λ entry. not entry.1.closed) state.gate.remembered ≡ true
   pub holders : Rising 0 state.gate.holders
+  pub words : RisingKeys 0 state.gate.remembered
   pub queues : EachSubqueue SubqueueInvariant state
 
 -- a turn keeps the invariants, the maximum and the number of subqueues, and a closed gate stays closed and quiet; and the
@@ -165,6 +166,7 @@ enter_sound state sound sender free (Some word) =
         empty = λ closed. absurd (true≢false (sym closed ∙ opened));
         met = λ _. list_all-remove_entry (λ (w : Word). not w.closed) (is_at (nat_cmp sender)) state.gate.remembered (sound.met opened);
         holders = Rising-insert_key 0 state.gate.holders sender (omega arith) sound.holders;
+        words = RisingKeys-remove_entry 0 (is_at (nat_cmp sender)) state.gate.remembered sound.words;
         queues = sound.queues;
       };
       within = λ within. grind (arith, one_more, apart, within);
@@ -184,6 +186,7 @@ fewer_sound state after sound fewer closed_is max_is remembered_is holders as_ma
     empty = λ closed. let none = sound.empty (sym closed_is ∙ closed) in absurd (omega (arith, none, fewer));
     met = λ opened. rw remembered_is (sound.met (sym closed_is ∙ opened));
     holders = holders;
+    words = rw remembered_is sound.words;
     queues = queues;
   };
   within = λ within. rw max_is (omega (arith, within, fewer));
@@ -200,7 +203,7 @@ close_sound : (state : State) → Sound state → GateKeeps state (close state.g
 close_sound state sound =
     cond_both (GateKeeps state) (state.gate.closed || nat_eq (count_of state) 0) _ _
     (λ may. record {
-      sound = record { empty = λ _. closing_empty state sound may; met = λ opened. absurd (true≢false opened); holders = sound.holders; queues = sound.queues };
+      sound = record { empty = λ _. closing_empty state sound may; met = λ opened. absurd (true≢false opened); holders = sound.holders; words = sound.words; queues = sound.queues };
       within = λ within. within;
       closes = λ _. refl;
       closing = or_always state.gate.closed;
@@ -225,6 +228,7 @@ look_sound state sound sender = record {
     empty = sound.empty;
     met = λ opened. list_all-insert_entry (λ (w : Word). not w.closed) nat_cmp state.gate.remembered sender (word_of state) (sound.met opened) (ap not opened);
     holders = sound.holders;
+    words = RisingKeys-insert_entry 0 state.gate.remembered sender (word_of state) (omega arith) sound.words;
     queues = sound.queues;
   };
   within = λ within. within;
@@ -291,6 +295,7 @@ put_sound state sound sender url place queue at held unseen =
         empty = λ closed. same ∙ sound.empty closed;
         met = sound.met;
         holders = Rising-remove_key 0 (is_at (nat_cmp sender)) state.gate.holders sound.holders;
+        words = sound.words;
         queues = each_after state place queue next at sound.queues (accepting_sound queue sender url unseen inv);
       };
       within = λ within. rw same within;
@@ -330,6 +335,7 @@ oldest_sound state sound place queue at idle (Some message) first =
         empty = λ closed. same ∙ sound.empty closed;
         met = sound.met;
         holders = sound.holders;
+        words = sound.words;
         queues = each_after state place queue next at sound.queues (record { within = omega (arith, below); distinct = inv.distinct; numbered = inv.numbered; begun = omega arith });
       };
       within = λ within. rw same within;

@@ -41,6 +41,10 @@ same_word a b = nat_eq a.count b.count && same_flag a.closed b.closed
 abbrev pub holds : GateSide → ℕ → Bool
 holds gate sender = list_any (is_at (nat_cmp sender)) gate.holders
 
+-- the word that the sender remembers, if any
+abbrev pub remembers : GateSide → ℕ → Option Word
+remembers gate sender = lookup (is_at (nat_cmp sender)) gate.remembered
+
 -- the sender's unit is given back, or goes with a URL
 abbrev pub let_go : GateSide → ℕ → GateSide
 let_go gate sender = record gate { holders = remove_key (is_at (nat_cmp sender)) gate.holders }
@@ -87,7 +91,7 @@ enter_with gate messages sender (Some word) =
 abbrev pub enter : GateSide → ℕ → ℕ → GateTurn
 enter gate messages sender =
     if holds gate sender then turned_away gate why.Busy
-    else enter_with gate messages sender (lookup (is_at (nat_cmp sender)) gate.remembered)
+    else enter_with gate messages sender (remembers gate sender)
 
 -- `Back`: the sender's unit
 abbrev pub back : GateSide → ℕ → ℕ → GateTurn

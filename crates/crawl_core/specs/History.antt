@@ -1,8 +1,9 @@
 -- What a history, a list of events with their replies, says of each subqueue and of the units.
-use Rattle.std.specs.Prelude.{◌≡◌, ℕ, suc, ◌+◌, ◌<◌, List, map, take, nat_eq, slice_get, if◌then◌else◌, Option, Some, None, Bool, true, false}
+use Rattle.std.specs.Prelude.{fold, ◌≡◌, ℕ, suc, ◌+◌, ◌<◌, List, map, take, nat_eq, slice_get, if◌then◌else◌, Option, Some, None, Bool, true, false}
 use Rattle.std.specs.List.{filter_map, count_by, list_any}
+use Rattle.crawl_core.specs.declared.word.Word.{Word}
 use Rattle.crawl_core.specs.declared.event.Event.{Event}
-use Rattle.crawl_core.specs.declared.event.Event.TheVariants.{Look, Admit, Take, Done}
+use Rattle.crawl_core.specs.declared.event.Event.TheVariants.{Look, Enter, Admit, Back, EndSeeds, Take, Done}
 use Rattle.crawl_core.specs.declared.reply.Reply.{Reply}
 use Rattle.crawl_core.specs.declared.reply.Reply.TheVariants as told
 use Rattle.crawl_core.specs.Messages.{Message, message_with, numbers_of}
@@ -118,6 +119,35 @@ says_closed _ = false
 
 abbrev pub was_closed : List (Event × Reply) → Bool
 was_closed history = list_any (λ x. says_closed x.1) history
+
+-- whether the opening unit was given back
+abbrev pub ends_seeds : Event → Reply → Bool
+ends_seeds EndSeeds (told.Count left) = true
+ends_seeds _ _ = false
+
+abbrev pub was_ended : List (Event × Reply) → Bool
+was_ended history = list_any (λ x. ends_seeds x.0 x.1) history
+
+-- whether the sender holds a unit after an event, by whether it held one before
+abbrev pub holds_after : ℕ → Bool → Event → Reply → Bool
+holds_after sender held (Enter who) (told.Entered count) = if nat_eq who sender then true else held
+holds_after sender held (Admit who url queue) (told.Accepted there number) = if nat_eq who sender then false else held
+holds_after sender held (Back who) (told.Count left) = if nat_eq who sender then false else held
+holds_after sender held _ _ = held
+
+-- whether the sender holds a unit: it entered, and since then no URL of it was accepted and it gave nothing back
+abbrev pub has_unit : List (Event × Reply) → ℕ → Bool
+has_unit history sender = fold (λ held x. holds_after sender held x.0 x.1) false history
+
+-- the word that the sender remembers after an event, by the one that it remembered before
+abbrev pub word_after : ℕ → Option Word → Event → Reply → Option Word
+word_after sender word (Look who) (told.Word count closed) = if nat_eq who sender then Some (record { count = count; closed = closed }) else word
+word_after sender word (Enter who) (told.Entered count) = if nat_eq who sender then None else word
+word_after sender word _ _ = word
+
+-- the word that the sender remembers: that of its last look, unless it entered since
+abbrev pub last_word : List (Event × Reply) → ℕ → Option Word
+last_word history sender = fold (λ word x. word_after sender word x.0 x.1) None history
 
 -- a look finds the gate closed exactly if a reply before said so
 abbrev pub TellsClosing : List (Event × Reply) → Type 0

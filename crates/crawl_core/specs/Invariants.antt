@@ -6,9 +6,9 @@ use Rattle.crawl_core.specs.declared.reply.Reply.{Reply}
 use Rattle.crawl_core.specs.Flags.{one_if}
 use Rattle.crawl_core.specs.Messages.{UrlsDiffer, NumbersInOrder}
 use Rattle.crawl_core.specs.Subqueue.{Subqueue, waiting}
-use Rattle.crawl_core.specs.GateSide.{GateSide}
+use Rattle.crawl_core.specs.GateSide.{GateSide, holds, remembers}
 use Rattle.crawl_core.specs.State.{State, count_of}
-use Rattle.crawl_core.specs.History.{accepted_in, accepted_urls, taken_urls, done_in, AreOut, was_closed}
+use Rattle.crawl_core.specs.History.{accepted_in, accepted_urls, taken_urls, done_in, AreOut, was_closed, was_ended, has_unit, last_word}
 
 -- a maximum with room for the opening unit, which is out from the start: a maximum of 0 would be passed before any event.
 -- No frontier is made with one that has none
@@ -53,6 +53,9 @@ pub record IsState (workers max : ℕ) (history : List (Event × Reply)) (state 
   pub no_others : (place : ℕ) → workers ≤ place → (accepted_in place history ≡ []) × (taken_urls place history ≡ [])
   pub units : AreOut (count_of state) history
   pub closed : state.gate.closed ≡ was_closed history
+  pub opening : state.gate.opening ≡ not (was_ended history)
+  pub holders : (sender : ℕ) → holds state.gate sender ≡ has_unit history sender
+  pub remembered : (sender : ℕ) → remembers state.gate sender ≡ last_word history sender
 
 -- the opening unit is gone, nobody holds one, and every accepted message was taken and is done
 pub record IsFinished (state : State) : Type 0 where

@@ -19,7 +19,7 @@ pub use error::FilterError;
 ///
 /// With no suffix it allows every URL; else those whose host key is one of its suffixes, or ends
 /// with a dot and one. The suffixes are kept once and shared by all copies, in any threads.
-#[derive(Drop)]
+#[derive(Debug, Drop)]
 pub struct Filter {
     shared: Arc<Suffixes>,
 }

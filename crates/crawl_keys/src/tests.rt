@@ -111,6 +111,22 @@ fn hash_table(rt: HostRuntime) {
     }
 }
 
+// The subqueues that the worked row names, of 512.
+#[test]
+fn key_of_512(rt: HostRuntime) -> Result<(), Fail> {
+    let rows = [
+        ("http://a.test/", 511),
+        ("http://b.test/", 158),
+        ("http://c.test/", 317),
+        ("http://d.test/", 476),
+    ];
+    for (input, subqueue) in rows {
+        let url = canonical(rt.alloc(), input)?;
+        assert_eq!(rt; url.subqueue(SUBQUEUES_LIMIT), subqueue, "{input}");
+    }
+    Ok(())
+}
+
 // The subqueue is that of the host key, whatever the port, the path and the user name.
 #[test]
 fn subqueues(rt: HostRuntime) -> Result<(), Fail> {
@@ -146,6 +162,28 @@ fn copies_and_spellings_are_equal(rt: HostRuntime) -> Result<(), Fail> {
     Ok(())
 }
 
+// A filter and its copy allow the same URLs; a bad suffix is told by its place.
+#[test]
+fn filter_suffixes(rt: HostRuntime) -> Result<(), Fail> {
+    let alloc = rt.alloc();
+    let bad = Filter::new(alloc, &["a.test", ""]);
+    assert_eq!(rt; bad.err(), Some(FilterError::BadSuffix(1)));
+    let filter = Filter::new(alloc, &["a.test"])?;
+    let copy = filter.copy()?;
+    let rows = [
+        ("http://a.test:8080/", true),
+        ("http://x.a.test/", true),
+        ("http://xa.test/", false),
+        ("http://a.test./", false),
+    ];
+    for (input, expected) in rows {
+        let url = canonical(alloc, input)?;
+        assert_eq!(rt; filter.allows(&url), expected, "{input}");
+        assert_eq!(rt; copy.allows(&url), expected, "{input}");
+    }
+    Ok(())
+}
+
 fn moves_and_shares<T: Send + Sync>(_: &T) {}
 
 #[test]
@@ -154,5 +192,6 @@ fn crosses_threads(rt: HostRuntime) -> Result<(), Fail> {
     let base = Base::new(rt.alloc(), &url)?;
     moves_and_shares(&url);
     moves_and_shares(&base);
+    moves_and_shares(&Filter::new(rt.alloc(), &["a.test"])?);
     Ok(())
 }

@@ -14,9 +14,9 @@ use std::collections::BTreeSet;
 use std::marker::Model;
 
 /// Suffixes of hosts, each once.
-#[derive(Drop)]
+#[derive(Debug, Drop)]
 pub(super) struct Suffixes {
-    texts: BTreeSet<String>,
+    pub(super) texts: BTreeSet<String>,
 }
 
 // Contracts see the suffixes' bytes, in order.

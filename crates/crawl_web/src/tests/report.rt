@@ -1,4 +1,4 @@
-use crate::{Links, Page, PageResult, report_text};
+use crate::{Fetch, Links, Page, PageResult, SavedWeb, report_text};
 use crawl_keys::{CanonUrl, KeyError, canonical};
 use std::alloc::Global;
 use std::process::Abort;
@@ -172,5 +172,30 @@ fn reports_moved_pages(rt: HostRuntime) -> Result<(), Fail> {
     ] {
         report_of(&rt, rt.alloc(), &rows, text)?;
     }
+    Ok(())
+}
+
+// The report of two pages of a saved web.
+fn report_of_two(alloc: Global, bytes: &[u8]) -> Result<Vec<u8>, Fail> {
+    let web = SavedWeb::read(alloc, bytes)?;
+    let mut results = Vec::new(alloc);
+    for text in ["http://c.test/", "http://a.test/"] {
+        let url = canonical(alloc, text)?;
+        let page = web.fetch(alloc, &url)?;
+        results.push(PageResult { url, page })?;
+    }
+    Ok(report_text(alloc, &results)?)
+}
+
+#[test]
+fn reports_pages_of_a_saved_web(rt: HostRuntime) -> Result<(), Fail> {
+    let text = report_of_two(
+        rt.alloc(),
+        b"savedweb 2\npage http://a.test/\nmoved http://b.test/\npage http://c.test/\nlink gone\n",
+    )?;
+    assert_eq!(rt;
+        text.as_slice(),
+        b"moved http://a.test/\nok 1 0 http://c.test/\ntotal 2 ok 1 missing 0 moved 1\n".as_slice()
+    );
     Ok(())
 }
