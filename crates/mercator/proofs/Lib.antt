@@ -7,4 +7,5 @@ pub mod LineWords
 pub mod NumberText
 pub mod ReadLines
 pub mod ReadNumbers
+pub mod ScriptWords
 pub mod Seeds

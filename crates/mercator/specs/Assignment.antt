@@ -6,11 +6,20 @@ use Rattle.crawl_core.specs.declared.event.Event.TheVariants.{Admit}
 use Rattle.crawl_keys.specs.Assignment.{subqueue_of}
 use Rattle.crawl_keys.specs.CanonicalText.{canonical}
 
--- an admission names a canonical URL, and the subqueue among so many that this URL's host key is assigned to
+-- an admission names the subqueue among so many that its URL's host key is assigned to
+abbrev pub IsPlaced : ℕ → Event → Type 0
+IsPlaced workers (Admit sender url queue) = queue ≡ subqueue_of url workers
+IsPlaced workers _ = Unit {0}
+
+-- each admission does
+abbrev pub IsAssigned : ℕ → List Event → Type 0
+IsAssigned workers events = All (IsPlaced workers) events
+
+-- and its text is a canonical URL
 abbrev pub IsAddressed : ℕ → Event → Type 0
 IsAddressed workers (Admit sender url queue) = (queue ≡ subqueue_of url workers) × (canonical url ≡ Ok url)
 IsAddressed workers _ = Unit {0}
 
--- each admission does
-abbrev pub IsAssigned : ℕ → List Event → Type 0
-IsAssigned workers events = All (IsAddressed workers) events
+-- both, of each admission
+abbrev pub AreAddressed : ℕ → List Event → Type 0
+AreAddressed workers events = All (IsAddressed workers) events

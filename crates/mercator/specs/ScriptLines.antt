@@ -1,5 +1,5 @@
 -- The lines of a script as the format says them: which bytes a line has that says this or that.
-use Rattle.std.specs.Prelude.{◌≡◌, ◌≢◌, ◌≤◌, ◌<◌, ◌^◌, ℕ, List, [], ◌++◌, length, codes, Option, Some, None, Result, Ok, Err}
+use Rattle.std.specs.Prelude.{◌≡◌, ◌≢◌, ◌⊎◌, ◌+◌, ◌≤◌, ◌<◌, ◌^◌, ℕ, List, [], ◌∷◌, ◌++◌, length, codes, Option, Some, None, Result, Ok, Err}
 use Rattle.std.specs.List.{All}
 use Rattle.std.specs.Str.{IsUtf8}
 use Rattle.std.specs.Str.Parse.{digits_value}
@@ -11,6 +11,7 @@ use Rattle.crawl_core.specs.declared.event.Event.TheVariants.{Look, Enter, Admit
 use Rattle.crawl_core.specs.Limits.{AreLimits}
 use Rattle.crawl_web.specs.Limits.{line_limit}
 use Rattle.mercator.specs.Limits.{most_digits}
+use Rattle.mercator.specs.Script.{Said}
 use Rattle.mercator.specs.declared.script.header.Header.{Header}
 use Rattle.mercator.specs.declared.script.error.ScriptError.{ScriptError}
 use Rattle.mercator.specs.declared.script.error.ScriptError.TheVariants.{LineTooLong, NotText, BadHeader, BadLine, BadUrl, NoMemory}
@@ -96,3 +97,18 @@ HeaderSays line (Err BadHeader) = IsLineText line × ((workers max : ℕ) → Is
 HeaderSays line (Err (BadLine n)) = ⊥
 HeaderSays line (Err (BadUrl n)) = ⊥
 HeaderSays line (Err NoMemory) = ⊥
+
+-- the lines say these events, in order, and nothing else; the first of them has this number
+abbrev pub LinesSay : ℕ → ℕ → List (List ℕ) → List Event → Type 0
+LinesSay workers number [] events = events ≡ []
+LinesSay workers number (line ∷ more) events =
+    (LineSays workers number line (Ok None) × LinesSay workers (number + 1) more events)
+    ⊎ ((event : Event) × (later : List Event) × (events ≡ event ∷ later) × LineSays workers number line (Ok (Some event)) × LinesSay workers (number + 1) more later)
+
+-- the lines say this script: the first its header, the others its events
+pub record IsScript (lines : List (List ℕ)) (script : Said) : Type 0 where
+  pub first : List ℕ
+  pub more : List (List ℕ)
+  pub split : lines ≡ first ∷ more
+  pub headed : HeaderSays first (Ok (record { workers = script.workers; max = script.max }))
+  pub events : LinesSay script.workers 2 more script.events

@@ -1,6 +1,7 @@
 //! Laws over the definitions of the crates below, together. None does anything when it is called.
-ghost use Rattle.std.specs.Prelude.{◌≡◌, ◌↔◌, ℕ, List, Option, Result, map, slice_get, Some};
+ghost use Rattle.std.specs.Prelude.{◌≡◌, ◌↔◌, ℕ, List, Option, Result, map, slice_get, Some, Ok};
 ghost use Rattle.std.specs.List.{zip};
+ghost use Rattle.std.specs.Str.Lines.{lines};
 ghost use Rattle.crawl_core.specs.State.{State, start};
 ghost use Rattle.crawl_core.specs.Subqueue.{Subqueue};
 ghost use Rattle.crawl_core.specs.Messages.{Message};
@@ -12,8 +13,8 @@ ghost use Rattle.crawl_core.specs.declared.reply.Reply.{Reply};
 ghost use Rattle.crawl_core.specs.declared.reply.Reply.TheVariants.{Taken};
 ghost use Rattle.crawl_keys.specs.Assignment.{subqueue_of};
 ghost use Rattle.mercator.specs.Assignment.{IsAssigned};
-ghost use Rattle.mercator.specs.Script.{header_in, said_by};
-ghost use Rattle.mercator.specs.ScriptLines.{HeaderSays, LineSays};
+ghost use Rattle.mercator.specs.Script.{Said, script_of, header_in, said_by};
+ghost use Rattle.mercator.specs.ScriptLines.{HeaderSays, LineSays, IsScript};
 ghost use Rattle.mercator.specs.declared.script.header.Header.{Header};
 ghost use Rattle.mercator.specs.declared.script.error.ScriptError.{ScriptError};
 
@@ -31,8 +32,10 @@ pub fn hosts_keep_to_their_subqueues()
 
 /// The lines of a script mean what the format says. `header_in` and `said_by`, by which the meaning of a script is defined, say
 /// something of a line exactly where the line has the bytes that the format names for it: `workers N max M` for a header; for
-/// each event its word, spaces and digits, and the URL of an admission; and for each fault, what is wrong with the line.
+/// each event its word, spaces and digits, and the URL of an admission; and for each fault, what is wrong with the line. And
+/// bytes are a script exactly where their first line says its header, and the others its events, in order.
 pub fn lines_mean_what_the_format_says()
     ensures header { (line : List ℕ) (said : Result Header ScriptError) → (header_in line ≡ said) ↔ HeaderSays line said }
     ensures line { (workers number : ℕ) (line : List ℕ) (said : Result (Option Event) ScriptError) → (said_by workers number line ≡ said) ↔ LineSays workers number line said }
+    ensures script { (bytes : List ℕ) (script : Said) → (script_of bytes ≡ Ok script) ↔ IsScript (lines bytes) script }
 {}

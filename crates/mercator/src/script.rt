@@ -5,7 +5,7 @@ ghost use Rattle.crawl_keys.specs.Outcome.{Gives};
 ghost use Rattle.mercator.specs.Script.{header_in, events_of, script_of};
 ghost use Rattle.mercator.specs.ScriptContent.{content};
 ghost use Rattle.crawl_core.specs.Limits.{AreLimits};
-ghost use Rattle.mercator.specs.Assignment.{IsAssigned};
+ghost use Rattle.mercator.specs.Assignment.{IsAssigned, AreAddressed};
 ghost use Rattle.mercator.specs.LeastFault.{IsScriptFault};
 ghost use Rattle.crawl_core.specs.Limits.{worker_limit};
 
@@ -41,12 +41,13 @@ pub struct Script {
 /// # Errors
 /// That of the least line that has a fault, and there the first of the checks, in the order of [`ScriptError`];
 /// `NoMemory` where a growth was refused.
-#[tactic(auto, using(crate::proofs::Least::least_of_script))]
+#[tactic(auto, using(crate::proofs::Least::least_of_script, crate::proofs::Assigned::assigned_script))]
 pub fn read_script(alloc: Global, bytes: &[u8]) -> Result<Script, ScriptError>
     ensures exact { Gives ScriptError.NoMemory content result (script_of bytes.now) }
     ensures limits { IfOk result (λ script. AreLimits script.workers script.max) }
-    // Each admission names a canonical URL, and the subqueue that its host key is assigned to.
+    // Each admission names the subqueue that its URL's host key is assigned to; and its text is a canonical URL.
     ensures assigned { IfOk result (λ script. IsAssigned script.workers script.events.items) }
+    ensures addressed { IfOk result (λ script. AreAddressed script.workers script.events.items) }
     // The fault is that of the least line that has one.
     ensures least { IfErr result (λ fault. IsScriptFault (lines bytes.now) fault ⊎ (fault ≡ ScriptError.NoMemory)) }
 {
@@ -56,7 +57,7 @@ pub fn read_script(alloc: Global, bytes: &[u8]) -> Result<Script, ScriptError>
 fn script_from(alloc: Global, bytes: &[u8]) -> Result<Script, ScriptError>
     ensures exact { Gives ScriptError.NoMemory content result (script_of bytes.now) }
     ensures limits { IfOk result (λ script. AreLimits script.workers script.max) }
-    ensures assigned { IfOk result (λ script. IsAssigned script.workers script.events.items) }
+    ensures addressed { IfOk result (λ script. AreAddressed script.workers script.events.items) }
 {
     let Some((line, rest)) = first_line(bytes) else {
         return Err(ScriptError::BadHeader);
@@ -82,7 +83,7 @@ fn events_of(alloc: Global, workers: u32, bytes: &[u8]) -> Result<Vec<Event>, Sc
     requires few_workers { workers ≤ worker_limit }
     requires room_to_count { length bytes.now + 1 < 2 ^ 64 }
     ensures exact { Gives ScriptError.NoMemory (λ events. events.items) result (events_of workers 2 (lines bytes.now)) }
-    ensures assigned { IfOk result (λ events. IsAssigned workers events.items) }
+    ensures addressed { IfOk result (λ events. AreAddressed workers events.items) }
 {
     let mut events = Vec::new(alloc);
     let mut rest = bytes;

@@ -1,7 +1,7 @@
 use crate::replay_text;
 use std::test::Fail;
 
-/// The name of a row, its script, and the replies.
+/// The name of a script, the script, and the replies.
 type Row = (&'static str, &'static str, &'static str);
 
 const LOST_TO_ANOTHER_SENDER: Row = (
@@ -196,7 +196,7 @@ count 2
 );
 
 #[test]
-fn worked_rows(rt: HostRuntime) -> Result<(), Fail> {
+fn scripts_with_names(rt: HostRuntime) -> Result<(), Fail> {
     for (name, script, replies) in [
         LOST_TO_ANOTHER_SENDER,
         SAME_WORD_AGAIN,

@@ -1,6 +1,6 @@
 use Rattle.std.proofs.Common.{◌≡◌, ◌+◌, ◌≤◌, length}
 use Rattle.std.specs.Str.Lines.{lines}
-use Rattle.mercator.specs.Assignment.{IsAssigned}
+use Rattle.mercator.specs.Assignment.{AreAddressed}
 use Rattle.mercator.specs.Script.{events_of}
 use Rattle.mercator.proofs.ReadLines.{behind}
 use Rattle.mercator.proofs.script.events_of.Given as goal
@@ -9,7 +9,7 @@ abbrev pub invariant-loop-line : goal.invariant-loop-line
 invariant-loop-line l = record {
   few : l.number + length l.rest ≤ length l.bytes + 1;
   so_far : behind l.events.items (events_of l.workers (l.number + 1) (lines l.rest)) ≡ events_of l.workers 2 (lines l.bytes);
-  assigned : IsAssigned l.workers l.events.items;
+  addressed : AreAddressed l.workers l.events.items;
 }
 
 abbrev pub decreases-loop-line : goal.decreases-loop-line
