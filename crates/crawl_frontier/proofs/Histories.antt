@@ -12,7 +12,7 @@ use Rattle.crawl_frontier.specs.declared.rule.Home.{Home}
 use Rattle.crawl_frontier.specs.declared.rule.PassView.{PassView}
 use Rattle.crawl_frontier.specs.Entries.{MayFollow, KeepsRule, has_url, entries_of}
 use Rattle.crawl_frontier.specs.Rule.{SubqueueInvariant, pushing, popping, undivided, spent, reunited, plain}
-use Rattle.crawl_frontier.specs.History.{IsAcceptedList, Moment, SubqueueStep, settles, divides, pushes, pops, finds_nothing, takes_in, IsHistory, first_moment, AllKept}
+use Rattle.crawl_frontier.specs.History.{IsAcceptedList, Moment, SubqueueStep, ListsMove, settles, divides, pushes, pops, finds_nothing, takes_in, IsHistory, first_moment, AllKept}
 use Rattle.crawl_frontier.proofs.Agreeing.{rule-numbered}
 use Rattle.crawl_frontier.proofs.Passing as pass
 
@@ -60,20 +60,28 @@ set_apart (z ∷ zs) zero (suc j) w ne = refl
 set_apart (z ∷ zs) (suc i) zero w ne = refl
 set_apart (z ∷ zs) (suc i) (suc j) w ne = set_apart zs i j w (λ e. ne (ap suc e))
 
--- each kind of step keeps the invariant
+abbrev After : List Entry → List Entry → Moment → Type 0
+After sent taken m = (k : SubqueueInvariant m.items m.views) × ((k.sent ≡ sent) × (k.taken ≡ taken))
+
+-- each kind of step keeps the invariant, and moves the lists as it should
+pub step_moves : (m m' : Moment) (k : SubqueueInvariant m.items m.views) (step : SubqueueStep m m') → (k' : SubqueueInvariant m'.items m'.views) × ListsMove step k.sent k.taken k'.sent k'.taken
+unfolding pass.settles pass.divides pass.sends pass.takes pass.counts pass.unites
+step_moves m m' k (settles p h old at is) =
+    let mine = k.passes p (undivided old) at in
+    subst (After k.sent k.taken) (sym is) (pass.settles p (undivided old) h refl m.items m.views k at, ((mine.sends refl).1, (mine.takes refl).1))
+step_moves m m' k (divides p h at is) = subst (After k.sent k.taken) (sym is) (pass.divides p (undivided h) refl m.items m.views k at, (refl, refl))
+step_moves m m' k (pushes p h sent x at unit may is) =
+    subst (After (k.sent ++ plain x ∷ []) k.taken) (sym is) ((pass.sends (suc (length m.items)) p (pushing h sent) x refl unit may m.items m.views (omega arith) k at).1, (refl, refl))
+step_moves m m' k (pops p h taken n x rest at items is) =
+    subst (λ (l : List Message). (k : SubqueueInvariant l m.views) → After k.sent (k.taken ++ plain x ∷ []) m') (sym items)
+    (λ k. subst (After k.sent (k.taken ++ plain x ∷ [])) (sym is) ((pass.takes p (popping h taken n) refl x rest m.views k at).1, (refl, refl))) k
+step_moves m m' k (finds_nothing p h taken n at is) = subst (After k.sent k.taken) (sym is) (pass.counts p (popping h taken n) refl m.items m.views k at, (refl, refl))
+step_moves m m' k (takes_in p h sent q home taken n apart at there is) =
+    subst (After k.sent k.taken) (sym is)
+    (pass.unites p (pushing h sent) q (popping home taken n) refl refl m.items m.views k at (λ e. apart (sym e)) (set_apart m.views p q (reunited (pushing h sent) (popping home taken n)) (λ e. apart (sym e)) ∙ there), (refl, refl))
+
 pub kept_step : (m m' : Moment) → SubqueueInvariant m.items m.views → SubqueueStep m m' → SubqueueInvariant m'.items m'.views
-kept_step m m' k (settles p h old at is) = subst (λ (y : Moment). SubqueueInvariant y.items y.views) (sym is) (pass.settles p (undivided old) h refl m.items m.views k at)
-kept_step m m' k (divides p h at is) = subst (λ (y : Moment). SubqueueInvariant y.items y.views) (sym is) (pass.divides p (undivided h) refl m.items m.views k at)
-kept_step m m' k (pushes p h sent x at unit may is) =
-    let r = pass.sends (suc (length m.items)) p (pushing h sent) x refl unit may m.items m.views (omega arith) k at in
-    subst (λ (y : Moment). SubqueueInvariant y.items y.views) (sym is) (subst (λ (w : PassView). SubqueueInvariant (m.items ++ x ∷ []) (set m.views p w)) r.2 r.1)
-kept_step m m' k (pops p h taken n x rest at items is) =
-    let r = pass.takes p (popping h taken n) refl x rest m.views (subst (λ (l : List Message). SubqueueInvariant l m.views) items k) at in
-    subst (λ (y : Moment). SubqueueInvariant y.items y.views) (sym is) (subst (λ (w : PassView). SubqueueInvariant rest (set m.views p w)) r.2.0 r.1)
-kept_step m m' k (finds_nothing p h taken n at is) = subst (λ (y : Moment). SubqueueInvariant y.items y.views) (sym is) (pass.counts p (popping h taken n) refl m.items m.views k at)
-kept_step m m' k (takes_in p h sent q home taken n apart at there is) =
-    subst (λ (y : Moment). SubqueueInvariant y.items y.views) (sym is)
-    (pass.unites p (pushing h sent) q (popping home taken n) refl refl m.items m.views k at (λ e. apart (sym e)) (set_apart m.views p q (reunited (pushing h sent) (popping home taken n)) (λ e. apart (sym e)) ∙ there))
+kept_step m m' k step = (step_moves m m' k step).0
 
 all_kept : (m : Moment) (later : List Moment) → SubqueueInvariant m.items m.views → IsHistory m later → AllKept later
 all_kept m [] k h = tt

@@ -14,7 +14,7 @@ use Rattle.crawl_frontier.specs.Entries.{MayFollow, KeepsRule}
 use Rattle.crawl_frontier.specs.Rule.{pushing, popping, undivided, reunited, spent, no_home, plain, AllOfGate, PassFits, SubqueueInvariant}
 use Rattle.crawl_frontier.proofs.Entries.{rule-snoc, rule-at}
 
-no : {X : Type 0} → false ≡ true → X
+pub no : {X : Type 0} → false ≡ true → X
 no e = absurd (true≢false (sym e))
 
 at_push : (l : List PassView) (a b : PassView) (j : ℕ) → get_elem? (l ++ a ∷ []) j ≡ some b → (get_elem? l j ≡ some b) ⊎ ((j ≡ length l) × (a ≡ b))
@@ -23,19 +23,19 @@ at_push [] a b (suc j) e = absurd (some-ne-none b (sym e))
 at_push (x ∷ xs) a b zero e = inl e
 at_push (x ∷ xs) a b (suc j) e = ⊎_elim inl (λ t. inr (ap suc t.0, t.1)) (at_push xs a b j e)
 
-abbrev All : (ℕ → PassView → Type 0) → List PassView → Type 0
+abbrev pub All : (ℕ → PassView → Type 0) → List PassView → Type 0
 All F views = (j : ℕ) (u : PassView) → get_elem? views j ≡ some u → F j u
 
-all_set : (F : ℕ → PassView → Type 0) (views : List PassView) (id : ℕ) (w : PassView) → F id w → ((j : ℕ) (u : PassView) → j ≢ id → get_elem? views j ≡ some u → F j u) → All F (set views id w)
+pub all_set : (F : ℕ → PassView → Type 0) (views : List PassView) (id : ℕ) (w : PassView) → F id w → ((j : ℕ) (u : PassView) → j ≢ id → get_elem? views j ≡ some u → F j u) → All F (set views id w)
 all_set F views id w mine others j u e = ⊎_elim
     (λ (t : (j ≡ id) × (w ≡ u)). subst (λ (y : ℕ × PassView). F y.0 y.1) (λ i. (sym t.0 i, t.1 i)) mine)
     (λ (t : (j ≢ id) × (get_elem? views j ≡ some u)). others j u t.0 t.1)
     (at_set views id j w u e)
 
-all_push : (F : ℕ → PassView → Type 0) (views : List PassView) (w : PassView) → F (length views) w → All F views → All F (views ++ w ∷ [])
+pub all_push : (F : ℕ → PassView → Type 0) (views : List PassView) (w : PassView) → F (length views) w → All F views → All F (views ++ w ∷ [])
 all_push F views w mine old j u e = ⊎_elim (old j u) (λ (t : (j ≡ length views) × (w ≡ u)). subst (λ (y : ℕ × PassView). F y.0 y.1) (λ i. (sym t.0 i, t.1 i)) mine) (at_push views w u j e)
 
-quiet : (home : Home) (writer reader : ℕ) (sent taken : List Entry) (j : ℕ) → PassFits home writer reader sent taken j spent
+pub quiet : (home : Home) (writer reader : ℕ) (sent taken : List Entry) (j : ℕ) → PassFits home writer reader sent taken j spent
 quiet home writer reader sent taken j = record { sends = no; takes = no }
 
 pub begins : SubqueueInvariant [] (undivided no_home ∷ [])
@@ -51,12 +51,12 @@ begins = record {
   passes = all_push (PassFits no_home 0 0 [] []) [] (undivided no_home) (record { sends = λ _. (refl, refl, refl); takes = λ _. (refl, refl, refl) }) (λ j u e. absurd (some-ne-none u (sym e)));
 }
 
-both_nil : (taken : List Entry) (items : List Message) → taken ++ map plain items ≡ [] → items ≡ []
+pub both_nil : (taken : List Entry) (items : List Message) → taken ++ map plain items ≡ [] → items ≡ []
 both_nil [] [] e = refl
 both_nil [] (m ∷ ms) e = absurd (cc (e))
 both_nil (t ∷ ts) items e = absurd (cc (e))
 
-pub settles : (id : ℕ) (v : PassView) (h : Home) → v ≡ undivided v.home → Forks SubqueueInvariant id v (undivided h) spent
+unfoldable pub settles : (id : ℕ) (v : PassView) (h : Home) → v ≡ undivided v.home → Forks SubqueueInvariant id v (undivided h) spent
 settles id v h is items views k at =
     let mine = k.passes id v at in
     let s = mine.sends (ap (λ z. z.sends) is) in
@@ -77,7 +77,7 @@ settles id v h is items views k at =
           (λ j u apart e. let o = k.passes j u e in record { sends = λ p. absurd (apart ((o.sends p).0 ∙ sym s.0)); takes = λ p. absurd (apart ((o.takes p).0 ∙ sym t.0)) }));
     }
 
-pub divides : (id : ℕ) (v : PassView) → v ≡ undivided v.home → Forks SubqueueInvariant id v (pushing v.home v.sent) (popping v.home v.taken v.empty_pops)
+unfoldable pub divides : (id : ℕ) (v : PassView) → v ≡ undivided v.home → Forks SubqueueInvariant id v (pushing v.home v.sent) (popping v.home v.taken v.empty_pops)
 divides id v is items views k at =
     let mine = k.passes id v at in
     let s = mine.sends (ap (λ z. z.sends) is) in
@@ -100,7 +100,7 @@ divides id v is items views k at =
     }
 
 -- a popping that has counted a pop that found nothing
-pub counts : (id : ℕ) (v : PassView) → v ≡ popping v.home v.taken v.empty_pops → Forks SubqueueInvariant id v (popping v.home v.taken (v.empty_pops + 1)) spent
+unfoldable pub counts : (id : ℕ) (v : PassView) → v ≡ popping v.home v.taken v.empty_pops → Forks SubqueueInvariant id v (popping v.home v.taken (v.empty_pops + 1)) spent
 counts id v is items views k at =
     let mine = k.passes id v at in
     let t = mine.takes (ap (λ z. z.takes) is) in
@@ -118,11 +118,11 @@ counts id v is items views k at =
       passes = all_push F (set views id l) spent (quiet k.home k.writer k.reader k.sent k.taken _) (all_set F views id l (record { sends = no; takes = λ _. t }) (λ j u apart e. k.passes j u e));
     }
 
-all_of-snoc : (g : GateId) (items : List Message) (x : Message) → AllOfGate g items → IsSeatOf g x.unit → AllOfGate g (items ++ x ∷ [])
+pub all_of-snoc : (g : GateId) (items : List Message) (x : Message) → AllOfGate g items → IsSeatOf g x.unit → AllOfGate g (items ++ x ∷ [])
 all_of-snoc g [] x a o = (o, tt)
 all_of-snoc g (m ∷ ms) x a o = (a.0, all_of-snoc g ms x a.1 o)
 
-pub sends : (n id : ℕ) (v : PassView) (x : Message) → v ≡ pushing v.home v.sent → IsSeatOf v.home.gate x.unit → MayFollow v.home.workers v.home.place v.sent (plain x)
+unfoldable pub sends : (n id : ℕ) (v : PassView) (x : Message) → v ≡ pushing v.home v.sent → IsSeatOf v.home.gate x.unit → MayFollow v.home.workers v.home.place v.sent (plain x)
     → Pushes SubqueueInvariant n id v x (λ w. w ≡ pushing v.home (v.sent ++ plain x ∷ []))
 sends n id v x is unit may items views _ k at =
     let mine = k.passes id v at in
@@ -147,7 +147,7 @@ sends n id v x is unit may items views _ k at =
       refl,
     )
 
-pub takes : (id : ℕ) (v : PassView) → v ≡ popping v.home v.taken v.empty_pops
+unfoldable pub takes : (id : ℕ) (v : PassView) → v ≡ popping v.home v.taken v.empty_pops
     → Pops SubqueueInvariant id v (λ x w. (w ≡ popping v.home (v.taken ++ plain x ∷ []) v.empty_pops) × IsSeatOf v.home.gate x.unit × MayFollow v.home.workers v.home.place v.taken (plain x))
 takes id v is x items views k at =
     let mine = k.passes id v at in
@@ -178,7 +178,7 @@ takes id v is x items views k at =
     )
 
 -- one pass with both rights
-pub unites : (id : ℕ) (v : PassView) (other : ℕ) (u : PassView) → v ≡ pushing v.home v.sent → u ≡ popping u.home u.taken u.empty_pops → Merges SubqueueInvariant id v other u (reunited v u) spent
+unfoldable pub unites : (id : ℕ) (v : PassView) (other : ℕ) (u : PassView) → v ≡ pushing v.home v.sent → u ≡ popping u.home u.taken u.empty_pops → Merges SubqueueInvariant id v other u (reunited v u) spent
 unites id v other u is are items views k at two there =
     let mine = (k.passes id v at).sends (ap (λ z. z.sends) is) in
     let w = reunited v u in

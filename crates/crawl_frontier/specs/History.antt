@@ -48,6 +48,16 @@ pub data SubqueueStep (m m' : Moment) : Type 0 where
       → m' ≡ record { items = m.items; views = slice_set (slice_set m.views pass (reunited (pushing h sent) (popping home taken n))) other spent }
       → SubqueueStep m m'
 
+-- what a step does to the list sent and the list taken, s and t before it, s' and t' after it: a push adds to the one, a
+-- pop to the other, and no other step changes any of them
+abbrev pub ListsMove : {m m' : Moment} → SubqueueStep m m' → List Entry → List Entry → List Entry → List Entry → Type 0
+ListsMove (settles pass h old at is) s t s' t' = (s' ≡ s) × (t' ≡ t)
+ListsMove (divides pass h at is) s t s' t' = (s' ≡ s) × (t' ≡ t)
+ListsMove (pushes pass h sent x at unit may is) s t s' t' = (s' ≡ s ++ plain x ∷ []) × (t' ≡ t)
+ListsMove (pops pass h taken n x rest at items is) s t s' t' = (s' ≡ s) × (t' ≡ t ++ plain x ∷ [])
+ListsMove (finds_nothing pass h taken n at is) s t s' t' = (s' ≡ s) × (t' ≡ t)
+ListsMove (takes_in pass h sent other home taken n apart at there is) s t s' t' = (s' ≡ s) × (t' ≡ t)
+
 -- the moments after this one, each by one step from the one before
 abbrev pub IsHistory : Moment → List Moment → Type 0
 IsHistory m [] = Unit {0}

@@ -100,6 +100,12 @@ fn frontier_limits(rt: HostRuntime) {
         let setup = Setup::new(rt.alloc(), workers, max_pending);
         assert_eq!(rt; setup.err(), fault, "{workers} workers");
     }
+    no_room(&rt, rt.alloc());
+    room_for_one(&rt, rt.alloc());
+}
+
+// The seeder's own unit is all that the gate has room for.
+fn no_room<R: Abort + Wait>(rt: &R, alloc: Global) {
     Row {
         workers: 1,
         max_pending: 1,
@@ -109,7 +115,11 @@ fn frontier_limits(rt: HostRuntime) {
         steps: &[(Step::Seed(0), Answer::Refused(OfferError::Full))],
         end: End::Fails(FinishError::MissingPart),
     }
-    .holds(&rt, rt.alloc());
+    .holds(rt, alloc);
+}
+
+// There is room for one URL, until it is done.
+fn room_for_one<R: Abort + Wait>(rt: &R, alloc: Global) {
     Row {
         workers: 1,
         max_pending: 2,
@@ -126,7 +136,7 @@ fn frontier_limits(rt: HostRuntime) {
         ],
         end: End::Fails(FinishError::MissingPart),
     }
-    .holds(&rt, rt.alloc());
+    .holds(rt, alloc);
 }
 
 #[test]
@@ -180,8 +190,8 @@ fn dropped_busy_worker(rt: HostRuntime) {
     .holds(&rt, rt.alloc());
 }
 
-#[test]
-fn late_sender_smallest_gate(rt: HostRuntime) {
+// A sender at a gate with room for one unit, until it is closed.
+fn late_sender<R: Abort + Wait>(rt: &R, alloc: Global, end: End<'_>) {
     Row {
         workers: 1,
         max_pending: 1,
@@ -201,9 +211,15 @@ fn late_sender_smallest_gate(rt: HostRuntime) {
             (Step::Send(0, 0), Answer::Refused(OfferError::Closed)),
             (Step::Send(0, 2), Answer::Refused(OfferError::Closed)),
         ],
-        end: End::Entries(&[(0, 0, 7, 0, 0), (0, 1, 7, 1, 0)]),
+        end,
     }
-    .holds(&rt, rt.alloc());
+    .holds(rt, alloc);
+}
+
+#[test]
+fn late_sender_smallest_gate(rt: HostRuntime) {
+    let entries = [(0, 0, 7, 0, 0), (0, 1, 7, 1, 0)];
+    late_sender(&rt, rt.alloc(), End::Entries(&entries));
 }
 
 #[test]

@@ -151,7 +151,10 @@ fn four_threads_crawl_each_url_once(rt: HostRuntime) {
             panic!(rt; "out of memory")
         };
         let run = four_work::<Brand, _>(&rt, alloc, setup, &filter, urls.as_slice());
-        let Some((Ok(account), refused)) = run else {
+        let Some((ended, refused)) = run else {
+            panic!(rt; "out of memory")
+        };
+        let Ok(account) = ended else {
             panic!(rt; "no account")
         };
         let Some(entries) = entries_once(alloc, &account) else {
