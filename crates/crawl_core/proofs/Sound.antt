@@ -192,7 +192,7 @@ fewer_sound state after sound fewer closed_is max_is remembered_is holders as_ma
   within = λ within. rw max_is (omega (arith, within, fewer));
   closes = λ e. absurd (cc);
   closing = closed_is ∙ or_nothing state.gate.closed;
-  stays = λ closed. (closed_is ∙ closed, refl);
+  stays = λ closed. let none = sound.empty closed in absurd (omega (arith, none, fewer));
   max = max_is;
   as_many = as_many;
   units = omega (arith, fewer);

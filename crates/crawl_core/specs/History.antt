@@ -159,14 +159,15 @@ abbrev pub NamesItsSubqueue : List (Event × Reply) → Type 0
 NamesItsSubqueue history =
     (k sender queue there number : ℕ) (url : List ℕ) → slice_get history k ≡ Some (Admit sender url queue, told.Accepted there number) → there ≡ queue
 
--- whether a reply says nothing of a URL or a unit that comes in or goes out to a worker
+-- whether a reply says of no unit that it came out or back, and of no URL that it was accepted or taken
 abbrev pub is_quiet : Reply → Bool
 is_quiet (told.Entered count) = false
 is_quiet (told.Accepted queue number) = false
 is_quiet (told.Taken url) = false
+is_quiet (told.Count left) = false
 is_quiet _ = true
 
--- after a reply `Closed` nothing is entered, accepted or taken
+-- after a reply `Closed` nothing is entered, accepted, taken or given back
 abbrev pub StaysClosed : List (Event × Reply) → Type 0
 StaysClosed history =
     (i j : ℕ) (event : Event) (later : Event × Reply) → i < j → slice_get history i ≡ Some (event, told.Closed) → slice_get history j ≡ Some later → is_quiet later.1 ≡ true

@@ -58,7 +58,7 @@ pub fn closed_means_finished()
     ensures finished { (workers max : ℕ) (front back : List (Event × Reply)) (event : Event) (end : State) → Run (start workers max) (front ++ (event, told.Closed) ∷ back) end → (state : State) × Run (start workers max) (front ++ (event, told.Closed) ∷ []) state × IsFinished state }
 {}
 
-/// Closed for good: after a reply `Closed` no reply is `Entered`, `Accepted` or `Taken`.
+/// Closed for good: after a reply `Closed` no reply is `Entered`, `Accepted`, `Taken` or `Count`.
 pub fn closed_for_good()
     ensures { (workers max : ℕ) (events : List Event) (replies : List Reply) → IsRun workers max events replies → StaysClosed (zip events replies) }
 {}

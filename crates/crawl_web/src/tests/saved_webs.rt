@@ -54,12 +54,11 @@ fn has_moved(
     url: &str,
     expected: Option<&str>,
 ) -> Result<(), Fail> {
-    match page_by(web, alloc, url)? {
-        Page::Moved { to: Some(to) } => assert_eq!(rt; Some(to.as_str()), expected, "{url}"),
-        Page::Moved { to: None } => assert_eq!(rt; None, expected, "{url}"),
-        Page::Found { .. } => assert!(rt; false, "{url} is found"),
-        Page::Missing => assert!(rt; false, "{url} is missing"),
-    }
+    let to = match expected {
+        Some(text) => Some(canonical(alloc, text)?),
+        None => None,
+    };
+    assert_eq!(rt; page_by(web, alloc, url)?, Page::Moved { to }, "{url}");
     Ok(())
 }
 
