@@ -1,8 +1,7 @@
-use Rattle.std.proofs.Common.{rules, ◌≡◌, ℕ, ◌+◌, ◌≤◌, ◌<◌, ◌∙◌, ◌++◌, ◌∷◌, [], List, Bool, true, false, cond, eqb, ap, sym, subst, Some, slice_get, arith, length}
+use Rattle.std.proofs.Common.{rules, ◌≡◌, ◌+◌, ◌<◌, ◌∙◌, ◌++◌, ◌∷◌, [], true, false, cond, eqb, ap, sym, subst, arith}
 use Rattle.std.specs.Prelude.{bytes_eq}
 use Rattle.crawl_frontier.specs.declared.entry.Entry.{Entry}
 use Rattle.crawl_frontier.specs.Entries.{MayFollow, KeepsRule, has_url, count_of, entry}
-use Rattle.crawl_frontier.specs.Rule.{pushing, home}
 use Rattle.crawl_frontier.proofs.Entries.{rule-snoc, count_of-le, has_url-snoc}
 use Rattle.crawl_frontier.specs.Tables.{count_in, has_in}
 use Rattle.crawl_frontier.proofs.Undo.{undone, rewritten, raised}
