@@ -1,10 +1,10 @@
 -- The parts of a run, taken apart one by one.
-use Rattle.std.proofs.Common.{◌≡◌, ◌≢◌, ◌⊎◌, ℕ, zero, suc, ◌+◌, ◌<◌, ◌≤◌, List, [], ◌∷◌, ◌++◌, length, Some, slice_get, refl, sym, ap, ◌∙◌, subst, inl, inr, ⊎_elim, arith, length-append}
+use Rattle.std.proofs.Common.{◌≡◌, ◌⊎◌, ℕ, ◌<◌, List, [], ◌∷◌, ◌++◌, length, Some, sym, ◌∙◌, subst, inl, inr, ⊎_elim, arith, length-append}
 use Rattle.std.proofs.lemmas.Bool.{cases_lt}
 use Rattle.crawl_frontier.specs.Books.{BookId, IsBook}
 use Rattle.crawl_frontier.specs.Parts.{WorkerId, SenderId}
-use Rattle.crawl_frontier.specs.Accounts.{At, IsPart}
-use Rattle.crawl_frontier.specs.Finishing.{Begins, HasBook, Gathered}
+use Rattle.crawl_frontier.specs.Accounts.{At}
+use Rattle.crawl_frontier.specs.Finishing.{HasBook, Gathered}
 use Rattle.crawl_frontier.proofs.Gets.{get_snoc, get_before, get_last, get_within}
 
 pub gather-none : (workers : ℕ) (closed : List WorkerId) (senders : List SenderId) → Gathered workers closed senders closed senders []

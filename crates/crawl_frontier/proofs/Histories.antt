@@ -1,17 +1,15 @@
 -- The laws of a subqueue.
-use Rattle.std.proofs.Common.{◌≡◌, ◌≢◌, ◌⊎◌, ℕ, zero, suc, ◌+◌, ◌<◌, ◌≤◌, Bool, true, false, true≢false, List, [], ◌∷◌, ◌++◌, length, take, set, Some, slice_get, refl, sym, ap, ◌∙◌, subst, inl, inr, ⊎_elim, arith, append_assoc}
+use Rattle.std.proofs.Common.{◌≡◌, ◌≢◌, ℕ, zero, suc, ◌<◌, Bool, true, false, true≢false, List, [], ◌∷◌, ◌++◌, length, take, set, Some, slice_get, refl, sym, ap, ◌∙◌, subst, ⊎_elim, arith, append_assoc}
 use Rattle.std.specs.Prelude.{bytes_eq, ◌||◌}
 use Rattle.std.proofs.lemmas.List.{append-nil}
 use Rattle.std.proofs.lemmas.Bool.{cases_order}
 use Rattle.std.proofs.lemmas.Slice.Eq.{bytes_eq-Decides}
-use mathlib.Core.Option.{some}
 use lib.ListN.{get_elem?}
 use Rattle.crawl_frontier.specs.declared.entry.Entry.{Entry}
 use Rattle.crawl_frontier.specs.declared.entry.Message.{Message}
-use Rattle.crawl_frontier.specs.declared.rule.Home.{Home}
 use Rattle.crawl_frontier.specs.declared.rule.PassView.{PassView}
-use Rattle.crawl_frontier.specs.Entries.{MayFollow, KeepsRule, has_url, entries_of}
-use Rattle.crawl_frontier.specs.Rule.{SubqueueInvariant, pushing, popping, undivided, spent, reunited, plain}
+use Rattle.crawl_frontier.specs.Entries.{MayFollow, KeepsRule, has_url}
+use Rattle.crawl_frontier.specs.Rule.{SubqueueInvariant, pushing, popping, undivided, reunited, plain}
 use Rattle.crawl_frontier.specs.History.{IsAcceptedList, Moment, SubqueueStep, ListsMove, settles, divides, pushes, pops, finds_nothing, takes_in, IsHistory, first_moment, AllKept}
 use Rattle.crawl_frontier.proofs.Agreeing.{rule-numbered}
 use Rattle.crawl_frontier.proofs.Passing as pass

@@ -1,5 +1,5 @@
 -- The subqueues of a new frontier, with their rights.
-use Rattle.std.specs.Prelude.{◌≡◌, ℕ, ◌+◌, ◌<◌, List, [], ◌∷◌, length, Some, slice_get}
+use Rattle.std.specs.Prelude.{◌≡◌, ℕ, ◌+◌, List, [], ◌∷◌, length, Some, slice_get}
 use Rattle.crawl_frontier.specs.QueueId.{QueueId}
 use Rattle.crawl_gate.specs.Seat.{GateId}
 use Rattle.crawl_frontier.specs.PassId.{PassId}

@@ -1,5 +1,5 @@
 -- What follows from the rule of a subqueue, the kinds of step of a subqueue, and histories of such steps.
-use Rattle.std.specs.Prelude.{◌≡◌, ◌≢◌, ℕ, ◌+◌, ◌<◌, List, [], ◌∷◌, ◌++◌, Some, slice_get, slice_set}
+use Rattle.std.specs.Prelude.{◌≡◌, ◌≢◌, ℕ, ◌+◌, List, [], ◌∷◌, ◌++◌, Some, slice_get, slice_set}
 use mathlib.Core.Option.{some}
 use lib.ListN.{get_elem?}
 use Rattle.crawl_keys.specs.Assignment.{subqueue_of}
@@ -8,7 +8,7 @@ use Rattle.crawl_frontier.specs.declared.entry.Entry.{Entry}
 use Rattle.crawl_frontier.specs.declared.entry.Message.{Message}
 use Rattle.crawl_frontier.specs.declared.rule.Home.{Home}
 use Rattle.crawl_frontier.specs.declared.rule.PassView.{PassView}
-use Rattle.crawl_frontier.specs.Entries.{MayFollow, KeepsRule, entries_of}
+use Rattle.crawl_frontier.specs.Entries.{MayFollow, entries_of}
 use Rattle.crawl_frontier.specs.Books.{Numbered}
 use Rattle.crawl_frontier.specs.Rule.{SubqueueInvariant, pushing, popping, undivided, spent, no_home, reunited, plain}
 

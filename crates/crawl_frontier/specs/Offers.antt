@@ -1,5 +1,5 @@
 -- What an offer answers, and what it does to the books and the pass of the part that makes it.
-use Rattle.std.specs.Prelude.{◌≡◌, ◌≢◌, ◌⊎◌, ℕ, ◌+◌, ◌^◌, ◌<◌, ◌≤◌, Bool, true, false, List, Some, Ok, Err, Result, slice_get}
+use Rattle.std.specs.Prelude.{◌≡◌, ◌≢◌, ◌⊎◌, ℕ, ◌^◌, ◌<◌, ◌≤◌, true, List, Some, Ok, Err, Result, slice_get}
 use Rattle.crawl_keys.specs.Assignment.{subqueue_of}
 use Rattle.crawl_gate.specs.View.{knows_closed, fresh_view}
 use Rattle.crawl_gate.specs.Seat.{SeatId}

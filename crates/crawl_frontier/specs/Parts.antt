@@ -1,5 +1,5 @@
 -- What contracts see of the parts of a shard.
-use Rattle.std.specs.Prelude.{ℕ, Bool, List}
+use Rattle.std.specs.Prelude.{ℕ, List}
 use Rattle.crawl_gate.specs.Seat.{SeatId}
 use Rattle.crawl_frontier.specs.declared.entry.Entry.{Entry}
 use Rattle.crawl_frontier.specs.declared.entry.Message.{Message}

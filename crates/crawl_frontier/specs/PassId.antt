@@ -1,5 +1,4 @@
 -- What a contract sees of a pass.
-use Rattle.std.specs.Prelude.{◌≡◌, ℕ}
 use Rattle.crawl_frontier.specs.QueueId.{QueueId}
 use Rattle.crawl_frontier.specs.declared.rule.PassView.{PassView}
 

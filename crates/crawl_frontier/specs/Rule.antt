@@ -1,8 +1,8 @@
 -- The rule of a subqueue: what is true of what it holds and of all passes between any two steps.
-use Rattle.std.specs.Prelude.{◌≡◌, ℕ, ◌+◌, Bool, true, false, List, [], ◌∷◌, ◌++◌, map}
+use Rattle.std.specs.Prelude.{◌≡◌, ℕ, true, false, List, [], ◌∷◌, ◌++◌, map}
 use mathlib.Core.Option.{some}
 use lib.ListN.{get_elem?}
-use Rattle.crawl_gate.specs.Seat.{GateId, SeatId, IsSeatOf, no_gate}
+use Rattle.crawl_gate.specs.Seat.{GateId, IsSeatOf, no_gate}
 use Rattle.crawl_frontier.specs.declared.entry.Entry.{Entry}
 use Rattle.crawl_frontier.specs.declared.entry.Message.{Message}
 use Rattle.crawl_frontier.specs.declared.rule.Home.{Home}

@@ -1,9 +1,7 @@
 -- What a worker's `next` and `done` answer.
-use Rattle.std.specs.Prelude.{◌≡◌, ◌⊎◌, ℕ, ◌+◌, ◌<◌, Bool, true, false, List, [], ◌∷◌, ◌++◌}
+use Rattle.std.specs.Prelude.{◌≡◌, ◌⊎◌, ℕ, ◌+◌, ◌<◌, [], ◌∷◌, ◌++◌}
 use Rattle.crawl_gate.specs.Word.{open_at, closed_at}
-use Rattle.crawl_gate.specs.View.{knows_closed}
 use Rattle.crawl_gate.specs.Seat.{SeatId, after_looking, after_not_closing, after_closing}
-use Rattle.crawl_frontier.specs.declared.entry.Entry.{Entry}
 use Rattle.crawl_frontier.specs.declared.worker.Turn.{Turn}
 use Rattle.crawl_frontier.specs.declared.worker.Turn.TheVariants.{Busy, Idle, Closed}
 use Rattle.crawl_frontier.specs.Entries.{MayFollow}

@@ -12,7 +12,7 @@ use crate::entry::{Entry, Message};
 use crate::name::Name;
 use crate::rights::PushRight;
 use crate::subqueue::Subqueue;
-use crate::tables::{Counts, Places, count, forget, kept, note, raise, set_count};
+use crate::tables::{Counts, Places, count, enter_sender, forget, kept, note, raise};
 use crate::url_key::UrlKey;
 use crawl_gate::Unit;
 use crawl_keys::{CanonUrl, KeyError};
@@ -167,7 +167,7 @@ impl<K: Name> Shard<K> {
         let Ok(()) = self.sent.reserve(1) else {
             return Admit::NoMemory(unit);
         };
-        let Ok(()) = set_count(&mut self.counts, sender, own) else {
+        let Ok(()) = enter_sender(&mut self.counts, sender, own) else {
             return Admit::NoMemory(unit);
         };
         let Ok(()) = note(&mut self.places, key, self.sent.len()) else {

@@ -24,7 +24,8 @@ pub fn count(counts: &Counts, sender: u64) -> u64
     }
 }
 
-pub fn set_count(counts: &mut Counts, sender: u64, count: u64) -> Result<(), AllocError>
+// Writes the count of a sender.
+fn set_count(counts: &mut Counts, sender: u64, count: u64) -> Result<(), AllocError>
     ensures ok { OnOk result ((s : ℕ) → count_in counts.new s ≡ (if sender == s then count else count_in counts.old s)) }
     ensures there { OnOk result (IsSome (get nat_cmp counts.new sender)) }
     ensures err { OnErr result ((s : ℕ) → count_in counts.new s ≡ count_in counts.old s) }
@@ -35,7 +36,22 @@ pub fn set_count(counts: &mut Counts, sender: u64, count: u64) -> Result<(), All
     }
 }
 
-/// The same of a sender that is there already, which takes no memory.
+/// Makes sure that the sender has an entry, with the count that it has, so that raising it takes no memory.
+pub fn enter_sender(counts: &mut Counts, sender: u64, count: u64) -> Result<(), AllocError>
+    requires { count_in counts.old sender ≡ count }
+    ensures same { (s : ℕ) → count_in counts.new s ≡ count_in counts.old s }
+    ensures there { OnOk result (IsSome (get nat_cmp counts.new sender)) }
+{
+    if count > 0 {
+        return Ok(());
+    }
+    let Ok(()) = set_count(counts, sender, count) else {
+        return Err(AllocError);
+    };
+    Ok(())
+}
+
+/// Writes the count of a sender that has an entry, which takes no memory.
 pub fn raise(counts: &mut Counts, sender: u64, count: u64)
     requires { IsSome (get nat_cmp counts.old sender) }
     ensures { (s : ℕ) → count_in counts.new s ≡ (if sender == s then count else count_in counts.old s) }

@@ -1,9 +1,9 @@
-use Rattle.std.proofs.Common.{rules, ◌≡◌, ℕ, ◌+◌, ◌<◌, ◌∙◌, ◌++◌, ◌∷◌, [], ap, sym, refl, List, Some, set, slice_get, length, arith, subst}
+use Rattle.std.proofs.Common.{◌≡◌, ◌+◌, ◌<◌, ◌∙◌, ◌++◌, ◌∷◌, [], ap, sym, refl, Some, set, slice_get, length, arith, subst}
 use Rattle.std.proofs.lemmas.Option.{slice_get_read}
 use Rattle.crawl_keys.specs.Assignment.{subqueue_of}
 use Rattle.crawl_frontier.specs.declared.book.Logged.TheVariants.{Accepted, Seen}
 use Rattle.crawl_frontier.specs.Entries.{entry}
-use Rattle.crawl_frontier.specs.Books.{BookId, IsBook, book_of, book_accepting, book_seeing}
+use Rattle.crawl_frontier.specs.Books.{IsBook, book_of}
 use Rattle.crawl_frontier.proofs.BookKeeping.{book_accepts, book_sees}
 use Rattle.crawl_frontier.proofs.offer.deliver.Goals as goal
 use Rattle.crawl_frontier.proofs.offer.deliver.Goals.{In-Admitted}

@@ -1,4 +1,4 @@
-use Rattle.std.proofs.Common.{◌≡◌, ◌<◌, ℕ, List, true}
+use Rattle.std.proofs.Common.{◌<◌, ℕ, List}
 use Rattle.crawl_frontier.specs.declared.entry.Entry.{Entry}
 use Rattle.crawl_frontier.specs.Accounts.{At}
 use Rattle.crawl_frontier.specs.Finishing.{SendersIn}

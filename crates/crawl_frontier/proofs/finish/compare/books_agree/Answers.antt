@@ -1,4 +1,4 @@
-use Rattle.std.proofs.Common.{◌<◌, ◌+◌, ◌≡◌, map, length, arith}
+use Rattle.std.proofs.Common.{◌≡◌, map, length, arith}
 use Rattle.crawl_frontier.specs.Books.{book_of}
 use Rattle.crawl_frontier.proofs.Gets.{get_within}
 use Rattle.crawl_frontier.proofs.Settling.{mapped, agree_more, at_book}

@@ -1,4 +1,4 @@
-use Rattle.std.proofs.Common.{◌≡◌, ◌≤◌, ◌<◌, ℕ, map}
+use Rattle.std.proofs.Common.{◌≤◌, ◌<◌, ℕ, map}
 use Rattle.crawl_frontier.specs.Books.{BookId, book_of}
 use Rattle.crawl_frontier.specs.Accounts.{At}
 use Rattle.crawl_frontier.specs.Finishing.{AgreesBelow}

@@ -1,4 +1,3 @@
-use Rattle.std.proofs.Common.{◌≡◌, ◌<◌, ℕ}
 use Rattle.crawl_frontier.specs.Books.{book_of}
 use Rattle.crawl_frontier.specs.Finishing.{CountsStand}
 use Rattle.crawl_frontier.proofs.finish.compare.counts_stand.Given as goal

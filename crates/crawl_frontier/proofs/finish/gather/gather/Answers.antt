@@ -5,9 +5,9 @@ use mathlib.Core.List.{map-append}
 use Rattle.crawl_frontier.specs.Books.{BookId, book_of, IsBook}
 use Rattle.crawl_frontier.specs.Parts.{WorkerId, SenderId}
 use Rattle.crawl_frontier.specs.Accounts.{At}
-use Rattle.crawl_frontier.specs.Finishing.{Slots, Placed, Gathered}
+use Rattle.crawl_frontier.specs.Finishing.{Placed, Gathered}
 use Rattle.crawl_frontier.proofs.Gets.{get_last}
-use Rattle.crawl_frontier.proofs.Gathering.{gather-none, gather-worker, gather-sender}
+use Rattle.crawl_frontier.proofs.Gathering.{gather-worker, gather-sender}
 use Rattle.crawl_frontier.proofs.Settling.{slots_more, placed_more}
 use Rattle.crawl_frontier.proofs.finish.gather.gather.Goals as goal
 

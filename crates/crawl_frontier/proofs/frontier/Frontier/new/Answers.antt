@@ -1,4 +1,4 @@
-use Rattle.std.proofs.Common.{◌≡◌, ◌∙◌, ap, subst}
+use Rattle.std.proofs.Common.{◌∙◌, ap, subst}
 use Rattle.crawl_frontier.specs.SetupId.{SetupId}
 use Rattle.crawl_frontier.specs.FreshParts.{AllPush, AllPop}
 use Rattle.crawl_frontier.proofs.Lines.{line-push, line-pop}

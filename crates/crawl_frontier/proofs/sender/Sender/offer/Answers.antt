@@ -1,4 +1,4 @@
-use Rattle.std.proofs.Common.{rules, ◌≡◌, true, ap, ◌∙◌, refl}
+use Rattle.std.proofs.Common.{rules, ap, ◌∙◌, refl}
 use Rattle.crawl_gate.specs.declared.step_kind.StepKind.TheVariants.{Load}
 use Rattle.crawl_gate.specs.Word.{closed_at}
 use Rattle.crawl_gate.specs.View.{knows_closed}

@@ -1,11 +1,10 @@
-use Rattle.std.proofs.Common.{rules, ◌≡◌, ℕ, ◌+◌, ◌≤◌, ◌<◌, ◌∙◌, ◌++◌, ◌∷◌, [], List, Bool, true, false, cond, eqb, ap, sym, subst, Some, slice_get, arith, length}
+use Rattle.std.proofs.Common.{rules, ◌≡◌, ◌+◌, ◌<◌, ◌∙◌, ◌++◌, ◌∷◌, [], true, false, cond, eqb, ap, sym, subst, arith}
 use Rattle.std.specs.Prelude.{bytes_eq}
 use Rattle.crawl_frontier.specs.declared.entry.Entry.{Entry}
 use Rattle.crawl_frontier.specs.Entries.{MayFollow, KeepsRule, has_url, count_of, entry}
-use Rattle.crawl_frontier.specs.Rule.{pushing, home}
 use Rattle.crawl_frontier.proofs.Entries.{rule-snoc, count_of-le, has_url-snoc}
 use Rattle.crawl_frontier.specs.Tables.{count_in, has_in}
-use Rattle.crawl_frontier.proofs.Undo.{undone, rewritten, raised}
+use Rattle.crawl_frontier.proofs.Undo.{undone, raised}
 use Rattle.crawl_frontier.proofs.shard.Shard.admit.Goals as goal
 
 pub overflow_add-own : goal.overflow_add-own
@@ -23,7 +22,6 @@ invariant_of-self-in-Ok-push g c =
     let listed : c.in-Ok-copies.listed ≡ e = search rules in
     let all : c.push_reserved.new.self.items ≡ before ++ e ∷ [] = c.push_reserved.ensures.items ∙ (λ i. items i ++ listed i ∷ []) in
     let own : count_of c.args.sender before ≡ c.args.own = search (rules, c.self.invariant.4 c.args.sender) in
-    let counted : count_in c.self.inside.counts c.args.sender ≡ c.args.own = c.self.invariant.4 c.args.sender ∙ own in
     let key : c.in-Ok-copies.key ≡ url = search rules in
     let pushed = c.in-Ok-push.ensures.sent in
     let may : MayFollow g.K.Name.workers c.self.inside.place before e = record { new = search (rules, c.self.invariant.3 url); here = search rules; number = sym own } in (
@@ -35,7 +33,7 @@ invariant_of-self-in-Ok-push g c =
           ∙ ((λ i. cond (bytes_eq (key i) bs) true (c.self.invariant.3 bs i)) ∙ (sym (has_url-snoc bs before e) ∙ ap (has_url bs) (sym all))),
       λ id.
           c.raise.ensures id
-          ∙ (ap (λ n. cond (eqb c.args.sender id) (c.args.own + 1) n) (c.in-Ok-set_count.ensures.ok id ∙ (rewritten c.args.sender id c.args.own (count_in c.self.inside.counts) counted ∙ c.self.invariant.4 id))
+          ∙ (ap (λ n. cond (eqb c.args.sender id) (c.args.own + 1) n) (c.in-Ok-enter_sender.ensures.same id ∙ c.self.invariant.4 id)
           ∙ (raised id before e own ∙ ap (count_of id) (sym all))),
     )
 
@@ -46,7 +44,6 @@ invariant_of-self-in-Err-push g c =
     let places = c.self.inside.places in
     let items : c.reserve.new.self.items ≡ before = c.reserve.ensures.items in
     let own : count_of c.args.sender before ≡ c.args.own = search (rules, c.self.invariant.4 c.args.sender) in
-    let counted : count_in c.self.inside.counts c.args.sender ≡ c.args.own = c.self.invariant.4 c.args.sender ∙ own in
     let key : c.in-Ok-copies.key ≡ url = search rules in
     let none : has_in places url ≡ false = search (rules, c.self.invariant.3 url) in
     let pushed = c.in-Err-push.ensures.sent in (
@@ -58,8 +55,8 @@ invariant_of-self-in-Err-push g c =
           ∙ (ap (cond (bytes_eq url bs) false) (c.in-Ok-note.ensures.ok bs ∙ (λ j. cond (bytes_eq (key j) bs) true (has_in places bs)))
           ∙ (undone url bs (λ z. has_in places z) none ∙ (c.self.invariant.3 bs ∙ ap (has_url bs) (sym items)))),
       λ id.
-          c.in-Ok-set_count.ensures.ok id
-          ∙ (rewritten c.args.sender id c.args.own (count_in c.self.inside.counts) counted ∙ (c.self.invariant.4 id ∙ ap (count_of id) (sym items))),
+          c.in-Ok-enter_sender.ensures.same id
+          ∙ (c.self.invariant.4 id ∙ ap (count_of id) (sym items)),
     )
 
 pub returns-in-Ok-push : goal.returns-in-Ok-push

@@ -1,5 +1,4 @@
-use Rattle.std.proofs.Common.{rules, ap, sym, ◌∙◌, []}
-use Rattle.std.proofs.lemmas.List.{append-nil}
+use Rattle.std.proofs.Common.{ap}
 use Rattle.crawl_frontier.proofs.Passing.{unites, compares}
 use Rattle.crawl_frontier.proofs.subqueue.Subqueue.is_all_taken.Goals as goal
 

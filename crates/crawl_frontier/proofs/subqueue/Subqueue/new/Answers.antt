@@ -1,4 +1,4 @@
-use Rattle.std.proofs.Common.{rules, ap, ◌∙◌, sym}
+use Rattle.std.proofs.Common.{ap, ◌∙◌, sym}
 use Rattle.crawl_frontier.specs.Rule.{undivided}
 use Rattle.crawl_frontier.proofs.Passing.{begins, divides}
 use Rattle.crawl_frontier.proofs.subqueue.Subqueue.new.Goals as goal

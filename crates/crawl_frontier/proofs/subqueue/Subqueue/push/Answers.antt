@@ -1,4 +1,4 @@
-use Rattle.std.proofs.Common.{rules, ap, sym, subst, List}
+use Rattle.std.proofs.Common.{ap, sym, subst}
 use Rattle.crawl_gate.specs.Seat.{IsSeatOf}
 use Rattle.crawl_frontier.specs.declared.rule.PassView.{PassView}
 use Rattle.crawl_frontier.specs.Entries.{MayFollow}
