@@ -3,3 +3,4 @@ pub mod LaidLemmas
 pub mod HashLemmas
 pub mod FilterLemmas
 pub mod InOrderLemmas
+pub mod MarkLemmas

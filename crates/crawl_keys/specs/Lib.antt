@@ -5,3 +5,4 @@ pub mod Assignment
 pub mod Outcome
 pub mod Limits
 pub mod HostFilter
+pub mod Marks

@@ -11,6 +11,7 @@ use std::marker::Model;
 use std::sync::Arc;
 
 mod error;
+mod marks;
 mod suffixes;
 
 pub use error::FilterError;

@@ -1,4 +1,4 @@
-//! The suffixes of a filter, in an ordered set.
+//! The suffixes of a filter, in an ordered set with a table of marks beside it.
 ghost use Rattle.std.specs.Prelude.{◌≡◌, ◌<◌, Ok, MatchOption, length, map, bytes_eq};
 ghost use Rattle.std.specs.BTreeSet.{insert_key};
 ghost use Rattle.std.specs.Cmp.Lexicographic.{slice_cmp};
@@ -9,23 +9,36 @@ ghost use Rattle.crawl_keys.specs.HostFilter as spec;
 ghost use Rattle.crawl_keys.specs.Outcome.{Gives};
 
 use crate::filter::FilterError;
+use crate::filter::marks::Marks;
 use std::alloc::Global;
 use std::collections::BTreeSet;
+use std::fmt;
 use std::marker::Model;
 
 /// Suffixes of hosts, each once.
-#[derive(Debug, Drop)]
+#[derive(Drop)]
 pub(super) struct Suffixes {
     pub(super) texts: BTreeSet<String>,
+    marks: Marks,
 }
 
-// Contracts see the suffixes' bytes, in order.
+// Contracts see the suffixes' bytes, in order. Each suffix is marked, so that a text without a mark
+// is none of them.
 impl Model for Suffixes {
     ghost use Rattle.std.specs.Prelude.{ℕ, List, map, string_bytes};
+    ghost use Rattle.crawl_keys.specs.Marks.{AreMarked};
 
     ghost Value = { List (List ℕ) };
 
     ghost view = { λ suffixes. map string_bytes suffixes.texts.keys };
+
+    ghost invariant = { λ suffixes. AreMarked suffixes.marks (map string_bytes suffixes.texts.keys) };
+}
+
+impl fmt::Debug for Suffixes {
+    fn fmt<W: fmt::Write>(&self, f: &mut fmt::Formatter<W>) -> fmt::Result {
+        self.texts.fmt(f)
+    }
 }
 
 impl Suffixes {
@@ -35,6 +48,7 @@ impl Suffixes {
     {
         let mut kept = Suffixes {
             texts: BTreeSet::new(alloc),
+            marks: Marks::new(alloc, suffixes.len())?,
         };
         for suffix in suffixes {
             kept.add(alloc, suffix)?;
@@ -46,7 +60,9 @@ impl Suffixes {
     fn add(&mut self, alloc: Global, suffix: &str) -> Result<(), FilterError>
         ensures { Gives FilterError.NoMemory (λ _. self.new) result (Ok (insert_key (slice_cmp nat_cmp) self.old suffix.now)) }
     {
-        self.texts.insert(String::from_str(alloc, suffix)?)?;
+        let text = String::from_str(alloc, suffix)?;
+        self.marks.mark(suffix);
+        self.texts.insert(text)?;
         Ok(())
     }
 
@@ -77,7 +93,7 @@ impl Suffixes {
     fn contains(&self, text: &str) -> bool
         ensures { result ≡ list_any (bytes_eq text.now) self.now }
     {
-        self.texts.contains(text)
+        self.marks.has(text) && self.texts.contains(text)
     }
 }
 
