@@ -133,34 +133,43 @@ fn certifies<R: Abort + Wait>(
     )
 }
 
+const WITHIN_A: &[&str] = &["a.test"];
+
+const WITHIN_A_AND_C: &[&str] = &["a.test", "c.test"];
+
+// Neither a seed nor links to `b.test` are faults.
 #[test]
 fn filtered_seeds_and_links(rt: HostRuntime) -> Result<(), Fail> {
-    let alloc = rt.alloc();
-    // Neither a seed nor links to `b.test` are faults.
-    run_of(&rt, alloc, 3, &["a.test", "c.test"], &[A, B], RING)?.holds(
+    run_of(&rt, rt.alloc(), 3, WITHIN_A_AND_C, &[A, B], RING)?.holds(
         &rt,
-        alloc,
+        rt.alloc(),
         &[
-            (
-                &["a.test", "c.test"],
-                &[A, B],
-                Change::Nothing,
-                Ok(&[A, C, GONE]),
-            ),
-            (&[], &[A, B], Change::Nothing, Err(SeedMissing)),
-            (&[], &[A], Change::Nothing, Err(LinkMissing)),
-            (&["a.test"], &[A], Change::Nothing, Err(Unfounded)),
-            (
-                &["a.test", "c.test"],
-                &[A, B],
-                Change::Missing(B),
-                Err(Unfounded),
-            ),
+            (WITHIN_A_AND_C, &[A, B], Change::Nothing, Ok(&[A, C, GONE])),
+            (NONE, &[A, B], Change::Nothing, Err(SeedMissing)),
+            (NONE, &[A], Change::Nothing, Err(LinkMissing)),
+            (WITHIN_A, &[A], Change::Nothing, Err(Unfounded)),
+            (WITHIN_A_AND_C, &[A, B], Change::Missing(B), Err(Unfounded)),
         ],
-    )?;
-    certifies(&rt, alloc, &["b.test"], &[A, B], &[B])?;
-    certifies(&rt, alloc, &["test"], &[A, B], &[A, B, C, GONE])?;
-    certifies(&rt, alloc, &["est"], &[A, B], NONE)
+    )
+}
+
+const WITHIN_B: &[&str] = &["b.test"];
+
+const WITHIN_TEST: &[&str] = &["test"];
+
+const WITHIN_EST: &[&str] = &["est"];
+
+const A_AND_B: &[&str] = &[A, B];
+
+const ONLY_B: &[&str] = &[B];
+
+const WHOLE_RING: &[&str] = &[A, B, C, GONE];
+
+#[test]
+fn within_suffix(rt: HostRuntime) -> Result<(), Fail> {
+    certifies(&rt, rt.alloc(), WITHIN_B, A_AND_B, ONLY_B)?;
+    certifies(&rt, rt.alloc(), WITHIN_TEST, A_AND_B, WHOLE_RING)?;
+    certifies(&rt, rt.alloc(), WITHIN_EST, A_AND_B, NONE)
 }
 
 #[test]
