@@ -1,11 +1,13 @@
 //! What a fetch of a URL gives: its links, where it moved to, or that there is no page.
-ghost use Rattle.std.specs.Prelude.{◌≡◌};
+ghost use Rattle.std.specs.Prelude.{◌≡◌, Ok};
 ghost use Rattle.std.specs.Str.{bytes_eq};
 ghost use Rattle.std.specs.Cmp.{partial_equiv_from_equiv};
 ghost use Rattle.std.specs.Cmp.Lexicographic.{pointwise, lists_per, lists_equiv, nat_list_eq_equiv};
+ghost use Rattle.crawl_keys.specs.Outcome.{Gives};
 ghost use Rattle.crawl_web.specs.Pages.{links_of};
 
-use crawl_keys::CanonUrl;
+use crawl_keys::{CanonUrl, KeyError};
+use std::alloc::AllocError;
 use std::marker::Model;
 
 /// The links of a page, in the order of the page; a link that stands there twice is in it twice.
@@ -29,6 +31,15 @@ impl Links {
         ensures { result.now ≡ self.now }
     {
         self.urls.as_slice()
+    }
+}
+
+impl Clone for Links {
+    ghost is_clone = { λ links copy. copy ≡ links };
+
+    fn clone(&self) -> Result<Links, AllocError> {
+        let urls = self.urls.clone()?;
+        Ok(Links { urls })
     }
 }
 
@@ -100,5 +111,34 @@ pub fn links_of(page: &Page) -> &[CanonUrl]
         Page::Found { links, .. } => links.as_slice(),
         Page::Moved { to } => to.as_slice(),
         Page::Missing => &[],
+    }
+}
+
+impl Page {
+    fn copy(&self) -> Result<Page, KeyError>
+        ensures { Gives KeyError.NoMemory (λ copy. copy) result (Ok self.now) }
+    {
+        match self {
+            Page::Found { links, skipped } => Ok(Page::Found {
+                links: links.clone()?,
+                skipped: *skipped,
+            }),
+            Page::Moved { to: Some(url) } => Ok(Page::Moved {
+                to: Some(url.copy()?),
+            }),
+            Page::Moved { to: None } => Ok(Page::Moved { to: None }),
+            Page::Missing => Ok(Page::Missing),
+        }
+    }
+}
+
+impl PageResult {
+    /// The same once more, equal to its source and sharing the texts of its URLs. The only error is `NoMemory`.
+    pub fn copy(&self) -> Result<PageResult, KeyError>
+        ensures { Gives KeyError.NoMemory (λ copy. copy) result (Ok self.now) }
+    {
+        let url = self.url.copy()?;
+        let page = self.page.copy()?;
+        Ok(PageResult { url, page })
     }
 }

@@ -199,3 +199,17 @@ fn reports_pages_of_a_saved_web(rt: HostRuntime) -> Result<(), Fail> {
     );
     Ok(())
 }
+
+#[test]
+fn copies_of_results(rt: HostRuntime) -> Result<(), Fail> {
+    for row in [
+        (A, Kind::Found(2, 1)),
+        (A, Kind::Moved(Some(B))),
+        (A, Kind::Moved(None)),
+        (B, Kind::Missing),
+    ] {
+        let one = result_of(rt.alloc(), row)?;
+        assert_eq!(rt; one.copy()?, one);
+    }
+    Ok(())
+}

@@ -1,0 +1,192 @@
+-- A run without a fault has the pages of exactly the URLs that can be reached.
+use Rattle.std.proofs.Common.{◌≡◌, ◌↔◌, inl, inr, ℕ, zero, suc, ◌+◌, ◌==◌, Bool, true, false, ◌&&◌, not, IsTrue, List, [], ◌∷◌, ◌++◌, map, Option, Some, None, refl, sym, ap, subst, ◌∙◌, arith, length-append}
+use Rattle.std.specs.Bool.{if◌then◌else◌}
+use Rattle.std.specs.List.{Contains, list_any}
+use Rattle.std.specs.Str.{bytes_eq}
+use Rattle.std.proofs.lemmas.Bool.{or_parts, and_parts, both_ways, false_from_ne_true, not-false, cond-true, cond-false, eqb-true, ne_eqb}
+use Rattle.crawl_frontier.specs.declared.entry.Entry.{Entry}
+use Rattle.crawl_web.specs.declared.page.Page.{Page}
+use Rattle.crawl_web.specs.declared.page.PageResult.{PageResult}
+use Rattle.crawl_certificate.specs.declared.error.CertError.{CertError}
+use Rattle.crawl_certificate.specs.CertFaults.{is_accepted, has_result, stands_in, some_missing, seed_missing, not_fetched, link_missing, is_behind, is_linked, is_founded, unfounded, twice, first_fault}
+use Rattle.crawl_web.specs.Pages.{links_of}
+use Rattle.crawl_certificate.specs.ResultPages.{page_in}
+use Rattle.crawl_certificate.specs.Reachable.{GoesOn, IsWalk, Reachable, WalkOf}
+use Rattle.crawl_certificate.proofs.Lists.{no_element, here, there, first_or_later, some_has, any_from, none_has, same_text, text_itself}
+
+-- none of the five holds
+pub record NoFault (allowed : List ℕ → Bool) (seeds : List (List ℕ)) (entries : List Entry) (results : List PageResult) : Type 0 where
+  pub seeds_accepted : seed_missing allowed seeds entries ≡ false
+  pub fetched : not_fetched entries results ≡ false
+  pub links_accepted : link_missing allowed entries results ≡ false
+  pub founded : unfounded allowed seeds entries results ≡ false
+  pub once : twice results ≡ false
+
+step_over : (b : Bool) (x : CertError) (o : Option CertError) → (if b then Some x else o) ≡ None → (b ≡ false) × (o ≡ None)
+step_over true x o h = absurd (cc)
+step_over false x o h = (refl, h)
+
+pub no_fault : (allowed : List ℕ → Bool) (seeds : List (List ℕ)) (entries : List Entry) (results : List PageResult) → first_fault allowed seeds entries results ≡ None → NoFault allowed seeds entries results
+no_fault allowed seeds entries results h =
+    let a = step_over (seed_missing allowed seeds entries) _ _ h in
+    let b = step_over (not_fetched entries results) _ _ a.1 in
+    let c = step_over (link_missing allowed entries results) _ _ b.1 in
+    let d = step_over (unfounded allowed seeds entries results) _ _ c.1 in
+    let e = step_over (twice results) _ _ d.1 in
+    record { seeds_accepted = a.0; fetched = b.0; links_accepted = c.0; founded = d.0; once = e.0 }
+
+-- ---- what the tests say
+
+pub record EntryWith (entries : List Entry) (url : List ℕ) : Type 0 where
+  pub entry : Entry
+  pub among : Contains entries entry
+  pub has : entry.url ≡ url
+
+pub record ResultWith (results : List PageResult) (url : List ℕ) : Type 0 where
+  pub one : PageResult
+  pub among : Contains results one
+  pub has : one.url ≡ url
+
+pub entry_with : (entries : List Entry) (url : List ℕ) → is_accepted entries url ≡ true → EntryWith entries url
+entry_with entries url h =
+    let found = some_has (λ (e : Entry). bytes_eq e.url url) entries h in
+    record { entry = found.0; among = found.1; has = same_text found.0.url url found.2 }
+
+pub result_with : (results : List PageResult) (url : List ℕ) → has_result results url ≡ true → ResultWith results url
+result_with results url h =
+    let found = some_has (λ (r : PageResult). bytes_eq r.url url) results h in
+    record { one = found.0; among = found.1; has = same_text found.0.url url found.2 }
+
+text_stands : (urls : List (List ℕ)) (url : List ℕ) → stands_in urls url ≡ true → Contains urls url
+text_stands urls url h =
+    let found = some_has (λ own. bytes_eq own url) urls h in
+    subst (λ u. Contains urls u) (same_text found.0 url found.2) found.1
+
+pub in_map : {X Y : Type 0} (f : X → Y) (xs : List X) (x : X) → Contains xs x → Contains (map f xs) (f x)
+in_map f [] x has = absurd (no_element x has)
+in_map f (y ∷ ys) x has = elim (first_or_later y x ys has) [
+  | inl first ↦ subst (λ z. Contains (f y ∷ map f ys) z) (ap f first) (here (f y) (map f ys))
+  | inr later ↦ there (f y) (f x) (map f ys) (in_map f ys x later)
+]
+
+pub from_map : {X Y : Type 0} (f : X → Y) (xs : List X) (y : Y) → Contains (map f xs) y → (x : X) × Contains xs x × (f x ≡ y)
+from_map f [] y has = absurd (no_element y has)
+from_map f (x ∷ xs) y has = elim (first_or_later (f x) y (map f xs) has) [
+  | inl first ↦ (x, here x xs, first)
+  | inr later ↦ let found = from_map f xs y later in (found.0, there x found.0 xs found.1, found.2)
+]
+
+-- where no URL has two results, the page at a result's URL is the result's
+pub page_at_result : (results : List PageResult) (r : PageResult) → twice results ≡ false → Contains results r → page_in results r.url ≡ r.page
+page_at_result [] r once has = absurd (no_element r has)
+page_at_result (x ∷ xs) r once has =
+    let apart = or_parts (has_result xs x.url) (twice xs) once in
+    elim (first_or_later x r xs has) [
+      | inl first ↦ subst (λ s. page_in (x ∷ xs) s.url ≡ s.page) first (cond-true (bytes_eq x.url x.url) _ _ (text_itself x.url))
+      | inr later ↦
+          let differs : bytes_eq x.url r.url ≡ false =
+          false_from_ne_true _ (λ same. both_ways (has_result xs x.url) apart.0
+          (any_from (λ (s : PageResult). bytes_eq s.url x.url) xs r later (subst (λ u. bytes_eq r.url u ≡ true) (sym (same_text x.url r.url same)) (text_itself r.url)))) in
+          cond-false (bytes_eq x.url r.url) _ _ differs ∙ page_at_result xs r apart.1 later
+    ]
+
+-- ---- walks
+
+GoesOn-push : (page : List ℕ → Page) (allowed : List ℕ → Bool) (url : List ℕ) (rest : List (List ℕ)) (end next : List ℕ) → GoesOn page allowed url rest end → Contains (links_of (page end)) next → IsTrue (allowed next) → GoesOn page allowed url (rest ++ next ∷ []) next
+GoesOn-push page allowed url [] end next goes link allows = (subst (λ u. Contains (links_of (page u)) next) (sym goes) link, allows, refl)
+GoesOn-push page allowed url (x ∷ rest) end next goes link allows = (goes.0, goes.1, GoesOn-push page allowed x rest end next goes.2 link allows)
+
+IsWalk-push : (page : List ℕ → Page) (allowed : List ℕ → Bool) (seeds walk : List (List ℕ)) (end next : List ℕ) → IsWalk page allowed seeds walk end → Contains (links_of (page end)) next → IsTrue (allowed next) → IsWalk page allowed seeds (walk ++ next ∷ []) next
+IsWalk-push page allowed seeds [] end next walks link allows = absurd walks
+IsWalk-push page allowed seeds (first ∷ rest) end next walks link allows = (walks.0, walks.1, GoesOn-push page allowed first rest end next walks.2 link allows)
+
+-- ---- the entries have walks, by induction on their hops
+
+linked_walk : (page : List ℕ → Page) (allowed : List ℕ → Bool) (seeds : List (List ℕ)) (entries : List Entry) (results : List PageResult) (hops : ℕ) → ((r : PageResult) → Contains results r → page r.url ≡ r.page) → ((e : Entry) → Contains entries e → e.hops ≡ hops → WalkOf page allowed seeds hops e.url) → (e : Entry) → e.hops ≡ suc hops → IsTrue (allowed e.url) → is_linked entries results e ≡ true → WalkOf page allowed seeds (suc hops) e.url
+linked_walk page allowed seeds entries results hops agrees before e far allows linked =
+    let from = some_has (λ (r : PageResult). stands_in (links_of r.page) e.url && is_behind entries r.url e) results linked in
+    let r = from.0 in
+    let parts = and_parts (stands_in (links_of r.page) e.url) (is_behind entries r.url e) from.2 in
+    let behind = some_has (λ (b : Entry). bytes_eq b.url r.url && e.hops == b.hops + 1) entries parts.1 in
+    let b = behind.0 in
+    let fits = and_parts (bytes_eq b.url r.url) (e.hops == b.hops + 1) behind.2 in
+    let same : b.url ≡ r.url = same_text b.url r.url fits.0 in
+    let count : e.hops ≡ b.hops + 1 = eqb-true e.hops (b.hops + 1) fits.1 in
+    let nearer : b.hops ≡ hops = omega (arith, count, far) in
+    let walk = before b behind.1 nearer in
+    let found : page b.url ≡ r.page = ap page same ∙ agrees r from.1 in
+    let link : Contains (links_of (page b.url)) e.url = subst (λ p. Contains (links_of p) e.url) (sym found) (text_stands (links_of r.page) e.url parts.0) in
+    record {
+      walk = walk.walk ++ e.url ∷ [];
+      leads = IsWalk-push page allowed seeds walk.walk b.url e.url walk.leads link allows;
+      long = omega (arith, length-append walk.walk (e.url ∷ []), walk.long);
+    }
+
+founded_entry : (allowed : List ℕ → Bool) (seeds : List (List ℕ)) (entries : List Entry) (results : List PageResult) → NoFault allowed seeds entries results → (e : Entry) → Contains entries e → is_founded allowed seeds entries results e ≡ true
+founded_entry allowed seeds entries results clear e among =
+    let all = or_parts (list_any (λ (x : Entry). not (is_founded allowed seeds entries results x)) entries) _ clear.founded in
+    not-false _ (none_has (λ (x : Entry). not (is_founded allowed seeds entries results x)) entries e all.0 among)
+
+pub entry_walk : (page : List ℕ → Page) (allowed : List ℕ → Bool) (seeds : List (List ℕ)) (entries : List Entry) (results : List PageResult) → ((r : PageResult) → Contains results r → page r.url ≡ r.page) → NoFault allowed seeds entries results → (hops : ℕ) (e : Entry) → Contains entries e → e.hops ≡ hops → WalkOf page allowed seeds hops e.url
+entry_walk page allowed seeds entries results agrees clear zero e among far =
+    let founded = and_parts (allowed e.url) _ (founded_entry allowed seeds entries results clear e among) in
+    let seed : stands_in seeds e.url ≡ true = sym (cond-true (e.hops == 0) (stands_in seeds e.url) (is_linked entries results e) (subst (λ n. (n == 0) ≡ true) (sym far) refl)) ∙ founded.1 in
+    record { walk = e.url ∷ []; leads = (text_stands seeds e.url seed, founded.0, refl); long = refl }
+entry_walk page allowed seeds entries results agrees clear (suc hops) e among far =
+    let founded = and_parts (allowed e.url) _ (founded_entry allowed seeds entries results clear e among) in
+    let later : (e.hops == 0) ≡ false = ne_eqb e.hops 0 (λ none. omega (arith, none, far)) in
+    let linked : is_linked entries results e ≡ true = sym (cond-false (e.hops == 0) (stands_in seeds e.url) (is_linked entries results e) later) ∙ founded.1 in
+    linked_walk page allowed seeds entries results hops agrees (entry_walk page allowed seeds entries results agrees clear hops) e far founded.0 linked
+
+-- ---- what a walk reaches is accepted, by induction on the walk
+
+second_false : (a b : Bool) → a ≡ true → (a && b) ≡ false → b ≡ false
+second_false true b h none = none
+second_false false b h none = absurd (cc)
+
+accepted_missing : (allowed accepted : List ℕ → Bool) (urls : List (List ℕ)) (url : List ℕ) → some_missing allowed accepted urls ≡ false → Contains urls url → IsTrue (allowed url) → accepted url ≡ true
+accepted_missing allowed accepted urls url none has allows =
+    let missing = none_has (λ u. allowed u && not (accepted u)) urls url none has in
+    not-false _ (second_false (allowed url) (not (accepted url)) allows missing)
+
+pub accepted_has_result : (entries : List Entry) (results : List PageResult) (url : List ℕ) → not_fetched entries results ≡ false → is_accepted entries url ≡ true → ResultWith results url
+accepted_has_result entries results url fetched accepted =
+    let found = entry_with entries url accepted in
+    let has : has_result results found.entry.url ≡ true = not-false _ (none_has (λ (e : Entry). not (has_result results e.url)) entries found.entry fetched found.among) in
+    result_with results url (subst (λ u. has_result results u ≡ true) found.has has)
+
+next_accepted : (page : List ℕ → Page) (allowed : List ℕ → Bool) (seeds : List (List ℕ)) (entries : List Entry) (results : List PageResult) → ((r : PageResult) → Contains results r → page r.url ≡ r.page) → NoFault allowed seeds entries results → (url next : List ℕ) → is_accepted entries url ≡ true → Contains (links_of (page url)) next → IsTrue (allowed next) → is_accepted entries next ≡ true
+next_accepted page allowed seeds entries results agrees clear url next accepted link allows =
+    let r = accepted_has_result entries results url clear.fetched accepted in
+    let found : page url ≡ r.one.page = ap page (sym r.has) ∙ agrees r.one r.among in
+    let none = none_has (λ (x : PageResult). some_missing allowed (is_accepted entries) (links_of x.page)) results r.one clear.links_accepted r.among in
+    accepted_missing allowed (is_accepted entries) (links_of r.one.page) next none (subst (λ p. Contains (links_of p) next) found link) allows
+
+walk_accepted : (page : List ℕ → Page) (allowed : List ℕ → Bool) (seeds : List (List ℕ)) (entries : List Entry) (results : List PageResult) → ((r : PageResult) → Contains results r → page r.url ≡ r.page) → NoFault allowed seeds entries results → (url : List ℕ) (rest : List (List ℕ)) (end : List ℕ) → is_accepted entries url ≡ true → GoesOn page allowed url rest end → is_accepted entries end ≡ true
+walk_accepted page allowed seeds entries results agrees clear url [] end accepted goes = subst (λ u. is_accepted entries u ≡ true) goes accepted
+walk_accepted page allowed seeds entries results agrees clear url (next ∷ rest) end accepted goes =
+    walk_accepted page allowed seeds entries results agrees clear next rest end (next_accepted page allowed seeds entries results agrees clear url next accepted goes.0 goes.1) goes.2
+
+pub reached_accepted : (page : List ℕ → Page) (allowed : List ℕ → Bool) (seeds : List (List ℕ)) (entries : List Entry) (results : List PageResult) → ((r : PageResult) → Contains results r → page r.url ≡ r.page) → NoFault allowed seeds entries results → (walk : List (List ℕ)) (end : List ℕ) → IsWalk page allowed seeds walk end → is_accepted entries end ≡ true
+reached_accepted page allowed seeds entries results agrees clear [] end walks = absurd walks
+reached_accepted page allowed seeds entries results agrees clear (first ∷ rest) end walks =
+    walk_accepted page allowed seeds entries results agrees clear first rest end (accepted_missing allowed (is_accepted entries) seeds first clear.seeds_accepted walks.0 walks.1) walks.2
+
+-- ---- together
+
+pub result_accepted : (allowed : List ℕ → Bool) (seeds : List (List ℕ)) (entries : List Entry) (results : List PageResult) → NoFault allowed seeds entries results → (r : PageResult) → Contains results r → is_accepted entries r.url ≡ true
+result_accepted allowed seeds entries results clear r among =
+    let all = or_parts _ (list_any (λ (x : PageResult). not (is_accepted entries x.url)) results) clear.founded in
+    not-false _ (none_has (λ (x : PageResult). not (is_accepted entries x.url)) results r all.1 among)
+
+pub results_reached : (page : List ℕ → Page) (allowed : List ℕ → Bool) (seeds : List (List ℕ)) (entries : List Entry) (results : List PageResult) → ((r : PageResult) → Contains results r → page r.url ≡ r.page) → NoFault allowed seeds entries results → (url : List ℕ) → Contains (map (λ r. r.url) results) url ↔ Reachable page allowed seeds url
+results_reached page allowed seeds entries results agrees clear url = (
+  λ has.
+      let r = from_map (λ (r : PageResult). r.url) results url has in
+      let e = entry_with entries url (subst (λ u. is_accepted entries u ≡ true) r.2 (result_accepted allowed seeds entries results clear r.0 r.1)) in
+      let walk = entry_walk page allowed seeds entries results agrees clear e.entry.hops e.entry e.among refl in
+      record { walk = walk.walk; leads = subst (λ u. IsWalk page allowed seeds walk.walk u) e.has walk.leads },
+  λ reach.
+      let r = accepted_has_result entries results url clear.fetched (reached_accepted page allowed seeds entries results agrees clear reach.walk url reach.leads) in
+      subst (λ u. Contains (map (λ (r : PageResult). r.url) results) u) r.has (in_map (λ (r : PageResult). r.url) results r.one r.among),
+)

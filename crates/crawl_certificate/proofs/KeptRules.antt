@@ -1,0 +1,112 @@
+-- The lists of an account are subqueues: by their rule no URL stands there twice, and each belongs there.
+use Rattle.std.proofs.Common.{◌≡◌, inl, inr, ℕ, zero, suc, ◌+◌, ◌<◌, false, List, [], ◌∷◌, ◌++◌, take, slice_get, Some, refl, sym, ap, subst, ◌∙◌, arith}
+use Rattle.std.specs.List.{AllByRecursion, IsDistinct}
+use Rattle.std.specs.List.Sorted.{IsPermutation}
+use Rattle.std.specs.Str.{bytes_eq}
+use Rattle.std.proofs.lemmas.Bool.{or_parts, or_from, cases_lt}
+use Rattle.std.proofs.lemmas.List.Elements.{All-from_recursion}
+use Rattle.crawl_keys.specs.Assignment.{subqueue_of}
+use Rattle.crawl_frontier.specs.declared.entry.Entry.{Entry}
+use Rattle.crawl_frontier.specs.Entries.{has_url, KeepsRule}
+use Rattle.crawl_frontier.specs.Accounts.{At, AccountId}
+use Rattle.crawl_certificate.specs.AccountEntries.{DifferByUrl}
+use Rattle.crawl_certificate.specs.AccountEntries.{DifferByUrl, entries_of}
+use Rattle.crawl_certificate.specs.Certificate.{entry_urls, CountsOf}
+use Rattle.crawl_certificate.specs.Queues.{AreQueues}
+use Rattle.crawl_certificate.proofs.Order.{Distinct}
+use Rattle.crawl_certificate.proofs.Queues.{differ_from, queues_differ, queue_counts}
+
+-- a URL that is not in the whole is not in its front
+not_in_front : (url : List ℕ) (xs ys : List Entry) → has_url url (xs ++ ys) ≡ false → has_url url xs ≡ false
+not_in_front url [] ys none = refl
+not_in_front url (x ∷ xs) ys none =
+    let parts = or_parts (bytes_eq x.url url) (has_url url (xs ++ ys)) none in
+    or_from (bytes_eq x.url url) (has_url url xs) parts.0 (not_in_front url xs ys parts.1)
+
+not_the_last : (url : List ℕ) (xs : List Entry) (e : Entry) → has_url url (xs ++ e ∷ []) ≡ false → bytes_eq e.url url ≡ false
+not_the_last url [] e none = let parts = or_parts (bytes_eq e.url url) false none in parts.0
+not_the_last url (x ∷ xs) e none =
+    let parts = or_parts (bytes_eq x.url url) (has_url url (xs ++ e ∷ [])) none in
+    not_the_last url xs e parts.1
+
+-- an entry that stands before these, as `knows` says, has another URL than each of them
+earlier_differs : (workers place : ℕ) (before es : List Entry) (x : Entry) → ((url : List ℕ) → has_url url before ≡ false → bytes_eq x.url url ≡ false) → KeepsRule workers place before es → AllByRecursion (λ url. bytes_eq x.url url ≡ false) (entry_urls es)
+earlier_differs workers place before [] x knows keeps = tt
+earlier_differs workers place before (e ∷ es) x knows keeps = (
+  knows e.url keeps.0.new,
+  earlier_differs workers place (before ++ e ∷ []) es x (λ url none. knows url (not_in_front url before (e ∷ []) none)) keeps.1,
+)
+
+kept_distinct : (workers place : ℕ) (before es : List Entry) → KeepsRule workers place before es → Distinct (entry_urls es)
+unfolding IsDistinct
+kept_distinct workers place before [] keeps = tt
+kept_distinct workers place before (e ∷ es) keeps = (
+  earlier_differs workers place (before ++ e ∷ []) es e (λ url none. not_the_last url before e none) keeps.1,
+  kept_distinct workers place (before ++ e ∷ []) es keeps.1,
+)
+
+kept_placed : (workers place : ℕ) (before es : List Entry) → KeepsRule workers place before es → AllByRecursion (λ e. subqueue_of e.url workers ≡ place) es
+kept_placed workers place before [] keeps = tt
+kept_placed workers place before (e ∷ es) keeps = (keeps.0.here, kept_placed workers place (before ++ e ∷ []) es keeps.1)
+
+pub kept_queues : (workers : ℕ) (queues : List (List Entry)) → ((queue : ℕ) (es : List Entry) → At queues queue es → KeepsRule workers queue [] es) → AreQueues (λ url. subqueue_of url workers) queues
+kept_queues workers queues keeps = record {
+  placed = λ queue es at. All-from_recursion (λ (e : Entry). subqueue_of e.url workers ≡ queue) es (kept_placed workers queue [] es (keeps queue es at));
+  apart = λ queue es at. differ_from es (kept_distinct workers queue [] es (keeps queue es at));
+}
+
+-- what stands among the first n stands there in the whole list too
+pub at_front : {X : Type 0} (n : ℕ) (xs : List X) (k : ℕ) (x : X) → At (take n xs) k x → (k < n) × At xs k x
+at_front zero xs k x at = absurd (cc)
+at_front (suc n) [] k x at = absurd (cc)
+at_front (suc n) (y ∷ ys) zero x at = (omega arith, at)
+at_front (suc n) (y ∷ ys) (suc k) x at = let rest = at_front n ys k x at in (omega (arith, rest.0), rest.1)
+
+-- the lists of the first n subqueues keep their rule
+abbrev pub KeptBelow : ℕ → AccountId → Type 0
+KeptBelow n account = (queue : ℕ) (es : List Entry) → queue < n → At account.queues queue es → KeepsRule account.workers queue [] es
+
+pub none_kept : (account : AccountId) → KeptBelow 0 account
+none_kept account = λ queue es below at. absurd (nothing_below queue below)
+  where
+    nothing_below : (n : ℕ) → n < 0 → ⊥
+    nothing_below n below = omega (arith, below)
+
+same_element : {X : Type 0} (a b : X) → Some a ≡ Some b → a ≡ b
+same_element a b same = cc
+
+pub one_more_kept : (n : ℕ) (account : AccountId) (own : List Entry) → KeptBelow n account → At account.queues n own → KeepsRule account.workers n [] own → KeptBelow (n + 1) account
+one_more_kept n account own kept here keeps = λ queue es below at. elim (cases_lt queue n) [
+  | inl before ↦ kept queue es before at
+  | inr not_before ↦
+      let last : queue ≡ n = omega (arith, below, not_before) in
+      let Q : ℕ → Type 0 = λ k. KeepsRule account.workers k [] own in
+      let same : own ≡ es = same_element own es (sym here ∙ ap (slice_get account.queues) (sym last) ∙ at) in
+      subst (λ xs. KeepsRule account.workers queue [] xs) same (subst Q (sym last) keeps)
+]
+
+-- so where those of all subqueues do, they are the subqueues of their URLs, and no two entries have one URL
+pub account_queues : (account : AccountId) → KeptBelow account.workers account → AreQueues (λ url. subqueue_of url account.workers) (take account.workers account.queues)
+account_queues account kept =
+    kept_queues account.workers (take account.workers account.queues)
+    (λ queue es at. let there = at_front account.workers account.queues queue es at in kept queue es there.0 there.1)
+
+pub account_differs : (account : AccountId) → AreQueues (λ url. subqueue_of url account.workers) (take account.workers account.queues) → DifferByUrl (entries_of account)
+account_differs account are = queues_differ (λ url. subqueue_of url account.workers) (take account.workers account.queues) are
+
+-- ---- counts
+
+at_whole : {X : Type 0} (n : ℕ) (xs : List X) (k : ℕ) (x : X) → k < n → At xs k x → At (take n xs) k x
+at_whole zero xs k x below at = absurd (nothing k below)
+  where
+    nothing : (k : ℕ) → k < 0 → ⊥
+    nothing k below = omega (arith, below)
+at_whole (suc n) [] k x below at = absurd (cc)
+at_whole (suc n) (y ∷ ys) zero x below at = at
+at_whole (suc n) (y ∷ ys) (suc k) x below at = at_whole n ys k x (omega (arith, below)) at
+
+-- of URLs that are those of the entries, as many belong to a subqueue as it has entries
+pub account_counts : (account : AccountId) (urls : List (List ℕ)) → AreQueues (λ url. subqueue_of url account.workers) (take account.workers account.queues) → IsPermutation (entry_urls (entries_of account)) urls → CountsOf account urls
+account_counts account urls are same = λ queue es below at.
+    queue_counts (λ url. subqueue_of url account.workers) (take account.workers account.queues) urls are same queue es
+    (at_whole account.workers account.queues queue es below at)

@@ -1,0 +1,11 @@
+pub mod Lists
+pub mod Certified
+pub mod Order
+pub mod Crawls
+pub mod OneCrawl
+pub mod NothingLost
+pub mod Queues
+pub mod KeptRules
+pub mod Places
+pub mod Faults
+pub mod Verdicts

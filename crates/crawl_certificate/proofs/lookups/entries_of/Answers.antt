@@ -1,0 +1,37 @@
+use Rattle.std.proofs.Common.{rules, ◌≡◌, List, [], ◌∷◌, ◌++◌, take, get_or, sym, ap, subst, ◌∙◌}
+use Rattle.std.proofs.lemmas.Grind.{flat_map-append}
+use Rattle.std.proofs.lemmas.List.{take_more, take_all, append-nil}
+use Rattle.std.proofs.lemmas.Option.{slice_get_within, get_or_from_slice_get}
+use Rattle.crawl_frontier.specs.declared.entry.Entry.{Entry}
+use Rattle.crawl_certificate.specs.AccountEntries.{entries_in}
+use Rattle.crawl_certificate.proofs.KeptRules.{KeptBelow, none_kept, one_more_kept, account_queues, account_differs}
+use Rattle.crawl_certificate.proofs.lookups.entries_of.Goals as goal
+
+pub loop-queue-init : goal.loop-queue-init
+loop-queue-init c = record { listed = search rules; kept = none_kept c.args.account.now }
+
+pub loop-queue-preserved : goal.loop-queue-preserved
+loop-queue-preserved c =
+    let queues = c.args.account.now.queues in
+    let q = c.loop-queue.queue in
+    let own = c.queue-entry-items.result.now in
+    let below = slice_get_within queues q own c.queue-entry-items.ensures.entries in
+    let found = get_or_from_slice_get queues q own own c.queue-entry-items.ensures.entries in
+    record {
+      listed =
+          c.loop-entry.invariant
+          ∙ ap (λ es. entries_in (take q queues) ++ es) (take_all c.loop-entry.entry-index own c.loop-entry-test.false ∙ sym (append-nil own) ∙ ap (λ es. es ++ []) (sym found))
+          ∙ sym (flat_map-append (λ (es : List Entry). es) (take q queues) (get_or queues q own ∷ []))
+          ∙ ap entries_in (sym (take_more queues q own below));
+      kept = one_more_kept q c.args.account.now own c.loop-queue.invariant.kept c.queue-entry-items.ensures.entries c.queue-entry-items.ensures.rule;
+    }
+
+pub returns-clause-apart : goal.returns-clause-apart
+returns-clause-apart c =
+    let last : c.loop-queue.queue ≡ c.args.account.now.workers = search rules in
+    rw (c.loop-queue.invariant.listed, last) (account_differs c.args.account.now (account_queues c.args.account.now (subst (λ n. KeptBelow n c.args.account.now) last c.loop-queue.invariant.kept)))
+
+pub returns-clause-queues : goal.returns-clause-queues
+returns-clause-queues c =
+    let last : c.loop-queue.queue ≡ c.args.account.now.workers = search rules in
+    account_queues c.args.account.now (subst (λ n. KeptBelow n c.args.account.now) last c.loop-queue.invariant.kept)

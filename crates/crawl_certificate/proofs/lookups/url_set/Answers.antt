@@ -1,0 +1,15 @@
+use Rattle.std.proofs.Common.{◌||◌, [], ◌∷◌, ◌++◌, take, sym, ap, ◌∙◌}
+use Rattle.std.proofs.lemmas.List.{take_more}
+use Rattle.std.specs.Str.{bytes_eq}
+use Rattle.crawl_certificate.specs.CertFaults.{stands_in}
+use Rattle.crawl_certificate.proofs.Places.{any_push, set_put}
+use Rattle.crawl_certificate.proofs.lookups.url_set.Goals as goal
+
+pub loop-url-preserved : goal.loop-url-preserved
+loop-url-preserved c = λ url.
+    let i = c.loop-url.url-index in
+    set_put c.loop-url.set c.insert.new.self c.as_str.result c.in_ok-insert.ensures.updates url
+    ∙ ap (λ b. b || bytes_eq c.as_str.result.now url) (c.loop-url.invariant url)
+    ∙ ap (λ t. stands_in (take i c.args.urls.now) url || bytes_eq t url) c.as_str.ensures.value
+    ∙ sym (any_push (λ own. bytes_eq own url) (take i c.args.urls.now) c.url-item.result)
+    ∙ ap (λ us. stands_in us url) (ap (λ x. take i c.args.urls.now ++ x ∷ []) c.url-item.is ∙ sym (take_more c.args.urls.now i c.url-item.result c.loop-url-test.true))

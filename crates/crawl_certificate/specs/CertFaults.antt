@@ -1,0 +1,79 @@
+-- The faults of a run, by its filter, its seeds, its accepted entries and its results.
+use Rattle.std.specs.Prelude.{ℕ, ◌+◌, ◌==◌, Bool, false, not, ◌&&◌, ◌||◌, List, [], ◌∷◌, if◌then◌else◌, Option, Some, None}
+use Rattle.std.specs.List.{list_any}
+use Rattle.std.specs.Str.{bytes_eq}
+use Rattle.crawl_frontier.specs.declared.entry.Entry.{Entry}
+use Rattle.crawl_web.specs.declared.page.PageResult.{PageResult}
+use Rattle.crawl_certificate.specs.declared.error.CertError.{CertError}
+use Rattle.crawl_certificate.specs.declared.error.CertError.TheVariants as fault
+use Rattle.crawl_web.specs.Pages.{links_of}
+
+-- the URL is accepted: some entry has it
+abbrev pub is_accepted : List Entry → List ℕ → Bool
+is_accepted entries url = list_any (λ e. bytes_eq e.url url) entries
+
+-- some result has the URL
+abbrev pub has_result : List PageResult → List ℕ → Bool
+has_result results url = list_any (λ r. bytes_eq r.url url) results
+
+abbrev pub stands_in : List (List ℕ) → List ℕ → Bool
+stands_in urls url = list_any (λ own. bytes_eq own url) urls
+
+-- an allowed URL among these is not accepted, where `accepted` says which are
+abbrev pub some_missing : (List ℕ → Bool) → (List ℕ → Bool) → List (List ℕ) → Bool
+some_missing allowed accepted urls = list_any (λ url. allowed url && not (accepted url)) urls
+
+-- ---- the faults
+
+-- a seed that is allowed is not accepted
+abbrev pub seed_missing : (List ℕ → Bool) → List (List ℕ) → List Entry → Bool
+seed_missing allowed seeds entries = some_missing allowed (is_accepted entries) seeds
+
+-- an entry has no result
+abbrev pub not_fetched : List Entry → List PageResult → Bool
+not_fetched entries results = list_any (λ e. not (has_result results e.url)) entries
+
+-- a link of a result that is allowed is not accepted
+abbrev pub link_missing : (List ℕ → Bool) → List Entry → List PageResult → Bool
+link_missing allowed entries results = list_any (λ r. some_missing allowed (is_accepted entries) (links_of r.page)) results
+
+-- the entry is one hop behind an entry with this URL
+abbrev pub is_behind : List Entry → List ℕ → Entry → Bool
+is_behind entries url e = list_any (λ before. bytes_eq before.url url && e.hops == before.hops + 1) entries
+
+-- the entry is linked from a result of an entry with one hop less
+abbrev pub is_linked : List Entry → List PageResult → Entry → Bool
+is_linked entries results e = list_any (λ r. stands_in (links_of r.page) e.url && is_behind entries r.url e) results
+
+-- the entry is allowed, and a seed where it has no hops, else linked from a result of an entry with one hop less
+abbrev pub is_founded : (List ℕ → Bool) → List (List ℕ) → List Entry → List PageResult → Entry → Bool
+is_founded allowed seeds entries results e =
+    allowed e.url && (if e.hops == 0 then stands_in seeds e.url else is_linked entries results e)
+
+-- an entry is not founded, or a result's URL is not accepted
+abbrev pub unfounded : (List ℕ → Bool) → List (List ℕ) → List Entry → List PageResult → Bool
+unfounded allowed seeds entries results =
+    list_any (λ e. not (is_founded allowed seeds entries results e)) entries || list_any (λ r. not (is_accepted entries r.url)) results
+
+-- two results have one URL
+abbrev pub twice : List PageResult → Bool
+twice [] = false
+twice (r ∷ rest) = has_result rest r.url || twice rest
+
+-- ---- their order
+
+-- the first of these that holds
+abbrev pub first_of : (a b c d e : Bool) → Option CertError
+first_of a b c d e =
+    if a then Some fault.SeedMissing
+    else if b then Some fault.NotFetched
+    else if c then Some fault.LinkMissing
+    else if d then Some fault.Unfounded
+    else if e then Some fault.Twice
+    else None
+
+-- the first fault that holds
+abbrev pub first_fault : (List ℕ → Bool) → List (List ℕ) → List Entry → List PageResult → Option CertError
+first_fault allowed seeds entries results =
+    first_of (seed_missing allowed seeds entries) (not_fetched entries results) (link_missing allowed entries results)
+    (unfounded allowed seeds entries results) (twice results)

@@ -1,0 +1,65 @@
+-- What a certificate says.
+use Rattle.std.specs.Prelude.{◌≡◌, ◌↔◌, ℕ, ◌==◌, ◌<◌, Bool, IsTrue, List, map, length, count_by, slice_get, Option, Some, None, Result, Ok, Err}
+use Rattle.std.specs.List.{All, AllPairs, Contains}
+use Rattle.std.specs.Cmp.Lexicographic.{slice_cmp}
+use Rattle.std.specs.Ordering.{nat_cmp}
+use Rattle.std.specs.declared.cmp.Ordering.TheVariants.{Less}
+use Rattle.crawl_frontier.specs.declared.entry.Entry.{Entry}
+use Rattle.crawl_web.specs.declared.page.Page.{Page}
+use Rattle.crawl_web.specs.declared.page.PageResult.{PageResult}
+use Rattle.crawl_certificate.specs.declared.error.CertError.{CertError}
+use Rattle.crawl_certificate.specs.declared.error.CertError.TheVariants.{NoMemory}
+use Rattle.crawl_frontier.specs.Accounts.{AccountId}
+use Rattle.crawl_keys.specs.Assignment.{subqueue_of}
+use Rattle.crawl_keys.specs.Outcome.{Gives}
+use Rattle.crawl_web.specs.Pages.{links_of}
+use Rattle.crawl_certificate.specs.Reachable.{Reachable}
+
+abbrev pub entry_urls : List Entry → List (List ℕ)
+entry_urls entries = map (λ e. e.url) entries
+
+abbrev pub result_urls : List PageResult → List (List ℕ)
+result_urls results = map (λ r. r.url) results
+
+-- each URL is below all later ones, byte by byte
+abbrev pub IsAscending : List (List ℕ) → Type 0
+IsAscending urls = AllPairs (λ a b. slice_cmp nat_cmp a b ≡ Less) urls
+
+-- each result has the page that its URL means
+abbrev pub ArePages : (List ℕ → Page) → List PageResult → Type 0
+ArePages meaning results = All (λ r. r.page ≡ meaning r.url) results
+
+-- the URLs are exactly those that can be reached
+abbrev pub AreReachable : (List ℕ → Page) → (List ℕ → Bool) → List (List ℕ) → List (List ℕ) → Type 0
+AreReachable page allowed seeds urls = (url : List ℕ) → Contains urls url ↔ Reachable page allowed seeds url
+
+-- of the URLs as many belong to each of the account's subqueues as it has entries
+abbrev pub CountsOf : AccountId → List (List ℕ) → Type 0
+CountsOf account urls =
+    (queue : ℕ) (entries : List Entry) → queue < account.workers → slice_get account.queues queue ≡ Some entries
+    → count_by (λ url. subqueue_of url account.workers == queue) urls ≡ length entries
+
+-- the pages of a whole crawl: the URLs that can be reached, ascending and so each once, each with the page that it means
+pub record IsCrawl (meaning : List ℕ → Page) (allowed : List ℕ → Bool) (seeds : List (List ℕ)) (pages : List PageResult) : Type 0 where
+  pub ascends : IsAscending (result_urls pages)
+  pub means : ArePages meaning pages
+  pub reached : AreReachable meaning allowed seeds (result_urls pages)
+
+-- a refusal for the fault, and none where there is no fault
+abbrev pub unless_fault : Option CertError → Result (Unit {0}) CertError
+unless_fault None = Ok tt
+unless_fault (Some fault) = Err fault
+
+-- the result is a refusal for the fault, and Ok where there is no fault, want of memory aside
+abbrev pub Tells : {T : Type 0} → Result T CertError → Option CertError → Type 0
+Tells result fault = Gives NoMemory (λ _. tt) result (unless_fault fault)
+
+-- those of the URLs that are allowed are among these
+abbrev pub AllowedAreIn : (List ℕ → Bool) → List (List ℕ) → List (List ℕ) → Type 0
+AllowedAreIn allowed those urls = All (λ url. IsTrue (allowed url) → Contains those url) urls
+
+-- allowed seeds and links are entries, and entries have results
+pub record NothingLost (allowed : List ℕ → Bool) (seed_urls : List (List ℕ)) (entries : List Entry) (results : List PageResult) : Type 0 where
+  pub seeds : AllowedAreIn allowed (entry_urls entries) seed_urls
+  pub fetched : All (λ e. Contains (result_urls results) e.url) entries
+  pub links : All (λ r. AllowedAreIn allowed (entry_urls entries) (links_of r.page)) results

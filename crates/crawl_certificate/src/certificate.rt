@@ -1,0 +1,132 @@
+//! What is certified, and when.
+ghost use Rattle.std.specs.Prelude.{◌≡◌, IfOk, OnOk};
+ghost use Rattle.std.specs.List.{All};
+ghost use Rattle.std.specs.List.Sorted.{IsPermutation, IsSortedByKey};
+ghost use Rattle.std.specs.Cmp.Lexicographic.{slice_cmp};
+ghost use Rattle.std.specs.Ordering.{nat_cmp};
+ghost use Rattle.crawl_keys.specs.HostFilter.{allows};
+ghost use Rattle.crawl_certificate.specs.AccountEntries.{entries_of, DifferByUrl};
+ghost use Rattle.crawl_certificate.specs.ResultPages.{page_in};
+ghost use Rattle.crawl_certificate.specs.Reachable.{WalkOf};
+ghost use Rattle.crawl_certificate.specs.Certificate.{Tells, IsAscending, AreReachable, CountsOf, entry_urls, result_urls};
+ghost use Rattle.crawl_certificate.specs.Places.{pointed};
+ghost use Rattle.crawl_certificate.specs.CertFaults.{first_fault};
+
+use crate::error::CertError;
+use crate::founded::unfounded;
+use crate::lookups::{entries_of, fetched_urls, places_of};
+use crate::missing::{link_missing, not_fetched, some_missing};
+use crawl_frontier::{Account, Entry};
+use crawl_keys::{CanonUrl, Filter};
+use crawl_web::PageResult;
+use std::alloc::{AllocError, Global};
+use std::marker::Model;
+
+/// What a certified crawl found.
+#[derive(Debug, Drop)]
+pub struct CrawlResult {
+    pages: Vec<PageResult>,
+}
+
+// Contracts see what was found as the list of its pages.
+impl Model for CrawlResult {
+    ghost use Rattle.std.specs.Prelude.{List};
+    ghost use Rattle.crawl_web.specs.declared.page.PageResult.{PageResult};
+
+    ghost Value = { List PageResult };
+
+    ghost view = { λ found. found.pages.items };
+}
+
+impl CrawlResult {
+    /// The pages, in ascending order of the bytes of their URLs.
+    pub fn pages(&self) -> &[PageResult]
+        ensures { result.now ≡ self.now }
+    {
+        self.pages.as_slice()
+    }
+}
+
+/// The pages of a crawl, where its run is certified: a look for each fault, and then the results in ascending order.
+///
+/// # Errors
+/// The first fault that holds, in the order of [`CertError`]; `NoMemory` where a growth was refused.
+pub fn certify(
+    alloc: Global,
+    filter: &Filter,
+    seeds: &[CanonUrl],
+    account: &Account,
+    results: &[PageResult],
+) -> Result<CrawlResult, CertError>
+    // Ok exactly where no fault holds, else the first that holds, unless a growth was refused.
+    ensures fault { Tells result (first_fault (allows filter.now) seeds.now (entries_of account.now) results.now) }
+    // The pages are the given results in ascending order of URL, one for each entry of each subqueue.
+    ensures same { IfOk result (λ pages. IsPermutation results.now pages) }
+    ensures ascends { IfOk result (λ pages. IsAscending (result_urls pages)) }
+    ensures one_each { IfOk result (λ pages. IsPermutation (entry_urls (entries_of account.now)) (result_urls pages)) }
+    ensures counts { IfOk result (λ pages. CountsOf account.now (result_urls pages)) }
+    // Their URLs are exactly those that can be reached over the results' own pages.
+    ensures reached { IfOk result (λ pages. AreReachable (page_in results.now) (allows filter.now) seeds.now (result_urls pages)) }
+    // A walk leads to each entry's URL in as many hops as the entry has.
+    ensures hops { OnOk result (All (λ e. WalkOf (page_in results.now) (allows filter.now) seeds.now e.hops e.url) (entries_of account.now)) }
+{
+    let entries = entries_of(alloc, account)?;
+    find_fault(alloc, filter, seeds, &entries, results)?;
+    let pages = in_order(alloc, results)?;
+    Ok(CrawlResult { pages })
+}
+
+/// Ok where no fault holds.
+fn find_fault(
+    alloc: Global,
+    filter: &Filter,
+    seeds: &[CanonUrl],
+    entries: &[&Entry],
+    results: &[PageResult],
+) -> Result<(), CertError>
+    requires { DifferByUrl (pointed entries.now) }
+    ensures { Tells result (first_fault (allows filter.now) seeds.now (pointed entries.now) results.now) }
+{
+    let accepted = places_of(alloc, entries)?;
+    let (fetched, is_twice) = fetched_urls(alloc, results)?;
+    if some_missing(filter, &accepted, seeds) {
+        return Err(CertError::SeedMissing);
+    }
+    if not_fetched(&fetched, entries) {
+        return Err(CertError::NotFetched);
+    }
+    if link_missing(filter, &accepted, results) {
+        return Err(CertError::LinkMissing);
+    }
+    let is_unfounded = unfounded(alloc, filter, seeds, &accepted, entries, results)?;
+    if is_unfounded {
+        return Err(CertError::Unfounded);
+    }
+    if is_twice {
+        return Err(CertError::Twice);
+    }
+    Ok(())
+}
+
+/// The results in ascending order of the bytes of their URLs.
+fn in_order(alloc: Global, results: &[PageResult]) -> Result<Vec<PageResult>, AllocError>
+    ensures same { IfOk result (λ pages. IsPermutation results.now pages.items) }
+    ensures sorted { IfOk result (λ pages. IsSortedByKey (λ r. r.url) (slice_cmp nat_cmp) pages.items) }
+{
+    let mut pages = copies(alloc, results)?;
+    pages.sort_by(|a, b| a.url.cmp(&b.url))?;
+    Ok(pages)
+}
+
+fn copies(alloc: Global, results: &[PageResult]) -> Result<Vec<PageResult>, AllocError>
+    ensures { IfOk result (λ copies. copies.items ≡ results.now) }
+{
+    let mut copies = Vec::new(alloc);
+    for one in results {
+        let Ok(copy) = one.copy() else {
+            return Err(AllocError);
+        };
+        copies.push(copy)?;
+    }
+    Ok(copies)
+}

@@ -1,0 +1,49 @@
+//! Why a run is not certified.
+use std::alloc::{AllocError, AllocFailed};
+use thiserror::Error;
+
+/// Why a run is not certified, in the order in which the reasons are looked for.
+#[derive(Clone, Copy, Debug, PartialEq, Eq, Error)]
+pub enum CertError {
+    /// A seed that the filter allows is not accepted.
+    #[error("incomplete: seed missing")]
+    SeedMissing,
+    /// An entry has no result.
+    #[error("incomplete: page not fetched")]
+    NotFetched,
+    /// A link of a result that the filter allows is not accepted.
+    #[error("incomplete: link missing")]
+    LinkMissing,
+    /// The filter does not allow an entry; or the entry has no hops and is no seed; or it has hops, and is linked from no
+    /// result of an entry with one hop less. Or the URL of a result is not accepted.
+    #[error("incomplete: unfounded URL")]
+    Unfounded,
+    /// Two results have one URL.
+    #[error("incomplete: fetched twice")]
+    Twice,
+    /// A growth was refused. This may stand in place of any other answer.
+    #[error("out of memory")]
+    NoMemory,
+}
+
+impl From<AllocError> for CertError {
+    ghost use Rattle.std.specs.Prelude.{◌≡◌};
+    ghost use Rattle.crawl_certificate.specs.declared.error.CertError.TheVariants.{NoMemory};
+
+    ghost from_gives = { λ _ e. e ≡ NoMemory };
+
+    fn from(_: AllocError) -> CertError {
+        CertError::NoMemory
+    }
+}
+
+impl<T: Drop> From<AllocFailed<T>> for CertError {
+    ghost use Rattle.std.specs.Prelude.{◌≡◌};
+    ghost use Rattle.crawl_certificate.specs.declared.error.CertError.TheVariants.{NoMemory};
+
+    ghost from_gives = { λ _ e. e ≡ NoMemory };
+
+    fn from(_: AllocFailed<T>) -> CertError {
+        CertError::NoMemory
+    }
+}

@@ -1,0 +1,19 @@
+//! The certificate of a crawl: that its results are the pages of exactly the URLs that can be reached.
+//!
+//! [`certify`] looks for five faults of a run in what the run left, its account and its results. Where it finds none, no
+//! URL was missed and none was made up, whatever the threads did.
+#![tactic(auto)]
+
+mod certificate;
+mod error;
+mod founded;
+/// What holds of certificates.
+pub mod laws;
+mod lookups;
+mod marks;
+mod missing;
+#[cfg(test)]
+mod tests;
+
+pub use certificate::{CrawlResult, certify};
+pub use error::CertError;
