@@ -1,0 +1,6 @@
+pub mod ErrorTexts
+pub mod Logs
+pub mod Ran
+pub mod Rounds
+pub mod Runs
+pub mod Turn
