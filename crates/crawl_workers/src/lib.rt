@@ -7,6 +7,7 @@
 
 mod error;
 mod harvest;
+pub mod laws;
 mod run;
 #[cfg(test)]
 mod tests;

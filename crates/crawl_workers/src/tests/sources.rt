@@ -1,5 +1,5 @@
 //! Sources of pages.
-ghost use Rattle.std.specs.Prelude.{if◌then◌else◌, None, Some};
+ghost use Rattle.std.specs.Prelude.{◌<◌, if◌then◌else◌, Some};
 ghost use Rattle.std.specs.Str.{bytes_eq};
 ghost use Rattle.crawl_web.specs.declared.page.Page.TheVariants.{Moved, Missing};
 ghost use Rattle.crawl_web.specs.KnownPages.{page_at};
@@ -94,25 +94,62 @@ impl Fetch for BothWait {
     }
 }
 
-// The pages of a saved web. Counts how often each of these URLs is fetched, and any other.
+// How often each URL of the ring was fetched, and last any other.
+#[derive(Drop)]
+pub struct RingCounts {
+    fetched: [AtomicU64; 5],
+}
+
+fn place_in_ring(url: &CanonUrl) -> usize
+    ensures { result < 5 }
+{
+    match url.as_str() {
+        "http://a.test/" => 0,
+        "http://b.test/" => 1,
+        "http://c.test/" => 2,
+        "http://c.test/gone" => 3,
+        _ => 4,
+    }
+}
+
+impl RingCounts {
+    pub fn new() -> RingCounts {
+        RingCounts {
+            fetched: [
+                AtomicU64::new(0),
+                AtomicU64::new(0),
+                AtomicU64::new(0),
+                AtomicU64::new(0),
+                AtomicU64::new(0),
+            ],
+        }
+    }
+
+    fn add(&self, url: &CanonUrl) {
+        self.fetched[place_in_ring(url)].fetch_add(1, Ordering::SeqCst);
+    }
+
+    pub fn counts(&self) -> [u64; 5] {
+        let mut counts = [0; 5];
+        for place in 0..5 {
+            counts[place] = self.fetched[place].load(Ordering::SeqCst);
+        }
+        counts
+    }
+}
+
+// The pages of a saved web, with each fetch counted.
 #[derive(Drop)]
 pub struct Counting<'a> {
-    pub web: &'a SavedWeb<'a>,
-    pub urls: [&'static str; 4],
-    pub fetched: [AtomicU64; 4],
-    pub others: AtomicU64,
+    pub web: SavedWeb<'a>,
+    pub fetched: RingCounts,
 }
 
 impl Fetch for Counting<'_> {
-    ghost meaning = { λ source. page_at source.web.now };
+    ghost meaning = { λ source. page_at source.web };
 
     fn fetch(&self, alloc: Global, url: &CanonUrl) -> Result<Page, FetchError> {
-        let place = self.urls.iter().position(|known| *known == url.as_str());
-        let count = match place {
-            Some(place) if place < 4 => &self.fetched[place],
-            _ => &self.others,
-        };
-        count.fetch_add(1, Ordering::SeqCst);
+        self.fetched.add(url);
         self.web.fetch(alloc, url)
     }
 }
@@ -120,12 +157,12 @@ impl Fetch for Counting<'_> {
 // The pages of a saved web, of which every third fetch fails.
 #[derive(Drop)]
 pub struct ThirdFails<'a> {
-    pub web: &'a SavedWeb<'a>,
+    pub web: SavedWeb<'a>,
     pub fetched: AtomicU64,
 }
 
 impl Fetch for ThirdFails<'_> {
-    ghost meaning = { λ source. page_at source.web.now };
+    ghost meaning = { λ source. page_at source.web };
 
     fn fetch(&self, alloc: Global, url: &CanonUrl) -> Result<Page, FetchError> {
         if self.fetched.fetch_add(1, Ordering::SeqCst) % 3 == 2 {

@@ -1,6 +1,6 @@
 //! Several workers: that they run together, that each URL is fetched once, and that they end whatever is lost.
 use crate::tests::runs::{How, Run, Told};
-use crate::tests::sources::{BothWait, Counting, FirstWaits, ThirdFails};
+use crate::tests::sources::{BothWait, Counting, FirstWaits, RingCounts, ThirdFails};
 use crawl_web::{Fetch, SavedWeb};
 use std::alloc::{AllocError, Global};
 use std::process::Abort;
@@ -94,41 +94,29 @@ fn run_from_a<F: Fetch + Sync, R: Threads + Wait + Sync>(
     Some(totals(&told))
 }
 
+// How a run on the ring ended, and how often each of its URLs was fetched.
+fn ring_fetches<R: Threads + Wait + Sync>(
+    rt: &R,
+    alloc: Global,
+    workers: u32,
+    how: How,
+) -> Option<((u64, usize), [u64; 5])> {
+    let web = SavedWeb::read(alloc, RING.as_bytes()).ok()?;
+    let fetched = RingCounts::new();
+    let source = Counting { web, fetched };
+    let ended = run_from_a(rt, alloc, &source, workers, how)?;
+    Some((ended, source.fetched.counts()))
+}
+
 #[test]
-fn each_url_of_the_ring_is_fetched_once(rt: HostRuntime) -> Result<(), Fail> {
-    let alloc = rt.alloc();
-    let web = SavedWeb::read(alloc, RING.as_bytes())?;
+fn each_url_of_the_ring_is_fetched_once(rt: HostRuntime) {
+    let once = Some(((0, 4), [1, 1, 1, 1, 0]));
     for workers in [1, 2, 3, 64, 512] {
         for how in [How::Turns, How::Threads] {
-            let source = Counting {
-                web: &web,
-                urls: [
-                    "http://a.test/",
-                    "http://b.test/",
-                    "http://c.test/",
-                    "http://c.test/gone",
-                ],
-                fetched: [
-                    AtomicU64::new(0),
-                    AtomicU64::new(0),
-                    AtomicU64::new(0),
-                    AtomicU64::new(0),
-                ],
-                others: AtomicU64::new(0),
-            };
-            let ended = run_from_a(&rt, alloc, &source, workers, how);
-            assert_eq!(rt; ended, Some((0, 4)), "{workers} workers, {how:?}");
-            for count in source.fetched.iter() {
-                assert_eq!(rt;
-                    count.load(Ordering::SeqCst),
-                    1,
-                    "{workers} workers, {how:?}"
-                );
-            }
-            assert_eq!(rt; source.others.load(Ordering::SeqCst), 0);
+            let fetches = ring_fetches(&rt, rt.alloc(), workers, how);
+            assert_eq!(rt; fetches, once, "{workers} workers, {how:?}");
         }
     }
-    Ok(())
 }
 
 const PAGES: usize = 300;
@@ -150,19 +138,28 @@ fn tree(alloc: Global) -> Result<String, AllocError> {
     Ok(text)
 }
 
+// What a run on the tree lost, how many results it has, and how many fetches it made, every third of which failed.
+fn tree_fetches<R: Threads + Wait + Sync>(
+    rt: &R,
+    alloc: Global,
+    text: &str,
+    workers: u32,
+) -> Option<(u64, usize, u64)> {
+    let web = SavedWeb::read(alloc, text.as_bytes()).ok()?;
+    let fetched = AtomicU64::new(0);
+    let source = ThirdFails { web, fetched };
+    let (lost, results) = run_from_a(rt, alloc, &source, workers, How::Threads)?;
+    Some((lost, results, source.fetched.load(Ordering::SeqCst)))
+}
+
 // A URL that is lost is done all the same, so all workers end; and what is not found is lost, each once.
 #[test]
 fn workers_end_whatever_is_lost(rt: HostRuntime) -> Result<(), Fail> {
-    let alloc = rt.alloc();
-    let text = tree(alloc)?;
-    let web = SavedWeb::read(alloc, text.as_bytes())?;
+    let text = tree(rt.alloc())?;
     for workers in [1, 4, 64] {
         for _ in 0..10 {
-            let fetched = AtomicU64::new(0);
-            let source = ThirdFails { web: &web, fetched };
-            let ended = run_from_a(&rt, alloc, &source, workers, How::Threads);
-            let fetched = source.fetched.load(Ordering::SeqCst);
-            let Some((lost, results)) = ended else {
+            let Some((lost, results, fetched)) = tree_fetches(&rt, rt.alloc(), &text, workers)
+            else {
                 panic!(rt; "no account with {workers} workers")
             };
             assert_eq!(rt; lost, fetched / 3, "{workers} workers");
