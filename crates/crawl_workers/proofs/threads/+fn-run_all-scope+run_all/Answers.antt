@@ -1,7 +1,6 @@
-use Rattle.std.proofs.Common.{◌≡◌, ◌≤◌, length, arith, ap, ◌∙◌, subst, sym}
+use Rattle.std.proofs.Common.{arith, ◌∙◌}
 use Rattle.crawl_keys.specs.HostFilter.{allows}
 use Rattle.crawl_workers.specs.Ran.{Ran}
-use Rattle.crawl_workers.specs.Runs.{AllRan}
 use Rattle.crawl_workers.proofs.Running.{all_ran_push, all_ran_length}
 use Rattle.crawl_workers.proofs.threads.+fn-run_all-scope+run_all.Goals as goal
 

@@ -1,4 +1,4 @@
-use Rattle.crawl_workers.proofs.Running.{offer_line, offer_grows}
+use Rattle.crawl_workers.proofs.Running.{offer_line}
 use Rattle.crawl_workers.proofs.turn.is_refused.Goals as goal
 
 pub returns-in-Ok-clause-line : goal.returns-in-Ok-clause-line

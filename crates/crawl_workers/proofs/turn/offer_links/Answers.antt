@@ -1,7 +1,7 @@
-use Rattle.std.proofs.Common.{arith, take, refl}
+use Rattle.std.proofs.Common.{arith, take}
 use Rattle.std.proofs.lemmas.List.{take_more}
 use Rattle.crawl_keys.specs.HostFilter.{allows}
-use Rattle.crawl_workers.proofs.Running.{busy_same, busy_on, all_logged_more, all_logged_none}
+use Rattle.crawl_workers.proofs.Running.{busy_on, all_logged_more}
 use Rattle.crawl_workers.proofs.turn.offer_links.Goals.{then-is_refused, else-is_refused}
 use Rattle.crawl_workers.proofs.turn.offer_links.Goals as goal
 

@@ -1,4 +1,4 @@
-use Rattle.std.proofs.Common.{ap, refl}
+use Rattle.std.proofs.Common.{ap}
 use Rattle.crawl_frontier.specs.Parts.{WorkerId}
 use Rattle.crawl_keys.specs.HostFilter.{allows}
 use Rattle.crawl_workers.proofs.Running.{ran_worked, ran_on}

@@ -1,4 +1,4 @@
-use Rattle.std.proofs.Common.{rules, arith, ◌∙◌}
+use Rattle.std.proofs.Common.{rules, arith}
 use Rattle.crawl_workers.proofs.Turning.{ends_none, ended_front, ended_last, not_ended, ends_push}
 use Rattle.crawl_workers.proofs.turns.+ends_of.Goals as goal
 

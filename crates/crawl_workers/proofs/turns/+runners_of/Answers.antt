@@ -1,4 +1,3 @@
-use Rattle.std.proofs.Common.{arith, ◌∙◌, sym}
 use Rattle.crawl_workers.proofs.Running.{ran_nothing}
 use Rattle.crawl_workers.proofs.Turning.{all_go_push}
 use Rattle.crawl_workers.proofs.turns.+runners_of.Goals as goal
