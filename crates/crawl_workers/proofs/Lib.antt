@@ -1,0 +1,3 @@
+pub mod Lossless
+pub mod Running
+pub mod Turning

@@ -1,0 +1,121 @@
+-- Workers in turn.
+use Rattle.std.proofs.Common.{◌≡◌, ◌⊎◌, inl, inr, ℕ, zero, suc, ◌+◌, ◌<◌, Bool, List, [], ◌∷◌, ◌++◌, length, Some, refl, ap, subst, ◌∙◌, arith, slice_get, slice_set, slice_index_or, take}
+use Rattle.std.proofs.lemmas.List.{length_push}
+use Rattle.std.proofs.Math.Seq.{take-append_seam}
+use Rattle.std.specs.List.{AllZip}
+use Rattle.crawl_web.specs.declared.page.Page.{Page}
+use Rattle.crawl_frontier.specs.Parts.{WorkerId}
+use Rattle.crawl_workers.specs.declared.worker_end.WorkerEnd.{WorkerEnd}
+use Rattle.crawl_workers.specs.declared.turns.Runner.{Runner}
+use Rattle.crawl_workers.specs.declared.turns.Runner.TheVariants.{Going, Ended, Moved}
+use Rattle.crawl_workers.specs.Ran.{Ran}
+use Rattle.crawl_workers.specs.Runs.{AllRan}
+use Rattle.crawl_workers.specs.Rounds.{AllGo, RunnerRan, IsEnded, EndedBelow}
+use Rattle.crawl_workers.proofs.Running.{all_zip_push}
+
+-- an element is changed
+all_zip_set : {A B : Type 0} (R : A → B → Type 0) (xs : List A) (ys : List B) (i : ℕ) (y y' : B) → slice_get ys i ≡ Some y → ((x : A) → R x y → R x y') → AllZip R xs ys → AllZip R xs (slice_set ys i y')
+all_zip_set R [] [] i y y' at goes all = absurd (cc)
+all_zip_set R [] (b ∷ ys) i y y' at goes all = absurd all
+all_zip_set R (a ∷ xs) [] i y y' at goes all = absurd all
+all_zip_set R (a ∷ xs) (b ∷ ys) zero y y' at goes all = let same : b ≡ y = cc in (goes a (rw (← same) all.0), all.1)
+all_zip_set R (a ∷ xs) (b ∷ ys) (suc i) y y' at goes all = (all.0, all_zip_set R xs ys i y y' at goes all.1)
+
+all_zip_at : {A B : Type 0} (R : A → B → Type 0) (xs : List A) (ys : List B) (i : ℕ) (y : B) → slice_get ys i ≡ Some y → AllZip R xs ys → (x : A) × R x y
+all_zip_at R [] [] i y at all = absurd (cc)
+all_zip_at R [] (b ∷ ys) i y at all = absurd all
+all_zip_at R (a ∷ xs) [] i y at all = absurd all
+all_zip_at R (a ∷ xs) (b ∷ ys) zero y at all = let same : b ≡ y = cc in (a, rw (← same) all.0)
+all_zip_at R (a ∷ xs) (b ∷ ys) (suc i) y at all = all_zip_at R xs ys i y at all.1
+
+-- all but the last, and the last
+record Unsnoc {A B : Type 0} (R : A → B → Type 0) (xs : List A) (ys : List B) (y : B) : Type 0 where
+  pub front : List A
+  pub last : A
+  pub is : xs ≡ front ++ last ∷ []
+  pub all : AllZip R front ys
+  pub ran : R last y
+
+all_zip_unsnoc : {A B : Type 0} (R : A → B → Type 0) (xs : List A) (ys : List B) (y : B) → AllZip R xs (ys ++ y ∷ []) → Unsnoc R xs ys y
+all_zip_unsnoc R [] [] y all = absurd all
+all_zip_unsnoc R [] (b ∷ ys) y all = absurd all
+all_zip_unsnoc R (a ∷ []) [] y all = record { front = []; last = a; is = refl; all = tt; ran = all.0 }
+all_zip_unsnoc R (a ∷ c ∷ xs) [] y all = absurd all.1
+all_zip_unsnoc R (a ∷ xs) (b ∷ ys) y all =
+    let rest = all_zip_unsnoc R xs ys y all.1 in
+    record { front = a ∷ rest.front; last = rest.last; is = ap (λ zs. a ∷ zs) rest.is; all = (all.0, rest.all); ran = rest.ran }
+
+get_before : {A : Type 0} (xs : List A) (a b : A) (k : ℕ) → slice_get xs k ≡ Some b → slice_get (xs ++ a ∷ []) k ≡ Some b
+get_before [] a b k at = absurd (cc)
+get_before (x ∷ xs) a b zero at = at
+get_before (x ∷ xs) a b (suc k) at = get_before xs a b k at
+
+get_last : {A : Type 0} (xs : List A) (a : A) → slice_get (xs ++ a ∷ []) (length xs) ≡ Some a
+get_last [] a = refl
+get_last (x ∷ xs) a = get_last xs a
+
+get_set_cases : {X : Type 0} (xs : List X) (i k : ℕ) (x y : X) → slice_get (slice_set xs i x) k ≡ Some y → ((k ≡ i) × (x ≡ y)) ⊎ (slice_get xs k ≡ Some y)
+get_set_cases [] i k x y at = inr at
+get_set_cases (z ∷ xs) zero zero x y at = let same : x ≡ y = cc in inl (refl, same)
+get_set_cases (z ∷ xs) zero (suc k) x y at = inr at
+get_set_cases (z ∷ xs) (suc i) zero x y at = inr at
+get_set_cases (z ∷ xs) (suc i) (suc k) x y at = elim (get_set_cases xs i k x y at) [
+  | inl here ↦ inl (ap (λ n. suc n) here.0, here.1)
+  | inr there ↦ inr there
+]
+
+pub all_go_set : {K : _} (workers : ℕ) (allowed : List ℕ → Bool) (meaning : List ℕ → Page) (starts : List WorkerId) (rs : List (Runner K)) (i : ℕ) (r r' : Runner K) → slice_get rs i ≡ Some r
+    → ((start : WorkerId) → RunnerRan workers allowed meaning start r → RunnerRan workers allowed meaning start r') → AllGo workers allowed meaning starts rs → AllGo workers allowed meaning starts (slice_set rs i r')
+all_go_set {K} workers allowed meaning starts rs i r r' at goes all = all_zip_set (λ (w : WorkerId) (x : Runner K). RunnerRan workers allowed meaning w x) starts rs i r r' at goes all
+
+-- the first i + 1 have ended, where those before i had, and now the one at i has
+pub ended_set : {K : _} (rs : List (Runner K)) (i : ℕ) (r' : Runner K) → IsEnded r' → EndedBelow i rs → EndedBelow (i + 1) (slice_set rs i r')
+ended_set {K} [] i r' is below k y less at = absurd (cc)
+ended_set {K} (r ∷ rs) zero r' is below zero y less at = let same : r' ≡ y = cc in subst (λ (z : Runner K). IsEnded z) same is
+ended_set {K} (r ∷ rs) zero r' is below (suc k) y less at = absurd (omega (arith, less))
+ended_set {K} (r ∷ rs) (suc i) r' is below zero y less at = below 0 y (omega arith) at
+ended_set {K} (r ∷ rs) (suc i) r' is below (suc k) y less at = ended_set rs i r' is (λ j z l a. below (suc j) z (omega (arith, l)) a) k y (omega (arith, less)) at
+
+pub go_ran : {K : _} (workers : ℕ) (allowed : List ℕ → Bool) (meaning : List ℕ → Page) (starts : List WorkerId) (rs : List (Runner K)) (i : ℕ) (r : Runner K) → slice_get rs i ≡ Some r → AllGo workers allowed meaning starts rs → (start : WorkerId) × RunnerRan workers allowed meaning start r
+go_ran {K} workers allowed meaning starts rs i r at all = all_zip_at (λ (w : WorkerId) (x : Runner K). RunnerRan workers allowed meaning w x) starts rs i r at all
+
+pub all_go_push : {K : _} (workers : ℕ) (allowed : List ℕ → Bool) (meaning : List ℕ → Page) (starts : List WorkerId) (rs : List (Runner K)) (w : WorkerId) (r : Runner K) → AllGo workers allowed meaning starts rs → RunnerRan workers allowed meaning w r → AllGo workers allowed meaning (starts ++ w ∷ []) (rs ++ r ∷ [])
+all_go_push {K} workers allowed meaning starts rs w r all ran = all_zip_push (λ (v : WorkerId) (x : Runner K). RunnerRan workers allowed meaning v x) starts rs w r all ran
+
+-- what `ends_of` owes of the rest, and of the whole
+pub ended_front : {K : _} (rs : List (Runner K)) (r : Runner K) (all : List (Runner K)) → all ≡ rs ++ r ∷ [] → EndedBelow (length all) all → EndedBelow (length rs) rs
+ended_front {K} rs r all is ended k x less at = ended k x (rw (is, length_push) (omega (arith, less))) (rw is (get_before rs r x k at))
+
+pub ended_last : {K : _} (rs : List (Runner K)) (r : Runner K) (all : List (Runner K)) → all ≡ rs ++ r ∷ [] → EndedBelow (length all) all → IsEnded r
+ended_last {K} rs r all is ended = ended (length rs) r (rw (is, length_push) (omega arith)) (rw is (get_last rs r))
+
+pub ends_none : {K : _} (workers : ℕ) (allowed : List ℕ → Bool) (meaning : List ℕ → Page) (starts : List WorkerId) (rs : List (Runner K)) (ends : List (WorkerEnd K)) → length rs ≡ 0 → ends ≡ [] → AllGo workers allowed meaning starts rs → AllRan workers allowed meaning starts ends
+ends_none {K} workers allowed meaning [] [] ends none is go = rw is tt
+ends_none {K} workers allowed meaning (s ∷ ss) [] ends none is go = absurd go
+ends_none {K} workers allowed meaning starts (r ∷ rs) ends none is go = absurd (omega (arith, none))
+
+pub length_set : {X : Type 0} (xs : List X) (i : ℕ) (x : X) → length (slice_set xs i x) ≡ length xs
+length_set [] i x = refl
+length_set (y ∷ xs) zero x = refl
+length_set (y ∷ xs) (suc i) x = ap (λ n. suc n) (length_set xs i x)
+
+pub get_at : {X : Type 0} (xs : List X) (i : ℕ) (d : X) → i < length xs → slice_get xs i ≡ Some (slice_index_or xs i d)
+get_at [] i d less = absurd (omega (arith, less))
+get_at (y ∷ xs) zero d less = refl
+get_at (y ∷ xs) (suc i) d less = get_at xs i d (omega (arith, less))
+
+pub take_front : {X : Type 0} (n : ℕ) (xs ys : List X) → n ≡ length xs → take n (xs ++ ys) ≡ xs
+take_front n xs ys e = ap (λ k. take k (xs ++ ys)) e ∙ take-append_seam xs ys
+
+pub not_ended : {K : _} (r : Runner K) → ((e : WorkerEnd K) → r ≡ Ended e → ⊥) → IsEnded r → ⊥
+not_ended (Ended e) never is = never e refl
+not_ended (Going w h) never is = is
+not_ended Moved never is = is
+
+pub ends_push : {K : _} (workers : ℕ) (allowed : List ℕ → Bool) (meaning : List ℕ → Page) (starts : List WorkerId) (rs all : List (Runner K)) (r : Runner K) (e : WorkerEnd K) (ends : List (WorkerEnd K))
+    → all ≡ rs ++ r ∷ [] → r ≡ Ended e → ((ss : List WorkerId) → AllGo workers allowed meaning ss rs → AllRan workers allowed meaning ss ends) → AllGo workers allowed meaning starts all → AllRan workers allowed meaning starts (ends ++ e ∷ [])
+ends_push {K} workers allowed meaning starts rs all r e ends is end rest go =
+    let R : WorkerId → Runner K → Type 0 = λ w x. RunnerRan workers allowed meaning w x in
+    let cut = all_zip_unsnoc R starts rs r (subst (λ (xs : List (Runner K)). AllZip R starts xs) is go) in
+    let ran : RunnerRan workers allowed meaning cut.last (Ended e) = subst (λ (x : Runner K). RunnerRan workers allowed meaning cut.last x) end cut.ran in
+    rw cut.is (all_zip_push (λ (w : WorkerId) (f : WorkerEnd K). Ran workers allowed meaning w f.closed f.results.items f.lost) cut.front ends cut.last e (rest cut.front cut.all) ran)

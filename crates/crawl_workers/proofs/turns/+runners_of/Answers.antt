@@ -1,0 +1,9 @@
+use Rattle.crawl_workers.proofs.Running.{ran_nothing}
+use Rattle.crawl_workers.proofs.Turning.{all_go_push}
+use Rattle.crawl_workers.proofs.turns.+runners_of.Goals as goal
+
+pub returns-clause-ran : goal.returns-clause-ran
+returns-clause-ran g t c = λ allowed meaning.
+    rw (c.push_reserved.ensures.items, c.in-Some.ensures.items)
+    (all_go_push g.K.Name.workers allowed meaning c.pop.new.self.items c.runners_of-runners.result.items c.in-Some.worker _ (c.runners_of-runners.ensures.ran allowed meaning)
+    (rw (c.new.ensures.0, c.new.ensures.1) (ran_nothing g.K.Name.workers allowed meaning c.in-Some.worker)))

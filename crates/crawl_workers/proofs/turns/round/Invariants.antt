@@ -1,0 +1,11 @@
+use Rattle.std.proofs.Common.{◌≡◌, false, List, length}
+use Rattle.crawl_keys.specs.HostFilter.{allows}
+use Rattle.crawl_frontier.specs.Parts.{WorkerId}
+use Rattle.crawl_workers.specs.Rounds.{AllGo, EndedBelow}
+use Rattle.crawl_workers.proofs.turns.round.Given as goal
+
+abbrev pub invariant-loop-i : goal.invariant-loop-i
+invariant-loop-i g l =
+    (length l.runners ≡ length l.fn.runners)
+    × ((starts : List WorkerId) → AllGo g.K.Name.workers (allows g.K.Name.filter) (g.F.Fetch.meaning l.fetcher) starts l.fn.runners
+    → AllGo g.K.Name.workers (allows g.K.Name.filter) (g.F.Fetch.meaning l.fetcher) starts l.runners × (l.going ≡ false → EndedBelow l.i l.runners))

@@ -1,0 +1,7 @@
+pub mod ErrorTexts
+pub mod Logs
+pub mod Lossless
+pub mod Ran
+pub mod Rounds
+pub mod Runs
+pub mod Turn

@@ -1,0 +1,26 @@
+-- What a log says of links.
+use Rattle.std.specs.Prelude.{◌≡◌, ℕ, Bool, IsTrue, List, ◌++◌, map}
+use Rattle.std.specs.List.{All, Contains}
+use Rattle.crawl_keys.specs.Assignment.{subqueue_of}
+use Rattle.crawl_frontier.specs.declared.book.Logged.{Logged}
+use Rattle.crawl_frontier.specs.declared.book.Logged.TheVariants.{Accepted, Seen}
+use Rattle.crawl_frontier.specs.Books.{BookId}
+
+-- the URL and the subqueue of a line of a log
+abbrev pub line_of : Logged → List ℕ × ℕ
+line_of (Accepted e q) = (e.url, q)
+line_of (Seen url q) = (url, q)
+
+-- the log has a line of this URL, accepted or seen by the URL's subqueue
+abbrev pub HasLine : ℕ → List Logged → List ℕ → Type 0
+HasLine workers log url = Contains (map line_of log) (url, subqueue_of url workers)
+
+-- each of these URLs that is allowed has a line
+abbrev pub AllLogged : ℕ → (List ℕ → Bool) → List Logged → List (List ℕ) → Type 0
+AllLogged workers allowed log urls = All (λ url. IsTrue (allowed url) → HasLine workers log url) urls
+
+-- the books are of the same part, and their log has gone on
+pub record Grows (b b' : BookId) : Type 0 where
+  pub more : List Logged
+  pub id : b'.id ≡ b.id
+  pub log : b'.log ≡ b.log ++ more

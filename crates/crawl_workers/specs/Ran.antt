@@ -1,0 +1,45 @@
+-- What a worker has done in a run.
+use Rattle.std.specs.Prelude.{◌≡◌, ℕ, ◌+◌, ◌-◌, ◌^◌, ◌<◌, ◌≤◌, Bool, List, [], ◌∷◌, ◌++◌, length, map, Option, None, Some}
+use Rattle.std.specs.List.{All, flat_map}
+use Rattle.crawl_web.specs.declared.page.Page.{Page}
+use Rattle.crawl_web.specs.declared.page.PageResult.{PageResult}
+use Rattle.crawl_web.specs.Pages.{links_of}
+use Rattle.crawl_frontier.specs.declared.entry.Entry.{Entry}
+use Rattle.crawl_frontier.specs.Entries.{KeepsRule}
+use Rattle.crawl_frontier.specs.Parts.{WorkerId}
+use Rattle.crawl_workers.specs.Logs.{AllLogged, Grows}
+
+-- what became of a URL that was taken: its page, if there is a result of it
+abbrev pub Fate : Type 0
+Fate = Entry × Option Page
+
+abbrev pub result_at : Entry → Option Page → List PageResult
+result_at e None = []
+result_at e (Some page) = record { url = e.url; page = page } ∷ []
+
+-- the results of these fates, in order
+abbrev pub results_of : List Fate → List PageResult
+results_of fates = flat_map (λ (f : Fate). result_at f.0 f.1) fates
+
+-- the entries that were taken, in order
+abbrev pub taken_in : List Fate → List Entry
+taken_in fates = map (λ (f : Fate). f.0) fates
+
+-- so much was lost, or no more can be counted
+abbrev pub AtLeast : ℕ → ℕ → Type 0
+AtLeast n lost = lost < 2 ^ 64 - 1 → n ≤ lost
+
+-- From `start` to `now`, on a frontier with this number of workers and this filter, over pages with this meaning: the worker
+-- keeps its place; it took more entries, each with a URL that is new there and belongs there; the results are those of
+-- the entries that have a page, in order, and each page is the one that its URL means; what has no result is lost; its
+-- books have only grown; and where nothing was lost, each allowed link of each result stands in its log.
+pub record Ran (workers : ℕ) (allowed : List ℕ → Bool) (meaning : List ℕ → Page) (start now : WorkerId) (results : List PageResult) (lost : ℕ) : Type 0 where
+  pub fates : List Fate
+  pub place : now.place ≡ start.place
+  pub taken : now.taken ≡ start.taken ++ taken_in fates
+  pub rule : KeepsRule workers start.place start.taken (taken_in fates)
+  pub found : results ≡ results_of fates
+  pub pages : All (λ r. r.page ≡ meaning r.url) results
+  pub counted : lost < 2 ^ 64 - 1 → length fates ≤ length results + lost
+  pub grows : Grows start.book now.book
+  pub links : lost ≡ 0 → All (λ r. AllLogged workers allowed now.book.log (links_of r.page)) results

@@ -1,0 +1,15 @@
+-- What all workers of a run have done.
+use Rattle.std.specs.Prelude.{ℕ, Bool, List}
+use Rattle.std.specs.List.{AllZip}
+use Rattle.crawl_web.specs.declared.page.Page.{Page}
+use Rattle.crawl_frontier.specs.Parts.{WorkerId}
+use Rattle.crawl_workers.specs.declared.worker_end.WorkerEnd.{WorkerEnd}
+use Rattle.crawl_workers.specs.Ran.{Ran}
+
+-- from this worker to this end
+abbrev pub RanTo : {K : _} → ℕ → (List ℕ → Bool) → (List ℕ → Page) → WorkerId → WorkerEnd K → Type 0
+RanTo workers allowed meaning start e = Ran workers allowed meaning start e.closed e.results.items e.lost
+
+-- as many ends as workers, each that of the worker at its place in the list
+abbrev pub AllRan : {K : _} → ℕ → (List ℕ → Bool) → (List ℕ → Page) → List WorkerId → List (WorkerEnd K) → Type 0
+AllRan workers allowed meaning starts ends = AllZip (λ (w : WorkerId) (e : WorkerEnd _). RanTo workers allowed meaning w e) starts ends

@@ -1,0 +1,40 @@
+-- What one turn of a worker does.
+use Rattle.std.specs.Prelude.{◌≡◌, ℕ, ◌+◌, Bool, List, [], ◌∷◌, ◌++◌}
+use Rattle.crawl_web.specs.declared.page.Page.{Page}
+use Rattle.crawl_web.specs.Pages.{links_of}
+use Rattle.crawl_frontier.specs.declared.book.Logged.{Logged}
+use Rattle.crawl_frontier.specs.Parts.{WorkerId, BusyId, worker}
+use Rattle.crawl_workers.specs.declared.harvest.Harvest.{Harvest}
+use Rattle.crawl_workers.specs.declared.turn.Step.{Step}
+use Rattle.crawl_workers.specs.declared.turn.Step.TheVariants.{Worked, Waits, Closes}
+use Rattle.crawl_workers.specs.Logs.{AllLogged, Grows}
+use Rattle.crawl_workers.specs.Ran.{AtLeast}
+
+-- the worker after a turn
+abbrev pub worker_in : {K : _} → Step K → WorkerId
+worker_in (Worked w) = w
+worker_in (Waits w) = w
+worker_in (Closes w) = w
+
+-- one result more
+abbrev pub Keeps : List ℕ → Page → Harvest → Harvest → Type 0
+Keeps url page old new = (new.results.items ≡ old.results.items ++ record { url = url; page = page } ∷ []) × (new.lost ≡ old.lost)
+
+-- one loss more at least, and no result
+pub record Loses (old new : Harvest) : Type 0 where
+  pub results : new.results.items ≡ old.results.items
+  pub more : AtLeast (old.lost + 1) new.lost
+
+-- the URL has its page as a result, and what was lost is counted
+pub record Finds (workers : ℕ) (allowed : List ℕ → Bool) (meaning : List ℕ → Page) (url : List ℕ) (log : List Logged) (old new : Harvest) : Type 0 where
+  pub page : Page
+  pub means : page ≡ meaning url
+  pub results : new.results.items ≡ old.results.items ++ record { url = url; page = page } ∷ []
+  pub more : AtLeast old.lost new.lost
+  pub links : new.lost ≡ 0 → (old.lost ≡ 0) × AllLogged workers allowed log (links_of page)
+
+-- the same worker and entry; the pass may be another, and the books have grown
+pub record SameBusy (b b' : BusyId) : Type 0 where
+  pub entry : b'.message.entry ≡ b.message.entry
+  pub worker : b'.worker ≡ worker b.worker.place b'.worker.seat b.worker.taken b.worker.empty_pops b'.worker.book
+  pub grows : Grows b.worker.book b'.worker.book

@@ -1,0 +1,63 @@
+//! What a worker has found so far.
+ghost use Rattle.std.specs.Prelude.{◌≡◌, ◌⊎◌, ◌+◌, ◌++◌, ◌∷◌, []};
+ghost use Rattle.crawl_workers.specs.Turn.{Keeps, Loses};
+ghost use Rattle.crawl_workers.specs.Ran.{AtLeast};
+
+use crate::worker_end::WorkerEnd;
+use crawl_frontier::{ClosedWorker, Name};
+use crawl_keys::CanonUrl;
+use crawl_web::{Page, PageResult};
+use std::alloc::Global;
+
+/// The results so far, and how much was lost, up to the greatest u64.
+#[derive(Drop)]
+pub(crate) struct Harvest {
+    pub results: Vec<PageResult>,
+    pub lost: u64,
+}
+
+impl Harvest {
+    pub fn new(alloc: Global) -> Harvest
+        ensures { (result.results.items ≡ []) × (result.lost ≡ 0) }
+    {
+        Harvest {
+            results: Vec::new(alloc),
+            lost: 0,
+        }
+    }
+
+    /// Counts so many losses.
+    pub fn lose(&mut self, count: u64)
+        ensures same { self.new.results ≡ self.old.results }
+        ensures more { AtLeast (self.old.lost + count) self.new.lost }
+        ensures none { self.new.lost ≡ 0 → (self.old.lost ≡ 0) × (count ≡ 0) }
+    {
+        self.lost = self.lost.saturating_add(count);
+    }
+
+    /// Keeps a result, or counts it as lost where there is no room for it.
+    pub fn keep(&mut self, url: &CanonUrl, page: Page)
+        ensures { Keeps url.now page self.old self.new ⊎ Loses self.old self.new }
+    {
+        let Ok(url) = url.copy() else {
+            self.lose(1);
+            return;
+        };
+        if self.results.push(PageResult { url, page }).is_err() {
+            self.lose(1);
+        }
+    }
+
+    pub fn end<K: Name>(self, closed: ClosedWorker<K>) -> WorkerEnd<K>
+        ensures closed { result.closed ≡ closed }
+        ensures results { result.results ≡ self.results }
+        ensures lost { result.lost ≡ self.lost }
+    {
+        let Harvest { results, lost } = self;
+        WorkerEnd {
+            closed,
+            results,
+            lost,
+        }
+    }
+}

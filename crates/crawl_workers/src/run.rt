@@ -1,0 +1,46 @@
+//! The run of one worker.
+ghost use Rattle.crawl_keys.specs.HostFilter.{allows};
+ghost use Rattle.crawl_workers.specs.Ran.{Ran};
+ghost use Rattle.crawl_workers.specs.Runs.{RanTo};
+
+use crate::harvest::Harvest;
+use crate::turn::{Step, turn};
+use crate::worker_end::WorkerEnd;
+use crawl_frontier::{Frontier, Name, Worker};
+use crawl_web::Fetch;
+use crossbeam_utils::Backoff;
+use std::alloc::Global;
+use std::sync::Wait;
+
+/// Runs a worker until it meets the gate closed.
+///
+/// It fetches each URL that it takes, offers the page's links in order, keeps the result, and is done with the URL. After a
+/// turn that found none it pauses, the longer the more such turns there were. While another worker is busy, or whoever
+/// seeds has not ended, it does not end; so the frontier's other workers have to run too, on other threads.
+pub fn run_worker<K: Name, F: Fetch, R: Wait>(
+    rt: &R,
+    alloc: Global,
+    frontier: &Frontier<K>,
+    worker: Worker<K>,
+    fetcher: &F,
+) -> WorkerEnd<K>
+    ensures { RanTo K.workers (allows K.filter) (F.meaning fetcher.now) worker result }
+{
+    let mut harvest = Harvest::new(alloc);
+    let mut worker = worker;
+    let backoff = Backoff::new();
+    for _ in rt.forever() {
+        match turn(rt, alloc, frontier, worker, fetcher, &mut harvest) {
+            Step::Worked(next) => {
+                worker = next;
+                backoff.reset();
+            }
+            Step::Waits(next) => {
+                worker = next;
+                backoff.snooze();
+            }
+            Step::Closes(closed) => return harvest.end(closed),
+        }
+    }
+    unreachable!()
+}

@@ -1,0 +1,124 @@
+//! A thread for each worker.
+ghost use Rattle.std.specs.Prelude.{◌≡◌, ◌≤◌, ◌<◌, ◌++◌, ◌∷◌, [], true, false, IfOk, IfSome, vec_capacity, vec_len, length};
+ghost use Rattle.std.specs.Thread.{IsSend, IsSync};
+ghost use Rattle.crawl_keys.specs.HostFilter.{allows};
+ghost use Rattle.crawl_workers.specs.Runs.{RanTo, AllRan};
+
+use crate::error::RunError;
+use crate::run::run_worker;
+use crate::worker_end::WorkerEnd;
+use crawl_frontier::{Frontier, Name, Worker};
+use crawl_web::Fetch;
+use std::alloc::Global;
+use std::snapshot::Snapshot;
+use std::sync::{OnceLock, Wait};
+use std::thread;
+use std::thread::{Promise, Threads};
+
+// What a thread promises: the end of this worker, where the run was not given up.
+#[derive(Drop)]
+struct EndOf<'a, K: Name, F: Fetch> {
+    worker: Snapshot<Worker<K>>,
+    fetcher: &'a F,
+}
+
+impl<'a, K: Name, F: Fetch> Promise<Option<WorkerEnd<K>>> for EndOf<'a, K, F> {
+    ghost use Rattle.std.specs.Prelude.{IfSome};
+    ghost use Rattle.crawl_keys.specs.HostFilter.{allows};
+    ghost use Rattle.crawl_workers.specs.Runs.{RanTo};
+
+    ghost kept_by = { λ p r. IfSome r (λ e. RanTo K.workers (allows K.filter) (F.meaning p.fetcher.now) p.worker.value e) };
+}
+
+// Runs the worker once all threads were started, and drops it where one could not be.
+fn run_after<K: Name, F: Fetch, R: Wait>(
+    rt: &R,
+    alloc: Global,
+    frontier: &Frontier<K>,
+    worker: Worker<K>,
+    fetcher: &F,
+    started: &OnceLock<bool>,
+) -> Option<WorkerEnd<K>>
+    ensures { IfSome result (λ e. RanTo K.workers (allows K.filter) (F.meaning fetcher.now) worker e) }
+{
+    if !*started.wait(rt) {
+        return None;
+    }
+    Some(run_worker(rt, alloc, frontier, worker, fetcher))
+}
+
+// Starts a thread for the last worker, then for those before it, says to all whether each was started, and joins them. So
+// the ends come in the order of the workers, and each level joins the one thread that it started.
+fn run_all<K: Name + Send + Sync, F: Fetch + Sync, R: Threads + Wait + Sync>(
+    rt: &R,
+    alloc: Global,
+    frontier: &Frontier<K>,
+    mut workers: Vec<Worker<K>>,
+    fetcher: &F,
+    started: &OnceLock<bool>,
+    ends: Vec<WorkerEnd<K>>,
+) -> Result<Vec<WorkerEnd<K>>, RunError>
+    requires room { length workers.items ≤ vec_capacity ends }
+    requires none { ends.items ≡ [] }
+    ensures ran { IfOk result (λ v. AllRan K.workers (allows K.filter) (F.meaning fetcher.now) workers.items v.items) }
+    ensures room { IfOk result (λ v. vec_capacity v ≡ vec_capacity ends) }
+{
+    let Some(worker) = workers.pop() else {
+        let _ = started.set(rt, true);
+        return Ok(ends);
+    };
+    thread::scope(
+        thread::scope_env(),
+        rt,
+        move |scope| -> Result<Vec<WorkerEnd<K>>, RunError>
+            requires send { IsSend K.row × IsSync K.row × IsSync F.row × IsSync R.row }
+            requires room { length workers.items < vec_capacity ends }
+            requires none { ends.items ≡ [] }
+            ensures ran { IfOk result (λ v. AllRan K.workers (allows K.filter) (F.meaning fetcher.entry.now) (workers.items ++ worker ∷ []) v.items) }
+            ensures room { IfOk result (λ v. vec_capacity v ≡ vec_capacity ends) }
+        {
+            let promise = EndOf {
+                worker: Snapshot::of(&worker),
+                fetcher,
+            };
+            let job = move || run_after(rt, alloc, frontier, worker, fetcher, started);
+            let Ok(child) = scope.spawn_with(promise, job) else {
+                let _ = started.set(rt, false);
+                return Err(RunError::NoThread);
+            };
+            let others = run_all(rt, alloc, frontier, workers, fetcher, started, ends);
+            let end = child.join(rt);
+            let mut ends = others?;
+            // A thread gives up only where another could not be started, which `others` has told already.
+            let Some(end) = end else {
+                return Err(RunError::NoThread);
+            };
+            ends.push_reserved(end);
+            Ok(ends)
+        },
+    )
+}
+
+/// Runs each worker in a thread of its own, and answers their ends in the order given. No worker takes a URL before all
+/// threads were started.
+///
+/// The workers have to be all that the frontier has: one that is missing leaves its URLs waiting, and then none ends.
+///
+/// # Errors
+/// `NoMemory` where there is no room for the ends, and `NoThread` where a thread could not be started; those that were
+/// started end then.
+pub fn run_threads<K: Name + Send + Sync, F: Fetch + Sync, R: Threads + Wait + Sync>(
+    rt: &R,
+    alloc: Global,
+    frontier: &Frontier<K>,
+    workers: Vec<Worker<K>>,
+    fetcher: &F,
+) -> Result<Vec<WorkerEnd<K>>, RunError>
+    ensures { IfOk result (λ v. AllRan K.workers (allows K.filter) (F.meaning fetcher.now) workers.items v.items) }
+{
+    let Ok(ends) = Vec::with_capacity(alloc, workers.len()) else {
+        return Err(RunError::NoMemory);
+    };
+    let started = OnceLock::new();
+    run_all(rt, alloc, frontier, workers, fetcher, &started, ends)
+}

@@ -1,0 +1,170 @@
+//! Workers in turn, on the calling thread.
+ghost use Rattle.std.specs.Prelude.{◌≡◌, ◌≤◌, ◌<◌, [], true, false, MatchResult, vec_capacity, vec_len, length, List, ℕ, Bool};
+ghost use Rattle.crawl_web.specs.declared.page.Page.{Page};
+ghost use Rattle.crawl_keys.specs.HostFilter.{allows};
+ghost use Rattle.crawl_frontier.specs.Parts.{WorkerId};
+ghost use Rattle.crawl_workers.specs.Runs.{AllRan};
+ghost use Rattle.crawl_workers.specs.Rounds.{AllGo, RunnerRan, IsEnded, EndedBelow};
+
+use crate::error::RunError;
+use crate::harvest::Harvest;
+use crate::turn::{Step, turn};
+use crate::worker_end::WorkerEnd;
+use crawl_frontier::{Frontier, Name, Worker};
+use crawl_web::Fetch;
+use std::alloc::Global;
+use std::mem;
+use std::sync::Wait;
+
+/// A worker with what it has found, or its end.
+#[derive(Drop)]
+pub(crate) enum Runner<K: Name> {
+    Going(Worker<K>, Harvest),
+    Ended(WorkerEnd<K>),
+    /// Its worker is in a turn.
+    Moved,
+}
+
+// A turn, if the worker has not ended. Answers whether it goes on.
+fn advance<K: Name, F: Fetch, R: Wait>(
+    rt: &R,
+    alloc: Global,
+    frontier: &Frontier<K>,
+    runner: &mut Runner<K>,
+    fetcher: &F,
+) -> bool
+    ensures ran { (start : WorkerId) → RunnerRan K.workers (allows K.filter) (F.meaning fetcher.now) start runner.old → RunnerRan K.workers (allows K.filter) (F.meaning fetcher.now) start runner.new }
+    ensures ended { (start : WorkerId) → RunnerRan K.workers (allows K.filter) (F.meaning fetcher.now) start runner.old → result ≡ false → IsEnded runner.new }
+{
+    match mem::replace(runner, Runner::Moved) {
+        Runner::Going(worker, mut harvest) => {
+            match turn(rt, alloc, frontier, worker, fetcher, &mut harvest) {
+                Step::Worked(worker) => {
+                    *runner = Runner::Going(worker, harvest);
+                    true
+                }
+                Step::Waits(worker) => {
+                    *runner = Runner::Going(worker, harvest);
+                    true
+                }
+                Step::Closes(closed) => {
+                    *runner = Runner::Ended(harvest.end(closed));
+                    false
+                }
+            }
+        }
+        Runner::Ended(end) => {
+            *runner = Runner::Ended(end);
+            false
+        }
+        Runner::Moved => false,
+    }
+}
+
+// A turn of each, in order. Answers whether one goes on.
+fn round<K: Name, F: Fetch, R: Wait>(
+    rt: &R,
+    alloc: Global,
+    frontier: &Frontier<K>,
+    runners: &mut [Runner<K>],
+    fetcher: &F,
+) -> bool
+    ensures ran { (starts : List WorkerId) → AllGo K.workers (allows K.filter) (F.meaning fetcher.now) starts runners.old → AllGo K.workers (allows K.filter) (F.meaning fetcher.now) starts runners.new }
+    ensures ended { (starts : List WorkerId) → AllGo K.workers (allows K.filter) (F.meaning fetcher.now) starts runners.old → result ≡ false → EndedBelow (length runners.new) runners.new }
+    ensures len { length runners.new ≡ length runners.old }
+{
+    let mut going = false;
+    for i in 0..runners.len() {
+        if advance(rt, alloc, frontier, &mut runners[i], fetcher) {
+            going = true;
+        }
+    }
+    going
+}
+
+// Rounds until each has ended.
+fn rounds<K: Name, F: Fetch, R: Wait>(
+    rt: &R,
+    alloc: Global,
+    frontier: &Frontier<K>,
+    runners: &mut [Runner<K>],
+    fetcher: &F,
+)
+    ensures ran { (starts : List WorkerId) → AllGo K.workers (allows K.filter) (F.meaning fetcher.now) starts runners.old → AllGo K.workers (allows K.filter) (F.meaning fetcher.now) starts runners.new × EndedBelow (length runners.new) runners.new }
+    ensures len { length runners.new ≡ length runners.old }
+{
+    for _ in rt.forever() {
+        if !round(rt, alloc, frontier, runners, fetcher) {
+            return;
+        }
+    }
+    unreachable!()
+}
+
+// The workers, in order, with nothing found.
+fn runners_of<K: Name>(
+    alloc: Global,
+    mut workers: Vec<Worker<K>>,
+    runners: Vec<Runner<K>>,
+) -> Vec<Runner<K>>
+    requires room { length workers.items ≤ vec_capacity runners }
+    requires none { runners.items ≡ [] }
+    ensures ran { (allowed : List ℕ → Bool) (meaning : List ℕ → Page) → AllGo K.workers allowed meaning workers.items result.items }
+    ensures len { length result.items ≡ length workers.items }
+    ensures room { vec_capacity result ≡ vec_capacity runners }
+{
+    let Some(worker) = workers.pop() else {
+        return runners;
+    };
+    let mut runners = runners_of(alloc, workers, runners);
+    runners.push_reserved(Runner::Going(worker, Harvest::new(alloc)));
+    runners
+}
+
+// Their ends, in order.
+fn ends_of<K: Name>(mut runners: Vec<Runner<K>>, ends: Vec<WorkerEnd<K>>) -> Vec<WorkerEnd<K>>
+    requires room { length runners.items ≤ vec_capacity ends }
+    requires none { ends.items ≡ [] }
+    requires ended { EndedBelow (length runners.items) runners.items }
+    ensures ran { (allowed : List ℕ → Bool) (meaning : List ℕ → Page) (starts : List WorkerId) → AllGo K.workers allowed meaning starts runners.items → AllRan K.workers allowed meaning starts result.items }
+    ensures len { length result.items ≡ length runners.items }
+    ensures room { vec_capacity result ≡ vec_capacity ends }
+{
+    let Some(runner) = runners.pop() else {
+        return ends;
+    };
+    let mut ends = ends_of(runners, ends);
+    match runner {
+        Runner::Ended(end) => ends.push_reserved(end),
+        _ => unreachable!(),
+    }
+    ends
+}
+
+/// Runs the workers on the calling thread, one turn of each in turn, and answers their ends in the order given.
+///
+/// The workers have to be all that the frontier has: one that is missing leaves its URLs waiting, and then none ends.
+///
+/// # Errors
+/// `NoMemory` where there is no room for the ends, before any URL was taken. `NoThread` never comes.
+pub fn run_turns<K: Name, F: Fetch, R: Wait>(
+    rt: &R,
+    alloc: Global,
+    frontier: &Frontier<K>,
+    workers: Vec<Worker<K>>,
+    fetcher: &F,
+) -> Result<Vec<WorkerEnd<K>>, RunError>
+    ensures { MatchResult result
+        (λ v. AllRan K.workers (allows K.filter) (F.meaning fetcher.now) workers.items v.items)
+        (λ e. e ≡ RunError.NoMemory) }
+{
+    let Ok(ends) = Vec::with_capacity(alloc, workers.len()) else {
+        return Err(RunError::NoMemory);
+    };
+    let Ok(runners) = Vec::with_capacity(alloc, workers.len()) else {
+        return Err(RunError::NoMemory);
+    };
+    let mut runners = runners_of(alloc, workers, runners);
+    rounds(rt, alloc, frontier, runners.as_mut_slice(), fetcher);
+    Ok(ends_of(runners, ends))
+}

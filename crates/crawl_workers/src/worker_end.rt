@@ -1,0 +1,15 @@
+//! What a worker ends with.
+use crawl_frontier::{ClosedWorker, Name};
+use crawl_web::PageResult;
+
+/// A worker that met the gate closed, what it found, and how much it lost.
+#[derive(Drop)]
+pub struct WorkerEnd<K: Name> {
+    /// The worker, for [`crawl_frontier::Frontier::finish`].
+    pub closed: ClosedWorker<K>,
+    /// The pages that were fetched, in the order in which their URLs were taken.
+    pub results: Vec<PageResult>,
+    /// How many URLs got no result (their fetch failed, or there was no room for it) and how many offers of links were
+    /// refused, together. It stays at the greatest u64 once there. A link that the filter does not allow is not lost.
+    pub lost: u64,
+}
