@@ -5,6 +5,7 @@ use mercator::run_words;
 use std::fs::{self, Files};
 use std::io;
 use std::sync::Wait;
+use std::thread::Threads;
 
 /// The list of the examples, in the folder that the program runs in: on each line the words, the file of the input, and the
 /// file of what is written.
@@ -25,7 +26,7 @@ fn main(rt: HostRuntime) -> io::Result<()> {
 }
 
 /// Whether the example is done and writes what its file has.
-fn is_answered<R: Wait + Files + AllocGlobal>(rt: &R, line: &str) -> io::Result<bool> {
+fn is_answered<R: Threads + Wait + Sync + Files + AllocGlobal>(rt: &R, line: &str) -> io::Result<bool> {
     let Some((words, files)) = line.split_once(" < ") else {
         return Ok(false);
     };

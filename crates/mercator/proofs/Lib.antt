@@ -1,5 +1,4 @@
 pub mod Assigned
-pub mod CoreCrawl
 pub mod EventLines
 pub mod HeaderWords
 pub mod Least
@@ -8,4 +7,7 @@ pub mod NumberText
 pub mod ReadLines
 pub mod ReadNumbers
 pub mod ScriptWords
+pub mod RunResults
 pub mod Seeds
+pub mod SiteCrawls
+pub mod WithoutLoss

@@ -8,6 +8,8 @@ use Rattle.mercator.specs.declared.commands.fault.Fault.{Fault}
 use Rattle.mercator.specs.declared.commands.fault.Fault.TheVariants as wrong
 use Rattle.mercator.specs.declared.commands.input.Unread.{Unread}
 use Rattle.mercator.specs.declared.commands.input.Unread.TheVariants as unread
+use Rattle.mercator.specs.declared.crawling.error.CrawlError.{CrawlError}
+use Rattle.mercator.specs.declared.crawling.error.CrawlError.TheVariants as crawl
 use Rattle.mercator.specs.declared.script.error.ScriptError.{ScriptError}
 use Rattle.mercator.specs.declared.script.error.ScriptError.TheVariants as script
 
@@ -26,6 +28,17 @@ of_web fault = wrong.Web fault
 abbrev pub of_url : KeyError → Fault
 of_url key.NoMemory = wrong.NoMemory
 of_url refusal = wrong.Url refusal
+
+abbrev pub of_crawl : CrawlError → Fault
+of_crawl crawl.NoMemory = wrong.NoMemory
+of_crawl error = wrong.Crawl error
+
+-- the status of a fault: 2 where a crawl is incomplete, since it was not certified, has no account or had no thread
+abbrev pub status_of_fault : Fault → ℕ
+status_of_fault (wrong.Crawl (crawl.Run error)) = 2
+status_of_fault (wrong.Crawl (crawl.Finish error)) = 2
+status_of_fault (wrong.Crawl (crawl.Cert error)) = 2
+status_of_fault fault = 1
 
 -- the fault of the seed with this number
 abbrev pub of_seed : ℕ → KeyError → Fault

@@ -1,5 +1,5 @@
 -- What each command tells, by the bytes of its input where these are known.
-use Rattle.std.specs.Prelude.{◌≡◌, ℕ, List, Option, Err, IfSome, IsSomeAnd, IsErr}
+use Rattle.std.specs.Prelude.{◌≡◌, ℕ, List, [], Option, Err, IfSome, IsSomeAnd, IsErr}
 use Rattle.std.specs.Io.KnownBytes.{Appends}
 use Rattle.crawl_keys.specs.CanonicalText.{canonical}
 use Rattle.mercator.specs.Commands.{Asked}
@@ -14,7 +14,7 @@ use Rattle.mercator.specs.declared.commands.fault.Fault.TheVariants as wrong
 -- the text is the command's
 abbrev pub IsTold : Asked → Option (List ℕ) → List ℕ → Type 0
 IsTold asks.Replay input text = IfSome input (λ bytes. IsReplay bytes text)
-IsTold (asks.Crawl workers max seeds) input text = IfSome input (λ bytes. IsCrawlReport bytes seeds text)
+IsTold (asks.Crawl workers max seeds) input text = IfSome input (λ bytes. IsCrawlReport bytes seeds [] text)
 IsTold (asks.Key url workers) input text = IsKeyLine url workers text
 
 -- the command reads no input
@@ -34,10 +34,10 @@ FailsReplay input (wrong.Script fault) = IfSome input (λ bytes. script_of bytes
 FailsReplay input wrong.NoMemory = Unit {0}
 FailsReplay input _ = ⊥
 
--- why a crawl fails: the input cannot be read, or is refused, or a seed is; or want of memory
-abbrev pub FailsCrawl : List (List ℕ) → Option (List ℕ) → Fault → Type 0
-FailsCrawl seeds input wrong.CannotRead = Unit {0}
-FailsCrawl seeds input fault = IfSome input (λ bytes. IsRefused bytes seeds fault)
+-- why a crawl fails: the input cannot be read, or is refused, or a seed is; or the crawl is incomplete; or want of memory
+abbrev pub FailsCrawl : ℕ → ℕ → List (List ℕ) → Option (List ℕ) → Fault → Type 0
+FailsCrawl workers max seeds input wrong.CannotRead = Unit {0}
+FailsCrawl workers max seeds input fault = IfSome input (λ bytes. IsRefused workers max bytes seeds fault)
 
 -- why a key is not told: the text has no canonical URL, by this refusal; or want of memory
 abbrev pub FailsKey : List ℕ → Fault → Type 0
@@ -48,7 +48,7 @@ FailsKey url _ = ⊥
 -- the fault is one by which the command fails
 abbrev pub Fails : Asked → Option (List ℕ) → Fault → Type 0
 Fails asks.Replay input fault = FailsReplay input fault
-Fails (asks.Crawl workers max seeds) input fault = FailsCrawl seeds input fault
+Fails (asks.Crawl workers max seeds) input fault = FailsCrawl workers max seeds input fault
 Fails (asks.Key url workers) input fault = FailsKey url fault
 
 -- there is nothing that the command could tell: the input is no script, or is no saved web or a seed has no canonical URL, or

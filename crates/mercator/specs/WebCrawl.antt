@@ -7,9 +7,11 @@ use Rattle.crawl_keys.specs.declared.error.KeyError.{KeyError}
 use Rattle.crawl_web.specs.WebFaults.{IsSound, IsWebFault}
 use Rattle.mercator.specs.declared.commands.fault.Fault.{Fault}
 use Rattle.mercator.specs.declared.commands.fault.Fault.TheVariants as wrong
+use Rattle.crawl_certificate.specs.Certificate.{IsCrawl}
+use Rattle.crawl_keys.specs.HostFilter.{allows}
+use Rattle.mercator.specs.Crawls.{CrawlFails}
 use Rattle.crawl_web.specs.ReportText.{report}
 use Rattle.crawl_web.specs.declared.page.PageResult.{PageResult}
-use Rattle.mercator.specs.Results.{ArePages, AreApart, IsWhole, urls_of}
 
 -- these are the canonical URLs of the texts
 abbrev pub AreSeeds : List (List ℕ) → List (List ℕ) → Type 0
@@ -38,22 +40,25 @@ IsSeedFault texts (wrong.Seed place refusal) = IsFirstBadSeed texts place refusa
 IsSeedFault texts wrong.NoMemory = Unit {0}
 IsSeedFault texts _ = ⊥
 
--- why bytes and seeds are refused, in this order: the bytes are no saved web, by this fault; the first seed that has no
--- canonical URL, by its refusal; or want of memory
-abbrev pub IsRefused : List ℕ → List (List ℕ) → Fault → Type 0
-IsRefused bytes texts (wrong.Web fault) = IsWebFault (lines bytes) fault
-IsRefused bytes texts (wrong.Seed place refusal) = IsSound (lines bytes) × IsFirstBadSeed texts place refusal
-IsRefused bytes texts wrong.NoMemory = Unit {0}
-IsRefused bytes texts _ = ⊥
+-- why there is no report of a crawl with these numbers, in this order: the bytes are no saved web, by this fault; the first
+-- seed that has no canonical URL, by its refusal; the crawl fails, by its error; or want of memory
+abbrev pub IsRefused : ℕ → ℕ → List ℕ → List (List ℕ) → Fault → Type 0
+IsRefused workers max bytes texts (wrong.Web fault) = IsWebFault (lines bytes) fault
+IsRefused workers max bytes texts (wrong.Seed place refusal) = IsSound (lines bytes) × IsFirstBadSeed texts place refusal
+IsRefused workers max bytes texts (wrong.Crawl error) = IsCrawlable bytes texts × CrawlFails workers max error
+IsRefused workers max bytes texts wrong.NoMemory = Unit {0}
+IsRefused workers max bytes texts _ = ⊥
 
--- the text is the report of results that have, each URL once, the pages of the saved web; among their URLs are all seeds and
--- all links of their pages
-pub record IsCrawlReport (bytes : List ℕ) (texts : List (List ℕ)) (text : List ℕ) : Type 0 where
+-- the bytes are a saved web, and these are its pages at exactly the URLs that can be reached from the seeds by URLs that the
+-- filter with these suffixes allows
+pub record IsSiteCrawl (bytes : List ℕ) (texts suffixes : List (List ℕ)) (pages : List PageResult) : Type 0 where
   pub sound : IsSound (lines bytes)
   pub seeds : List (List ℕ)
   pub named : AreSeeds texts seeds
-  pub results : List PageResult
-  pub pages : ArePages (page_of (lines bytes)) results
-  pub apart : AreApart (urls_of results)
-  pub whole : IsWhole seeds results
-  pub written : text ≡ report results
+  pub found : IsCrawl (page_of (lines bytes)) (allows suffixes) seeds pages
+
+-- the text is the report of those pages
+pub record IsCrawlReport (bytes : List ℕ) (texts suffixes : List (List ℕ)) (text : List ℕ) : Type 0 where
+  pub pages : List PageResult
+  pub crawl : IsSiteCrawl bytes texts suffixes pages
+  pub written : text ≡ report pages

@@ -20,16 +20,18 @@ pub use input::{INPUT_LIMIT, READ_LIMIT};
 use std::alloc::Global;
 use std::io::{Read, Write};
 use std::sync::Wait;
+use std::thread::Threads;
 use tell::tell;
+pub use web_crawl::{Report, report_of_saved_web};
 
 /// Runs the program and answers its status, which is that of an [`Ending`]. The words are those after the program's name.
 /// `replay -` reads a script from the input, and writes the replies to `out`; `crawl - SEED..` and
-/// `crawl --workers N - SEED..` read a saved web, and write the report of a crawl from the seeds; `key URL` and
+/// `crawl --workers N - SEED..` read a saved web, and write the report of a crawl from the seeds, in a thread for each worker; `key URL` and
 /// `key URL --workers N` write the URL's key line.
 ///
 /// The whole input is read before anything is done with it, and all that is written is whole before any is written. After a
 /// fault nothing is written, unless a write failed. `err` takes nothing yet: faults are told there from the command line on.
-pub fn run_words<R: Wait, I: Read, O: Write, E: Write>(
+pub fn run_words<R: Threads + Wait + Sync, I: Read, O: Write, E: Write>(
     rt: &R,
     alloc: Global,
     words: &[String],
@@ -57,7 +59,7 @@ pub fn run_words<R: Wait, I: Read, O: Write, E: Write>(
 }
 
 /// Runs the command that the words are, and answers how it ends.
-fn run<R: Wait, I: Read, O: Write>(
+fn run<R: Threads + Wait + Sync, I: Read, O: Write>(
     rt: &R,
     alloc: Global,
     words: &[String],

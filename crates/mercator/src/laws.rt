@@ -1,6 +1,6 @@
 //! Laws over the definitions of the crates below, together. None does anything when it is called.
-ghost use Rattle.std.specs.Prelude.{◌≡◌, ◌↔◌, ℕ, List, Option, Result, map, slice_get, Some, Ok};
-ghost use Rattle.std.specs.List.{zip};
+ghost use Rattle.std.specs.Prelude.{◌≡◌, ◌↔◌, ℕ, List, Option, Result, map, slice_get, Some, Ok, ◌<◌, Bool, false};
+ghost use Rattle.std.specs.List.{zip, All, Contains, flat_map};
 ghost use Rattle.std.specs.Str.Lines.{lines};
 ghost use Rattle.crawl_core.specs.State.{State, start};
 ghost use Rattle.crawl_core.specs.Subqueue.{Subqueue};
@@ -11,10 +11,23 @@ ghost use Rattle.crawl_core.specs.declared.event.Event.{Event};
 ghost use Rattle.crawl_core.specs.declared.event.Event.TheVariants.{Take};
 ghost use Rattle.crawl_core.specs.declared.reply.Reply.{Reply};
 ghost use Rattle.crawl_core.specs.declared.reply.Reply.TheVariants.{Taken};
+ghost use Rattle.crawl_certificate.specs.AccountEntries.{entries_in};
+ghost use Rattle.crawl_certificate.specs.CertFaults.{seed_missing, not_fetched, link_missing};
+ghost use Rattle.crawl_certificate.specs.Certificate.{NothingLost};
+ghost use Rattle.crawl_frontier.specs.Accounts.{Accounts};
+ghost use Rattle.crawl_frontier.specs.Parts.{SenderId};
+ghost use Rattle.crawl_frontier.specs.declared.entry.Entry.{Entry};
 ghost use Rattle.crawl_keys.specs.Assignment.{subqueue_of};
+ghost use Rattle.crawl_web.specs.declared.page.Page.{Page};
+ghost use Rattle.crawl_web.specs.declared.page.PageResult.{PageResult};
 ghost use Rattle.mercator.specs.Assignment.{IsAssigned};
+ghost use Rattle.crawl_workers.specs.Logs.{AllLogged};
+ghost use Rattle.mercator.specs.LosslessRuns.{Share, IsWithoutLoss};
 ghost use Rattle.mercator.specs.Script.{Said, script_of, header_in, said_by};
 ghost use Rattle.mercator.specs.ScriptLines.{HeaderSays, LineSays, IsScript};
+ghost use Rattle.mercator.specs.Told.{Gains};
+ghost use Rattle.mercator.specs.WebCrawl.{IsSiteCrawl, IsCrawlReport};
+ghost use Rattle.mercator.specs.declared.commands.command.Command.TheVariants.{Crawl};
 ghost use Rattle.mercator.specs.declared.script.header.Header.{Header};
 ghost use Rattle.mercator.specs.declared.script.error.ScriptError.{ScriptError};
 
@@ -39,3 +52,30 @@ pub fn lines_mean_what_the_format_says()
     ensures line { (workers number : ℕ) (line : List ℕ) (said : Result (Option Event) ScriptError) → (said_by workers number line ≡ said) ↔ LineSays workers number line said }
     ensures script { (bytes : List ℕ) (script : Said) → (script_of bytes ≡ Ok script) ↔ IsScript (lines bytes) script }
 {}
+
+/// What a crawl finds and writes depends on the saved web, the seeds and the filter alone. So two crawls of one input from one
+/// list of seeds that both end with status 0, and began with an output that held the same, leave the same bytes there, whatever
+/// their numbers of workers and their maximums were.
+pub fn same_bytes_for_any_workers()
+    ensures pages { (bytes : List ℕ) (seeds suffixes : List (List ℕ)) (pages others : List PageResult) → IsSiteCrawl bytes seeds suffixes pages → IsSiteCrawl bytes seeds suffixes others → pages ≡ others }
+    ensures reports { (bytes : List ℕ) (seeds suffixes : List (List ℕ)) (text other : List ℕ) → IsCrawlReport bytes seeds suffixes text → IsCrawlReport bytes seeds suffixes other → text ≡ other }
+    ensures outputs { (workers max others other_max : ℕ) (seeds : List (List ℕ)) (bytes before after other : List ℕ) → Gains (Crawl workers max seeds) (Some bytes) (Some before) (Some after) → Gains (Crawl others other_max seeds) (Some bytes) (Some before) (Some other) → after ≡ other }
+{}
+
+/// A run in which nothing is lost lacks nothing. Where all workers of a frontier began with nothing taken and lost nothing, the
+/// seeds' sender has a line in its log for each seed that the filter allows, as it has where the offers were Ok
+/// ([`crawl_workers::laws::what_is_logged`]), and the run has an account: then the certificate, given all results, finds none
+/// of its first three faults.
+pub fn nothing_lost_lacks_nothing()
+    ensures whole { (workers : ℕ) (allowed : List ℕ → Bool) (meaning : List ℕ → Page) (seeds : List (List ℕ)) (shares : List Share) (senders : List SenderId) (queues : List (List Entry))
+        → 0 < workers → Accounts workers (map (λ share. share.now) shares) senders queues → All (IsWithoutLoss workers allowed meaning) shares
+        → (sender : SenderId) → Contains senders sender → AllLogged workers allowed sender.book.log seeds
+        → NothingLost allowed seeds (entries_in queues) (flat_map (λ share. share.found) shares) }
+    ensures faults { (workers : ℕ) (allowed : List ℕ → Bool) (meaning : List ℕ → Page) (seeds : List (List ℕ)) (shares : List Share) (senders : List SenderId) (queues : List (List Entry))
+        → 0 < workers → Accounts workers (map (λ share. share.now) shares) senders queues → All (IsWithoutLoss workers allowed meaning) shares
+        → (sender : SenderId) → Contains senders sender → AllLogged workers allowed sender.book.log seeds
+        → (seed_missing allowed seeds (entries_in queues) ≡ false) × (not_fetched (entries_in queues) (flat_map (λ share. share.found) shares) ≡ false)
+        × (link_missing allowed (entries_in queues) (flat_map (λ share. share.found) shares) ≡ false) }
+{
+    crawl_certificate::laws::nothing_lost();
+}

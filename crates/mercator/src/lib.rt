@@ -2,8 +2,8 @@
 //! webs.
 #![tactic(auto)]
 
-mod by_core;
 mod commands;
+mod crawling;
 mod key;
 /// What holds of the definitions together.
 pub mod laws;
@@ -14,11 +14,12 @@ mod script;
 #[cfg(test)]
 mod tests;
 
-pub use by_core::crawl_by_core;
 pub use commands::{
-    DEFAULT_MAX_PENDING, DEFAULT_WORKERS, Ending, Fault, INPUT_LIMIT, READ_LIMIT, run_words,
+    DEFAULT_MAX_PENDING, DEFAULT_WORKERS, Ending, Fault, INPUT_LIMIT, READ_LIMIT, Report,
+    report_of_saved_web, run_words,
 };
 pub use crawl_web::LINE_LIMIT;
+pub use crawling::{CrawlError, Crawled, Mode, crawl};
 pub use key::key_line;
 pub use replay::replay_text;
 pub use script::{Script, ScriptError, read_script};

@@ -5,3 +5,5 @@ mod keys;
 mod replays;
 mod runs;
 mod scripts;
+mod sources;
+mod threads;

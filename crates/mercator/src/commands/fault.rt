@@ -1,9 +1,10 @@
 //! Why a command ends before it is done.
 ghost use Rattle.std.specs.Prelude.{◌≡◌};
-ghost use Rattle.mercator.specs.Faults.{of_script, of_web, of_url};
+ghost use Rattle.mercator.specs.Faults.{of_script, of_web, of_url, of_crawl};
 ghost use Rattle.mercator.specs.declared.commands.fault.Fault.TheVariants as wrong;
 
 use crate::commands::input::Unread;
+use crate::crawling::CrawlError;
 use crate::script::ScriptError;
 use crawl_keys::KeyError;
 use crawl_web::WebError;
@@ -22,6 +23,8 @@ pub enum Fault {
     Seed(usize, KeyError),
     /// The URL whose key is asked for has no canonical URL.
     Url(KeyError),
+    /// A crawl came to no certified result. The reason is never want of memory.
+    Crawl(CrawlError),
     /// A write or a flush failed.
     CannotWrite,
     /// A growth was refused. The other variants never hold this reason.
@@ -30,6 +33,16 @@ pub enum Fault {
 
 impl Fault {
     ghost use Rattle.mercator.specs.Faults as spec;
+
+    /// The status that tells this fault: 2 where a crawl was made but not certified or had no thread, else 1.
+    pub fn status(self) -> u8
+        ensures { result ≡ spec.status_of_fault self }
+    {
+        match self {
+            Fault::Crawl(CrawlError::Run(_) | CrawlError::Finish(_) | CrawlError::Cert(_)) => 2,
+            _ => 1,
+        }
+    }
 
     /// The fault of the seed with this number that was refused so.
     pub fn of_seed(place: usize, refusal: KeyError) -> Fault
@@ -73,6 +86,17 @@ impl From<WebError> for Fault {
         match fault {
             WebError::NoMemory => Fault::NoMemory,
             _ => Fault::Web(fault),
+        }
+    }
+}
+
+impl From<CrawlError> for Fault {
+    ghost from_gives = { λ crawl fault. fault ≡ of_crawl crawl };
+
+    fn from(fault: CrawlError) -> Fault {
+        match fault {
+            CrawlError::NoMemory => Fault::NoMemory,
+            _ => Fault::Crawl(fault),
         }
     }
 }

@@ -1,43 +1,58 @@
 //! A crawl of a saved web, from its bytes to the report.
-ghost use Rattle.std.specs.Prelude.{◌≡◌, Ok, map, string_bytes, IfOk, IfErr};
-ghost use Rattle.crawl_core.specs.Limits.{AreLimits};
-ghost use Rattle.mercator.specs.Ending.{IfText};
-ghost use Rattle.mercator.specs.WebCrawl.{AreSeeds, IsCrawlable, IsCrawlReport, IsRefused, IsSeedFault};
-ghost use Rattle.mercator.specs.declared.commands.ending.Told.TheVariants.{Incomplete};
+ghost use Rattle.std.specs.Prelude.{List, map, string_bytes, IfOk, IfErr};
+ghost use Rattle.crawl_certificate.specs.Certificate.{result_urls};
+ghost use Rattle.crawl_web.specs.declared.page.PageResult.{PageResult};
+ghost use Rattle.mercator.specs.Crawls.{AreCounts};
+ghost use Rattle.mercator.specs.WebCrawl.{AreSeeds, IsSiteCrawl, IsCrawlReport, IsRefused, IsSeedFault};
 
-use crate::by_core::crawl_by_core;
-use crate::commands::ending::Told;
 use crate::commands::fault::Fault;
-use crawl_keys::{CanonUrl, canonical};
+use crate::crawling::{Mode, crawl};
+use crawl_keys::{CanonUrl, Filter, canonical};
 use crawl_web::{SavedWeb, report_text};
 use std::alloc::Global;
 use std::sync::Wait;
+use std::thread::Threads;
 
-/// The report of a crawl of the saved web that the bytes are, or that something was lost. The web is read before the seeds
-/// are.
+/// What a crawl of a saved web tells.
+#[derive(Debug, Drop)]
+pub struct Report {
+    /// The report, by the format of [`report_text`].
+    pub text: Vec<u8>,
+    /// How many of its URLs belong to each subqueue, by its place.
+    pub counts: Vec<u64>,
+}
+
+/// The report of a crawl of the saved web that the bytes are: of every URL that can be reached from the seeds by URLs that
+/// the filter allows, and of no other. Neither the number of workers, nor their mode, nor what the threads did shows in it.
+///
+/// The web is read before the seeds are, and both before anything is fetched. `workers` and `max_pending` are those of
+/// [`crawl`].
 ///
 /// # Errors
-/// That of the web, or of the first seed that has no canonical URL; `NoMemory`.
-pub fn crawl_saved_web<R: Wait>(
+/// `Web`; `Seed` with the first seed that has no canonical URL; `Crawl`, where a number is past its limit, or the crawl is
+/// incomplete; `NoMemory`.
+pub fn report_of_saved_web<R: Threads + Wait + Sync>(
     rt: &R,
     alloc: Global,
     bytes: &[u8],
-    workers: u32,
-    max: u64,
     seeds: &[String],
-) -> Result<Told, Fault>
-    requires { AreLimits workers max }
-    ensures report { IfOk result (λ told. IfText told (IsCrawlReport bytes.now (map string_bytes seeds.now))) }
-    ensures incomplete { result ≡ Ok Incomplete → IsCrawlable bytes.now (map string_bytes seeds.now) }
-    ensures refused { IfErr result (λ fault. IsRefused bytes.now (map string_bytes seeds.now) fault) }
+    filter: &Filter,
+    workers: u32,
+    max_pending: u64,
+    mode: Mode,
+) -> Result<Report, Fault>
+    ensures report { IfOk result (λ r. IsCrawlReport bytes.now (map string_bytes seeds.now) filter.now r.text.items) }
+    ensures counts { IfOk result (λ r. (pages : List PageResult) → IsSiteCrawl bytes.now (map string_bytes seeds.now) filter.now pages → AreCounts workers (result_urls pages) r.counts.items) }
+    ensures refused { IfErr result (λ fault. IsRefused workers max_pending bytes.now (map string_bytes seeds.now) fault) }
 {
     let web = SavedWeb::read(alloc, bytes)?;
     let seeds = seed_urls(alloc, seeds)?;
-    let (results, lost) = crawl_by_core(rt, alloc, &web, &seeds, workers, max)?;
-    if lost > 0 {
-        return Ok(Told::Incomplete);
-    }
-    Ok(Told::Text(report_text(alloc, &results)?))
+    let crawled = crawl(rt, alloc, &web, filter, &seeds, workers, max_pending, mode)?;
+    let text = report_text(alloc, crawled.result.pages())?;
+    Ok(Report {
+        text,
+        counts: crawled.counts,
+    })
 }
 
 /// The seeds' canonical URLs.

@@ -1,18 +1,16 @@
-ghost use Rattle.crawl_core.specs.Limits.{AreLimits};
-
-use crate::commands::command::Command;
-use crate::commands::ending::end;
-use crate::commands::tell::tell;
+//! The worked rows of crawls, by the words of the program and by `report_of_saved_web`.
 use crate::tests::runs::{DONE, answer, words};
-use crate::{Ending, Fault, crawl_by_core};
-use crawl_core::NoMemory;
-use crawl_keys::{CanonUrl, KeyError, canonical};
-use crawl_web::{Fetch, FetchError, Page, SavedWeb, WebError};
-use std::alloc::{AllocError, Global};
+use crate::{CrawlError, Fault, Mode, report_of_saved_web};
+use crawl_certificate::CertError;
+use crawl_frontier::FrontierError;
+use crawl_keys::{Filter, KeyError};
+use crawl_web::WebError;
+use std::alloc::Global;
 use std::sync::Wait;
 use std::test::Fail;
+use std::thread::Threads;
 
-const RING: &str = "savedweb 1\n\
+pub const RING: &str = "savedweb 1\n\
     page http://a.test/\n\
     link http://b.test/\n\
     link #top\n\
@@ -24,7 +22,7 @@ const RING: &str = "savedweb 1\n\
     link http://A.test:80\n\
     link gone\n";
 
-const RING_REPORT: &str = "ok 3 1 http://a.test/\n\
+pub const RING_REPORT: &str = "ok 3 1 http://a.test/\n\
     ok 2 0 http://b.test/\n\
     ok 2 0 http://c.test/\n\
     missing http://c.test/gone\n\
@@ -124,45 +122,170 @@ fn empty_web_small_web_and_two_links(rt: HostRuntime) -> Result<(), Fail> {
     Ok(())
 }
 
-/// How a crawl ends, with so many workers and that maximum, and what is written.
-fn ending(
-    rt: &impl Wait,
-    alloc: Global,
-    web: &str,
-    seeds: &[&str],
-    max: u64,
-) -> Result<(Ending, Vec<u8>), AllocError>
-    requires { AreLimits 1 max }
-{
-    let seeds = words(alloc, seeds)?;
-    let mut out = Vec::new(alloc);
-    let command = Command::Crawl {
-        workers: 1,
-        max,
-        seeds: seeds.as_slice(),
+/// A crawl of a saved web.
+#[derive(Clone, Copy)]
+struct Row<'a> {
+    web: &'a str,
+    seeds: &'a [&'a str],
+    suffixes: &'a [&'a str],
+    workers: u32,
+    max_pending: u64,
+}
+
+impl<'a> Row<'a> {
+    /// From the URL of the first page, with room for all.
+    fn of(web: &'a str) -> Row<'a> {
+        Row {
+            web,
+            seeds: &["http://a.test/"],
+            suffixes: &[],
+            workers: 1,
+            max_pending: 1_000_000,
+        }
+    }
+
+    /// Its report and its counts.
+    fn told<R: Threads + Wait + Sync>(
+        self,
+        rt: &R,
+        alloc: Global,
+        mode: Mode,
+    ) -> Result<(Vec<u8>, Vec<u64>), Fault> {
+        let Ok(filter) = Filter::new(alloc, self.suffixes) else {
+            return Err(Fault::NoMemory);
+        };
+        let seeds = words(alloc, self.seeds)?;
+        let report = report_of_saved_web(
+            rt,
+            alloc,
+            self.web.as_bytes(),
+            &seeds,
+            &filter,
+            self.workers,
+            self.max_pending,
+            mode,
+        )?;
+        Ok((report.text, report.counts))
+    }
+
+    /// Whether it has this report and these counts, in both modes.
+    fn reports<R: Threads + Wait + Sync>(
+        self,
+        rt: &R,
+        alloc: Global,
+        report: &str,
+        counts: &[u64],
+    ) -> bool {
+        for mode in [Mode::Turns, Mode::Threads] {
+            let Ok((text, found)) = self.told(rt, alloc, mode) else {
+                return false;
+            };
+            if text.as_slice() != report.as_bytes() || found.as_slice() != counts {
+                return false;
+            }
+        }
+        true
+    }
+
+    /// Whether it has no report for this reason, in both modes.
+    fn fails<R: Threads + Wait + Sync>(self, rt: &R, alloc: Global, fault: Fault) -> bool {
+        for mode in [Mode::Turns, Mode::Threads] {
+            match self.told(rt, alloc, mode) {
+                Err(told) if told == fault => {}
+                _ => return false,
+            }
+        }
+        true
+    }
+}
+
+#[test]
+fn small_web(rt: HostRuntime) {
+    let ring = Row::of(RING);
+    let rows: [(u32, &[u64]); 3] = [(1, &[4]), (2, &[1, 3]), (3, &[1, 1, 2])];
+    for (workers, counts) in rows {
+        let row = Row { workers, ..ring };
+        assert!(rt;
+            row.reports(&rt, rt.alloc(), RING_REPORT, counts),
+            "{workers} workers"
+        );
+    }
+}
+
+#[test]
+fn crawl_with_512_workers(rt: HostRuntime) {
+    let mut counts = [0u64; 512];
+    counts[511] = 1;
+    counts[158] = 1;
+    counts[317] = 2;
+    let row = Row {
+        workers: 512,
+        ..Row::of(RING)
     };
-    let told = tell(rt, alloc, command, &mut web.as_bytes());
-    let ending = end(&mut out, told);
-    Ok((ending, out))
+    assert!(rt; row.reports(&rt, rt.alloc(), RING_REPORT, &counts));
 }
 
 #[test]
-fn a_full_gate_loses_a_link(rt: HostRuntime) -> Result<(), Fail> {
-    let alloc = rt.alloc();
-    let (full, out) = ending(&rt, alloc, TWO_LINKS, &["http://a.test/"], 2)?;
-    assert_eq!(rt; full, Ending::Incomplete);
-    assert_eq!(rt; full.status(), 2);
-    assert_eq!(rt; out.len(), 0);
-
-    let (done, out) = ending(&rt, alloc, TWO_LINKS, &["http://a.test/"], 3)?;
-    assert_eq!(rt; done, Ending::Done);
-    assert_eq!(rt; str::from_utf8(&out)?, TWO_LINKS_REPORT);
-    Ok(())
+fn no_seeds(rt: HostRuntime) {
+    let row = Row {
+        seeds: &[],
+        workers: 2,
+        max_pending: 1,
+        ..Row::of(RING)
+    };
+    assert!(rt; row.reports(&rt, rt.alloc(), "total 0 ok 0 missing 0\n", &[0, 0]));
 }
 
 #[test]
-fn crawls_refused(rt: HostRuntime) -> Result<(), Fail> {
-    let rows: [(&str, &[&str], Fault); 6] = [
+fn full_gate_loses_link(rt: HostRuntime) {
+    let full = Row {
+        max_pending: 2,
+        ..Row::of(TWO_LINKS)
+    };
+    let missing = Fault::Crawl(CrawlError::Cert(CertError::LinkMissing));
+    assert!(rt; full.fails(&rt, rt.alloc(), missing));
+    let enough = Row {
+        max_pending: 3,
+        ..Row::of(TWO_LINKS)
+    };
+    assert!(rt; enough.reports(&rt, rt.alloc(), TWO_LINKS_REPORT, &[3]));
+}
+
+#[test]
+fn seed_refused_at_gate(rt: HostRuntime) {
+    let row = Row {
+        max_pending: 1,
+        ..Row::of("savedweb 1")
+    };
+    let missing = Fault::Crawl(CrawlError::Cert(CertError::SeedMissing));
+    assert!(rt; row.fails(&rt, rt.alloc(), missing));
+    assert_eq!(rt; missing.status(), 2);
+}
+
+#[test]
+fn within_suffix(rt: HostRuntime) {
+    let b_alone = "ok 2 0 http://b.test/\ntotal 1 ok 1 missing 0\n";
+    let rows: [(&[&str], &str, &[u64]); 3] = [
+        (&["b.test"], b_alone, &[1]),
+        (&["test"], RING_REPORT, &[4]),
+        (&["est"], "total 0 ok 0 missing 0\n", &[0]),
+    ];
+    for (suffixes, report, counts) in rows {
+        let row = Row {
+            seeds: &["http://a.test/", "http://b.test/"],
+            suffixes,
+            ..Row::of(RING)
+        };
+        assert!(rt;
+            row.reports(&rt, rt.alloc(), report, counts),
+            "{suffixes:?}"
+        );
+    }
+}
+
+#[test]
+fn crawls_refused(rt: HostRuntime) {
+    let rows: [(&str, &[&str], Fault); 5] = [
         ("", &["mailto:x"], Fault::Web(WebError::BadHeader)),
         (
             "savedweb 1\nlink x",
@@ -170,11 +293,6 @@ fn crawls_refused(rt: HostRuntime) -> Result<(), Fail> {
             Fault::Web(WebError::LinkBeforePage(2)),
         ),
         (RING, &["mailto:x"], Fault::Seed(1, KeyError::NotHttp)),
-        (
-            RING,
-            &["http://a.test/", "/x"],
-            Fault::Seed(2, KeyError::NotUrl),
-        ),
         (
             RING,
             &["http://a.test/", "/x", "mailto:x"],
@@ -187,52 +305,33 @@ fn crawls_refused(rt: HostRuntime) -> Result<(), Fail> {
         ),
     ];
     for (web, seeds, fault) in rows {
-        let (ended, out) = ending(&rt, rt.alloc(), web, seeds, 9)?;
-        assert_eq!(rt; ended, Ending::Fault(fault), "{seeds:?}");
-        assert_eq!(rt; out.len(), 0, "{seeds:?}");
+        let row = Row {
+            seeds,
+            ..Row::of(web)
+        };
+        assert!(rt; row.fails(&rt, rt.alloc(), fault), "{seeds:?}");
+        assert_eq!(rt; fault.status(), 1, "{seeds:?}");
     }
-    Ok(())
-}
-
-/// Its pages are all missing, and no fetch succeeds.
-#[derive(Drop)]
-struct NoFetch;
-
-impl Fetch for NoFetch {
-    ghost use Rattle.crawl_web.specs.declared.page.Page.TheVariants.{Missing};
-
-    ghost meaning = { λ _ _. Missing };
-
-    fn fetch(&self, _alloc: Global, _url: &CanonUrl) -> Result<Page, FetchError> {
-        Err(FetchError::Failed)
-    }
-}
-
-// How many results there are, and how much was lost, of a crawl from `http://a.test/` by one worker.
-fn counts<F: Fetch>(
-    rt: &impl Wait,
-    alloc: Global,
-    fetcher: &F,
-    max: u64,
-) -> Result<(usize, u64), NoMemory>
-    requires { AreLimits 1 max }
-{
-    let Ok(seed) = canonical(alloc, "http://a.test/") else {
-        return Err(AllocError);
-    };
-    let (results, lost) = crawl_by_core(rt, alloc, fetcher, &[seed], 1, max)?;
-    Ok((results.len(), lost))
 }
 
 #[test]
-fn losses(rt: HostRuntime) -> Result<(), Fail> {
-    let alloc = rt.alloc();
-    let Ok(web) = SavedWeb::read(alloc, TWO_LINKS.as_bytes()) else {
-        return Err(Fail::from(AllocError));
-    };
-    assert_eq!(rt; counts(&rt, alloc, &web, 1)?, (0, 1), "the seed is refused");
-    assert_eq!(rt; counts(&rt, alloc, &web, 2)?, (2, 1), "one link is refused");
-    assert_eq!(rt; counts(&rt, alloc, &web, 3)?, (3, 0), "nothing is lost");
-    assert_eq!(rt; counts(&rt, alloc, &NoFetch, 3)?, (0, 1), "the fetch fails");
-    Ok(())
+fn numbers_past_their_limits(rt: HostRuntime) {
+    let rows = [
+        (0, 1, FrontierError::BadWorkers),
+        (513, 0, FrontierError::BadWorkers),
+        (1, 0, FrontierError::BadLimit),
+        (512, (1 << 40) + 1, FrontierError::BadLimit),
+    ];
+    for (workers, max_pending, error) in rows {
+        let row = Row {
+            workers,
+            max_pending,
+            ..Row::of(RING)
+        };
+        let fault = Fault::Crawl(CrawlError::Frontier(error));
+        assert!(rt;
+            row.fails(&rt, rt.alloc(), fault),
+            "{workers}, {max_pending}"
+        );
+    }
 }

@@ -3,6 +3,7 @@ use std::alloc::{AllocError, Global};
 use std::io::{self, ErrorKind, Read, Write};
 use std::sync::Wait;
 use std::test::Fail;
+use std::thread::Threads;
 
 const SCRIPT: &str = "workers 1 max 9\nlook 0\nenter 0\n";
 
@@ -60,7 +61,7 @@ pub fn words(alloc: Global, texts: &[&str]) -> Result<Vec<String>, AllocError> {
 
 /// The status and what is written, for these words and this input.
 pub fn answer(
-    rt: &impl Wait,
+    rt: &(impl Threads + Wait + Sync),
     alloc: Global,
     row: &[&str],
     input: &str,

@@ -1,0 +1,41 @@
+-- The pages of a saved web that can be reached are one list, and so its report is one text.
+use Rattle.std.proofs.Common.{◌≡◌, ℕ, Bool, List, [], ◌∷◌, map, Result, Ok, Err, refl, sym, ap, subst, ◌∙◌}
+use Rattle.crawl_certificate.specs.Certificate.{IsCrawl}
+use Rattle.crawl_certificate.proofs.OneCrawl.{one_crawl}
+use Rattle.crawl_keys.specs.CanonicalText.{canonical}
+use Rattle.crawl_keys.specs.HostFilter.{allows}
+use Rattle.crawl_keys.specs.declared.error.KeyError.{KeyError}
+use Rattle.crawl_web.specs.SavedWeb.{page_of}
+use Rattle.crawl_web.specs.ReportText.{report}
+use Rattle.crawl_web.specs.declared.page.Page.{Page}
+use Rattle.crawl_web.specs.declared.page.PageResult.{PageResult}
+use Rattle.std.specs.Str.Lines.{lines}
+use Rattle.mercator.specs.WebCrawl.{IsSiteCrawl, IsCrawlReport}
+
+-- of texts that are all canonical, there is one list of URLs
+abbrev as_ok : List ℕ → Result (List ℕ) KeyError
+as_ok url = Ok url
+
+same_oks : (xs ys : List (List ℕ)) → map as_ok xs ≡ map as_ok ys → xs ≡ ys
+same_oks [] [] same = refl
+same_oks [] (y ∷ ys) same = absurd (cc)
+same_oks (x ∷ xs) [] same = absurd (cc)
+same_oks (x ∷ xs) (y ∷ ys) same =
+    let first : x ≡ y = cc in
+    let others : xs ≡ ys = same_oks xs ys (cc) in
+    rw (first, others) refl
+
+-- what a crawl says of a meaning it says of a meaning that is the same at each URL
+pub crawl_of_same : (meaning other : List ℕ → Page) (allowed : List ℕ → Bool) (seeds : List (List ℕ)) (pages : List PageResult) → ((url : List ℕ) → meaning url ≡ other url) → IsCrawl meaning allowed seeds pages → IsCrawl other allowed seeds pages
+crawl_of_same meaning other allowed seeds pages same crawl =
+    let both : meaning ≡ other = λ i url. same url i in
+    subst (λ m. IsCrawl m allowed seeds pages) both crawl
+
+pub one_site_crawl : (bytes : List ℕ) (texts suffixes : List (List ℕ)) (pages others : List PageResult) → IsSiteCrawl bytes texts suffixes pages → IsSiteCrawl bytes texts suffixes others → pages ≡ others
+one_site_crawl bytes texts suffixes pages others own other =
+    let seeds : own.seeds ≡ other.seeds = same_oks own.seeds other.seeds (sym own.named ∙ other.named) in
+    one_crawl (page_of (lines bytes)) (allows suffixes) other.seeds pages others (subst (λ s. IsCrawl (page_of (lines bytes)) (allows suffixes) s pages) seeds own.found) other.found
+
+pub one_report : (bytes : List ℕ) (texts suffixes text other : _) → IsCrawlReport bytes texts suffixes text → IsCrawlReport bytes texts suffixes other → text ≡ other
+one_report bytes texts suffixes text other own its =
+    own.written ∙ ap report (one_site_crawl bytes texts suffixes own.pages its.pages own.crawl its.crawl) ∙ sym its.written

@@ -1,7 +1,0 @@
-use Rattle.std.proofs.Common.{refl}
-use Rattle.crawl_core.specs.declared.event.Event.TheVariants.{EndSeeds}
-use Rattle.mercator.proofs.CoreCrawl.{going_quiet}
-use Rattle.mercator.proofs.by_core.end_seeds.Goals as goal
-
-pub returns : goal.returns
-returns c = λ workers max taken offers going. going_quiet EndSeeds c.in_ok-step.field-0 c.step.new.self tt refl c.in_ok-step.ensures.step going

@@ -1,0 +1,67 @@
+-- What a crawl answers beside its pages.
+use Rattle.std.specs.Prelude.{◌≡◌, ℕ, ◌<◌, ◌==◌, List, length, count_by, slice_get, Some}
+use Rattle.std.specs.List.{All}
+use Rattle.crawl_certificate.specs.Certificate.{ArePages}
+use Rattle.crawl_certificate.specs.declared.error.CertError.{CertError}
+use Rattle.crawl_certificate.specs.declared.error.CertError.TheVariants as cert
+use Rattle.crawl_frontier.specs.Accounts.{AccountId}
+use Rattle.crawl_frontier.specs.Limits.{IsWorkers}
+use Rattle.crawl_frontier.specs.declared.entry.Entry.{Entry}
+use Rattle.crawl_frontier.specs.declared.error.FinishError.{FinishError}
+use Rattle.crawl_frontier.specs.declared.error.FinishError.TheVariants as finish
+use Rattle.crawl_frontier.specs.declared.error.FrontierError.{FrontierError}
+use Rattle.crawl_frontier.specs.declared.error.FrontierError.TheVariants as frontier
+use Rattle.crawl_gate.specs.GateError.{IsMaximum}
+use Rattle.crawl_keys.specs.Assignment.{subqueue_of}
+use Rattle.crawl_web.specs.declared.page.Page.{Page}
+use Rattle.crawl_workers.specs.declared.error.RunError.{RunError}
+use Rattle.crawl_workers.specs.declared.error.RunError.TheVariants as run
+use Rattle.crawl_workers.specs.declared.worker_end.WorkerEnd.{WorkerEnd}
+use Rattle.mercator.specs.declared.crawling.error.CrawlError.{CrawlError}
+use Rattle.mercator.specs.declared.crawling.error.CrawlError.TheVariants as wrong
+
+-- a count for each subqueue: of the URLs, those that belong to it
+pub record AreCounts (workers : ℕ) (urls : List (List ℕ)) (counts : List ℕ) : Type 0 where
+  pub len : length counts ≡ workers
+  pub each : (queue : ℕ) → queue < workers → slice_get counts queue ≡ Some (count_by (λ url. subqueue_of url workers == queue) urls)
+
+-- so many counts, each the number of entries of the account's subqueue at its place
+pub record CountedBelow (some : ℕ) (account : AccountId) (counts : List ℕ) : Type 0 where
+  pub len : length counts ≡ some
+  pub each : (queue : ℕ) → queue < some → (entries : List Entry) × ((slice_get account.queues queue ≡ Some entries) × (slice_get counts queue ≡ Some (length entries)))
+
+-- every result of every worker has the page that its URL means
+abbrev pub AllPages : {K : _} → (List ℕ → Page) → List (WorkerEnd K) → Type 0
+AllPages meaning ends = All (λ (e : WorkerEnd _). ArePages meaning e.results.items) ends
+
+-- the error of a crawl that another error leads to: want of memory is one error, wherever it comes
+abbrev pub of_frontier : FrontierError → CrawlError
+of_frontier frontier.NoMemory = wrong.NoMemory
+of_frontier error = wrong.Frontier error
+
+abbrev pub of_run : RunError → CrawlError
+of_run run.NoMemory = wrong.NoMemory
+of_run error = wrong.Run error
+
+abbrev pub of_finish : FinishError → CrawlError
+of_finish finish.NoMemory = wrong.NoMemory
+of_finish error = wrong.Finish error
+
+abbrev pub of_cert : CertError → CrawlError
+of_cert cert.NoMemory = wrong.NoMemory
+of_cert error = wrong.Cert error
+
+-- an error of a run on a frontier that was made; want of memory is told as such, and no account finds the gate open
+abbrev pub IsOfRun : CrawlError → Type 0
+IsOfRun (wrong.Frontier error) = ⊥
+IsOfRun (wrong.Run run.NoMemory) = ⊥
+IsOfRun (wrong.Finish finish.NoMemory) = ⊥
+IsOfRun (wrong.Finish (finish.Unsettled word)) = ⊥
+IsOfRun (wrong.Cert cert.NoMemory) = ⊥
+IsOfRun _ = Unit {0}
+
+-- why a crawl with these numbers fails: the first number that no frontier takes, and only where both are taken another error
+abbrev pub CrawlFails : ℕ → ℕ → CrawlError → Type 0
+CrawlFails workers max (wrong.Frontier frontier.BadWorkers) = ¬ IsWorkers workers
+CrawlFails workers max (wrong.Frontier frontier.BadLimit) = IsWorkers workers × ¬ IsMaximum max
+CrawlFails workers max error = IsWorkers workers × IsMaximum max × IsOfRun error

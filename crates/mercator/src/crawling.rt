@@ -1,0 +1,72 @@
+//! A whole crawl: from its seeds to its pages, certified.
+ghost use Rattle.std.specs.Prelude.{IfOk, MatchResult};
+ghost use Rattle.crawl_certificate.specs.Certificate.{IsCrawl, result_urls};
+ghost use Rattle.crawl_frontier.specs.Limits.{IsWorkers};
+ghost use Rattle.crawl_gate.specs.GateError.{IsMaximum};
+ghost use Rattle.crawl_keys.specs.HostFilter.{allows};
+ghost use Rattle.mercator.specs.Crawls.{AreCounts, CrawlFails};
+
+mod error;
+mod gather;
+mod named;
+
+use crawl_certificate::CrawlResult;
+use crawl_frontier::Setup;
+use crawl_keys::{CanonUrl, Filter};
+use crawl_web::Fetch;
+pub use error::CrawlError;
+use named::crawl_named;
+use std::alloc::Global;
+use std::marker::Brand;
+use std::sync::Wait;
+use std::thread::Threads;
+
+/// How the workers of a crawl run. What a crawl finds does not depend on it.
+#[derive(Clone, Copy, Debug, PartialEq, Eq)]
+pub enum Mode {
+    /// All on the calling thread, one URL of each worker in turn.
+    Turns,
+    /// Each in a thread of its own.
+    Threads,
+}
+
+/// What a crawl found.
+#[derive(Debug, Drop)]
+pub struct Crawled {
+    /// The pages of all URLs that can be reached, in ascending order of the bytes of their URLs, each URL once.
+    pub result: CrawlResult,
+    /// How many of these URLs belong to each subqueue, by its place.
+    pub counts: Vec<u64>,
+}
+
+/// Crawls from the seeds: all that can be reached from them over the links of the fetcher's pages, by URLs that the filter
+/// allows.
+///
+/// The frontier has so many workers, at most 512, each with its subqueue, and takes a URL only while fewer than
+/// `max_pending` (at most 2^40) are offered, waiting or fetched. The seeds are offered in order, then the workers run until
+/// nothing is left, and what they leave is certified. A seed that is refused may still come in by a link.
+///
+/// Nothing bounds the fetcher's web, so the call may not end.
+///
+/// # Errors
+/// Those of [`CrawlError`], in its order. Want of memory while workers run is a loss, which the certificate judges.
+pub fn crawl<F: Fetch + Sync, R: Threads + Wait + Sync>(
+    rt: &R,
+    alloc: Global,
+    fetcher: &F,
+    filter: &Filter,
+    seeds: &[CanonUrl],
+    workers: u32,
+    max_pending: u64,
+    mode: Mode,
+) -> Result<Crawled, CrawlError>
+    // The pages are those of exactly the URLs that can be reached, and each is the one that the fetcher means.
+    ensures pages { IfOk result (λ crawled. IsCrawl (F.meaning fetcher.now) (allows filter.now) seeds.now crawled.result) }
+    // A count for each subqueue, of those URLs that belong to it.
+    ensures counts { IfOk result (λ crawled. AreCounts workers (result_urls crawled.result) crawled.counts.items) }
+    // Numbers that no frontier takes are refused, each by its own error; other errors come only where both are taken.
+    ensures numbers { MatchResult result (λ _. IsWorkers workers × IsMaximum max_pending) (λ error. CrawlFails workers max_pending error) }
+{
+    let setup = Setup::new(alloc, workers, max_pending)?;
+    crawl_named::<Brand, F, R>(rt, alloc, setup, filter, fetcher, seeds, mode)
+}

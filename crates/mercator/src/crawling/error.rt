@@ -1,0 +1,84 @@
+//! Why a crawl came to no certified result.
+ghost use Rattle.std.specs.Prelude.{◌≡◌};
+ghost use Rattle.mercator.specs.Crawls.{of_frontier, of_run, of_finish, of_cert};
+ghost use Rattle.mercator.specs.declared.crawling.error.CrawlError.TheVariants as wrong;
+
+use crawl_certificate::CertError;
+use crawl_frontier::{FinishError, FrontierError};
+use crawl_workers::RunError;
+use std::alloc::{AllocError, AllocFailed};
+
+/// Why a crawl came to no certified result. Want of memory is `NoMemory`, and no other variant holds that reason.
+#[derive(Clone, Copy, Debug, PartialEq, Eq)]
+pub enum CrawlError {
+    /// No frontier has these numbers.
+    Frontier(FrontierError),
+    /// A thread could not be started, and no URL was fetched.
+    Run(RunError),
+    /// What the workers left does not agree with what the frontier accepted.
+    Finish(FinishError),
+    /// Something is missing, or should not be there.
+    Cert(CertError),
+    /// A growth was refused.
+    NoMemory,
+}
+
+impl From<FrontierError> for CrawlError {
+    ghost from_gives = { λ frontier error. error ≡ of_frontier frontier };
+
+    fn from(error: FrontierError) -> CrawlError {
+        match error {
+            FrontierError::NoMemory => CrawlError::NoMemory,
+            _ => CrawlError::Frontier(error),
+        }
+    }
+}
+
+impl From<RunError> for CrawlError {
+    ghost from_gives = { λ run error. error ≡ of_run run };
+
+    fn from(error: RunError) -> CrawlError {
+        match error {
+            RunError::NoMemory => CrawlError::NoMemory,
+            RunError::NoThread => CrawlError::Run(error),
+        }
+    }
+}
+
+impl From<FinishError> for CrawlError {
+    ghost from_gives = { λ finish error. error ≡ of_finish finish };
+
+    fn from(error: FinishError) -> CrawlError {
+        match error {
+            FinishError::NoMemory => CrawlError::NoMemory,
+            _ => CrawlError::Finish(error),
+        }
+    }
+}
+
+impl From<CertError> for CrawlError {
+    ghost from_gives = { λ cert error. error ≡ of_cert cert };
+
+    fn from(error: CertError) -> CrawlError {
+        match error {
+            CertError::NoMemory => CrawlError::NoMemory,
+            _ => CrawlError::Cert(error),
+        }
+    }
+}
+
+impl From<AllocError> for CrawlError {
+    ghost from_gives = { λ _ error. error ≡ wrong.NoMemory };
+
+    fn from(_refused: AllocError) -> CrawlError {
+        CrawlError::NoMemory
+    }
+}
+
+impl<T: Drop> From<AllocFailed<T>> for CrawlError {
+    ghost from_gives = { λ _ error. error ≡ wrong.NoMemory };
+
+    fn from(_refused: AllocFailed<T>) -> CrawlError {
+        CrawlError::NoMemory
+    }
+}

@@ -1,0 +1,42 @@
+//! What a run left, put together.
+ghost use Rattle.std.specs.Prelude.{ℕ, List, IfOk};
+ghost use Rattle.crawl_certificate.specs.Certificate.{ArePages};
+ghost use Rattle.crawl_web.specs.declared.page.Page.{Page};
+ghost use Rattle.mercator.specs.Crawls.{AllPages, CountedBelow};
+
+use crawl_frontier::{Account, ClosedWorker, Name};
+use crawl_web::PageResult;
+use crawl_workers::WorkerEnd;
+use std::alloc::{AllocError, Global};
+
+/// The closed workers, and the results of all of them.
+pub fn gathered<K: Name>(
+    alloc: Global,
+    mut ends: Vec<WorkerEnd<K>>,
+) -> Result<(Vec<ClosedWorker<K>>, Vec<PageResult>), AllocError>
+    ensures { (meaning : List ℕ → Page) → AllPages meaning ends.items → IfOk result (λ r. ArePages meaning r.1.items) }
+{
+    let mut closed = Vec::new(alloc);
+    let mut results = Vec::new(alloc);
+    while let Some(end) = ends.pop() {
+        let WorkerEnd {
+            closed: worker,
+            results: mut found,
+            lost: _,
+        } = end;
+        closed.push(worker)?;
+        results.append(&mut found)?;
+    }
+    Ok((closed, results))
+}
+
+/// How many entries each subqueue has.
+pub fn counts_of(alloc: Global, account: &Account) -> Result<Vec<u64>, AllocError>
+    ensures { IfOk result (λ counts. CountedBelow account.now.workers account.now counts.items) }
+{
+    let mut counts = Vec::new(alloc);
+    for queue in 0..account.workers() {
+        counts.push(account.queue(queue).len() as u64)?;
+    }
+    Ok(counts)
+}

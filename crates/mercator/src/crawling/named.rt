@@ -1,0 +1,77 @@
+//! A crawl on a frontier that has a name.
+ghost use Rattle.std.specs.Prelude.{◌≡◌, IfOk, IfErr};
+ghost use Rattle.crawl_certificate.specs.Certificate.{IsCrawl, result_urls};
+ghost use Rattle.crawl_keys.specs.HostFilter.{allows};
+ghost use Rattle.crawl_workers.specs.Runs.{AllRan};
+ghost use Rattle.mercator.specs.Crawls.{AreCounts, IsOfRun};
+
+use crate::crawling::gather::{counts_of, gathered};
+use crate::crawling::{CrawlError, Crawled, Mode};
+use crawl_certificate::certify;
+use crawl_frontier::{Frontier, Name, Seeder, Setup, Worker};
+use crawl_keys::{CanonUrl, Filter};
+use crawl_web::Fetch;
+use crawl_workers::{RunError, WorkerEnd, run_threads, run_turns};
+use std::alloc::Global;
+use std::sync::Wait;
+use std::thread::Threads;
+
+/// Crawls on the frontier of this setup: seeds, run, account, certificate.
+pub fn crawl_named<K: Name + Send + Sync, F: Fetch + Sync, R: Threads + Wait + Sync>(
+    rt: &R,
+    alloc: Global,
+    setup: Setup,
+    filter: &Filter,
+    fetcher: &F,
+    seeds: &[CanonUrl],
+    mode: Mode,
+) -> Result<Crawled, CrawlError>
+    requires gate { setup.gate ≡ K.gate }
+    requires workers { setup.workers ≡ K.workers }
+    requires queues { setup.queues ≡ K.queues }
+    requires filter { filter.now ≡ K.filter }
+    ensures pages { IfOk result (λ crawled. IsCrawl (F.meaning fetcher.now) (allows filter.now) seeds.now crawled.result) }
+    ensures counts { IfOk result (λ crawled. AreCounts setup.workers (result_urls crawled.result) crawled.counts.items) }
+    ensures errors { IfErr result IsOfRun }
+{
+    let (frontier, workers, mut seeder) = Frontier::<K>::new(alloc, setup, filter)?;
+    offer_seeds(rt, &frontier, &mut seeder, seeds);
+    let sender = seeder.end(&frontier);
+    let ends = run(rt, alloc, &frontier, workers, fetcher, mode)?;
+    let (closed, results) = gathered(alloc, ends)?;
+    let mut senders = Vec::new(alloc);
+    senders.push(sender)?;
+    let account = frontier.finish(closed, senders)?;
+    let result = certify(alloc, filter, seeds, &account, &results)?;
+    let counts = counts_of(alloc, &account)?;
+    Ok(Crawled { result, counts })
+}
+
+/// Offers the seeds in order. What is refused is passed over: it may still come in by a link, and the certificate asks for it.
+fn offer_seeds<K: Name, R: Wait>(
+    rt: &R,
+    frontier: &Frontier<K>,
+    seeder: &mut Seeder<K>,
+    seeds: &[CanonUrl],
+) {
+    for seed in seeds {
+        let _ = seeder.offer(rt, frontier, seed);
+    }
+}
+
+/// Runs all workers to their ends.
+fn run<K: Name + Send + Sync, F: Fetch + Sync, R: Threads + Wait + Sync>(
+    rt: &R,
+    alloc: Global,
+    frontier: &Frontier<K>,
+    workers: Vec<Worker<K>>,
+    fetcher: &F,
+    mode: Mode,
+) -> Result<Vec<WorkerEnd<K>>, RunError>
+    ensures { IfOk result (λ ends. AllRan K.workers (allows K.filter) (F.meaning fetcher.now) workers.items ends.items) }
+{
+    match mode {
+        Mode::Turns => run_turns(rt, alloc, frontier, workers, fetcher),
+        Mode::Threads => run_threads(rt, alloc, frontier, workers, fetcher),
+    }
+}
