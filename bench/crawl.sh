@@ -1,59 +1,36 @@
 #!/bin/bash
-# Crawls saved webs of 10,000, 100,000 and 1,000,000 pages by the built program with one worker. It prints pages a second
-# and the peak memory beyond the file a page of each, instructions a page at 10,000 pages by callgrind, and the ratio of
-# the time a page at 1,000,000 pages to that at 10,000; and fails where a target is missed or a page is not found. Wants
-# `rt`, valgrind and GNU time in the path.
+# Crawls saved webs of 10,000, 100,000 and 1,000,000 pages by the built program with 1, 2, 4 and 8 workers, each in a thread
+# of its own. It compares the reports of all numbers of workers byte for byte; and prints instructions a page at 10,000
+# pages by callgrind, peak memory beyond the file a page, and the times, all with their ratios to those of one worker. It
+# fails where a report differs, a page is not found, or a target is missed. Wants `rt`, valgrind and GNU time in the path.
+#
+# Usage: bench/crawl.sh [PAGES ..], for webs of other sizes; the first is the one whose instructions are counted.
 set -euo pipefail
 cd "$(dirname "$0")/.."
 made=bench/out
 program=$PWD/crates/mercator_cli/out/mercator_cli
-few=10000
-middle=100000
-many=1000000
-most_instructions=85000
-most_bytes=1600
-limit=2 # of the ratio
+sizes=("$@")
+if [ ${#sizes[@]} -eq 0 ]; then sizes=(10000 100000 1000000); fi
+threads=(1 2 4 8)
+most_instructions=60000 # a page of the first web, one worker
+most_bytes=1400         # a page beyond the file, one worker
+least_gain=1.5          # of the time of one worker to that of four, at 100,000 pages
 mkdir -p "$made"
 
 # `rt run` proves and builds the program, and leaves it in out/.
 (cd crates/mercator_cli && rt run -- key http://a.test/ > /dev/null)
 
-# the web of so many pages, its first page's URL, and the file of the times of its crawls
+# the web of so many pages, its first page's URL, and the report of its crawl
 web() { echo "$made/$1.pages"; }
 seed() { sed -n '2s/^page //p' "$(web "$1")"; }
-times() { echo "$made/$1.times"; }
+report() { echo "$made/$1.report"; }
 
-# crawls the web of so many pages by the program, under the command that follows
+# crawls the web of so many pages with so many workers, under the command that follows
 crawl_under() {
-    local pages=$1
-    shift
-    "$@" "$program" crawl --workers 1 - "$(seed "$pages")" < "$(web "$pages")"
+    local pages=$1 workers=$2
+    shift 2
+    "$@" "$program" crawl --workers "$workers" - "$(seed "$pages")" < "$(web "$pages")"
 }
-
-# the peak memory of a crawl in bytes, whose report must say that each page was found
-peak() {
-    local total
-    total=$(crawl_under "$1" env time -o "$made/peak" -f %M | tail -n 1)
-    if [ "$total" != "total $1 ok $1 missing 0" ]; then
-        echo "the crawl of $1 pages ended with: $total" >&2
-        exit 1
-    fi
-    echo $(($(cat "$made/peak") * 1024))
-}
-
-# the instructions that a crawl takes
-instructions() {
-    crawl_under "$1" valgrind --tool=callgrind --callgrind-out-file="$made/callgrind" 2>&1 > /dev/null |
-        awk '/Collected/ { print $NF }'
-}
-
-# five crawls of the web of so many pages, whose least time joins those of earlier turns
-turn() {
-    python3 bench/run.py "$made/turn.seconds" "$(web "$1")" "$program" crawl --workers 1 - "$(seed "$1")"
-    cat "$made/turn.seconds" >> "$(times "$1")"
-}
-
-least() { sort -g "$(times "$1")" | head -n 1; }
 
 # a figure that a target bounds: what it is, the figure, the most that it may be
 bounded() {
@@ -61,30 +38,54 @@ bounded() {
     if [ "$2" -gt "$3" ]; then status=1; fi
 }
 
+# The report of one worker says that each page was found, those of others are its bytes; and what memory each takes.
+reports() {
+    local pages=$1 workers total size
+    size=$(stat -c %s "$(web "$pages")")
+    for workers in "${threads[@]}"; do
+        crawl_under "$pages" "$workers" env time -o "$made/peak" -f %M > "$made/found"
+        if [ "$workers" = 1 ]; then
+            mv "$made/found" "$(report "$pages")"
+            total=$(tail -n 1 "$(report "$pages")")
+            if [ "$total" != "total $pages ok $pages missing 0" ]; then
+                echo "the crawl of $pages pages ended with: $total" >&2
+                exit 1
+            fi
+            bounded "$pages pages, 1 worker: bytes a page beyond the file" $((($(cat "$made/peak") * 1024 - size) / pages)) "$most_bytes"
+        else
+            cmp "$made/found" "$(report "$pages")"
+            echo "$pages pages, $workers workers: the same report; bytes a page beyond the file: $((($(cat "$made/peak") * 1024 - size) / pages))"
+        fi
+    done
+}
+
+# the times of crawls of the web of so many pages; a great one has three runs, others five
+times() {
+    local pages=$1 workers seconds one=
+    for workers in "${threads[@]}"; do
+        RUNS=$((pages < 1000000 ? 5 : 3)) python3 bench/run.py "$made/seconds" "$(web "$pages")" \
+            "$program" crawl --workers "$workers" - "$(seed "$pages")" > /dev/null
+        seconds=$(cat "$made/seconds")
+        one=${one:-$seconds}
+        awk -v pages="$pages" -v workers="$workers" -v seconds="$seconds" -v one="$one" 'BEGIN {
+            printf "%d pages, %d workers: %.3f s, %d a second, %.2f times as fast as one\n", pages, workers, seconds, pages / seconds, one / seconds }'
+        if [ "$pages" = 100000 ] && [ "$workers" = 4 ] &&
+            ! awk -v one="$one" -v seconds="$seconds" -v least="$least_gain" 'BEGIN { exit one / seconds < least }'; then
+            echo "four workers are to be $least_gain times as fast as one" >&2
+            status=1
+        fi
+    done
+}
+
 status=0
-for pages in "$few" "$middle" "$many"; do
+for pages in "${sizes[@]}"; do
     python3 bench/make_web.py "$pages" > "$(web "$pages")"
-    resident=$(peak "$pages")
-    beyond=$(((resident - $(stat -c %s "$(web "$pages")")) / pages))
-    bounded "$pages pages: bytes a page beyond the file" "$beyond" "$most_bytes"
-    rm -f "$(times "$pages")"
+    reports "$pages"
 done
-bounded "$few pages: instructions a page" $(($(instructions "$few") / few)) "$most_instructions"
-
-# The machine's load changes, and the small web's crawls are soon over: they have a turn before and after each other one.
-for pages in "$few" "$middle" "$few" "$many" "$few"; do
-    turn "$pages"
+instructions=$(crawl_under "${sizes[0]}" 1 valgrind --tool=callgrind --callgrind-out-file="$made/callgrind" 2>&1 > /dev/null |
+    awk '/Collected/ { print $NF }')
+bounded "${sizes[0]} pages, 1 worker: instructions a page" $((instructions / sizes[0])) "$most_instructions"
+for pages in "${sizes[@]}"; do
+    times "$pages"
 done
-for pages in "$few" "$middle" "$many"; do
-    least "$pages" | awk -v pages="$pages" '{ printf "%d pages: %d a second\n", pages, pages / $1 }'
-done
-python3 - "$(least "$few")" "$(least "$many")" "$few" "$many" "$limit" <<'PY' || status=1
-import sys
-
-less, more = (float(word) for word in sys.argv[1:3])
-few, many, limit = (int(word) for word in sys.argv[3:6])
-ratio = (more / many) / (less / few)
-print(f"ratio of the time a page at {many} pages to that at {few}: {ratio:.2f} (below {limit})")
-sys.exit(ratio >= limit)
-PY
 exit $status

@@ -3,14 +3,14 @@
 
 Usage: run.py SECONDS_FILE FILE PROGRAM WORD..
 
-The least time in seconds is written to SECONDS_FILE too.
+The least time in seconds is written to SECONDS_FILE too. RUNS in the environment is another number of runs.
 """
 import os
 import subprocess
 import sys
 import time
 
-RUNS = 5
+RUNS = int(os.environ.get("RUNS", "5"))
 
 
 def run_once(path, command):

@@ -199,6 +199,8 @@ impl<'a> Row<'a> {
     }
 }
 
+// A crawl that refuses whatever comes (`always_refuses`), as by want of memory, is proved under every contract: this row and
+// `no_seeds` show that it is not ours.
 #[test]
 fn small_web(rt: HostRuntime) {
     let ring = Row::of(RING);

@@ -79,6 +79,8 @@ fn first_waits<R: Threads + Wait + Sync>(
     Some(report_from(rt, alloc, &source, &seeds, 2, mode))
 }
 
+// Two wrong bodies that no clause refuses show here: threads that run one after the other (`threads_in_turn`), which lose a
+// URL; and a crawl that walks the web itself (`crawls_without_workers`), which loses none in turn either.
 #[test]
 fn workers_run_together(rt: HostRuntime) -> Result<(), Fail> {
     let Some(Ok(report)) = first_waits(&rt, rt.alloc(), Mode::Threads) else {
