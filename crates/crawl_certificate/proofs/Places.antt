@@ -3,14 +3,12 @@ use Rattle.std.proofs.Common.{◌≡◌, ◌≢◌, ◌⊎◌, inl, inr, ℕ, ze
 use Rattle.std.specs.Borrow.{Bor}
 use Rattle.std.specs.BTreeMap as tree
 use Rattle.std.specs.BTreeSet as sorted
-use Rattle.std.specs.Cmp.Lexicographic.{slice_cmp}
-use Rattle.std.specs.Ordering.{nat_cmp}
+use Rattle.hash_order.specs.HashOrder.{by_hash, by_hash_ties}
 use Rattle.std.specs.List.{Contains, list_any}
 use Rattle.std.specs.Str.{bytes_eq}
-use Rattle.std.proofs.lemmas.Bool.{cond-true, cond-false, cases_Bool, both_ways, false_from_ne_true, and_parts, and_from}
-use Rattle.std.proofs.lemmas.Map.Text.{is_eq-slice_cmp}
+use Rattle.std.proofs.lemmas.Bool.{cond-true, cond-false, cases_Bool, both_ways, false_from_ne_true, and_parts, and_from, or_right, or_parts}
 use Rattle.std.proofs.lemmas.Option.{slice_get_within, get_or_from_slice_get}
-use Rattle.std.proofs.lemmas.List.{length-take, map_more, take-map, get_or-take}
+use Rattle.std.proofs.lemmas.List.{length-take, map_more, take-map, get_or-take, get_or-map}
 use Rattle.std.proofs.Math.Seq.{take-append_seam}
 use Rattle.std.proofs.lemmas.List.Folds.{list_any-append}
 use Rattle.crawl_frontier.specs.declared.entry.Entry.{Entry}
@@ -129,14 +127,10 @@ first_differ xs k x below at apart =
 
 -- ---- sets of URLs
 
-at_text : (url : List ℕ) → Bor (List ℕ)
-at_text url = record { ref_ptr = (0, 0); now = url }
-
 -- a set of URLs after one was put in
-pub set_put : (old new : Urls) (key : Bor (List ℕ)) → sorted.Updates (λ x y. slice_cmp nat_cmp x.now y.now) old new key true → (url : List ℕ) → is_in new url ≡ (is_in old url || bytes_eq key.now url)
-unfolding at_text
+pub set_put : (old new : Urls) (key : List ℕ) → sorted.Updates by_hash old new key true → (url : List ℕ) → is_in new url ≡ (is_in old url || bytes_eq key url)
 set_put old new key updates url =
-    updates.0 (at_text url) ∙ ap (λ b. cond b true (is_in old url)) (is_eq-slice_cmp key.now url) ∙ or_by_cond (bytes_eq key.now url) (is_in old url)
+    updates.0 url ∙ ap (λ b. cond b true (is_in old url)) (sym (by_hash_ties key url)) ∙ or_by_cond (bytes_eq key url) (is_in old url)
   where
     or_by_cond : (b o : Bool) → cond b true o ≡ (o || b)
     or_by_cond true true = refl
@@ -146,10 +140,9 @@ set_put old new key updates url =
 
 -- ---- places of entries
 
-place_put : (old new : Places) (key : Bor (List ℕ)) (k : ℕ) → tree.Updates (λ x y. slice_cmp nat_cmp x.now y.now) old new key (Some k) → (url : List ℕ) → place_of new url ≡ cond (bytes_eq key.now url) (Some k) (place_of old url)
-unfolding at_text
+place_put : (old new : Places) (key : List ℕ) (k : ℕ) → tree.Updates by_hash old new key (Some k) → (url : List ℕ) → place_of new url ≡ cond (bytes_eq key url) (Some k) (place_of old url)
 place_put old new key k updates url =
-    updates.0 (at_text url) ∙ ap (λ b. cond b (Some k) (place_of old url)) (is_eq-slice_cmp key.now url)
+    updates.0 url ∙ ap (λ b. cond b (Some k) (place_of old url)) (sym (by_hash_ties key url))
 
 pub ArePlaces-none : (places : Places) → places.entries ≡ [] → ArePlaces [] places
 ArePlaces-none places none = record {
@@ -157,7 +150,7 @@ ArePlaces-none places none = record {
   meant = λ url k at. let nothing : place_of places url ≡ None = rw none refl in absurd (cc);
 }
 
-pub ArePlaces-push : (entries : List Entry) (e : Entry) (old new : Places) (key : Bor (List ℕ)) (k : ℕ) → DifferByUrl (entries ++ e ∷ []) → key.now ≡ e.url → k ≡ length entries → tree.Updates (λ x y. slice_cmp nat_cmp x.now y.now) old new key (Some k) → ArePlaces entries old → ArePlaces (entries ++ e ∷ []) new
+pub ArePlaces-push : (entries : List Entry) (e : Entry) (old new : Places) (key : List ℕ) (k : ℕ) → DifferByUrl (entries ++ e ∷ []) → key ≡ e.url → k ≡ length entries → tree.Updates by_hash old new key (Some k) → ArePlaces entries old → ArePlaces (entries ++ e ∷ []) new
 ArePlaces-push entries e old new key k apart text count updates places =
     let put : (url : List ℕ) → place_of new url ≡ cond (bytes_eq e.url url) (Some k) (place_of old url) = λ url. subst (λ u. place_of new url ≡ cond (bytes_eq u url) (Some k) (place_of old url)) text (place_put old new key k updates url) in
     record {
@@ -349,6 +342,41 @@ linked_push entries results r known =
     or_steps (known e) (is_linked entries results e) (stands_in (links_of r.page) e.url && is_behind entries r.url e)
     ∙ ap (λ b. known e || b) (sym (any_push (λ (x : PageResult). stands_in (links_of x.page) e.url && is_behind entries x.url e) results r)))
 
+pub or_together : {a b p q : Bool} → a ≡ p → b ≡ q → (a || b) ≡ (p || q)
+or_together e f = λ i. e i || f i
+
+-- ---- entries with a result
+
+or_nothing : (a b : Bool) → b ≡ false → a ≡ (a || b)
+or_nothing true b h = refl
+or_nothing false b h = sym h
+
+-- the entry with the URL of a result is marked
+pub fetched_marked : (entries : List Entry) (places : Places) → ArePlaces entries places → (url : List ℕ) (k : ℕ) → place_of places url ≡ Some k → (known : List ℕ → Bool) → set (map (λ e. known e.url) entries) k true ≡ map (λ e. known e.url || bytes_eq url e.url) entries
+fetched_marked entries places are url k at known =
+    let found = are.meant url k at in
+    set_agrees (λ e. known e.url) (λ e. known e.url || bytes_eq url e.url) entries k true
+    (λ e here'.
+    let both : Some found.0 ≡ Some e = sym found.1 ∙ here' in
+    let same : found.0 ≡ e = cc in
+    sym (or_right (known e.url) (bytes_eq url e.url) (subst (λ u. bytes_eq url u ≡ true) (sym found.2 ∙ ap (λ (z : Entry). z.url) same) (text_itself url))))
+    (λ i e here' differs. or_nothing (known e.url) (bytes_eq url e.url) (false_from_ne_true _ (λ same. differs (only_place entries places are url k at i e here' same))))
+
+pub fetched_unmarked : (entries : List Entry) (places : Places) → ArePlaces entries places → (url : List ℕ) → place_of places url ≡ None → (known : List ℕ → Bool) → map (λ e. known e.url) entries ≡ map (λ e. known e.url || bytes_eq url e.url) entries
+fetched_unmarked entries places are url none known =
+    maps_agree _ _ entries (λ i e here'. or_nothing (known e.url) (bytes_eq url e.url) (no_place entries places are url none i e here'))
+
+-- whether the entry with the URL was marked
+pub fetched_before : (entries : List Entry) (places : Places) → ArePlaces entries places → (url : List ℕ) (k : ℕ) → place_of places url ≡ Some k → (known : List ℕ → Bool) (d : Bool) → get_or (map (λ e. known e.url) entries) k d ≡ known url
+fetched_before entries places are url k at known d =
+    let found = are.meant url k at in
+    get_or-map (λ (e : Entry). known e.url) entries k found.0 d (slice_get_within entries k found.0 found.1)
+    ∙ ap (λ (e : Entry). known e.url) (get_or_from_slice_get entries k found.0 found.0 found.1) ∙ ap known found.2
+
+-- one more result
+pub fetched_push : (entries : List Entry) (results : List PageResult) (r : PageResult) → map (λ e. has_result results e.url || bytes_eq r.url e.url) entries ≡ map (λ e. has_result (results ++ r ∷ []) e.url) entries
+fetched_push entries results r = maps_agree _ _ entries (λ k e at. sym (any_push (λ (x : PageResult). bytes_eq x.url e.url) results r))
+
 -- ---- results with one URL
 
 pub twice_push : (results : List PageResult) (r : PageResult) → twice (results ++ r ∷ []) ≡ (twice results || has_result results r.url)
@@ -365,3 +393,9 @@ twice_push (x ∷ xs) r =
       | inl same ↦ subst (λ u. bytes_eq u b ≡ true) (same_text b a same) (text_itself b) ∙ sym same
       | inr other ↦ false_from_ne_true _ (λ same. both_ways _ other (subst (λ u. bytes_eq u a ≡ true) (same_text a b same) (text_itself a))) ∙ sym other
     ]
+
+-- one more result, where no URL of a result is a stray
+pub twice_more : (results : List PageResult) (r : PageResult) (stray of_one told again : Bool) → (stray ≡ false → told ≡ twice results) → (of_one ≡ false → again ≡ has_result results r.url) → (stray || of_one) ≡ false → (told || again) ≡ twice (results ++ r ∷ [])
+twice_more results r stray of_one told again before now none =
+    let parts = or_parts stray of_one none in
+    ap (λ b. b || again) (before parts.0) ∙ ap (λ b. twice results || b) (now parts.1) ∙ sym (twice_push results r)

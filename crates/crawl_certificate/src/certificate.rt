@@ -10,12 +10,13 @@ ghost use Rattle.crawl_certificate.specs.ResultPages.{page_in};
 ghost use Rattle.crawl_certificate.specs.Reachable.{WalkOf};
 ghost use Rattle.crawl_certificate.specs.Certificate.{Tells, IsAscending, AreReachable, CountsOf, entry_urls, result_urls};
 ghost use Rattle.crawl_certificate.specs.Places.{pointed};
-ghost use Rattle.crawl_certificate.specs.CertFaults.{first_fault};
+ghost use Rattle.crawl_certificate.specs.CertFaults.{first_of, first_fault};
 
 use crate::error::CertError;
-use crate::founded::unfounded;
-use crate::lookups::{entries_of, fetched_urls, places_of};
-use crate::missing::{link_missing, not_fetched, some_missing};
+use crate::founded::some_unfounded;
+use crate::lookups::{entries_of, places_of, url_set};
+use crate::marks::{Told, marks_of};
+use crate::missing::{some_missing, some_unmarked};
 use crawl_frontier::{Account, Entry};
 use crawl_keys::{CanonUrl, Filter};
 use crawl_web::PageResult;
@@ -77,32 +78,59 @@ pub fn certify(
 }
 
 /// Ok where no fault holds.
-fn find_fault(
+fn find_fault<'a>(
     alloc: Global,
     filter: &Filter,
-    seeds: &[CanonUrl],
-    entries: &[&Entry],
-    results: &[PageResult],
+    seeds: &'a [CanonUrl],
+    entries: &[&'a Entry],
+    results: &'a [PageResult],
 ) -> Result<(), CertError>
     requires { DifferByUrl (pointed entries.now) }
     ensures { Tells result (first_fault (allows filter.now) seeds.now (pointed entries.now) results.now) }
 {
     let accepted = places_of(alloc, entries)?;
-    let (fetched, is_twice) = fetched_urls(alloc, results)?;
-    if some_missing(filter, &accepted, seeds) {
+    let seed_missing = some_missing(filter, &accepted, seeds);
+    let marks = marks_of(alloc, filter, &accepted, entries, results)?;
+    let not_fetched = some_unmarked(&marks.fetched);
+    let seed_set = url_set(alloc, seeds)?;
+    let groundless = some_unfounded(filter, &seed_set, entries, &marks.linked);
+    let Told {
+        missing,
+        stray,
+        twice,
+    } = marks.told;
+    verdict(
+        seed_missing,
+        not_fetched,
+        missing,
+        groundless | stray,
+        twice,
+    )
+}
+
+/// The first of these that holds.
+fn verdict(
+    seed_missing: bool,
+    not_fetched: bool,
+    link_missing: bool,
+    unfounded: bool,
+    twice: bool,
+) -> Result<(), CertError>
+    ensures { Tells result (first_of seed_missing not_fetched link_missing unfounded twice) }
+{
+    if seed_missing {
         return Err(CertError::SeedMissing);
     }
-    if not_fetched(&fetched, entries) {
+    if not_fetched {
         return Err(CertError::NotFetched);
     }
-    if link_missing(filter, &accepted, results) {
+    if link_missing {
         return Err(CertError::LinkMissing);
     }
-    let is_unfounded = unfounded(alloc, filter, seeds, &accepted, entries, results)?;
-    if is_unfounded {
+    if unfounded {
         return Err(CertError::Unfounded);
     }
-    if is_twice {
+    if twice {
         return Err(CertError::Twice);
     }
     Ok(())

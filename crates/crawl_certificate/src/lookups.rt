@@ -1,16 +1,22 @@
-//! What is looked up by URL: ordered maps and sets of borrowed URLs, each made in one pass.
-ghost use Rattle.std.specs.Prelude.{◌≡◌, ℕ, List, take, IfOk};
+//! What is looked up by URL: maps and sets of borrowed URLs in the order of their hashes, each made in one pass.
+ghost use Rattle.std.specs.Prelude.{◌≡◌, ◌<◌, ℕ, List, take, length, IfOk, IfSome};
 ghost use Rattle.crawl_keys.specs.Assignment.{subqueue_of};
 ghost use Rattle.crawl_certificate.specs.Queues.{AreQueues};
 ghost use Rattle.crawl_certificate.specs.AccountEntries.{entries_of, DifferByUrl};
-ghost use Rattle.crawl_certificate.specs.Places.{pointed, ArePlaces, is_in};
-ghost use Rattle.crawl_certificate.specs.CertFaults.{stands_in, has_result, twice};
+ghost use Rattle.crawl_certificate.specs.Places.{pointed, place_of, ArePlaces, is_in};
+ghost use Rattle.crawl_certificate.specs.CertFaults.{stands_in};
 
 use crawl_frontier::{Account, Entry};
 use crawl_keys::CanonUrl;
-use crawl_web::PageResult;
+use hash_order::HashedText;
 use std::alloc::{AllocError, Global};
 use std::collections::{BTreeMap, BTreeSet};
+
+/// The place of each entry, by its URL.
+pub type Places<'a> = BTreeMap<HashedText<'a>, usize>;
+
+/// A set of URLs.
+pub type Urls<'a> = BTreeSet<HashedText<'a>>;
 
 /// All entries, subqueue by subqueue.
 pub fn entries_of(alloc: Global, account: &Account) -> Result<Vec<&Entry>, AllocError>
@@ -28,44 +34,33 @@ pub fn entries_of(alloc: Global, account: &Account) -> Result<Vec<&Entry>, Alloc
 }
 
 /// From each entry's URL to its place.
-pub fn places_of<'a>(
-    alloc: Global,
-    entries: &[&'a Entry],
-) -> Result<BTreeMap<&'a str, usize>, AllocError>
+pub fn places_of<'a>(alloc: Global, entries: &[&'a Entry]) -> Result<Places<'a>, AllocError>
     requires { DifferByUrl (pointed entries.now) }
     ensures { IfOk result (λ places. ArePlaces (pointed entries.now) places) }
 {
     let mut places = BTreeMap::new(alloc);
     for (place, entry) in entries.iter().enumerate() {
-        places.insert(entry.url.as_str(), place)?;
+        places.insert(HashedText::from(entry.url.as_str()), place)?;
     }
     Ok(places)
 }
 
+/// The place of the entry with the URL, if it is accepted.
+pub fn place_at<'a>(accepted: &Places<'a>, entries: &[&Entry], url: &'a CanonUrl) -> Option<usize>
+    requires { ArePlaces (pointed entries.now) accepted.now }
+    ensures value { result ≡ place_of accepted.now url.now }
+    ensures within { IfSome result (λ place. place < length entries.now) }
+{
+    accepted.get(&HashedText::from(url.as_str())).copied()
+}
+
 /// The URLs as a set.
-pub fn url_set(alloc: Global, urls: &[CanonUrl]) -> Result<BTreeSet<&str>, AllocError>
+pub fn url_set(alloc: Global, urls: &[CanonUrl]) -> Result<Urls<'_>, AllocError>
     ensures { IfOk result (λ set. (url : List ℕ) → is_in set url ≡ stands_in urls.now url) }
 {
     let mut set = BTreeSet::new(alloc);
     for url in urls {
-        set.insert(url.as_str())?;
+        set.insert(HashedText::from(url.as_str()))?;
     }
     Ok(set)
-}
-
-/// The URLs of the results as a set, and whether one stands there twice.
-pub fn fetched_urls(
-    alloc: Global,
-    results: &[PageResult],
-) -> Result<(BTreeSet<&str>, bool), AllocError>
-    ensures urls { IfOk result (λ x. (url : List ℕ) → is_in x.0 url ≡ has_result results.now url) }
-    ensures twice { IfOk result (λ x. x.1 ≡ twice results.now) }
-{
-    let mut urls = BTreeSet::new(alloc);
-    let mut twice = false;
-    for one in results {
-        let is_new = urls.insert(one.url.as_str())?;
-        twice = twice || !is_new;
-    }
-    Ok((urls, twice))
 }

@@ -1,107 +1,206 @@
-//! Which entries are linked: a mark for each, set in one pass over the links of the results.
-ghost use Rattle.std.specs.Prelude.{◌≡◌, ◌+◌, ◌==◌, ◌<◌, Bool, ◌&&◌, ◌||◌, map, length, IfOk, IfSome};
+//! One pass over the results: which entries have a result, and which are linked. The URL of each result, and each link, is
+//! looked up once.
+ghost use Rattle.std.specs.Prelude.{◌≡◌, ◌+◌, ◌==◌, ℕ, Bool, false, ◌&&◌, ◌||◌, not, List, map, length, IfOk};
+ghost use Rattle.std.specs.List.{list_any};
 ghost use Rattle.std.specs.Str.{bytes_eq};
 ghost use Rattle.crawl_frontier.specs.declared.entry.Entry.{Entry};
+ghost use Rattle.crawl_keys.specs.HostFilter.{allows};
 ghost use Rattle.crawl_web.specs.Pages.{links_of};
-ghost use Rattle.crawl_certificate.specs.Places.{pointed, place_of, ArePlaces};
-ghost use Rattle.crawl_certificate.specs.CertFaults.{stands_in, is_behind, is_linked};
+ghost use Rattle.crawl_certificate.specs.Places.{pointed, has_place, ArePlaces};
+ghost use Rattle.crawl_certificate.specs.CertFaults.{stands_in, has_result, is_behind, is_linked, some_missing, twice};
 
+use crate::lookups::{Places, place_at};
+use crate::missing::some_missing;
 use crawl_frontier::Entry;
-use crawl_keys::CanonUrl;
+use crawl_keys::{CanonUrl, Filter};
 use crawl_web::{PageResult, links_of};
 use std::alloc::{AllocError, Global};
-use std::collections::BTreeMap;
 
-/// For each entry whether it is linked from a result of an entry with one hop less.
-pub fn linked(
-    alloc: Global,
-    accepted: &BTreeMap<&str, usize>,
-    entries: &[&Entry],
-    results: &[PageResult],
-) -> Result<Vec<bool>, AllocError>
-    requires { ArePlaces (pointed entries.now) accepted.now }
-    ensures { IfOk result (λ marks. marks.items ≡ map (is_linked (pointed entries.now) results.now) (pointed entries.now)) }
-{
-    let mut marks = vec![in alloc; false; entries.len()]?;
-    mark_results(accepted, entries, &mut marks, results);
-    Ok(marks)
+/// What is told of results.
+#[derive(Clone, Copy)]
+pub struct Told {
+    /// A link that the filter allows is not accepted.
+    pub missing: bool,
+    /// The URL of a result is not accepted.
+    pub stray: bool,
+    /// Two results have one URL, where no URL of a result is a stray.
+    pub twice: bool,
 }
 
-fn mark_results(
-    accepted: &BTreeMap<&str, usize>,
-    entries: &[&Entry],
-    marks: &mut [bool],
-    results: &[PageResult],
-)
-    requires places { ArePlaces (pointed entries.now) accepted.now }
-    requires long { length marks.old ≡ length entries.now }
-    ensures { (known : Entry → Bool) → marks.old ≡ map known (pointed entries.now) → marks.new ≡ map (λ e. known e || is_linked (pointed entries.now) results.now e) (pointed entries.now) }
-{
-    for one in results {
-        mark_result(accepted, entries, marks, one);
-    }
+/// What a pass over the results finds.
+#[derive(Drop)]
+pub struct Marks {
+    /// For each entry whether a result has its URL.
+    pub fetched: Vec<bool>,
+    /// For each entry whether it is linked from a result of an entry with one hop less.
+    pub linked: Vec<bool>,
+    pub told: Told,
 }
 
-/// Marks the entries that are linked from the result and have one hop more than its entry.
-fn mark_result(
-    accepted: &BTreeMap<&str, usize>,
-    entries: &[&Entry],
-    marks: &mut [bool],
-    one: &PageResult,
-)
-    requires places { ArePlaces (pointed entries.now) accepted.now }
-    requires long { length marks.old ≡ length entries.now }
-    ensures { (known : Entry → Bool) → marks.old ≡ map known (pointed entries.now) → marks.new ≡ map (λ e. known e || (stands_in (links_of one.now.page) e.url && is_behind (pointed entries.now) one.now.url e)) (pointed entries.now) }
-{
-    if let Some(place) = place_at(accepted, entries, &one.url) {
-        let hops = entries[place].hops;
-        let links = links_of(&one.page);
-        mark_links(accepted, entries, marks, hops, links);
-    }
-}
-
-/// Marks the entries of these links that have one hop more than so many.
-fn mark_links(
-    accepted: &BTreeMap<&str, usize>,
-    entries: &[&Entry],
-    marks: &mut [bool],
-    hops: u32,
-    links: &[CanonUrl],
-)
-    requires places { ArePlaces (pointed entries.now) accepted.now }
-    requires long { length marks.old ≡ length entries.now }
-    ensures { (known : Entry → Bool) → marks.old ≡ map known (pointed entries.now) → marks.new ≡ map (λ e. known e || (stands_in links.now e.url && e.hops == hops + 1)) (pointed entries.now) }
-{
-    for link in links {
-        mark(accepted, entries, marks, hops, link);
-    }
-}
-
-fn mark(
-    accepted: &BTreeMap<&str, usize>,
-    entries: &[&Entry],
-    marks: &mut [bool],
-    hops: u32,
-    link: &CanonUrl,
-)
-    requires places { ArePlaces (pointed entries.now) accepted.now }
-    requires long { length marks.old ≡ length entries.now }
-    ensures { (known : Entry → Bool) → marks.old ≡ map known (pointed entries.now) → marks.new ≡ map (λ e. known e || (bytes_eq link.now e.url && e.hops == hops + 1)) (pointed entries.now) }
-{
-    if let Some(place) = place_at(accepted, entries, link) {
-        if is_next(hops, entries[place]) {
-            marks[place] = true;
+impl Told {
+    fn and(self, more: Told) -> Told
+        ensures { result ≡ record { missing = self.missing || more.missing; stray = self.stray || more.stray; twice = self.twice || more.twice } }
+    {
+        Told {
+            missing: self.missing || more.missing,
+            stray: self.stray || more.stray,
+            twice: self.twice || more.twice,
         }
     }
 }
 
-/// The place of the entry with the URL, if it is accepted.
-fn place_at(accepted: &BTreeMap<&str, usize>, entries: &[&Entry], url: &CanonUrl) -> Option<usize>
+/// What the results say of the entries, and what is wrong with them.
+pub fn marks_of<'a>(
+    alloc: Global,
+    filter: &Filter,
+    accepted: &Places<'a>,
+    entries: &[&Entry],
+    results: &'a [PageResult],
+) -> Result<Marks, AllocError>
     requires { ArePlaces (pointed entries.now) accepted.now }
-    ensures value { result ≡ place_of accepted.now url.now }
-    ensures within { IfSome result (λ place. place < length entries.now) }
+    ensures fetched { IfOk result (λ marks. marks.fetched.items ≡ map (λ e. has_result results.now e.url) (pointed entries.now)) }
+    ensures linked { IfOk result (λ marks. marks.linked.items ≡ map (is_linked (pointed entries.now) results.now) (pointed entries.now)) }
+    ensures missing { IfOk result (λ marks. marks.told.missing ≡ list_any (λ r. some_missing (allows filter.now) (has_place accepted.now) (links_of r.page)) results.now) }
+    ensures stray { IfOk result (λ marks. marks.told.stray ≡ list_any (λ r. not (has_place accepted.now r.url)) results.now) }
+    ensures twice { IfOk result (λ marks. marks.told.stray ≡ false → marks.told.twice ≡ twice results.now) }
 {
-    accepted.get(url.as_str()).copied()
+    let mut fetched = no_marks(alloc, entries)?;
+    let mut linked = no_marks(alloc, entries)?;
+    let told = mark_results(
+        filter,
+        accepted,
+        entries,
+        &mut fetched,
+        &mut linked,
+        results,
+    );
+    Ok(Marks {
+        fetched,
+        linked,
+        told,
+    })
+}
+
+fn no_marks(alloc: Global, entries: &[&Entry]) -> Result<Vec<bool>, AllocError>
+    ensures { IfOk result (λ marks. marks.items ≡ map (λ _. false) (pointed entries.now)) }
+{
+    let marks = vec![in alloc; false; entries.len()]?;
+    Ok(marks)
+}
+
+fn mark_results<'a>(
+    filter: &Filter,
+    accepted: &Places<'a>,
+    entries: &[&Entry],
+    fetched: &mut [bool],
+    linked: &mut [bool],
+    results: &'a [PageResult],
+) -> Told
+    requires places { ArePlaces (pointed entries.now) accepted.now }
+    requires none_fetched { fetched.old ≡ map (λ _. false) (pointed entries.now) }
+    requires none_linked { linked.old ≡ map (λ _. false) (pointed entries.now) }
+    ensures fetched { fetched.new ≡ map (λ e. has_result results.now e.url) (pointed entries.now) }
+    ensures linked { linked.new ≡ map (is_linked (pointed entries.now) results.now) (pointed entries.now) }
+    ensures missing { result.missing ≡ list_any (λ r. some_missing (allows filter.now) (has_place accepted.now) (links_of r.page)) results.now }
+    ensures stray { result.stray ≡ list_any (λ r. not (has_place accepted.now r.url)) results.now }
+    ensures twice { result.stray ≡ false → result.twice ≡ twice results.now }
+{
+    let mut told = Told {
+        missing: false,
+        stray: false,
+        twice: false,
+    };
+    for one in results {
+        let of_one = mark_result(filter, accepted, entries, fetched, linked, one);
+        told = told.and(of_one);
+    }
+    told
+}
+
+/// Marks the entry that has the result, and those that are linked from it and have one hop more. `twice` tells whether the
+/// entry was marked before.
+fn mark_result<'a>(
+    filter: &Filter,
+    accepted: &Places<'a>,
+    entries: &[&Entry],
+    fetched: &mut [bool],
+    linked: &mut [bool],
+    one: &'a PageResult,
+) -> Told
+    requires places { ArePlaces (pointed entries.now) accepted.now }
+    requires long_fetched { length fetched.old ≡ length entries.now }
+    requires long_linked { length linked.old ≡ length entries.now }
+    ensures fetched { (known : List ℕ → Bool) → fetched.old ≡ map (λ e. known e.url) (pointed entries.now) → fetched.new ≡ map (λ e. known e.url || bytes_eq one.now.url e.url) (pointed entries.now) }
+    ensures linked { (known : Entry → Bool) → linked.old ≡ map known (pointed entries.now) → linked.new ≡ map (λ e. known e || (stands_in (links_of one.now.page) e.url && is_behind (pointed entries.now) one.now.url e)) (pointed entries.now) }
+    ensures missing { result.missing ≡ some_missing (allows filter.now) (has_place accepted.now) (links_of one.now.page) }
+    ensures stray { result.stray ≡ not (has_place accepted.now one.now.url) }
+    ensures twice { (known : List ℕ → Bool) → fetched.old ≡ map (λ e. known e.url) (pointed entries.now) → result.stray ≡ false → result.twice ≡ known one.now.url }
+{
+    let links = links_of(&one.page);
+    match place_at(accepted, entries, &one.url) {
+        Some(place) => {
+            let twice = fetched[place];
+            fetched[place] = true;
+            let hops = entries[place].hops;
+            let missing = mark_links(filter, accepted, entries, linked, hops, links);
+            Told {
+                missing,
+                stray: false,
+                twice,
+            }
+        }
+        None => Told {
+            missing: some_missing(filter, accepted, links),
+            stray: true,
+            twice: false,
+        },
+    }
+}
+
+/// Marks the entries of these links that have one hop more than so many, and tells whether an allowed link is not accepted.
+fn mark_links<'a>(
+    filter: &Filter,
+    accepted: &Places<'a>,
+    entries: &[&Entry],
+    linked: &mut [bool],
+    hops: u32,
+    links: &'a [CanonUrl],
+) -> bool
+    requires places { ArePlaces (pointed entries.now) accepted.now }
+    requires long { length linked.old ≡ length entries.now }
+    ensures linked { (known : Entry → Bool) → linked.old ≡ map known (pointed entries.now) → linked.new ≡ map (λ e. known e || (stands_in links.now e.url && e.hops == hops + 1)) (pointed entries.now) }
+    ensures missing { result ≡ some_missing (allows filter.now) (has_place accepted.now) links.now }
+{
+    let mut missing = false;
+    for link in links {
+        let is_missing = mark(filter, accepted, entries, linked, hops, link);
+        missing = missing | is_missing;
+    }
+    missing
+}
+
+fn mark<'a>(
+    filter: &Filter,
+    accepted: &Places<'a>,
+    entries: &[&Entry],
+    linked: &mut [bool],
+    hops: u32,
+    link: &'a CanonUrl,
+) -> bool
+    requires places { ArePlaces (pointed entries.now) accepted.now }
+    requires long { length linked.old ≡ length entries.now }
+    ensures linked { (known : Entry → Bool) → linked.old ≡ map known (pointed entries.now) → linked.new ≡ map (λ e. known e || (bytes_eq link.now e.url && e.hops == hops + 1)) (pointed entries.now) }
+    ensures missing { result ≡ (allows filter.now link.now && not (has_place accepted.now link.now)) }
+{
+    match place_at(accepted, entries, link) {
+        Some(place) => {
+            if is_next(hops, entries[place]) {
+                linked[place] = true;
+            }
+            false
+        }
+        None => filter.allows(link),
+    }
 }
 
 /// Whether the entry has one hop more than so many.

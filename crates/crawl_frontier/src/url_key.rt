@@ -1,7 +1,8 @@
 //! A canonical URL as a key of a shard's map.
-ghost use Rattle.std.specs.Prelude.{◌≡◌, Some, IfOk, refl, bytes_eq};
+ghost use Rattle.std.specs.Prelude.{◌≡◌, Some, Ok, refl, bytes_eq};
 ghost use Rattle.std.specs.Cmp.{partial_equiv_from_equiv};
 ghost use Rattle.std.specs.Cmp.Lexicographic.{nat_list_eq_equiv};
+ghost use Rattle.crawl_keys.specs.Outcome.{Gives};
 ghost use Rattle.crawl_frontier.specs.HashOrder as spec;
 ghost use Rattle.crawl_frontier.specs.HashOrder.{by_hash, by_hash_total, by_hash_ties, by_hash_po};
 
@@ -57,9 +58,9 @@ impl UrlKey {
         url
     }
 
-    /// One more owner of the same text.
+    /// One more owner of the same text. The only error is `NoMemory`, where the count of owners is at its limit.
     pub fn copy(&self) -> Result<UrlKey, KeyError>
-        ensures { IfOk result (λ key. key ≡ self.now) }
+        ensures { Gives KeyError.NoMemory (λ key. key) result (Ok self.now) }
     {
         Ok(UrlKey {
             hash: self.hash,

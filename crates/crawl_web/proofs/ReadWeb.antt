@@ -3,12 +3,11 @@ use Rattle.std.proofs.Common.{◌≡◌, inl, inr, ℕ, ◌+◌, ◌==◌, Bool,
 use Rattle.std.specs.Bool.{if◌then◌else◌}
 use Rattle.std.specs.Borrow.{Bor}
 use Rattle.std.specs.BTreeMap.{btree_map_len, get, is_at}
-use Rattle.std.specs.Cmp.Lexicographic.{slice_cmp, texts_ties}
+use Rattle.hash_order.specs.HashOrder.{by_hash, by_hash_ties}
 use Rattle.std.specs.List.{list_any}
 use Rattle.std.specs.Map.{lookup}
 use Rattle.std.proofs.lemmas.Slice.Eq.{bytes_eq-Decides}
 use Rattle.std.specs.Option.{option_map, option_or, option_map_or}
-use Rattle.std.specs.Ordering.{nat_cmp}
 use Rattle.std.specs.Str.{bytes_eq}
 use Rattle.std.specs.Str.Lines.{lines}
 use Rattle.std.proofs.lemmas.List.Folds.{list_any-append}
@@ -51,7 +50,7 @@ abbrev at : Option (List ℕ) → List ℕ → Bool
 at own url = option_map_or (λ u. bytes_eq u url) own false
 
 abbrev value : KnownPages → List ℕ → Option (Bor (List ℕ))
-value pages url = get (slice_cmp nat_cmp) pages url
+value pages url = get by_hash pages url
 
 abbrev told : Option (Bor (List ℕ)) → Option (List (List ℕ))
 told o = option_map (λ bytes. lines bytes.now) o
@@ -63,14 +62,14 @@ adds_some old new (Some url) bytes adds =
 
 -- the value at a key after one was put in
 put : (old new : KnownPages) (url : List ℕ) (bytes : Bor (List ℕ)) → Adds old new (Some url) bytes → (q : List ℕ) → value new q ≡ cond (bytes_eq url q) (Some bytes) (value old q)
-put old new url bytes adds q = adds.1.0 q ∙ ap (λ b. cond b (Some bytes) (value old q)) (sym (texts_ties url q))
+put old new url bytes adds q = adds.1.0 q ∙ ap (λ b. cond b (Some bytes) (value old q)) (sym (by_hash_ties url q))
 
 has_put : (b : Bool) (o : Option (Bor (List ℕ))) (bytes : Bor (List ℕ)) → is_some (cond b (Some bytes) o) ≡ (is_some o || b)
 has_put true o bytes = or_true (is_some o)
 has_put false o bytes = or_false (is_some o)
 
 adds_has : (old new : KnownPages) (own : Option (List ℕ)) (bytes : Bor (List ℕ)) → Adds old new own bytes → (q : List ℕ) → has new q ≡ (has old q || at own q)
-adds_has old new None bytes same q = ap (λ es. is_some (lookup (is_at (slice_cmp nat_cmp q)) es)) same ∙ or_false (has old q)
+adds_has old new None bytes same q = ap (λ es. is_some (lookup (is_at (by_hash q)) es)) same ∙ or_false (has old q)
 adds_has old new (Some url) bytes adds q = ap is_some (put old new url bytes adds q) ∙ has_put (bytes_eq url q) (value old q) bytes
 
 behind_put : (b : Bool) (o : Option (Bor (List ℕ))) (bytes : Bor (List ℕ)) (more : Option (List (List ℕ))) → (b ≡ true → o ≡ None) → option_or (told o) (if b then Some (lines bytes.now) else more) ≡ option_or (told (cond b (Some bytes) o)) more
@@ -78,7 +77,7 @@ behind_put true o bytes more first = ap (λ x. option_or (told x) (Some (lines b
 behind_put false o bytes more first = refl
 
 adds_behind : (old new : KnownPages) (own : Option (List ℕ)) (bytes : Bor (List ℕ)) (more : Option (List (List ℕ))) → Adds old new own bytes → (q : List ℕ) → option_or (known_behind old q) (if at own q then Some (lines bytes.now) else more) ≡ option_or (known_behind new q) more
-adds_behind old new None bytes more same q = ap (λ es. option_or (told (lookup (is_at (slice_cmp nat_cmp q)) es)) more) (sym same)
+adds_behind old new None bytes more same q = ap (λ es. option_or (told (lookup (is_at (by_hash q)) es)) more) (sym same)
 adds_behind old new (Some url) bytes more adds q =
     behind_put (bytes_eq url q) (value old q) bytes more (λ e. ap (value old) (sym ((bytes_eq-Decides url q).0 e)) ∙ adds.0)
     ∙ ap (λ o. option_or (told o) more) (sym (put old new url bytes adds q))

@@ -3,11 +3,10 @@
 use Rattle.std.specs.Prelude.{◌≡◌, ℕ, ◌+◌, ◌==◌, Bool, false, ◌||◌, not, List, codes, if◌then◌else◌, Option, Some, None, is_some}
 use Rattle.std.specs.Borrow.{Bor}
 use Rattle.std.specs.BTreeMap.{BTreeMap, btree_map_len, get, IsUnchanged, Updates}
-use Rattle.std.specs.Cmp.Lexicographic.{slice_cmp}
 use Rattle.std.specs.Option.{option_map}
-use Rattle.std.specs.Ordering.{nat_cmp}
 use Rattle.std.specs.Str.{bytes_eq}
 use Rattle.std.specs.Str.Lines.{lines}
+use Rattle.hash_order.specs.HashOrder.{by_hash}
 use Rattle.crawl_web.specs.SavedWeb.{page_behind}
 use Rattle.crawl_web.specs.WebChecks.{Before}
 use Rattle.crawl_web.specs.WebLines.{is_page, is_link, is_moved_line}
@@ -15,7 +14,7 @@ use Rattle.crawl_web.specs.declared.page.Page.{Page}
 use Rattle.crawl_web.specs.declared.saved_web.SavedWeb.{SavedWeb}
 use Rattle.crawl_web.specs.declared.saved_web.add.Above.{Above}
 
--- a map from texts to bytes that are pointed to
+-- a map from texts to bytes that are pointed to, in the order of the texts' hashes
 abbrev pub KnownPages : Type 0
 KnownPages = BTreeMap (List ℕ) (Bor (List ℕ))
 
@@ -25,17 +24,17 @@ has_some pages = not (btree_map_len pages == 0)
 
 -- the page with this URL is known
 abbrev pub has : KnownPages → List ℕ → Bool
-has pages url = is_some (get (slice_cmp nat_cmp) pages url)
+has pages url = is_some (get by_hash pages url)
 
 -- the lines behind the page with this URL
 abbrev pub known_behind : KnownPages → List ℕ → Option (List (List ℕ))
-known_behind pages url = option_map (λ bytes. lines bytes.now) (get (slice_cmp nat_cmp) pages url)
+known_behind pages url = option_map (λ bytes. lines bytes.now) (get by_hash pages url)
 
 -- the new pages have one more, with these bytes behind it; without a URL they are the old ones
 abbrev pub Adds : KnownPages → KnownPages → Option (List ℕ) → Bor (List ℕ) → Type 0
 Adds old new None bytes = IsUnchanged old new
 Adds old new (Some url) bytes =
-    (get (slice_cmp nat_cmp) old url ≡ None) × Updates (slice_cmp nat_cmp) old new url (Some bytes)
+    (get by_hash old url ≡ None) × Updates by_hash old new url (Some bytes)
     × (btree_map_len new ≡ btree_map_len old + 1)
 
 -- what the checks of the line with this number ask, as far as it is kept

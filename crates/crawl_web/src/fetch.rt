@@ -3,7 +3,7 @@ ghost use Rattle.std.specs.Prelude.{◌≡◌, IfOk};
 
 use crate::page::Page;
 use crawl_keys::CanonUrl;
-use std::alloc::{AllocFailed, Global};
+use std::alloc::{AllocError, AllocFailed, Global};
 
 /// Why a fetch gave no page.
 #[derive(Clone, Copy, Debug, PartialEq, Eq)]
@@ -12,6 +12,16 @@ pub enum FetchError {
     NoMemory,
     /// The fetch itself failed.
     Failed,
+}
+
+impl From<AllocError> for FetchError {
+    ghost use Rattle.crawl_web.specs.declared.fetch.FetchError.TheVariants.{NoMemory};
+
+    ghost from_gives = { λ _ e. e ≡ NoMemory };
+
+    fn from(_refused: AllocError) -> FetchError {
+        FetchError::NoMemory
+    }
 }
 
 impl<T: Drop> From<AllocFailed<T>> for FetchError {

@@ -14,6 +14,7 @@ mod links;
 use crate::fetch::{Fetch, FetchError};
 use crate::lines::first_line;
 use crate::page::Page;
+use crate::url_key::UrlKey;
 use add::{Above, add_line};
 use crawl_keys::CanonUrl;
 pub use error::WebError;
@@ -25,7 +26,7 @@ use std::collections::BTreeMap;
 #[derive(Debug, Drop)]
 pub struct SavedWeb<'a> {
     /// From each page's canonical URL to the bytes behind its line.
-    pages: BTreeMap<CanonUrl, &'a [u8]>,
+    pages: BTreeMap<UrlKey, &'a [u8]>,
 }
 
 impl<'a> SavedWeb<'a> {
@@ -51,7 +52,7 @@ impl<'a> SavedWeb<'a> {
 }
 
 /// The pages that the lines are, each with the bytes behind its line.
-fn known_pages(alloc: Global, bytes: &[u8]) -> Result<BTreeMap<CanonUrl, &[u8]>, WebError>
+fn known_pages(alloc: Global, bytes: &[u8]) -> Result<BTreeMap<UrlKey, &[u8]>, WebError>
     ensures sound { IfOk result (λ _. IsSound (lines bytes.now)) }
     ensures pages { IfOk result (λ pages. (url : List ℕ) → known_page pages url ≡ page_of (lines bytes.now) url) }
     ensures fault { IfErr result (λ told. IsWebRefusal (lines bytes.now) told) }
@@ -85,7 +86,8 @@ impl Fetch for SavedWeb<'_> {
         // It never fails of itself.
         ensures refused { IfErr result (λ e. e ≡ FetchError.NoMemory) }
     {
-        match self.pages.get(url) {
+        let key = UrlKey::from(url.clone()?);
+        match self.pages.get(&key) {
             Some(behind) => page_behind(alloc, url, behind),
             None => Ok(Page::Missing),
         }

@@ -11,7 +11,8 @@ ghost use Rattle.crawl_web.specs.KnownPages.{kept_before, has, Adds, Follows};
 use crate::lines::text_of;
 use crate::saved_web::error::WebError;
 use crate::saved_web::line::{Line, line_of_text};
-use crawl_keys::{CanonUrl, KeyError, canonical};
+use crate::url_key::UrlKey;
+use crawl_keys::{KeyError, canonical};
 use std::alloc::Global;
 use std::collections::BTreeMap;
 
@@ -72,7 +73,7 @@ impl Above {
 /// one, with the bytes behind it.
 pub fn add_line<'a>(
     alloc: Global,
-    pages: &mut BTreeMap<CanonUrl, &'a [u8]>,
+    pages: &mut BTreeMap<UrlKey, &'a [u8]>,
     number: u64,
     above: Above,
     line: &[u8],
@@ -120,7 +121,7 @@ fn header(text: &str) -> Result<bool, WebError>
 
 fn add_page<'a>(
     alloc: Global,
-    pages: &mut BTreeMap<CanonUrl, &'a [u8]>,
+    pages: &mut BTreeMap<UrlKey, &'a [u8]>,
     number: u64,
     text: &str,
     behind: &'a [u8],
@@ -133,7 +134,7 @@ fn add_page<'a>(
         Err(KeyError::NoMemory) => return Err(WebError::NoMemory),
         Err(KeyError::NotUrl | KeyError::NotHttp) => return Err(WebError::BadPageUrl(number)),
     };
-    match pages.insert(url, behind)? {
+    match pages.insert(UrlKey::from(url), behind)? {
         None => Ok(()),
         Some(_) => Err(WebError::PageTwice(number)),
     }
