@@ -1,7 +1,7 @@
 -- How a worker's run goes on.
-use Rattle.std.proofs.Common.{◌≡◌, ◌⊎◌, inl, inr, ℕ, suc, ◌+◌, ◌-◌, ◌^◌, ◌<◌, ◌≤◌, Bool, List, [], ◌∷◌, ◌++◌, length, map, Option, None, Some, Result, Ok, Err, refl, sym, ap, subst, ◌∙◌, arith, IsTrue}
+use Rattle.std.proofs.Common.{◌≡◌, ◌⊎◌, inl, inr, ℕ, suc, ◌+◌, ◌-◌, ◌^◌, ◌<◌, ◌≤◌, Bool, List, [], ◌∷◌, ◌++◌, length, map, Option, None, Some, Result, Ok, Err, refl, sym, ap, subst, ◌∙◌, arith, IsTrue, slice_set, slice_index_or}
 use Rattle.std.specs.List.{All, AllZip}
-use Rattle.std.proofs.lemmas.List.{append_assoc, map-append, length_push}
+use Rattle.std.proofs.lemmas.List.{append_assoc, map-append, length_push, set-get_or}
 use Rattle.std.proofs.lemmas.Grind.{flat_map-append}
 use Rattle.std.proofs.lemmas.List.Elements.{All-push, All-nil, All-weaker, Contains-append_left, Contains-push}
 use Rattle.crawl_keys.specs.Assignment.{subqueue_of}
@@ -79,6 +79,10 @@ all_logged_more workers allowed b b' urls url grows all has =
 
 pub all_logged_none : (workers : ℕ) (allowed : List ℕ → Bool) (log : List Logged) → AllLogged workers allowed log []
 all_logged_none workers allowed log = All-nil (λ u. IsTrue (allowed u) → HasLine workers log u)
+
+-- a list with the same element written once more
+pub unchanged_at : {X : Type 0} (xs : List X) (i : ℕ) (x y : X) → y ≡ slice_index_or xs i x → slice_set xs i y ≡ xs
+unchanged_at xs i x y same = ap (slice_set xs i) same ∙ set-get_or xs i x
 
 -- ## A busy worker
 

@@ -2,6 +2,7 @@
 ghost use Rattle.std.specs.Prelude.{◌≡◌, ◌⊎◌, true, false};
 ghost use Rattle.crawl_keys.specs.HostFilter.{allows};
 ghost use Rattle.crawl_frontier.specs.Parts.{WorkerId};
+ghost use Rattle.crawl_web.specs.Pages.{links_of};
 ghost use Rattle.crawl_workers.specs.Logs.{AllLogged, HasLine};
 ghost use Rattle.crawl_workers.specs.Ran.{Ran};
 ghost use Rattle.crawl_workers.specs.Turn.{Finds, Loses, SameBusy, worker_in};
@@ -9,7 +10,7 @@ ghost use Rattle.crawl_workers.specs.Turn.{Finds, Loses, SameBusy, worker_in};
 use crate::harvest::Harvest;
 use crawl_frontier::{BusyWorker, ClosedWorker, Frontier, Name, OfferError, Turn, Worker};
 use crawl_keys::CanonUrl;
-use crawl_web::{Fetch, links_of};
+use crawl_web::{Fetch, Links, Page};
 use std::alloc::Global;
 use std::sync::Wait;
 
@@ -24,17 +25,19 @@ pub(crate) enum Step<K: Name> {
     Closes(ClosedWorker<K>),
 }
 
-// Offers a link, and answers whether it is lost. One that the filter does not allow is not.
+// Offers a link, and answers whether it is lost. One that the filter does not allow is not. A link that was seen shares the
+// frontier's text from then on.
 fn is_refused<K: Name, R: Wait>(
     rt: &R,
     frontier: &Frontier<K>,
     busy: &mut BusyWorker<K>,
-    url: &CanonUrl,
+    url: &mut CanonUrl,
 ) -> bool
+    ensures url { url.new ≡ url.old }
     ensures same { SameBusy busy.old busy.new }
-    ensures line { result ≡ false → allows K.filter url.now ≡ true → HasLine K.workers busy.new.worker.book.log url.now }
+    ensures line { result ≡ false → allows K.filter url.old ≡ true → HasLine K.workers busy.new.worker.book.log url.old }
 {
-    match busy.offer(rt, frontier, url) {
+    match busy.offer_shared(rt, frontier, url) {
         Ok(_) => false,
         Err(OfferError::Filtered) => false,
         Err(_) => true,
@@ -46,18 +49,46 @@ fn offer_links<K: Name, R: Wait>(
     rt: &R,
     frontier: &Frontier<K>,
     busy: &mut BusyWorker<K>,
-    links: &[CanonUrl],
+    links: &mut [CanonUrl],
 ) -> u64
+    ensures links { links.new ≡ links.old }
     ensures same { SameBusy busy.old busy.new }
-    ensures lines { result ≡ 0 → AllLogged K.workers (allows K.filter) busy.new.worker.book.log links.now }
+    ensures lines { result ≡ 0 → AllLogged K.workers (allows K.filter) busy.new.worker.book.log links.old }
 {
     let mut refused = 0;
-    for link in links {
-        if is_refused(rt, frontier, busy, link) {
+    for place in 0..links.len() {
+        if is_refused(rt, frontier, busy, &mut links[place]) {
             refused += 1;
         }
     }
     refused
+}
+
+// Offers the links of a page, in order, and answers how many are lost, with the page as it was.
+fn offer_page<K: Name, R: Wait>(
+    rt: &R,
+    frontier: &Frontier<K>,
+    busy: &mut BusyWorker<K>,
+    page: Page,
+) -> (Page, u64)
+    ensures page { result.0 ≡ page }
+    ensures same { SameBusy busy.old busy.new }
+    ensures lines { result.1 ≡ 0 → AllLogged K.workers (allows K.filter) busy.new.worker.book.log (links_of page) }
+{
+    match page {
+        Page::Found { links, skipped } => {
+            let mut urls = Vec::from(links);
+            let refused = offer_links(rt, frontier, busy, urls.as_mut_slice());
+            let links = Links::from(urls);
+            (Page::Found { links, skipped }, refused)
+        }
+        Page::Moved { to: Some(mut url) } => {
+            let refused = is_refused(rt, frontier, busy, &mut url);
+            (Page::Moved { to: Some(url) }, u64::from(refused))
+        }
+        Page::Moved { to: None } => (Page::Moved { to: None }, 0),
+        Page::Missing => (Page::Missing, 0),
+    }
 }
 
 // Fetches the URL, offers the links of its page, and keeps the result.
@@ -76,7 +107,7 @@ fn work<K: Name, F: Fetch, R: Wait>(
         harvest.lose(1);
         return;
     };
-    let refused = offer_links(rt, frontier, busy, links_of(&page));
+    let (page, refused) = offer_page(rt, frontier, busy, page);
     harvest.lose(refused);
     harvest.keep(busy.url(), page);
 }

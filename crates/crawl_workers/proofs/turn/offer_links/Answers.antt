@@ -1,15 +1,19 @@
-use Rattle.std.proofs.Common.{arith, take}
+use Rattle.std.proofs.Common.{◌≡◌, true, arith, take, ap, subst, ◌∙◌, slice_index_or}
 use Rattle.std.proofs.lemmas.List.{take_more}
 use Rattle.crawl_keys.specs.HostFilter.{allows}
-use Rattle.crawl_workers.proofs.Running.{busy_on, all_logged_more}
+use Rattle.crawl_workers.specs.Logs.{HasLine}
+use Rattle.crawl_workers.proofs.Running.{busy_on, all_logged_more, unchanged_at}
 use Rattle.crawl_workers.proofs.turn.offer_links.Goals.{then-is_refused, else-is_refused}
 use Rattle.crawl_workers.proofs.turn.offer_links.Goals as goal
 
-pub loop-link-preserved : goal.loop-link-preserved
-loop-link-preserved g c =
-    let inv = c.loop-link.invariant in
+pub loop-place-preserved : goal.loop-place-preserved
+loop-place-preserved g c =
+    let inv = c.loop-place.invariant in
+    let i = c.loop-place.place in
+    let x = c.index-links-place.result in
+    let links = c.args.links.now in
     let same = c.is_refused.ensures.same in
-    let more = take_more c.args.links.now c.loop-link.link-index c.link-item.result c.loop-link-test.true in (
+    let log = c.is_refused.new.busy.worker.book.log in (
       elim c.if-is_refused.branch [
         | then-is_refused w ↦ omega (arith, w.refused-is, inv.0)
         | else-is_refused w ↦ omega (arith, w.refused-is, inv.0)
@@ -18,6 +22,9 @@ loop-link-preserved g c =
       elim c.if-is_refused.branch [
         | then-is_refused w ↦ λ none. absurd (omega (arith, w.refused-is, none))
         | else-is_refused w ↦ λ none.
-            rw (more, ← c.link-item.is) (all_logged_more g.K.Name.workers (allows g.K.Name.filter) _ _ (take c.loop-link.link-index c.args.links.now) c.link-item.result same.grows (inv.2 (omega (arith, w.refused-is, none))) (c.is_refused.ensures.line w.if-is_refused.false))
+            rw (take_more links i x c.loop-place-test.true)
+            (all_logged_more g.K.Name.workers (allows g.K.Name.filter) _ _ (take i links) (slice_index_or links i x) same.grows (inv.2 (omega (arith, w.refused-is, none)))
+            (subst (λ ls. allows g.K.Name.filter (slice_index_or ls i x) ≡ true → HasLine g.K.Name.workers log (slice_index_or ls i x)) inv.3 (c.is_refused.ensures.line w.if-is_refused.false)))
       ],
+      unchanged_at c.loop-place.links i x c.is_refused.new.url c.is_refused.ensures.url ∙ inv.3,
     )

@@ -1,11 +1,12 @@
-use Rattle.std.proofs.Common.{◌≡◌, ◌≤◌, take}
+use Rattle.std.proofs.Common.{◌≡◌, ◌≤◌, take, length}
 use Rattle.crawl_keys.specs.HostFilter.{allows}
 use Rattle.crawl_workers.specs.Logs.{AllLogged}
 use Rattle.crawl_workers.specs.Turn.{SameBusy}
 use Rattle.crawl_workers.proofs.turn.offer_links.Given as goal
 
-abbrev pub invariant-loop-link : goal.invariant-loop-link
-invariant-loop-link g l =
-    (l.refused ≤ l.link-index)
+abbrev pub invariant-loop-place : goal.invariant-loop-place
+invariant-loop-place g l =
+    (l.refused ≤ l.place)
     × SameBusy l.fn.busy l.busy
-    × (l.refused ≡ 0 → AllLogged g.K.Name.workers (allows g.K.Name.filter) l.busy.worker.book.log (take l.link-index l.links))
+    × (l.refused ≡ 0 → AllLogged g.K.Name.workers (allows g.K.Name.filter) l.busy.worker.book.log (take l.place l.fn.links))
+    × (l.links ≡ l.fn.links)
