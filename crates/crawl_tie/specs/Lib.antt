@@ -1,0 +1,5 @@
+pub mod Whole
+pub mod Acts
+pub mod Shows
+pub mod Headline
+pub mod Parts
