@@ -6,3 +6,4 @@ pub mod Steps
 pub mod Lists
 pub mod Closing
 pub mod Shown
+pub mod Samples

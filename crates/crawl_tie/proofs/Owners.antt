@@ -18,9 +18,10 @@ use Rattle.crawl_gate.specs.View.{fresh_view, view_entering, view_leaving}
 use Rattle.crawl_gate.specs.GateInvariant.{Moment}
 use Rattle.crawl_gate.specs.History.{SeatSteps, first_moment}
 use Rattle.crawl_gate.specs.Seat.{GateId}
+use Rattle.crawl_frontier.specs.declared.entry.Message.{Message}
 use Rattle.crawl_frontier.specs.History as subqueues
 use Rattle.crawl_tie.specs.Whole.{Lane, Whole, Owner, Seeds, Offer, Sent, IsFirst}
-use Rattle.crawl_tie.specs.Acts.{Splitting, Entering, Leaving, IsOwner, is_offering, with_gate, after_splitting, after_looking, after_entering, after_leaving, after_fetching, after_seeding, after_pushing}
+use Rattle.crawl_tie.specs.Acts.{Splitting, Entering, Leaving, IsOwner, IsUnitOf, is_offering, with_gate, after_splitting, after_looking, after_entering, after_leaving, after_fetching, after_seeding, after_pushing}
 use Rattle.crawl_tie.specs.Parts.{UnitsAreOwned, is_owned}
 
 -- ## Places of two lists at once
@@ -230,3 +231,18 @@ owner_there (x ∷ xs) (o ∷ os) (suc i) v e at held = owner_there xs os i v (a
 
 pub whose : (w : Whole) (gate : Moment) (n : ℕ) → UnitsAreOwned w → (l : Leaving w.gate gate n) → (owner : Owner) × IsOwner w l.steps.seat owner
 whose w gate n o l = owner_there w.gate.views w.owners l.steps.seat l.view o.held l.steps.view l.holds
+
+-- the view of a seat that has an owner
+held_there : (views : List View) (owners : List (Option Owner)) (i : ℕ) (v : View) (owner : Owner) → map (λ (z : View). z.holds_unit) views ≡ map is_owned owners → get_elem? views i ≡ some v → slice_get owners i ≡ Some (Some owner) → v.holds_unit ≡ true
+unfolding head_is
+held_there [] owners i v owner e at has = absurd (some-ne-none v (sym at))
+held_there (x ∷ xs) [] i v owner e at has = absurd (cc (has))
+held_there (x ∷ xs) (None ∷ os) zero v owner e at has = let here : Some None ≡ Some (Some owner) = has in absurd (cc (here))
+held_there (x ∷ xs) (Some o ∷ os) zero v owner e at has =
+    let here : x.holds_unit ≡ true = ap (head_is true) e in
+    let same : x ≡ v = some-injective x v at in
+    ap (λ (z : View). z.holds_unit) (sym same) ∙ here
+held_there (x ∷ xs) (o ∷ os) (suc i) v owner e at has = held_there xs os i v owner (ap (λ bs. drop 1 bs) e) at has
+
+pub pushed_held : (w : Whole) (m : Message) (s : ℕ) → UnitsAreOwned w → IsUnitOf w s m → m.unit.view.holds_unit ≡ true
+pushed_held w m s o unit = held_there w.gate.views w.owners m.unit.number m.unit.view (Offer s) o.held unit.view unit.owner

@@ -3,3 +3,4 @@ pub mod Acts
 pub mod Shows
 pub mod Headline
 pub mod Parts
+pub mod Sample

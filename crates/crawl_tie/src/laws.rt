@@ -1,6 +1,6 @@
 //! What follows from the definitions alone, for every history of a frontier's atomic steps. None does anything when it is
 //! called.
-ghost use Rattle.std.specs.Prelude.{◌≡◌, ℕ, List, [], ◌∷◌, ◌++◌, true, false};
+ghost use Rattle.std.specs.Prelude.{◌≡◌, ◌≢◌, ℕ, List, [], ◌∷◌, ◌++◌, true, false};
 ghost use Rattle.std.specs.List.{list_all};
 ghost use Rattle.crawl_core.specs.declared.event.Event.{Event};
 ghost use Rattle.crawl_core.specs.declared.reply.Reply.{Reply};
@@ -20,9 +20,10 @@ ghost use Rattle.crawl_frontier.specs.Rule.{SubqueueInvariant, home};
 ghost use Rattle.crawl_frontier.specs.History as subqueues;
 ghost use Rattle.crawl_frontier.specs.History.{SubqueueStep};
 ghost use Rattle.crawl_tie.specs.Whole.{Whole, Owner, IsFirst, made};
-ghost use Rattle.crawl_tie.specs.Acts.{Act, Atomic, History, Leaving, IsOwner};
+ghost use Rattle.crawl_tie.specs.Acts.{Act, Atomic, History, Leaving, IsOwner, IsUnitOf};
 ghost use Rattle.crawl_tie.specs.Shows.{events, events_of, ShowsWhole, ShowsGate, ShowsLists, IsPlaced, CountsUnits, ListsKeep};
 ghost use Rattle.crawl_tie.specs.Headline.{Delivers, Finished, is_closing, is_quiet};
+ghost use Rattle.crawl_tie.specs.Sample.{offers_made, turns_made};
 ghost use Rattle.crawl_tie.specs.Parts.{GateMoves, LaneMoves, IsDivided, IsUnited, IsMaking, UnitsAreOwned};
 
 /// Every history of atomic steps is shown by a run of the machine, whose events are those of the steps.
@@ -59,11 +60,12 @@ pub fn invariants_shown()
 {}
 
 /// At each moment of a history the gate keeps its invariant, and each unit is somebody's; so each step that gives a unit back
-/// is that of its owner.
+/// is that of its owner, and a unit that goes with a pushed URL is held.
 pub fn units_are_owned()
     ensures always { (gate : GateId) (workers : ℕ) (first last : Whole) (acts : List Act) → IsMaximum gate.max_pending → IsFirst gate workers first → History first acts last
         → GateInvariant gate.max_pending last.gate × UnitsAreOwned last }
     ensures whose { (w : Whole) (gate : gates.Moment) (n : ℕ) → UnitsAreOwned w → (step : Leaving w.gate gate n) → (owner : Owner) × IsOwner w step.steps.seat owner }
+    ensures pushed { (w : Whole) (m : Message) (s : ℕ) → UnitsAreOwned w → IsUnitOf w s m → m.unit.view.holds_unit ≡ true }
 {}
 
 /// No step of a part is left out: each step of a gate is one of those that the atomic steps make of it. So is each step of a
@@ -74,4 +76,11 @@ pub fn no_step_left_out()
     ensures divided { (gate : GateId) (workers q : ℕ) → IsDivided (made (home gate workers q)) }
     ensures subqueues { (m next : subqueues.Moment) → SubqueueInvariant m.items m.views → IsDivided m → SubqueueStep m next → LaneMoves m next }
     ensures united { (m next : subqueues.Moment) → IsUnited m → (step : SubqueueStep m next) → IsMaking step ≡ true }
+{}
+
+/// The laws are about something: twenty-seven steps of two workers and two senders with one URL. One sender loses a try, and
+/// then finds the URL there; one worker fetches it; the gate is closed, and found closed.
+pub fn there_are_histories()
+    ensures { (gate : GateId) → gate.max_pending ≡ 4 → (q : ℕ) × (other : ℕ) × (e : Entry) × (first : Whole) × (mid : Whole) × (last : Whole)
+        × (q ≢ other) × IsFirst gate 2 first × History first (offers_made q e) mid × History mid (turns_made q other e) last }
 {}

@@ -61,8 +61,8 @@ impl Tally {
     }
 }
 
-pub fn of_offer(result: Result<Offer, OfferError>) -> Answer {
-    match result {
+pub fn of_offer(answered: Result<Offer, OfferError>) -> Answer {
+    match answered {
         Ok(Offer::Accepted(queue, number)) => Answer::Accepted(queue, number),
         Ok(Offer::Seen) => Answer::Seen,
         Err(OfferError::Filtered) => Answer::Filtered,

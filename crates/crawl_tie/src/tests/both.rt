@@ -109,16 +109,26 @@ impl<K: Name> Both<K> {
     }
 
     fn seed<R: Wait>(&mut self, rt: &R, alloc: Global, url: &CanonUrl) -> Result<(), Fault> {
-        let Some(seeder) = &mut self.seeder else {
+        let Both {
+            frontier,
+            seeder,
+            ..
+        } = self;
+        let Some(seeder) = seeder else {
             return Ok(());
         };
-        let found = of_offer(seeder.offer(rt, &self.frontier, url));
+        let found = of_offer(seeder.offer(rt, frontier, url));
         let wanted = self.machine(alloc, u64::from(self.frontier.workers()), url);
         self.agree(found, wanted)
     }
 
     fn send<R: Wait>(&mut self, rt: &R, alloc: Global, url: &CanonUrl) -> Result<(), Fault> {
-        let found = of_offer(self.sender.offer(rt, &self.frontier, url));
+        let Both {
+            frontier,
+            sender,
+            ..
+        } = self;
+        let found = of_offer(sender.offer(rt, frontier, url));
         let wanted = self.machine(alloc, self.sender_id, url);
         self.agree(found, wanted)
     }
