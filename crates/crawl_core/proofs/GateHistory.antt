@@ -60,7 +60,7 @@ taken_out least k (x ∷ xs) rising = by_first (is_at (nat_cmp k) x) refl (taken
     by_first false other rest = rw (other, other) rest
 
 -- and another stays
-others_stay : (q k : ℕ) (xs : List ℕ) → (k ≡ q → ⊥) → list_any (is_at (nat_cmp q)) (remove_key (is_at (nat_cmp k)) xs) ≡ list_any (is_at (nat_cmp q)) xs
+pub others_stay : (q k : ℕ) (xs : List ℕ) → (k ≡ q → ⊥) → list_any (is_at (nat_cmp q)) (remove_key (is_at (nat_cmp k)) xs) ≡ list_any (is_at (nat_cmp q)) xs
 others_stay q k [] apart = refl
 others_stay q k (x ∷ xs) apart = by_first (is_at (nat_cmp k) x) refl (others_stay q k xs apart)
   where

@@ -15,12 +15,12 @@ length-slice_set [] i y = refl
 length-slice_set (z ∷ zs) zero y = refl
 length-slice_set (z ∷ zs) (suc i) y = ap suc (length-slice_set zs i y)
 
-get_set_same : {X : Type 0} (xs : List X) (i : ℕ) (x y : X) → slice_get xs i ≡ Some x → slice_get (slice_set xs i y) i ≡ Some y
+pub get_set_same : {X : Type 0} (xs : List X) (i : ℕ) (x y : X) → slice_get xs i ≡ Some x → slice_get (slice_set xs i y) i ≡ Some y
 get_set_same [] i x y at = absurd (cc)
 get_set_same (z ∷ zs) zero x y at = refl
 get_set_same (z ∷ zs) (suc i) x y at = get_set_same zs i x y at
 
-get_set_other : {X : Type 0} (xs : List X) (i j : ℕ) (y : X) → nat_eq i j ≡ false → slice_get (slice_set xs i y) j ≡ slice_get xs j
+pub get_set_other : {X : Type 0} (xs : List X) (i j : ℕ) (y : X) → nat_eq i j ≡ false → slice_get (slice_set xs i y) j ≡ slice_get xs j
 get_set_other [] i j y apart = refl
 get_set_other (z ∷ zs) zero zero y apart = absurd (cc)
 get_set_other (z ∷ zs) zero (suc j) y apart = refl
