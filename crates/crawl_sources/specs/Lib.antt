@@ -1,0 +1,3 @@
+pub mod Seeds
+pub mod Sources
+pub mod Tallies

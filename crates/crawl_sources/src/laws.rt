@@ -1,0 +1,1 @@
+//! What holds of sources. None does anything when it is called.
