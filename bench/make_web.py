@@ -1,13 +1,18 @@
 #!/usr/bin/env python3
 """Writes a saved web of so many pages over 1,000 hosts, each page with five links, to standard output.
 
-Usage: make_web.py PAGES
+Usage: make_web.py PAGES [--links N]
 
 A page is on host k of 1 to 1,000 with weight 1/k. Page i, counted from 0, links to pages 2i+1 and 2i+2, so that all pages
 are reached from the first of the file; its other links are drawn. They are spelled in four ways: absolute, `//host/..`,
 `/path` and relative, the last two only to pages of the same host. All is drawn from a fixed seed, so a web is the same
 each time; and each URL has 56 bytes, so that webs differ in size alone.
+
+With --links N the web has the shape of real sites: one host to 1,000 pages, and 3/4 N to 8/5 N links a page. A third of a
+page's links are repeats of others on it, half of those by a fragment of their own; of the rest seven in eight are the
+navigation that all pages of its folder share, in the same texts, and the others its children and drawn pages.
 """
+import argparse
 import random
 import sys
 
@@ -52,21 +57,66 @@ def links(drawn, hosts, pages_of, page):
         yield spelled(hosts, page, target, spelling)
 
 
-def drawn_hosts(drawn, count):
-    hosts = range(1, HOSTS + 1)
+def most_links(wanted):
+    return 8 * wanted // 5
+
+
+def own_links(drawn, hosts, pages_of, page, count):
+    """The page's children, and as many drawn pages as make so many links; more where the children are more."""
+    for target in range(2 * page + 1, min(2 * page + 3, len(hosts))):
+        yield spelled(hosts, page, target, RELATIVE if hosts[target] == hosts[page] else BY_HOST)
+        count -= 1
+    for _ in range(count):
+        yield spelled(hosts, page, drawn.choice(pages_of[hosts[page]]), RELATIVE)
+
+
+def repeated(drawn, text):
+    return text if drawn.randrange(2) else f"{text}#part-{drawn.randrange(10)}"
+
+
+def many_links(drawn, hosts, pages_of, page, navigations, wanted):
+    """Links as a real page has them: its folder's navigation, its own links, and repeats of these."""
+    folder = (hosts[page], page % SECTIONS)
+    if folder not in navigations:
+        targets = drawn.choices(pages_of[hosts[page]], k=most_links(wanted))
+        navigations[folder] = [spelled(hosts, page, target, drawn.choice((BY_PATH, RELATIVE))) for target in targets]
+    count = drawn.randrange(3 * wanted // 4, most_links(wanted) + 1)
+    repeats = count // 3
+    own = list(own_links(drawn, hosts, pages_of, page, (count - repeats) // 8))
+    texts = navigations[folder][:count - repeats - len(own)] + own
+    return texts + [repeated(drawn, text) for text in drawn.choices(texts, k=repeats)]
+
+
+def drawn_hosts(drawn, count, most):
+    hosts = range(1, most + 1)
     return drawn.choices(hosts, [1 / host for host in hosts], k=count)
 
 
+def arguments():
+    parser = argparse.ArgumentParser(description="Writes a saved web to standard output.")
+    parser.add_argument("pages", metavar="PAGES", type=int)
+    parser.add_argument("--links", metavar="N", type=int, help="the shape of real sites, with about N links a page; 4 or more")
+    parsed = parser.parse_args()
+    if parsed.links is not None and parsed.links < 4:
+        parser.error("--links is 4 or more")
+    return parsed
+
+
 def main():
+    wanted = arguments()
     drawn = random.Random(SEED)
-    hosts = drawn_hosts(drawn, int(sys.argv[1]))
-    pages_of = {}
+    hosts = drawn_hosts(drawn, wanted.pages, HOSTS if wanted.links is None else wanted.pages // 1_000 + 1)
+    pages_of, navigations = {}, {}
     for page, host in enumerate(hosts):
         pages_of.setdefault(host, []).append(page)
     sys.stdout.write("savedweb 1\n")
     for page, host in enumerate(hosts):
         lines = [f"page http:{authority(host)}{path(page)}\n"]
-        lines += [f"link {text}\n" for text in links(drawn, hosts, pages_of, page)]
+        if wanted.links is None:
+            texts = links(drawn, hosts, pages_of, page)
+        else:
+            texts = many_links(drawn, hosts, pages_of, page, navigations, wanted.links)
+        lines += [f"link {text}\n" for text in texts]
         sys.stdout.write("".join(lines))
 
 

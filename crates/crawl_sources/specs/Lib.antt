@@ -1,0 +1,4 @@
+pub mod SeedFaults
+pub mod Seeds
+pub mod Sources
+pub mod Tallies

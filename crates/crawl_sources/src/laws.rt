@@ -1,0 +1,24 @@
+//! What holds of sources and of seeds. None does anything when it is called.
+ghost use Rattle.std.specs.Prelude.{◌≡◌, ℕ, false, List, [], Some, None};
+ghost use Rattle.std.specs.List.{All, Contains};
+ghost use Rattle.std.specs.Ordering.{is_lt, nat_cmp};
+ghost use Rattle.std.specs.Cmp.Lexicographic.{slice_cmp};
+ghost use Rattle.crawl_web.specs.LeastFault.{SoundAfter, IsLeastFault};
+ghost use Rattle.crawl_sources.specs.SeedFaults.{fault_after};
+ghost use Rattle.crawl_sources.specs.Seeds.{first_fault};
+ghost use Rattle.crawl_sources.specs.Sources.{least};
+ghost use Rattle.crawl_sources.specs.declared.seeds.SeedsFault.{SeedsFault};
+
+/// The least of texts is one of them, and none of them is less; there is none only where there is no text.
+pub fn least_text()
+    ensures among { (texts : List (List ℕ)) (text : List ℕ) → least texts ≡ Some text → Contains texts text }
+    ensures below { (texts : List (List ℕ)) (text : List ℕ) → least texts ≡ Some text → All (λ t. is_lt (slice_cmp nat_cmp t text) ≡ false) texts }
+    ensures none { (texts : List (List ℕ)) → least texts ≡ None → texts ≡ [] }
+{}
+
+/// The fault of a seeds file is that of its first line that fails a check, and there the first check; where there is none, no
+/// line fails one.
+pub fn first_fault_is_least()
+    ensures fault { (lines : List (List ℕ)) (fault : SeedsFault) → first_fault 1 lines ≡ Some fault → IsLeastFault fault_after lines fault }
+    ensures sound { (lines : List (List ℕ)) → first_fault 1 lines ≡ None → SoundAfter fault_after [] lines }
+{}

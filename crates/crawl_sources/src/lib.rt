@@ -1,0 +1,13 @@
+//! What stands round a crawl of a real site: its seeds from a file, and where its missing URLs are linked from.
+#![tactic(auto)]
+
+/// What holds of sources.
+pub mod laws;
+mod seeds;
+mod sources;
+mod tally;
+#[cfg(test)]
+mod tests;
+
+pub use seeds::{SeedsFault, read_seeds};
+pub use sources::sources_text;

@@ -1,0 +1,90 @@
+//! The seeds that a file has, one a line.
+ghost use Rattle.std.specs.Prelude.{◌≡◌, IfOk};
+ghost use Rattle.std.specs.Str.Lines.{lines};
+ghost use Rattle.crawl_keys.specs.Outcome.{Gives};
+ghost use Rattle.crawl_sources.specs.Seeds.{fault_of, key_fault, line_fault, seed_url, seeds_in, checked};
+ghost use Rattle.crawl_sources.specs.declared.seeds.SeedsFault.TheVariants as wrong;
+
+use crawl_keys::{CanonUrl, KeyError, canonical};
+use crawl_web::{LineError, first_line, text_of};
+use std::alloc::{AllocError, AllocFailed, Global};
+
+/// Why bytes are no seeds, in the order of the checks of a line. Lines are numbered from 1.
+#[derive(Clone, Copy, Debug, PartialEq, Eq)]
+pub enum SeedsFault {
+    /// The line with this number has more than [`LINE_LIMIT`](crawl_web::LINE_LIMIT) bytes.
+    LineTooLong(u64),
+    /// The line with this number is not UTF-8.
+    NotText(u64),
+    /// The line with this number is not empty, and no URL.
+    NotUrl(u64),
+    /// The line with this number is a URL that is neither `http` nor `https`.
+    NotHttp(u64),
+    /// A growth was refused. This may stand in place of any other answer.
+    NoMemory,
+}
+
+impl From<LineError> for SeedsFault {
+    ghost from_gives = { λ line fault. fault ≡ fault_of line };
+
+    fn from(line: LineError) -> SeedsFault {
+        match line {
+            LineError::TooLong(number) => SeedsFault::LineTooLong(number),
+            LineError::NotText(number) => SeedsFault::NotText(number),
+        }
+    }
+}
+
+impl From<AllocError> for SeedsFault {
+    ghost from_gives = { λ _ fault. fault ≡ wrong.NoMemory };
+
+    fn from(_refused: AllocError) -> SeedsFault {
+        SeedsFault::NoMemory
+    }
+}
+
+impl<T: Drop> From<AllocFailed<T>> for SeedsFault {
+    ghost from_gives = { λ _ fault. fault ≡ wrong.NoMemory };
+
+    fn from(_refused: AllocFailed<T>) -> SeedsFault {
+        SeedsFault::NoMemory
+    }
+}
+
+/// The canonical URLs of the seeds that the bytes are, one a line, in their order; empty lines are skipped.
+///
+/// # Errors
+/// That of the first line that fails a check, and there the first of the checks, in the order of [`SeedsFault`]; `NoMemory`
+/// where a growth was refused.
+pub fn read_seeds(alloc: Global, bytes: &[u8]) -> Result<Vec<CanonUrl>, SeedsFault>
+    ensures { Gives SeedsFault.NoMemory (λ urls. urls.items) result (seeds_in (lines bytes.now)) }
+{
+    let mut urls = Vec::new(alloc);
+    let mut rest = bytes;
+    let mut number: u64 = 0;
+    while let Some((line, more)) = first_line(rest) {
+        rest = more;
+        number += 1;
+        if let Some(url) = seed_of(alloc, number, line)? {
+            urls.push(url)?;
+        }
+    }
+    Ok(urls)
+}
+
+/// The seed that the line with this number is; none where it is empty.
+fn seed_of(alloc: Global, number: u64, line: &[u8]) -> Result<Option<CanonUrl>, SeedsFault>
+    ensures tells { Gives SeedsFault.NoMemory (λ _. tt) result (checked (line_fault number line.now)) }
+    ensures url { IfOk result (λ url. url ≡ seed_url line.now) }
+{
+    let text = text_of(number, line)?;
+    if text.is_empty() {
+        return Ok(None);
+    }
+    match canonical(alloc, text) {
+        Ok(url) => Ok(Some(url)),
+        Err(KeyError::NotUrl) => Err(SeedsFault::NotUrl(number)),
+        Err(KeyError::NotHttp) => Err(SeedsFault::NotHttp(number)),
+        Err(KeyError::NoMemory) => Err(SeedsFault::NoMemory),
+    }
+}
