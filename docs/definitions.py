@@ -23,6 +23,7 @@ THEOREMS = [
     ("The machine and its laws", [("crawl_core", "runs.rt", "run"), ("crawl_core", "laws.rt", None)]),
     ("The report of a crawl", [("mercator", "commands/web_crawl.rt", "report_of_saved_web"), ("mercator", "crawling.rt", "crawl")]),
     ("An account of the frontier for threads", [("crawl_frontier", "frontier.rt", None), ("crawl_frontier", "seeder.rt", None), ("crawl_frontier", "sender.rt", None), ("crawl_frontier", "worker.rt", None), ("crawl_frontier", "busy_worker.rt", None), ("crawl_frontier", "finish.rt", None), ("crawl_frontier", "account.rt", None), ("crawl_frontier", "laws.rt", None)]),
+    ("Every interleaving of the frontier's steps", [("crawl_tie", "laws.rt", None)]),
     ("The certificate of a run", [("crawl_certificate", "certificate.rt", "certify"), ("crawl_certificate", "laws.rt", None)]),
     ("The gate, for threads", [("crawl_gate", "gate.rt", None), ("crawl_gate", "gate/load.rt", None), ("crawl_gate", "gate/enter.rt", None), ("crawl_gate", "gate/leave.rt", None), ("crawl_gate", "gate/close.rt", None), ("crawl_gate", "laws.rt", None)]),
 ]
