@@ -1,6 +1,7 @@
 //! What a part that sends keeps of its own offers.
-ghost use Rattle.std.specs.Prelude.{◌≡◌, ◌<◌, IfOk, OnOk, vec_len, vec_capacity};
-ghost use Rattle.crawl_frontier.specs.Books.{IsBook, book_of, fresh_book, place_of};
+ghost use Rattle.std.specs.Prelude.{◌≡◌, ◌<◌, ◌^◌, IfOk, OnOk, Some, slice_get, vec_len, vec_capacity};
+ghost use Rattle.crawl_frontier.specs.Entries.{entry};
+ghost use Rattle.crawl_frontier.specs.Books.{IsBook, book_of, book_accepting, book_seeing, fresh_book, place_of};
 
 use crate::entry::Entry;
 use crawl_keys::CanonUrl;
@@ -55,6 +56,32 @@ impl Book {
     {
         self.log.reserve(1)?;
         Ok(())
+    }
+
+    /// Enters a URL that subqueue `place` accepted, as the `number`-th from 0. Nothing grows.
+    pub fn accept(&mut self, url: CanonUrl, place: u32, number: u64, hops: u32)
+        requires within { place < vec_len self.old.counts }
+        requires number { slice_get self.old.counts.items place ≡ Some number }
+        requires small { number < 2 ^ 63 }
+        requires room { vec_len self.old.log < vec_capacity self.old.log }
+        ensures { book_of self.new ≡ book_accepting (book_of self.old) place number (entry url self.old.id number hops) }
+    {
+        self.counts[place as usize] = number + 1;
+        let entry = Entry {
+            url,
+            sender: self.id,
+            number,
+            hops,
+        };
+        self.log.push_reserved(Logged::Accepted(entry, place));
+    }
+
+    /// Enters a URL that was found in subqueue `place`. Nothing grows.
+    pub fn see(&mut self, url: CanonUrl, place: u32)
+        requires room { vec_len self.old.log < vec_capacity self.old.log }
+        ensures { book_of self.new ≡ book_seeing (book_of self.old) url place }
+    {
+        self.log.push_reserved(Logged::Seen(url, place));
     }
 
     /// Lets `url` share the text of the last line, where that has the same URL as seen.

@@ -6,8 +6,7 @@ ghost use Rattle.crawl_frontier.specs.Books.{IsBook, book_of};
 ghost use Rattle.crawl_frontier.specs.Offers.{Replies, OfferBooks, Delivers};
 ghost use Rattle.crawl_frontier.specs.Units.{GaveBack};
 
-use crate::book::{Book, Logged};
-use crate::entry::Entry;
+use crate::book::Book;
 use crate::error::OfferError;
 use crate::frontier::Frontier;
 use crate::name::Name;
@@ -85,24 +84,14 @@ pub(crate) fn deliver<K: Name, R: Wait>(
     let known = url.url();
     let place = known.subqueue(frontier.workers());
     let own = book.counts[place as usize];
-    let id = book.id;
-    match admit_at(rt, frontier, &url, place, id, own, hops, unit) {
+    match admit_at(rt, frontier, &url, place, book.id, own, hops, unit) {
         Admit::Admitted(number) => {
-            book.counts[place as usize] = own + 1;
-            book.log.push_reserved(Logged::Accepted(
-                Entry {
-                    url: url.into_url(),
-                    sender: id,
-                    number,
-                    hops: hops as u32,
-                },
-                place,
-            ));
+            book.accept(url.into_url(), place, number, hops as u32);
             Ok(Offer::Accepted(place, number))
         }
         Admit::Seen(there, unit) => {
             *pass = give_back(frontier, unit);
-            book.log.push_reserved(Logged::Seen(there, place));
+            book.see(there, place);
             Ok(Offer::Seen)
         }
         Admit::Crossed(found, unit) => {

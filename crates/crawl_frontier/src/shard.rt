@@ -1,8 +1,8 @@
 //! What lies behind a subqueue's lock.
-ghost use Rattle.std.specs.Prelude.{◌≡◌, [], IfOk, Some, slice_get};
+ghost use Rattle.std.specs.Prelude.{◌≡◌, [], false, IfOk, Some, slice_get};
 ghost use Rattle.crawl_keys.specs.Assignment.{subqueue_of};
 ghost use Rattle.crawl_gate.specs.Seat.{IsSeatOf};
-ghost use Rattle.crawl_frontier.specs.Entries.{KeepsRule, entry};
+ghost use Rattle.crawl_frontier.specs.Entries.{KeepsRule, count_of, entry, has_url};
 ghost use Rattle.crawl_frontier.specs.Admits.{Admits};
 ghost use Rattle.crawl_frontier.specs.Parts.{shard};
 ghost use Rattle.crawl_frontier.specs.Rule.{pushing, home};
@@ -131,8 +131,6 @@ impl<K: Name> Shard<K> {
     }
 
     /// Sends the URL with its unit, or says why not and gives the unit back. It may wait, for a push may.
-    ///
-    /// All that grows comes before the push; if the push itself is refused, the tables are as before.
     pub fn admit<R: Wait>(
         &mut self,
         rt: &R,
@@ -161,7 +159,29 @@ impl<K: Name> Shard<K> {
         if hops > HOPS_LIMIT {
             return Admit::TooFar(unit);
         }
-        let Ok((sent, listed, key)) = copies(url, sender, own, hops as u32) else {
+        self.send(rt, queue, url, sender, own, hops as u32, unit)
+    }
+
+    // Sends a URL that is not there. All that grows comes before the push; if the push itself is refused, the tables are
+    // as before.
+    fn send<R: Wait>(
+        &mut self,
+        rt: &R,
+        queue: &Subqueue,
+        url: &UrlKey,
+        sender: u64,
+        own: u64,
+        hops: u32,
+        unit: Unit,
+    ) -> Admit
+        requires place { subqueue_of url.now K.workers ≡ self.old.place }
+        requires queue { slice_get K.queues self.old.place ≡ Some queue.now }
+        requires unit { IsSeatOf K.gate unit }
+        requires own { count_of sender self.old.sent ≡ own }
+        requires new { has_url url.now self.old.sent ≡ false }
+        ensures { Admits self.old self.new url.now sender own hops unit result }
+    {
+        let Ok((sent, listed, key)) = copies(url, sender, own, hops) else {
             return Admit::NoMemory(unit);
         };
         let Ok(()) = self.sent.reserve(1) else {

@@ -1,12 +1,10 @@
-use Rattle.std.proofs.Common.{◌≡◌, ◌+◌, ◌<◌, ◌∙◌, ◌++◌, ◌∷◌, [], ap, sym, refl, Some, set, slice_get, length, arith, subst}
+use Rattle.std.proofs.Common.{◌≡◌, ◌<◌, ◌∙◌, ap, sym, refl, Some, slice_get, length, arith, subst}
 use Rattle.std.proofs.lemmas.Option.{slice_get_read}
 use Rattle.crawl_keys.specs.Assignment.{subqueue_of}
-use Rattle.crawl_frontier.specs.declared.book.Logged.TheVariants.{Accepted, Seen}
 use Rattle.crawl_frontier.specs.Entries.{entry}
-use Rattle.crawl_frontier.specs.Books.{IsBook, book_of}
+use Rattle.crawl_frontier.specs.Books.{IsBook, book_of, book_accepting}
 use Rattle.crawl_frontier.proofs.BookKeeping.{book_accepts, book_sees}
 use Rattle.crawl_frontier.proofs.offer.deliver.Goals as goal
-use Rattle.crawl_frontier.proofs.offer.deliver.Goals.{In-Admitted}
 
 pub returns-in-Admitted-clause-books : goal.returns-in-Admitted-clause-books
 returns-in-Admitted-clause-books g c =
@@ -16,12 +14,11 @@ returns-in-Admitted-clause-books g c =
     let below : place < g.K.Name.workers = omega (arith, c.subqueue-place.ensures.below, c.workers.ensures.0) in
     let get : slice_get b.counts place ≡ Some own = slice_get_read b.counts (length b.counts) place own refl (omega (arith, below, c.requires.book.len)) c.index-own.ensures in
     let at : place ≡ subqueue_of c.args.url g.K.Name.workers = c.subqueue-place.ensures.value ∙ (λ i. subqueue_of (c.url-known.ensures i) (c.workers.ensures.0 i)) in
-    let number : c.in-Admitted.number ≡ own = c.in-Admitted.ensures.0 in
-    let log : c.push_reserved.new.self.items ≡ b.log ++ Accepted (entry c.args.url b.id c.in-Admitted.number c.args.hops) place ∷ [] = c.push_reserved.ensures.items ∙ (λ i. b.log ++ Accepted (entry (c.into_url.ensures i) b.id c.in-Admitted.number c.args.hops) place ∷ []) in (
+    let number : c.in-Admitted.number ≡ own = c.in-Admitted.ensures.0 in (
       at,
       get ∙ ap Some (sym number),
       c.in-Admitted.ensures.2,
-      λ i. record { id = b.id; counts = set b.counts place (sym number i + 1); log = log i },
+      c.accept.ensures ∙ (λ i. book_accepting b place c.in-Admitted.number (entry (c.into_url.ensures i) b.id c.in-Admitted.number c.args.hops)),
     )
 
 pub returns-in-Admitted-clause-book : goal.returns-in-Admitted-clause-book
@@ -32,17 +29,15 @@ returns-in-Admitted-clause-book g c =
     let is = c.requires.book in
     let below : place < g.K.Name.workers = omega (arith, c.subqueue-place.ensures.below, c.workers.ensures.0) in
     let get : slice_get b.counts place ≡ Some own = slice_get_read b.counts (length b.counts) place own refl (omega (arith, below, is.len)) c.index-own.ensures in
-    let e = entry c.args.url b.id own c.args.hops in
     let number : c.in-Admitted.number ≡ own = c.in-Admitted.ensures.0 in
-    let log : c.push_reserved.new.self.items ≡ b.log ++ Accepted e place ∷ [] = c.push_reserved.ensures.items ∙ (λ i. b.log ++ Accepted (entry (c.into_url.ensures i) b.id (number i) c.args.hops) place ∷ []) in
-    subst (λ l. IsBook g.K.Name.workers (record { id = b.id; counts = set b.counts place (own + 1); log = l })) (sym log) (book_accepts g.K.Name.workers b place own e is below get refl refl)
+    let n = c.in-Admitted.number in
+    let e = entry c.into_url.result b.id n c.args.hops in
+    subst (IsBook g.K.Name.workers) (sym c.accept.ensures) (book_accepts g.K.Name.workers b place n e is below (get ∙ ap Some (sym number)) refl refl)
 
 pub returns-in-Seen-clause-book : goal.returns-in-Seen-clause-book
 returns-in-Seen-clause-book g c =
     let b = book_of c.args.book.now in
-    let there : c.in-Seen.there ≡ c.args.url = c.in-Seen.ensures.0 in
-    let log : c.push_reserved-in-Seen.new.self.items ≡ b.log ++ Seen c.args.url c.subqueue-place.result ∷ [] = c.push_reserved-in-Seen.ensures.items ∙ ap (λ u. b.log ++ Seen u c.subqueue-place.result ∷ []) there in
-    subst (λ l. IsBook g.K.Name.workers (record { id = b.id; counts = b.counts; log = l })) (sym log) (book_sees g.K.Name.workers b c.args.url c.subqueue-place.result c.requires.book)
+    subst (IsBook g.K.Name.workers) (sym c.see.ensures) (book_sees g.K.Name.workers b c.in-Seen.there c.subqueue-place.result c.requires.book)
 
 pub returns-in-Crossed-clause-books : goal.returns-in-Crossed-clause-books
 returns-in-Crossed-clause-books g c =
