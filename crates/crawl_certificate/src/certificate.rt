@@ -50,6 +50,8 @@ impl CrawlResult {
 
 /// The pages of a crawl, where its run is certified: a look for each fault, and then the results in ascending order.
 ///
+/// The results are copied; [`certify_moved`] takes them.
+///
 /// # Errors
 /// The first fault that holds, in the order of [`CertError`]; `NoMemory` where a growth was refused.
 pub fn certify(
@@ -71,9 +73,36 @@ pub fn certify(
     // A walk leads to each entry's URL in as many hops as the entry has.
     ensures hops { OnOk result (All (λ e. WalkOf (page_in results.now) (allows filter.now) seeds.now e.hops e.url) (entries_of account.now)) }
 {
+    let copied = copies(alloc, results)?;
+    certify_moved(alloc, filter, seeds, account, copied)
+}
+
+/// As [`certify`], of results that are moved into their order and not copied.
+///
+/// # Errors
+/// Those of [`certify`].
+pub fn certify_moved(
+    alloc: Global,
+    filter: &Filter,
+    seeds: &[CanonUrl],
+    account: &Account,
+    results: Vec<PageResult>,
+) -> Result<CrawlResult, CertError>
+    // Ok exactly where no fault holds, else the first that holds, unless a growth was refused.
+    ensures fault { Tells result (first_fault (allows filter.now) seeds.now (entries_of account.now) results.items) }
+    // The pages are the given results in ascending order of URL, one for each entry of each subqueue.
+    ensures same { IfOk result (λ pages. IsPermutation results.items pages) }
+    ensures ascends { IfOk result (λ pages. IsAscending (result_urls pages)) }
+    ensures one_each { IfOk result (λ pages. IsPermutation (entry_urls (entries_of account.now)) (result_urls pages)) }
+    ensures counts { IfOk result (λ pages. CountsOf account.now (result_urls pages)) }
+    // Their URLs are exactly those that can be reached over the results' own pages.
+    ensures reached { IfOk result (λ pages. AreReachable (page_in results.items) (allows filter.now) seeds.now (result_urls pages)) }
+    // A walk leads to each entry's URL in as many hops as the entry has.
+    ensures hops { OnOk result (All (λ e. WalkOf (page_in results.items) (allows filter.now) seeds.now e.hops e.url) (entries_of account.now)) }
+{
     let entries = entries_of(alloc, account)?;
-    find_fault(alloc, filter, seeds, &entries, results)?;
-    let pages = in_order(alloc, results)?;
+    find_fault(alloc, filter, seeds, &entries, &results)?;
+    let pages = in_order(results)?;
     Ok(CrawlResult { pages })
 }
 
@@ -137,11 +166,11 @@ fn verdict(
 }
 
 /// The results in ascending order of the bytes of their URLs.
-fn in_order(alloc: Global, results: &[PageResult]) -> Result<Vec<PageResult>, AllocError>
-    ensures same { IfOk result (λ pages. IsPermutation results.now pages.items) }
+fn in_order(results: Vec<PageResult>) -> Result<Vec<PageResult>, AllocError>
+    ensures same { IfOk result (λ pages. IsPermutation results.items pages.items) }
     ensures sorted { IfOk result (λ pages. IsSortedByKey (λ r. r.url) (slice_cmp nat_cmp) pages.items) }
 {
-    let mut pages = copies(alloc, results)?;
+    let mut pages = results;
     pages.sort_by(|a, b| a.url.cmp(&b.url))?;
     Ok(pages)
 }
@@ -149,7 +178,7 @@ fn in_order(alloc: Global, results: &[PageResult]) -> Result<Vec<PageResult>, Al
 fn copies(alloc: Global, results: &[PageResult]) -> Result<Vec<PageResult>, AllocError>
     ensures { IfOk result (λ copies. copies.items ≡ results.now) }
 {
-    let mut copies = Vec::new(alloc);
+    let mut copies = Vec::with_capacity(alloc, results.len())?;
     for one in results {
         let Ok(copy) = one.copy() else {
             return Err(AllocError);
