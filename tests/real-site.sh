@@ -18,7 +18,7 @@ fi
 sources=()
 if "$program" crawl --help | grep -q -e --sources; then sources=(--sources); fi
 
-# The report's lines for a page's links come from the converter's own rules; these lines were written by hand from the site.
+# Written by hand from the site's files.
 cat > "$made/stored.sources" <<'SOURCES'
 from 1 http://site.test/ http://cogs.test/wheels
 from 1 http://site.test/api/v2/types.html http://site.test/api/v1/types.html

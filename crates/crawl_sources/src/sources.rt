@@ -45,7 +45,10 @@ fn missing(alloc: Global, results: &[PageResult]) -> Result<Vec<&PageResult>, No
 fn only_missing(alloc: Global, results: &[PageResult]) -> Result<Vec<&PageResult>, NoMemory>
     ensures { IfOk result (λ all. pointed all.items ≡ filter (λ r. is_missing r.page) results.now) }
 {
-    results.iter().filter(|one| is_missing(&one.page)).collect(alloc)
+    results
+        .iter()
+        .filter(|one| is_missing(&one.page))
+        .collect(alloc)
 }
 
 fn is_missing(page: &Page) -> bool

@@ -30,11 +30,13 @@ fn sources_are(
 }
 
 // `gone` twice on one page and once on another; `c.test/x` linked from `b`, and where `b.test` moved to.
-const BROKEN: &str = "savedweb 2\npage http://a.test/\nlink gone\nlink /b\nlink gone#there\npage http://a.test/b\nlink gone\nlink http://c.test/x\npage http://b.test/\nmoved http://c.test/x\n";
+const BROKEN: &str =
+    "savedweb 2\npage http://a.test/\nlink gone\nlink /b\nlink gone#there\npage http://a.test/b\nlink gone\nlink http://c.test/x\npage http://b.test/\nmoved http://c.test/x\n";
 
 #[test]
 fn names_the_least_page_and_counts_each_once(rt: HostRuntime) -> Result<(), Fail> {
-    let lines = "from 2 http://a.test/ http://a.test/gone\nfrom 2 http://a.test/b http://c.test/x\nfrom 0 - http://z.test/\n";
+    let lines =
+        "from 2 http://a.test/ http://a.test/gone\nfrom 2 http://a.test/b http://c.test/x\nfrom 0 - http://z.test/\n";
     let forward = [
         "http://a.test/",
         "http://a.test/b",
@@ -63,7 +65,13 @@ fn tells_missing_results_alone(rt: HostRuntime) -> Result<(), Fail> {
     let found = ["http://a.test/", "http://a.test/b"];
     sources_are(&rt, rt.alloc(), BROKEN, &found, "")?;
     let missing = ["http://a.test/gone"];
-    sources_are(&rt, rt.alloc(), BROKEN, &missing, "from 0 - http://a.test/gone\n")
+    sources_are(
+        &rt,
+        rt.alloc(),
+        BROKEN,
+        &missing,
+        "from 0 - http://a.test/gone\n",
+    )
 }
 
 // Bytes decide, not numbers or letters; a result that stands there twice counts twice, and has two lines.
@@ -78,6 +86,7 @@ fn orders_by_bytes(rt: HostRuntime) -> Result<(), Fail> {
         "http://a.test/10",
         "http://a.test/9",
     ];
-    let lines = "from 2 http://a.test/9 http://a.test/X\nfrom 3 http://a.test/10 http://a.test/x\nfrom 3 http://a.test/10 http://a.test/x\n";
+    let lines =
+        "from 2 http://a.test/9 http://a.test/X\nfrom 3 http://a.test/10 http://a.test/x\nfrom 3 http://a.test/10 http://a.test/x\n";
     sources_are(&rt, rt.alloc(), web, &urls, lines)
 }
