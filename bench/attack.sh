@@ -1,12 +1,14 @@
 #!/bin/bash
 # Crawls and replays inputs that somebody made to be slow (bench/make_attack.py) by the built program, the webs with 1 and 4
-# workers, and prints a row for each: time, processors' time, nanoseconds a byte of the input, peak memory, and how many
-# times the ordinary one's time a byte that is; the ordinary one (bench/make_web.py of 100,000 pages, bench/make_script.py of
-# 100,000 lines) runs right before and right after, and its least time counts. It fails where that is more than ten times, where a
-# status or last line is not what the formats ask, or where four workers give other bytes than one. Each input has its least
-# time of three runs, or one run where that takes more than 20 s, and is deleted afterwards. Wants GNU time in the path.
+# workers. It prints a row for each: time, processors' time, nanoseconds a byte of the input (of input and output where
+# make_attack.py says so), peak memory, and how many times the ordinary one's time a byte that is. The ordinary one
+# (bench/make_web.py of 100,000 pages, bench/make_script.py of 100,000 lines) runs right before and right after, and its
+# least time counts. The script fails where that is more than ten times, where a status or last line is not what the formats
+# ask, or where another number of workers gives other bytes. An input has its least time of three runs, or one run where that
+# takes more than 20 s, and is deleted afterwards. Wants GNU time in the path.
 #
-# Usage: bench/attack.sh [NAME ..], for some of them; PROGRAM in the environment is another program than the one built here.
+# Usage: bench/attack.sh [NAME ..], for some of them. In the environment, PROGRAM is another program than the one built here,
+# WORKERS are other numbers of workers than `1 4`, and COUNT another size of each input (see make_attack.py).
 set -euo pipefail
 cd "$(dirname "$0")/.."
 made=bench/out
@@ -15,6 +17,7 @@ names=("$@")
 if [ ${#names[@]} -eq 0 ]; then mapfile -t names < <(python3 bench/make_attack.py --names); fi
 most_times=10        # the ordinary one's time a byte
 most_memory=12582912 # KiB that a run may reserve
+read -r -a threads <<< "${WORKERS:-1 4}"
 long_run=20          # seconds; a run that takes longer is not repeated
 mkdir -p "$made"
 trap 'rm -f "$made"/attack.*' EXIT
@@ -40,6 +43,14 @@ timed() {
 least() { awk -v a="$1" -v b="$2" 'BEGIN { print (a == "" || b < a) ? b : a }'; }
 above() { awk -v a="$1" -v b="$2" 'BEGIN { exit !(a > b) }'; }
 
+# the bytes that a time is divided by: of the input, or of input and output where `measure` is `both`
+counted() {
+    local bytes
+    bytes=$(stat -c %s "$1")
+    if [ "$measure" = both ]; then bytes=$((bytes + $(stat -c %s "$2"))); fi
+    echo "$bytes"
+}
+
 # the command's words for a web from a seed with so many workers, or for a script
 words() {
     if [ "$1" = crawl ]; then echo "crawl --workers $3 - $2"; else echo "replay -"; fi
@@ -54,7 +65,7 @@ run_ordinary() {
     timed "$input" "$program" $(words "$1" "$seed" "$2")
     if [ "$ended" -ne 0 ]; then echo "the ordinary $1 ended with status $ended" >&2; exit 1; fi
     ordinary=$(least "$ordinary" "$seconds")
-    ordinary_size=$(stat -c %s "$input")
+    ordinary_size=$(counted "$input" "$made/attack.out")
 }
 
 # compares what a run left with what the formats ask, and with the first run's bytes
@@ -88,7 +99,7 @@ row() {
         if above "$seconds" "$long_run"; then break; fi
     done
     run_ordinary "$command" "$workers"
-    size=$(stat -c %s "$made/attack.in")
+    size=$(counted "$made/attack.in" "$made/attack.first")
     ratio=$(awk -v a="$best" -v b="$size" -v c="$ordinary" -v d="$ordinary_size" 'BEGIN { printf "%.2f", (a / b) / (c / d) }')
     awk -v name="$name" -v workers="$workers" -v size="$size" -v best="$best" -v work="$work" -v top="$top" -v ratio="$ratio" \
         -v turns="$turn" -v usual="$(awk -v c="$ordinary" -v d="$ordinary_size" 'BEGIN { print c / d * 1e9 }')" 'BEGIN {
@@ -104,10 +115,11 @@ status=0
 echo '| Input | Workers | Bytes | Least time (of runs) | Of processors | ns a byte | of the ordinary one | Peak memory | Times the ordinary one |'
 echo '|---|---|---|---|---|---|---|---|---|'
 for name in "${names[@]}"; do
-    read -r command seed expected last < <(python3 bench/make_attack.py --told "$name")
+    read -r command seed expected measure last < <(python3 bench/make_attack.py --told "$name")
     python3 bench/make_attack.py "$name" > "$made/attack.in"
     rm -f "$made/attack.first"
-    row "$name" "$command" "$seed" "$expected" "$last" 1
-    if [ "$command" = crawl ]; then row "$name" "$command" "$seed" "$expected" "$last" 4; fi
+    # a replay has no workers
+    if [ "$command" = replay ]; then counts=(1); else counts=("${threads[@]}"); fi
+    for workers in "${counts[@]}"; do row "$name" "$command" "$seed" "$expected" "$last" "$workers"; done
 done
 exit $status

@@ -2,7 +2,8 @@
 """Writes a saved web or a script that somebody made to be slow, to standard output; or what has to come of it.
 
 Usage: make_attack.py NAME            writes the input of that name
-       make_attack.py --told NAME     prints its expectation: command, seed (or `-`), status, last line of the output (or `-`)
+       make_attack.py --told NAME     prints its expectation: command, seed (or `-`), status, what the time is counted by (`input`,
+                                      or `both`, input and output), last line of the output (or `-`)
        make_attack.py --names         prints the names, in the order of bench/attack.sh
 
 What is expected is by docs/FORMATS.md and the count of what was written, not by a run of the program. `COUNT` in the
@@ -80,6 +81,9 @@ def prefix_of(length, filling):
     return SEED + (filling * room)[: room - room % len(filling)] + "/"
 
 
+LONG_BASE = prefix_of(URL_LENGTH, '"')
+
+
 def many_links(links):
     yield f"{WEB}\npage {SEED}\n"
     for link in range(links):
@@ -105,6 +109,21 @@ def chain(hosts):
             yield f"page http:{url(page)}\n{link}"
 
     return lines, "http:" + url(0)
+
+
+def long_base(links):
+    """A short link on a page whose URL grows to 12,000 bytes is a URL of as many: the output is a thousand times the input."""
+    yield f"{WEB}\npage {LONG_BASE}\n"
+    for link in range(links):
+        yield f"link {link}\n"
+
+
+def many_letters(links):
+    """Hosts of two labels of 600 letters outside of ASCII, all of which differ: Punycode looks at all of them for each."""
+    yield f"{WEB}\npage {SEED}\n"
+    for link in range(links):
+        label = "".join(chr(0x4E00 + (letter * 7_919 + link) % 20_000) for letter in range(600))
+        yield f"link http://{label}.{label}.test/\n"
 
 
 def million_hosts(pages):
@@ -165,18 +184,25 @@ ATTACKS = {
     "prefix_2000": prefixed(2_000, 100_000),
     "script_long_line": ("replay", "-", 1, long_line(SCRIPT, f"admit 1 {SEED}"), count(LINE), None),
     "script_line_ends": ("replay", "-", 0, line_ends(SCRIPT), count(LINE), None),
+    "long_base": web(long_base, LONG_BASE, 50_000, page_and_missing),
+    "many_letters": web(many_letters, SEED, 3_000, page_and_missing),
     # the opening unit and those of the URLs that were not taken
     "senders": ("replay", "-", 0, senders, count(MILLION), lambda number: f"count {number}"),
 }
 
 
+# Those whose output is many times the input: the time is counted by the bytes of both.
+BY_BOTH = {"long_base"}
+
+
 def tell(name):
     command, seed, status, _, number, last = ATTACKS[name]
-    print(command, seed, status, last(number) if last else "-")
+    print(command, seed, status, "both" if name in BY_BOTH else "input", last(number) if last else "-")
 
 
 def write(name):
     _, _, _, lines, number, _ = ATTACKS[name]
+    sys.stdout.reconfigure(encoding="utf-8")
     batch, size = [], 0
     for text in lines(number):
         batch.append(text)
