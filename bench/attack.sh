@@ -73,7 +73,7 @@ check() {
     local name=$1 expected=$2 last=$3 line
     line=$(tail -n 1 "$made/attack.out" | head -c 4096)
     if [ "$ended" -ne "$expected" ] || [ "${line:--}" != "$last" ]; then
-        echo "$name: status $ended, not $expected; the last line is '$line', not '$last'" >&2
+        echo "$name: status $ended, not $expected; the last line is '${line:--}', not '$last'" >&2
         status=1
     fi
     if [ ! -e "$made/attack.first" ]; then

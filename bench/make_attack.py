@@ -135,7 +135,7 @@ def million_hosts(pages):
 
 def senders(number):
     """Each sender takes a unit, in a shuffled order, and when all hold one each admits a URL; the worker takes one URL."""
-    step = 617_283  # odd and not divisible by 5, so that the order below is one of all senders
+    step = 611_953  # a prime, so that the order below is one of all senders
     order = [sender * step % number for sender in range(number)]
     yield f"{SCRIPT}\n"
     for sender in order:
