@@ -1,0 +1,225 @@
+#!/usr/bin/env python3
+"""Writes a saved web or a script that somebody made to be slow, to standard output; or what has to come of it.
+
+Usage: make_attack.py NAME            writes the input of that name
+       make_attack.py --told NAME     prints its expectation: command, seed (or `-`), status, what the time is counted by (`input`,
+                                      or `both`, input and output), last line of the output (or `-`)
+       make_attack.py --names         prints the names, in the order of bench/attack.sh
+
+What is expected is by docs/FORMATS.md and the count of what was written, not by a run of the program. `COUNT` in the
+environment is another number of pages, links or senders (the lines of 2^29 bytes and line ends then have so many).
+"""
+import os
+import sys
+
+BLOCK = 1 << 20  # bytes of a write
+LINE = 1 << 29  # bytes of the long line, and line ends
+MILLION = 1_000_000
+SEED = "http://a.test/"
+WEB, SCRIPT = "savedweb 1", "workers 1 max 1099511627776"  # the headers
+LETTERS = "abcdefghijklmnopqrstuvwxyz012345"
+URL_LENGTH = 4_090  # with `page ` and the LF it is a line of 4,096 bytes
+
+
+def count(usual):
+    return int(os.environ.get("COUNT", usual))
+
+
+def children(page, pages):
+    """The pages that page links to, so that all are reached from the first."""
+    return range(2 * page + 1, min(2 * page + 3, pages))
+
+
+def long_line(header, start):
+    """A line that is too long by far, of so many bytes."""
+
+    def lines(size):
+        yield f"{header}\n{start}"
+        yield from filled(size - len(start), "a")
+        yield "\n"
+
+    return lines
+
+
+def line_ends(header):
+    """Nothing but so many ends of lines behind the header: an empty web, or a script without events."""
+
+    def lines(size):
+        yield f"{header}\n"
+        yield from filled(size, "\n")
+
+    return lines
+
+
+def filled(size, letter):
+    for _ in range(size // BLOCK):
+        yield letter * BLOCK
+    yield letter * (size % BLOCK)
+
+
+def shared_prefix(prefix, width, more_links):
+    """Pages of one prefix and a name of width letters each, with relative links, the shortest texts that there are."""
+
+    def name(page):
+        letters = ""
+        for _ in range(width):
+            letters, page = LETTERS[page % 32] + letters, page // 32
+        return letters
+
+    def lines(pages):
+        yield f"{WEB}\n"
+        for page in range(pages):
+            links = "".join(f"link {name(child)}\n" for child in children(page, pages))
+            yield f"page {prefix}{name(page)}\n{links}{more_links}"
+
+    return lines, prefix + "a" * width
+
+
+def prefix_of(length, filling):
+    """A URL's text of so many bytes, to which a name of four letters is added."""
+    room = length - len(SEED) - 1
+    return SEED + (filling * room)[: room - room % len(filling)] + "/"
+
+
+LONG_BASE = prefix_of(URL_LENGTH, '"')
+
+
+def many_links(links):
+    yield f"{WEB}\npage {SEED}\n"
+    for link in range(links):
+        yield f"link {link:06}\n"
+
+
+def same_link(links):
+    yield f"{WEB}\npage {SEED}\n"
+    for _ in range(links):
+        yield "link a\n"
+
+
+def chain(hosts):
+    """Each page links to the next alone; they change hosts in turn, so that among workers the crawl wanders."""
+
+    def url(page):
+        return f"//{page % hosts}.test/{page:06}"
+
+    def lines(pages):
+        yield f"{WEB}\n"
+        for page in range(pages):
+            link = f"link {url(page + 1) if hosts > 1 else f'{page + 1:06}'}\n" if page + 1 < pages else ""
+            yield f"page http:{url(page)}\n{link}"
+
+    return lines, "http:" + url(0)
+
+
+def long_base(links):
+    """A short link on a page whose URL grows to 12,000 bytes is a URL of as many: the output is a thousand times the input."""
+    yield f"{WEB}\npage {LONG_BASE}\n"
+    for link in range(links):
+        yield f"link {link}\n"
+
+
+def many_letters(links):
+    """Hosts of two labels of 600 letters outside of ASCII, all of which differ: Punycode looks at all of them for each."""
+    yield f"{WEB}\npage {SEED}\n"
+    for link in range(links):
+        label = "".join(chr(0x4E00 + (letter * 7_919 + link) % 20_000) for letter in range(600))
+        yield f"link http://{label}.{label}.test/\n"
+
+
+def million_hosts(pages):
+    yield f"{WEB}\n"
+    for page in range(pages):
+        links = "".join(f"link //h{child}.test/\n" for child in children(page, pages))
+        yield f"page http://h{page}.test/\n{links}"
+
+
+def senders(number):
+    """Each sender takes a unit, in a shuffled order, and when all hold one each admits a URL; the worker takes one URL."""
+    step = 611_953  # a prime, so that the order below is one of all senders
+    order = [sender * step % number for sender in range(number)]
+    yield f"{SCRIPT}\n"
+    for sender in order:
+        yield f"look {sender}\nenter {sender}\n"
+    for sender in order:
+        yield f"admit {sender} http://a.test/{sender}\n"
+    yield "take 0\ndone 0\n"
+
+
+def found(pages):
+    return f"total {pages} ok {pages} missing 0"
+
+
+def web(lines, seed, usual, last=found):
+    return "crawl", seed, 0, lines, count(usual), last
+
+
+def prefixed(length, usual, filling="p", more_links=""):
+    lines, seed = shared_prefix(prefix_of(length, filling), 4, more_links)
+    return web(lines, seed, usual)
+
+
+def chained(hosts):
+    lines, seed = chain(hosts)
+    return web(lines, seed, MILLION)
+
+
+def page_and_missing(links):
+    return f"total {links + 1} ok 1 missing {links}"
+
+
+# name: command, seed, status, the writer of the lines, its count, and the last line of the output by that count
+ATTACKS = {
+    "long_line": ("crawl", SEED, 1, long_line(WEB, f"page {SEED}"), count(LINE), None),
+    "line_ends": ("crawl", SEED, 0, line_ends(WEB), count(LINE), lambda _: "total 1 ok 0 missing 1"),
+    "last_bytes": prefixed(400, 1 << 20),
+    "one_target": prefixed(50, 100_000, more_links=f"link {prefix_of(50, 'p')}aaaa\n" * 3),
+    "many_links": web(many_links, SEED, MILLION, page_and_missing),
+    "same_link": web(same_link, SEED, MILLION, lambda _: page_and_missing(1)),
+    "chain": chained(1),
+    "chain_of_hosts": chained(64),
+    "million_hosts": web(million_hosts, "http://h0.test/", MILLION),
+    "escapes": prefixed(URL_LENGTH - 4, 20_000, filling="%41"),
+    "grown": prefixed(URL_LENGTH - 4, 20_000, filling='"'),
+    "one_host": prefixed(52, 100_000),
+    "prefix_2000": prefixed(2_000, 100_000),
+    "script_long_line": ("replay", "-", 1, long_line(SCRIPT, f"admit 1 {SEED}"), count(LINE), None),
+    "script_line_ends": ("replay", "-", 0, line_ends(SCRIPT), count(LINE), None),
+    "long_base": web(long_base, LONG_BASE, 50_000, page_and_missing),
+    "many_letters": web(many_letters, SEED, 3_000, page_and_missing),
+    # the opening unit and those of the URLs that were not taken
+    "senders": ("replay", "-", 0, senders, count(MILLION), lambda number: f"count {number}"),
+}
+
+
+# Those whose output is many times the input: the time is counted by the bytes of both.
+BY_BOTH = {"long_base"}
+
+
+def tell(name):
+    command, seed, status, _, number, last = ATTACKS[name]
+    print(command, seed, status, "both" if name in BY_BOTH else "input", last(number) if last else "-")
+
+
+def write(name):
+    _, _, _, lines, number, _ = ATTACKS[name]
+    sys.stdout.reconfigure(encoding="utf-8")
+    batch, size = [], 0
+    for text in lines(number):
+        batch.append(text)
+        size += len(text)
+        if size >= BLOCK:
+            sys.stdout.write("".join(batch))
+            batch, size = [], 0
+    sys.stdout.write("".join(batch))
+
+
+def main():
+    if sys.argv[1] == "--names":
+        print("\n".join(ATTACKS))
+    elif sys.argv[1] == "--told":
+        tell(sys.argv[2])
+    else:
+        write(sys.argv[1])
+
+
+main()
