@@ -118,7 +118,9 @@ impl<K: Name> Both<K> {
             return Ok(());
         };
         let found = of_offer(seeder.offer(rt, frontier, url));
-        let wanted = self.machine(alloc, u64::from(self.frontier.workers()), url);
+        // The seeder's id is the number of workers.
+        let id = u64::from(frontier.workers());
+        let wanted = self.machine(alloc, id, url);
         self.agree(found, wanted)
     }
 
