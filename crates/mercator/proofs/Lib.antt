@@ -1,9 +1,12 @@
 pub mod Assigned
+pub mod Endings
 pub mod EventLines
 pub mod HeaderWords
 pub mod Least
 pub mod LineWords
 pub mod NumberText
+pub mod QueueCounts
+pub mod PlanTexts
 pub mod ReadLines
 pub mod ReadNumbers
 pub mod ScriptWords
