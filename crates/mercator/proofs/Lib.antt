@@ -1,5 +1,4 @@
 pub mod Assigned
-pub mod Endings
 pub mod EventLines
 pub mod HeaderWords
 pub mod Least

@@ -1,11 +1,11 @@
 -- The lines of counts, one by one; and that the URLs have one list of counts.
-use Rattle.std.proofs.Common.{◌≡◌, ℕ, suc, ◌+◌, ◌<◌, ◌≤◌, List, [], ◌∷◌, ◌++◌, length, drop, get_or, refl, sym, ap, subst, ◌∙◌, arith, append_assoc, append-nil, drop-cons, add-one}
+use Rattle.std.proofs.Common.{◌≡◌, ℕ, suc, ◌+◌, ◌<◌, ◌≤◌, List, ◌∷◌, ◌++◌, length, drop, get_or, sym, ap, subst, ◌∙◌, append_assoc, append-nil, drop-cons, add-one}
 use Rattle.std.proofs.lemmas.Grind.{same_number_lists}
 use Rattle.std.proofs.lemmas.List.{drop_all}
 use Rattle.std.proofs.lemmas.Option.{get_or_from_slice_get}
 use Rattle.std.specs.List.{enumerate_from, flat_map}
 use Rattle.mercator.specs.Crawls.{AreCounts}
-use Rattle.mercator.specs.QueueLines.{queue_line, queue_lines}
+use Rattle.mercator.specs.QueueLines.{queue_line}
 
 -- the lines of counts whose first place is this one
 abbrev pub lines_from : ℕ → List ℕ → List ℕ
@@ -27,4 +27,4 @@ pub one_count : (workers : ℕ) (urls : List (List ℕ)) (counts others : List �
 one_count workers urls counts others own its =
     same_number_lists counts others (own.len ∙ sym its.len)
     (λ k within. let few : k < workers = subst (λ n. k < n) own.len within in
-      get_or_from_slice_get counts k _ 0 (own.each k few) ∙ sym (get_or_from_slice_get others k _ 0 (its.each k few)))
+    get_or_from_slice_get counts k _ 0 (own.each k few) ∙ sym (get_or_from_slice_get others k _ 0 (its.each k few)))

@@ -39,7 +39,10 @@ fn crawl_command<'a>(alloc: Global) -> Result<Command<'a>, AllocError> {
     Command::new(alloc, "crawl")
         .about("Crawls a saved web from its seeds, and writes the report")
         .after_help(CRAWL_HELP)
-        .arg(workers(alloc, "Workers, each with a thread and a subqueue of its own: 1 to 512"))?
+        .arg(workers(
+            alloc,
+            "Workers, each with a thread and a subqueue of its own: 1 to 512",
+        ))?
         .arg(max_pending(alloc))?
         .arg(queues(alloc))?
         .arg(within(alloc))?

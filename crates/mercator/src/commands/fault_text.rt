@@ -74,14 +74,42 @@ impl fmt::Display for WebText {
 
     fn fmt<W: fmt::Write>(&self, f: &mut fmt::Formatter<W>) -> fmt::Result {
         match self.0 {
-            WebError::LineTooLong(number) => LineText { number, words: "line too long" }.fmt(f),
-            WebError::NotText(number) => LineText { number, words: "not UTF-8" }.fmt(f),
+            WebError::LineTooLong(number) => LineText {
+                number,
+                words: "line too long",
+            }
+            .fmt(f),
+            WebError::NotText(number) => LineText {
+                number,
+                words: "not UTF-8",
+            }
+            .fmt(f),
             WebError::BadHeader => f.write_str("bad header"),
-            WebError::BadLine(number) => LineText { number, words: "bad line" }.fmt(f),
-            WebError::LinkBeforePage(number) => LineText { number, words: "link before page" }.fmt(f),
-            WebError::MovedMixed(number) => LineText { number, words: "mixed page" }.fmt(f),
-            WebError::BadPageUrl(number) => LineText { number, words: "bad page URL" }.fmt(f),
-            WebError::PageTwice(number) => LineText { number, words: "page twice" }.fmt(f),
+            WebError::BadLine(number) => LineText {
+                number,
+                words: "bad line",
+            }
+            .fmt(f),
+            WebError::LinkBeforePage(number) => LineText {
+                number,
+                words: "link before page",
+            }
+            .fmt(f),
+            WebError::MovedMixed(number) => LineText {
+                number,
+                words: "mixed page",
+            }
+            .fmt(f),
+            WebError::BadPageUrl(number) => LineText {
+                number,
+                words: "bad page URL",
+            }
+            .fmt(f),
+            WebError::PageTwice(number) => LineText {
+                number,
+                words: "page twice",
+            }
+            .fmt(f),
             WebError::NoMemory => f.write_str("out of memory"),
         }
     }
@@ -95,11 +123,27 @@ impl fmt::Display for ScriptText {
 
     fn fmt<W: fmt::Write>(&self, f: &mut fmt::Formatter<W>) -> fmt::Result {
         match self.0 {
-            ScriptError::LineTooLong(number) => LineText { number, words: "line too long" }.fmt(f),
-            ScriptError::NotText(number) => LineText { number, words: "not UTF-8" }.fmt(f),
+            ScriptError::LineTooLong(number) => LineText {
+                number,
+                words: "line too long",
+            }
+            .fmt(f),
+            ScriptError::NotText(number) => LineText {
+                number,
+                words: "not UTF-8",
+            }
+            .fmt(f),
             ScriptError::BadHeader => f.write_str("bad header"),
-            ScriptError::BadLine(number) => LineText { number, words: "bad line" }.fmt(f),
-            ScriptError::BadUrl(number) => LineText { number, words: "bad URL" }.fmt(f),
+            ScriptError::BadLine(number) => LineText {
+                number,
+                words: "bad line",
+            }
+            .fmt(f),
+            ScriptError::BadUrl(number) => LineText {
+                number,
+                words: "bad URL",
+            }
+            .fmt(f),
             ScriptError::NoMemory => f.write_str("out of memory"),
         }
     }

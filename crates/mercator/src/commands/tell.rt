@@ -50,7 +50,9 @@ pub fn tell<R: Files + Threads + Wait + Sync, I: Read>(
             within,
             file,
             seeds,
-        } => tell_crawl(rt, alloc, *workers, *max, *queues, within, file, seeds, input),
+        } => tell_crawl(
+            rt, alloc, *workers, *max, *queues, within, file, seeds, input,
+        ),
         Plan::Key { url, workers } => tell_key(alloc, url, *workers),
     }
 }
@@ -87,7 +89,16 @@ fn tell_crawl<R: Files + Threads + Wait + Sync, I: Read>(
 {
     let filter = filter_of(alloc, within)?;
     let bytes = read_file(rt, alloc, file, input)?;
-    let report = report_of_saved_web(rt, alloc, &bytes, seeds, &filter, workers, max, Mode::Threads)?;
+    let report = report_of_saved_web(
+        rt,
+        alloc,
+        &bytes,
+        seeds,
+        &filter,
+        workers,
+        max,
+        Mode::Threads,
+    )?;
     Ok(text_of(alloc, report, queues)?)
 }
 

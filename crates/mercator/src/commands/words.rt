@@ -1,5 +1,5 @@
 //! The words of a command line, read by `clap`.
-ghost use Rattle.std.specs.Prelude.{◌≡◌, ◌≤◌, IfOk, IfErr, IfSome, length};
+ghost use Rattle.std.specs.Prelude.{◌≡◌, ◌≤◌, IfOk, IfErr, IfSome};
 ghost use Rattle.crawl_core.specs.Limits.{worker_limit, pending_limit};
 ghost use Rattle.mercator.specs.Plans.{IsWithinLimits, IsShown};
 ghost use Rattle.mercator.specs.declared.commands.words.PlanError.TheVariants as wrong;
@@ -74,7 +74,11 @@ fn shown(alloc: Global, error: &clap::Error) -> PlanError
     if error.kind() == ErrorKind::OutOfMemory {
         return PlanError::NoMemory;
     }
-    let status = if error.use_stderr() { BAD_COMMAND_LINE } else { 0 };
+    let status = if error.use_stderr() {
+        BAD_COMMAND_LINE
+    } else {
+        0
+    };
     match format!(in alloc; "{error}") {
         Ok(text) => PlanError::Shown { text, status },
         Err(_) => PlanError::NoMemory,
@@ -110,9 +114,11 @@ fn crawl_of(alloc: Global, found: &ArgMatches<'_>) -> Result<Plan, PlanError>
     ensures limits { IfOk result IsWithinLimits }
     ensures shown { IfErr result IsShown }
 {
-    let (Some(workers), Some(max), Some(file)) =
-        (workers_of(found), max_of(found), found.get_str("file"))
-    else {
+    let (Some(workers), Some(max), Some(file)) = (
+        workers_of(found),
+        max_of(found),
+        found.get_str("file"),
+    ) else {
         return Err(misread(alloc));
     };
     let seeds = seeds_of(alloc, found)?;

@@ -1,5 +1,5 @@
 //! What a command writes: its text to the output, or a fault's line to the writer for faults.
-ghost use Rattle.std.specs.Prelude.{◌≡◌, ◌≤◌, IfOk, string_bytes};
+ghost use Rattle.std.specs.Prelude.{◌≡◌, IfOk, string_bytes};
 ghost use Rattle.mercator.specs.Ending.{Begins, Ends};
 ghost use Rattle.mercator.specs.FaultText.{fault_line};
 

@@ -135,7 +135,13 @@ fn a_write_or_a_flush_fails(rt: HostRuntime) -> Result<(), Fail> {
     let whole = REPLIES.len();
     let rows = [
         ("first write", 0, true, FAULT, "mercator: cannot write\n"),
-        ("last byte", whole - 1, true, FAULT, "mercator: cannot write\n"),
+        (
+            "last byte",
+            whole - 1,
+            true,
+            FAULT,
+            "mercator: cannot write\n",
+        ),
         ("flush", whole, false, FAULT, "mercator: cannot write\n"),
         ("none", whole, true, DONE, ""),
     ];
@@ -156,7 +162,10 @@ fn faults_that_nobody_hears(rt: HostRuntime) -> Result<(), Fail> {
     let alloc = rt.alloc();
     let rows: [(&[&str], u8); 3] = [
         (&["key", "mailto:x"], FAULT),
-        (&["crawl", "--max-pending", "1", "-", "http://a.test/"], INCOMPLETE),
+        (
+            &["crawl", "--max-pending", "1", "-", "http://a.test/"],
+            INCOMPLETE,
+        ),
         (&["crawl"], BAD_COMMAND),
     ];
     for (row, status) in rows {

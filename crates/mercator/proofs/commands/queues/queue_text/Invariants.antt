@@ -1,4 +1,4 @@
-use Rattle.std.proofs.Common.{◌≡◌, ◌++◌, take, drop, string_bytes}
+use Rattle.std.proofs.Common.{◌≡◌, ◌++◌, drop, string_bytes}
 use Rattle.mercator.specs.QueueLines.{queue_lines}
 use Rattle.mercator.proofs.QueueCounts.{lines_from}
 use Rattle.mercator.proofs.commands.queues.queue_text.Given as goal
