@@ -4,6 +4,8 @@ pub mod HeaderWords
 pub mod Least
 pub mod LineWords
 pub mod NumberText
+pub mod QueueCounts
+pub mod PlanTexts
 pub mod ReadLines
 pub mod ReadNumbers
 pub mod ScriptWords

@@ -2,6 +2,8 @@
 use Rattle.std.specs.Prelude.{ℕ}
 use Rattle.crawl_keys.specs.declared.error.KeyError.{KeyError}
 use Rattle.crawl_keys.specs.declared.error.KeyError.TheVariants as key
+use Rattle.crawl_keys.specs.declared.filter.error.FilterError.{FilterError}
+use Rattle.crawl_keys.specs.declared.filter.error.FilterError.TheVariants as filter
 use Rattle.crawl_web.specs.declared.saved_web.error.WebError.{WebError}
 use Rattle.crawl_web.specs.declared.saved_web.error.WebError.TheVariants as web
 use Rattle.mercator.specs.declared.commands.fault.Fault.{Fault}
@@ -28,6 +30,10 @@ of_web fault = wrong.Web fault
 abbrev pub of_url : KeyError → Fault
 of_url key.NoMemory = wrong.NoMemory
 of_url refusal = wrong.Url refusal
+
+abbrev pub of_filter : FilterError → Fault
+of_filter (filter.BadSuffix place) = wrong.BadSuffix
+of_filter filter.NoMemory = wrong.NoMemory
 
 abbrev pub of_crawl : CrawlError → Fault
 of_crawl crawl.NoMemory = wrong.NoMemory

@@ -1,7 +1,7 @@
 pub mod Assignment
-pub mod Commands
 pub mod Crawls
 pub mod Ending
+pub mod FaultText
 pub mod Faults
 pub mod Input
 pub mod KeyLine
@@ -9,6 +9,8 @@ pub mod LeastFault
 pub mod Limits
 pub mod LosslessRuns
 pub mod Numbers
+pub mod Plans
+pub mod QueueLines
 pub mod Replay
 pub mod Replies
 pub mod Script

@@ -12,11 +12,3 @@ most_input_bytes = 2 ^ 30
 -- the reads of an input, with the one that finds its end
 abbrev pub most_input_reads : ℕ
 most_input_reads = 2 ^ 30
-
--- the workers of a crawl or a key where no number is given
-abbrev pub default_workers : ℕ
-default_workers = 4
-
--- the maximum of pending URLs of a crawl where no number is given
-abbrev pub default_max_pending : ℕ
-default_max_pending = 1048576

@@ -1,43 +1,52 @@
--- What each command tells, by the bytes of its input where these are known.
-use Rattle.std.specs.Prelude.{◌≡◌, ℕ, List, [], Option, Err, IfSome, IsSomeAnd, IsErr}
+-- What each command tells, and why it fails, by the bytes of its FILE.
+use Rattle.std.specs.Prelude.{◌≡◌, ◌⊎◌, ℕ, ◌≤◌, true, false, List, [], length, map, Option, Err, IfSome, IsSomeAnd, IsErr, String, string_bytes}
 use Rattle.std.specs.Io.KnownBytes.{Appends}
+use Rattle.std.specs.declared.alloc.Global.{Global}
 use Rattle.crawl_keys.specs.CanonicalText.{canonical}
-use Rattle.mercator.specs.Commands.{Asked}
+use Rattle.mercator.specs.Ending.{Begins}
+use Rattle.mercator.specs.FaultText.{fault_line}
+use Rattle.mercator.specs.Faults.{status_of_fault}
 use Rattle.mercator.specs.KeyLine.{IsKeyLine}
+use Rattle.mercator.specs.Limits.{most_input_bytes}
+use Rattle.mercator.specs.Plans.{file_of, is_bad_suffix, is_input, known_bytes, suffixes_of}
 use Rattle.mercator.specs.Replay.{IsReplay}
 use Rattle.mercator.specs.Script.{script_of}
-use Rattle.mercator.specs.WebCrawl.{IsCrawlable, IsCrawlReport, IsRefused}
-use Rattle.mercator.specs.declared.commands.command.Command.TheVariants as asks
+use Rattle.mercator.specs.WebCrawl.{IsCrawlable, IsCrawlText, IsRefused}
+use Rattle.mercator.specs.declared.commands.planned.Plan.{Plan}
+use Rattle.mercator.specs.declared.commands.planned.Plan.TheVariants as asks
 use Rattle.mercator.specs.declared.commands.fault.Fault.{Fault}
 use Rattle.mercator.specs.declared.commands.fault.Fault.TheVariants as wrong
 
--- the text is the command's
-abbrev pub IsTold : Asked → Option (List ℕ) → List ℕ → Type 0
-IsTold asks.Replay input text = IfSome input (λ bytes. IsReplay bytes text)
-IsTold (asks.Crawl workers max seeds) input text = IfSome input (λ bytes. IsCrawlReport bytes seeds [] text)
-IsTold (asks.Key url workers) input text = IsKeyLine url workers text
+-- it holds of some bytes that the FILE can have: all that the input has left where that is known and meant, and no more than
+-- the limit
+pub record OfFile (file : List ℕ) (input : Option (List ℕ)) (P : List ℕ → Type 0) : Type 0 where
+  pub bytes : List ℕ
+  pub read : IfSome (known_bytes file input) (λ known. bytes ≡ known)
+  pub few : length bytes ≤ most_input_bytes
+  pub holds : P bytes
 
--- the command reads no input
-abbrev pub IsKey : Asked → Type 0
-IsKey (asks.Key url workers) = Unit {0}
-IsKey _ = ⊥
+-- the text is the plan's
+abbrev pub IsTold : Plan → Option (List ℕ) → List ℕ → Type 0
+IsTold (asks.Crawl workers max queues within file seeds) input text =
+    (is_bad_suffix within ≡ false) × OfFile (string_bytes file) input (λ bytes. IsCrawlText workers queues bytes (map string_bytes seeds.items) (suffixes_of within) text)
+IsTold (asks.Key url workers) input text = IsKeyLine (string_bytes url) workers text
+IsTold (asks.Replay file) input text = OfFile (string_bytes file) input (λ bytes. IsReplay bytes text)
 
--- a crawl alone can be incomplete, and it is one of a saved web from seeds that have canonical URLs
-abbrev pub MayLose : Asked → Option (List ℕ) → Type 0
-MayLose (asks.Crawl workers max seeds) input = IfSome input (λ bytes. IsCrawlable bytes seeds)
-MayLose _ input = ⊥
+-- why a replay fails: the FILE cannot be read, or is no script, by this fault; or want of memory
+abbrev pub FailsReplay : List ℕ → Option (List ℕ) → Fault → Type 0
+FailsReplay file input wrong.CannotRead = Unit {0}
+FailsReplay file input (wrong.Script fault) = OfFile file input (λ bytes. script_of bytes ≡ Err fault)
+FailsReplay file input wrong.NoMemory = Unit {0}
+FailsReplay file input _ = ⊥
 
--- why a replay fails: the input cannot be read, or is no script, by this fault; or want of memory
-abbrev pub FailsReplay : Option (List ℕ) → Fault → Type 0
-FailsReplay input wrong.CannotRead = Unit {0}
-FailsReplay input (wrong.Script fault) = IfSome input (λ bytes. script_of bytes ≡ Err fault)
-FailsReplay input wrong.NoMemory = Unit {0}
-FailsReplay input _ = ⊥
-
--- why a crawl fails: the input cannot be read, or is refused, or a seed is; or the crawl is incomplete; or want of memory
-abbrev pub FailsCrawl : ℕ → ℕ → List (List ℕ) → Option (List ℕ) → Fault → Type 0
-FailsCrawl workers max seeds input wrong.CannotRead = Unit {0}
-FailsCrawl workers max seeds input fault = IfSome input (λ bytes. IsRefused workers max bytes seeds fault)
+-- why a crawl fails, in this order: the suffix is bad; the FILE cannot be read; it is refused, or a seed is, or the crawl is
+-- incomplete; or want of memory
+abbrev pub FailsCrawl : ℕ → ℕ → Option (String Global) → List ℕ → List (List ℕ) → Option (List ℕ) → Fault → Type 0
+FailsCrawl workers max within file seeds input wrong.BadSuffix = is_bad_suffix within ≡ true
+FailsCrawl workers max within file seeds input wrong.CannotRead = is_bad_suffix within ≡ false
+FailsCrawl workers max within file seeds input wrong.NoMemory = Unit {0}
+FailsCrawl workers max within file seeds input fault =
+    (is_bad_suffix within ≡ false) × OfFile file input (λ bytes. IsRefused workers max bytes seeds fault)
 
 -- why a key is not told: the text has no canonical URL, by this refusal; or want of memory
 abbrev pub FailsKey : List ℕ → Fault → Type 0
@@ -45,21 +54,49 @@ FailsKey url (wrong.Url refusal) = canonical url ≡ Err refusal
 FailsKey url wrong.NoMemory = Unit {0}
 FailsKey url _ = ⊥
 
--- the fault is one by which the command fails
-abbrev pub Fails : Asked → Option (List ℕ) → Fault → Type 0
-Fails asks.Replay input fault = FailsReplay input fault
-Fails (asks.Crawl workers max seeds) input fault = FailsCrawl workers max seeds input fault
-Fails (asks.Key url workers) input fault = FailsKey url fault
+-- the fault is one by which the plan's command fails before it writes
+abbrev pub Fails : Plan → Option (List ℕ) → Fault → Type 0
+Fails (asks.Crawl workers max queues within file seeds) input fault = FailsCrawl workers max within (string_bytes file) (map string_bytes seeds.items) input fault
+Fails (asks.Key url workers) input fault = FailsKey (string_bytes url) fault
+Fails (asks.Replay file) input fault = FailsReplay (string_bytes file) input fault
 
--- there is nothing that the command could tell: the input is no script, or is no saved web or a seed has no canonical URL, or
--- the text has none
-abbrev pub CannotTell : Asked → Option (List ℕ) → Type 0
-CannotTell asks.Replay input = IsSomeAnd input (λ bytes. IsErr (script_of bytes))
-CannotTell (asks.Crawl workers max seeds) input = IsSomeAnd input (λ bytes. IsCrawlable bytes seeds → ⊥)
-CannotTell (asks.Key url workers) input = IsErr (canonical url)
+-- there is nothing that the command could tell: the FILE is known and no script, or no saved web; or a suffix is bad, or a seed
+-- or the URL has no canonical URL
+abbrev pub CannotTell : Plan → Option (List ℕ) → Type 0
+CannotTell (asks.Crawl workers max queues within file seeds) input =
+    (is_bad_suffix within ≡ true) ⊎ IsSomeAnd (known_bytes (string_bytes file) input) (λ bytes. IsCrawlable bytes (map string_bytes seeds.items) → ⊥)
+CannotTell (asks.Key url workers) input = IsErr (canonical (string_bytes url))
+CannotTell (asks.Replay file) input = IsSomeAnd (known_bytes (string_bytes file) input) (λ bytes. IsErr (script_of bytes))
 
--- a writer that held the old bytes gained the command's text, where it says what it holds
-pub record Gains (asked : Asked) (input old new : Option (List ℕ)) : Type 0 where
+-- a crawl alone can be incomplete, and it is one of a saved web from seeds that have canonical URLs
+abbrev pub MayLose : Plan → Option (List ℕ) → Type 0
+MayLose (asks.Crawl workers max queues within file seeds) input =
+    (is_bad_suffix within ≡ false) × OfFile (string_bytes file) input (λ bytes. IsCrawlable bytes (map string_bytes seeds.items))
+MayLose _ input = ⊥
+
+-- a writer that held the old bytes gained the plan's text, where it says what it holds
+pub record Gains (plan : Plan) (input old new : Option (List ℕ)) : Type 0 where
   pub text : List ℕ
-  pub told : IsTold asked input text
+  pub told : IsTold plan input text
   pub gained : Appends old new text
+
+-- a command ended by a fault: one by which it fails, and then nothing is written, or a failed write of its text. The status is
+-- the fault's, and the writer for faults gained the fault's line, up to where it refused it
+pub record EndsByFault (plan : Plan) (ended : ℕ) (input err_old err_new : Option (List ℕ)) (Unwritten : Type 0) : Type 0 where
+  pub fault : Fault
+  pub status : ended ≡ status_of_fault fault
+  pub told : Begins err_old err_new (fault_line (file_of plan) fault)
+  pub why : (Fails plan input fault × Unwritten) ⊎ ((fault ≡ wrong.CannotWrite) × ((text : List ℕ) × IsTold plan input text))
+
+-- both plans crawl the input, from the same seeds within the same suffix; with the lines of subqueues, where there are as many
+abbrev pub AskForOneText : Plan → Plan → Type 0
+AskForOneText (asks.Crawl workers max queues within file seeds) (asks.Crawl others other_max other_queues other_within other_file other_seeds) =
+    (is_input (string_bytes file) ≡ true) × (is_input (string_bytes other_file) ≡ true)
+    × (map string_bytes seeds.items ≡ map string_bytes other_seeds.items) × (suffixes_of within ≡ suffixes_of other_within)
+    × (queues ≡ other_queues) × (queues ≡ true → workers ≡ others)
+AskForOneText _ _ = ⊥
+
+-- words led to no plan, and the writer for faults was told why: help could not be written, or there was no memory and nothing
+-- is written
+abbrev pub FailsWithoutPlan : Option (List ℕ) → Option (List ℕ) → Type 0 → Type 0
+FailsWithoutPlan old new Unwritten = Begins old new (fault_line [] wrong.CannotWrite) ⊎ (Begins old new (fault_line [] wrong.NoMemory) × Unwritten)

@@ -1,5 +1,5 @@
 -- A crawl of a saved web, from its bytes to the report.
-use Rattle.std.specs.Prelude.{◌≡◌, ℕ, ◌+◌, List, ◌∷◌, ◌++◌, length, map, Ok, Err}
+use Rattle.std.specs.Prelude.{◌≡◌, ℕ, ◌+◌, Bool, if◌then◌else◌, List, [], ◌∷◌, ◌++◌, length, map, Ok, Err}
 use Rattle.std.specs.Str.Lines.{lines}
 use Rattle.crawl_keys.specs.CanonicalText.{canonical}
 use Rattle.crawl_web.specs.SavedWeb.{page_of}
@@ -7,9 +7,10 @@ use Rattle.crawl_keys.specs.declared.error.KeyError.{KeyError}
 use Rattle.crawl_web.specs.WebFaults.{IsSound, IsWebFault}
 use Rattle.mercator.specs.declared.commands.fault.Fault.{Fault}
 use Rattle.mercator.specs.declared.commands.fault.Fault.TheVariants as wrong
-use Rattle.crawl_certificate.specs.Certificate.{IsCrawl}
+use Rattle.crawl_certificate.specs.Certificate.{IsCrawl, result_urls}
 use Rattle.crawl_keys.specs.HostFilter.{allows}
-use Rattle.mercator.specs.Crawls.{CrawlFails}
+use Rattle.mercator.specs.Crawls.{AreCounts, CrawlFails}
+use Rattle.mercator.specs.QueueLines.{queue_lines}
 use Rattle.crawl_web.specs.ReportText.{report}
 use Rattle.crawl_web.specs.declared.page.PageResult.{PageResult}
 
@@ -62,3 +63,11 @@ pub record IsCrawlReport (bytes : List ℕ) (texts suffixes : List (List ℕ)) (
   pub pages : List PageResult
   pub crawl : IsSiteCrawl bytes texts suffixes pages
   pub written : text ≡ report pages
+
+-- the text is that report, and where they are wanted the lines that count its URLs by subqueue
+pub record IsCrawlText (workers : ℕ) (queues : Bool) (bytes : List ℕ) (texts suffixes : List (List ℕ)) (text : List ℕ) : Type 0 where
+  pub pages : List PageResult
+  pub crawl : IsSiteCrawl bytes texts suffixes pages
+  pub counts : List ℕ
+  pub counted : AreCounts workers (result_urls pages) counts
+  pub written : text ≡ report pages ++ (if queues then queue_lines counts else [])

@@ -1,37 +1,44 @@
 //! The program over its words, an input and two writers.
-ghost use Rattle.std.specs.Prelude.{◌≡◌, ◌≤◌, ◌↔◌, None, map, IfSome, string_bytes};
-ghost use Rattle.mercator.specs.Commands.{command_of};
-ghost use Rattle.mercator.specs.Ending.{status_of};
-ghost use Rattle.mercator.specs.Told.{CannotTell, Gains, IsKey, MayLose};
+ghost use Rattle.std.specs.Prelude.{◌≡◌, ◌≤◌, ◌<◌, ◌⊎◌, List, ℕ, [], false, string_bytes};
+ghost use Rattle.std.specs.Io.KnownBytes.{Appends};
+ghost use Rattle.mercator.specs.Ending.{Begins};
+ghost use Rattle.mercator.specs.FaultText.{fault_line};
+ghost use Rattle.mercator.specs.Faults.{status_of_fault};
+ghost use Rattle.mercator.specs.Plans.{IsShown, IsWithinLimits, reads_input};
+ghost use Rattle.mercator.specs.Told.{CannotTell, EndsByFault, FailsWithoutPlan, Gains, MayLose};
+ghost use Rattle.mercator.specs.declared.commands.planned.Plan.{Plan};
+ghost use Rattle.mercator.specs.declared.commands.fault.Fault.TheVariants as wrong;
 
-pub(crate) mod command;
-pub(crate) mod ending;
+mod command_line;
 mod fault;
+mod fault_text;
 pub(crate) mod input;
-pub(crate) mod tell;
+mod planned;
+mod queues;
+mod source;
+mod tell;
 mod web_crawl;
+mod words;
+pub(crate) mod writing;
 
-use command::command_of;
-pub use command::{DEFAULT_MAX_PENDING, DEFAULT_WORKERS};
-pub use ending::Ending;
-use ending::end;
 pub use fault::Fault;
 pub use input::{INPUT_LIMIT, READ_LIMIT};
+pub use planned::Plan;
+pub use queues::queue_text;
 use std::alloc::Global;
+use std::fs::Files;
 use std::io::{Read, Write};
 use std::sync::Wait;
 use std::thread::Threads;
 use tell::tell;
 pub use web_crawl::{Report, report_of_saved_web};
+pub use words::{BAD_COMMAND_LINE, PlanError, plan};
+use writing::{begin, end, tell_fault};
 
-/// Runs the program and answers its status, which is that of an [`Ending`]. The words are those after the program's name.
-/// `replay -` reads a script from the input, and writes the replies to `out`; `crawl - SEED..` and
-/// `crawl --workers N - SEED..` read a saved web, and write the report of a crawl from the seeds, in a thread for each worker; `key URL` and
-/// `key URL --workers N` write the URL's key line.
-///
-/// The whole input is read before anything is done with it, and all that is written is whole before any is written. After a
-/// fault nothing is written, unless a write failed. `err` takes nothing yet: faults are told there from the command line on.
-pub fn run_words<R: Threads + Wait + Sync, I: Read, O: Write, E: Write>(
+/// Runs the program and answers its status: 0 done, 1 a fault, 2 an incomplete crawl, 3 a bad command line. The words are those
+/// after the program's name, and [`plan`] reads them; [`run_plan`] runs what they ask for. Help that is asked for is written to
+/// `out`, and what is wrong with the words to `err`.
+pub fn run_words<R: Files + Threads + Wait + Sync, I: Read, O: Write, E: Write>(
     rt: &R,
     alloc: Global,
     words: &[String],
@@ -40,43 +47,100 @@ pub fn run_words<R: Threads + Wait + Sync, I: Read, O: Write, E: Write>(
     err: &mut E,
 ) -> u8
     ensures statuses { result ≤ 3 }
-    ensures bad_command { (result ≡ 3) ↔ (command_of (map string_bytes words.now) ≡ None) }
-    ensures untouched { result ≡ 3 → (input.new ≡ input.old) × (out.new ≡ out.old) }
 
-    // What is written when a command is done, where the bytes of input and output are known.
-    ensures done { result ≡ 0 → IfSome (command_of (map string_bytes words.now)) (λ asked. Gains asked (I.remaining input.old) (O.contents out.old) (O.contents out.new)) }
+    // Done: help is written, or all that the plan within the limits tells which the words are.
+    ensures done { result ≡ 0 → ((input.new ≡ input.old) × ((text : List ℕ) × Appends (O.contents out.old) (O.contents out.new) text))
+        ⊎ ((plan : Plan) × IsWithinLimits plan × Gains plan (I.remaining input.old) (O.contents out.old) (O.contents out.new)) }
+    ensures silent { result ≡ 0 → err.new ≡ err.old }
 
-    // A command that has nothing to tell ends by a fault, and nothing is written.
-    ensures fault { IfSome (command_of (map string_bytes words.now)) (λ asked. CannotTell asked (I.remaining input.old) → (result ≡ 1) × (out.new ≡ out.old)) }
+    // A fault: help cannot be written, or there is no memory for the plan, or the plan's command ends by it.
+    ensures fault { result ≡ 1 → ((input.new ≡ input.old) × FailsWithoutPlan (E.contents err.old) (E.contents err.new) (out.new ≡ out.old))
+        ⊎ ((plan : Plan) × IsWithinLimits plan × EndsByFault plan result (I.remaining input.old) (E.contents err.old) (E.contents err.new) (out.new ≡ out.old)) }
 
-    // Only a crawl of a saved web is incomplete, and nothing is written then.
-    ensures incomplete { result ≡ 2 → IfSome (command_of (map string_bytes words.now)) (λ asked. MayLose asked (I.remaining input.old)) }
-    ensures unreported { result ≡ 2 → out.new ≡ out.old }
-    ensures unread { IfSome (command_of (map string_bytes words.now)) (λ asked. IsKey asked → input.new ≡ input.old) }
-    ensures silent { err.new ≡ err.old }
+    // Only a crawl is incomplete, and nothing is written then.
+    ensures incomplete { result ≡ 2 → (plan : Plan) × IsWithinLimits plan × EndsByFault plan result (I.remaining input.old) (E.contents err.old) (E.contents err.new) (out.new ≡ out.old) }
+    ensures bad_command { result ≡ 3 → (input.new ≡ input.old) × (out.new ≡ out.old) }
 {
-    run(rt, alloc, words, input, out).status()
+    match plan(alloc, words) {
+        Ok(plan) => run_plan(rt, alloc, &plan, input, out, err),
+        Err(error) => show(alloc, error, out, err),
+    }
 }
 
-/// Runs the command that the words are, and answers how it ends.
-fn run<R: Threads + Wait + Sync, I: Read, O: Write>(
+/// Runs a plan and answers the status. What the command tells is whole before any of it is written to `out`; a fault is told to
+/// `err` in a line of its own, and then nothing is written to `out`, unless a write to it failed.
+pub fn run_plan<R: Files + Threads + Wait + Sync, I: Read, O: Write, E: Write>(
     rt: &R,
     alloc: Global,
-    words: &[String],
+    plan: &Plan,
     input: &mut I,
     out: &mut O,
-) -> Ending
-    ensures bad_command { (status_of result ≡ 3) ↔ (command_of (map string_bytes words.now) ≡ None) }
-    ensures untouched { status_of result ≡ 3 → (input.new ≡ input.old) × (out.new ≡ out.old) }
-    ensures done { status_of result ≡ 0 → IfSome (command_of (map string_bytes words.now)) (λ asked. Gains asked (I.remaining input.old) (O.contents out.old) (O.contents out.new)) }
-    ensures fault { IfSome (command_of (map string_bytes words.now)) (λ asked. CannotTell asked (I.remaining input.old) → (status_of result ≡ 1) × (out.new ≡ out.old)) }
-    ensures incomplete { status_of result ≡ 2 → IfSome (command_of (map string_bytes words.now)) (λ asked. MayLose asked (I.remaining input.old)) }
-    ensures unreported { status_of result ≡ 2 → out.new ≡ out.old }
-    ensures unread { IfSome (command_of (map string_bytes words.now)) (λ asked. IsKey asked → input.new ≡ input.old) }
+    err: &mut E,
+) -> u8
+    requires { IsWithinLimits plan.now }
+    ensures statuses { result ≤ 2 }
+
+    // What is written when a command is done, by the bytes of its FILE.
+    ensures done { result ≡ 0 → Gains plan.now (I.remaining input.old) (O.contents out.old) (O.contents out.new) }
+    ensures silent { result ≡ 0 → err.new ≡ err.old }
+
+    // Else it ends by a fault, which is told in its line; the fault that comes first, and one by which this plan fails.
+    ensures fault { 0 < result → EndsByFault plan.now result (I.remaining input.old) (E.contents err.old) (E.contents err.new) (out.new ≡ out.old) }
+
+    // A command that has nothing to tell ends by a fault, and nothing is written.
+    ensures refused { CannotTell plan.now (I.remaining input.old) → (result ≡ 1) × (out.new ≡ out.old) }
+
+    // Only a crawl of a saved web is incomplete, and nothing is written then.
+    ensures incomplete { result ≡ 2 → MayLose plan.now (I.remaining input.old) }
+    ensures unreported { result ≡ 2 → out.new ≡ out.old }
+    ensures unread { reads_input plan.now ≡ false → input.new ≡ input.old }
 {
-    let Some(command) = command_of(words) else {
-        return Ending::BadCommand;
-    };
-    let told = tell(rt, alloc, command, input);
-    end(out, told)
+    let told = tell(rt, alloc, plan, input);
+    match end(out, told) {
+        Ok(()) => 0,
+        Err(fault) => {
+            tell_fault(alloc, err, plan.file(), fault);
+            fault.status()
+        }
+    }
+}
+
+/// Shows why words are no plan: help in the output, and what is wrong with them in the writer for faults.
+fn show<O: Write, E: Write>(alloc: Global, error: PlanError, out: &mut O, err: &mut E) -> u8
+    requires { IsShown error }
+    ensures statuses { (result ≤ 1) ⊎ (result ≡ 3) }
+    ensures shown { result ≡ 0 → (text : List ℕ) × Appends (O.contents out.old) (O.contents out.new) text }
+    ensures silent { result ≡ 0 → err.new ≡ err.old }
+    ensures fault { result ≡ 1 → FailsWithoutPlan (E.contents err.old) (E.contents err.new) (out.new ≡ out.old) }
+    ensures bad_command { result ≡ 3 → out.new ≡ out.old }
+{
+    match error {
+        PlanError::Shown { text, status: 0 } => show_help(alloc, text, out, err),
+        PlanError::Shown { text, status } => {
+            begin(err, text.as_bytes());
+            status
+        }
+        PlanError::NoMemory => fail(alloc, Fault::NoMemory, err),
+    }
+}
+
+fn show_help<O: Write, E: Write>(alloc: Global, text: String, out: &mut O, err: &mut E) -> u8
+    ensures statuses { result ≤ 1 }
+    ensures shown { result ≡ 0 → Appends (O.contents out.old) (O.contents out.new) (string_bytes text) }
+    ensures silent { result ≡ 0 → err.new ≡ err.old }
+    ensures fault { result ≡ 1 → Begins (E.contents err.old) (E.contents err.new) (fault_line [] wrong.CannotWrite) }
+{
+    match end(out, Ok(text.into_bytes())) {
+        Ok(()) => 0,
+        Err(fault) => fail(alloc, fault, err),
+    }
+}
+
+/// Ends without a plan.
+fn fail<E: Write>(alloc: Global, fault: Fault, err: &mut E) -> u8
+    ensures status { result ≡ status_of_fault fault }
+    ensures told { Begins (E.contents err.old) (E.contents err.new) (fault_line [] fault) }
+{
+    tell_fault(alloc, err, "", fault);
+    fault.status()
 }

@@ -25,9 +25,9 @@ ghost use Rattle.crawl_workers.specs.Logs.{AllLogged};
 ghost use Rattle.mercator.specs.LosslessRuns.{Share, IsWithoutLoss};
 ghost use Rattle.mercator.specs.Script.{Said, script_of, header_in, said_by};
 ghost use Rattle.mercator.specs.ScriptLines.{HeaderSays, LineSays, IsScript};
-ghost use Rattle.mercator.specs.Told.{Gains};
+ghost use Rattle.mercator.specs.Told.{AskForOneText, Gains};
 ghost use Rattle.mercator.specs.WebCrawl.{IsSiteCrawl, IsCrawlReport};
-ghost use Rattle.mercator.specs.declared.commands.command.Command.TheVariants.{Crawl};
+ghost use Rattle.mercator.specs.declared.commands.planned.Plan.{Plan};
 ghost use Rattle.mercator.specs.declared.script.header.Header.{Header};
 ghost use Rattle.mercator.specs.declared.script.error.ScriptError.{ScriptError};
 
@@ -54,12 +54,13 @@ pub fn lines_mean_what_the_format_says()
 {}
 
 /// What a crawl finds and writes depends on the saved web, the seeds and the filter alone. So two crawls of one input from one
-/// list of seeds that both end with status 0, and began with an output that held the same, leave the same bytes there, whatever
-/// their numbers of workers and their maximums were.
+/// list of seeds within one suffix that both end with status 0, and began with an output that held the same, leave the same
+/// bytes there, whatever their numbers of workers and their maximums were; with the lines of their subqueues, where they have as
+/// many.
 pub fn same_bytes_for_any_workers()
     ensures pages { (bytes : List ℕ) (seeds suffixes : List (List ℕ)) (pages others : List PageResult) → IsSiteCrawl bytes seeds suffixes pages → IsSiteCrawl bytes seeds suffixes others → pages ≡ others }
     ensures reports { (bytes : List ℕ) (seeds suffixes : List (List ℕ)) (text other : List ℕ) → IsCrawlReport bytes seeds suffixes text → IsCrawlReport bytes seeds suffixes other → text ≡ other }
-    ensures outputs { (workers max others other_max : ℕ) (seeds : List (List ℕ)) (bytes before after other : List ℕ) → Gains (Crawl workers max seeds) (Some bytes) (Some before) (Some after) → Gains (Crawl others other_max seeds) (Some bytes) (Some before) (Some other) → after ≡ other }
+    ensures outputs { (plan other : Plan) (bytes before after its : List ℕ) → AskForOneText plan other → Gains plan (Some bytes) (Some before) (Some after) → Gains other (Some bytes) (Some before) (Some its) → after ≡ its }
 {}
 
 /// A run in which nothing is lost lacks nothing. Where all workers of a frontier began with nothing taken and lost nothing, the

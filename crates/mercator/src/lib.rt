@@ -15,8 +15,8 @@ mod script;
 mod tests;
 
 pub use commands::{
-    DEFAULT_MAX_PENDING, DEFAULT_WORKERS, Ending, Fault, INPUT_LIMIT, READ_LIMIT, Report,
-    report_of_saved_web, run_words,
+    BAD_COMMAND_LINE, Fault, INPUT_LIMIT, Plan, PlanError, READ_LIMIT, Report, plan, queue_text,
+    report_of_saved_web, run_plan, run_words,
 };
 pub use crawl_web::LINE_LIMIT;
 pub use crawling::{CrawlError, Crawled, Mode, crawl};

@@ -1,5 +1,7 @@
 //! What no clause says: that calls succeed, the texts, and that the definitions mean the formats.
+mod command_lines;
 mod crawls;
+mod faults;
 mod inputs;
 mod keys;
 mod replays;

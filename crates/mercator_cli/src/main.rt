@@ -1,8 +1,8 @@
 //! The program `mercator`.
 #![tactic(auto)]
 
-use mercator::{Ending, Fault, run_words};
-use std::io::ErrorKind;
+use mercator::{BAD_COMMAND_LINE, Fault, run_words};
+use std::io::{ErrorKind, Write};
 use std::process::ExitCode;
 use std::rt::Env;
 use std::{env, io};
@@ -10,7 +10,7 @@ use std::{env, io};
 fn main(rt: HostRuntime) -> ExitCode {
     let words = match words(&rt) {
         Ok(words) => words,
-        Err(error) => return ExitCode::from(ending_by(&error).status()),
+        Err(error) => return ExitCode::from(without_words(&mut rt.stderr(), &error)),
     };
     ExitCode::from(run_words(
         &rt,
@@ -27,11 +27,13 @@ fn words(rt: &(impl Env + AllocGlobal)) -> io::Result<Vec<String>> {
     Ok(env::args(rt)?.skip(1).collect(rt.alloc())?)
 }
 
-/// How the program ends where the words cannot be had: for want of memory, or since one is no text.
-fn ending_by(error: &io::Error) -> Ending {
-    if error.kind() == ErrorKind::OutOfMemory {
-        Ending::Fault(Fault::NoMemory)
+/// Tells why the words cannot be had, for want of memory or since one is no text, and answers the status.
+fn without_words<E: Write>(err: &mut E, error: &io::Error) -> u8 {
+    let (line, status) = if error.kind() == ErrorKind::OutOfMemory {
+        ("mercator: out of memory\n", Fault::NoMemory.status())
     } else {
-        Ending::BadCommand
-    }
+        ("error: the command line is not UTF-8\n", BAD_COMMAND_LINE)
+    };
+    let _ = err.write_all(line.as_bytes());
+    status
 }

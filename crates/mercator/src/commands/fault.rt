@@ -1,12 +1,12 @@
 //! Why a command ends before it is done.
 ghost use Rattle.std.specs.Prelude.{◌≡◌};
-ghost use Rattle.mercator.specs.Faults.{of_script, of_web, of_url, of_crawl};
+ghost use Rattle.mercator.specs.Faults.{of_script, of_web, of_url, of_crawl, of_filter};
 ghost use Rattle.mercator.specs.declared.commands.fault.Fault.TheVariants as wrong;
 
 use crate::commands::input::Unread;
 use crate::crawling::CrawlError;
 use crate::script::ScriptError;
-use crawl_keys::KeyError;
+use crawl_keys::{FilterError, KeyError};
 use crawl_web::WebError;
 use std::alloc::{AllocError, AllocFailed};
 
@@ -25,6 +25,8 @@ pub enum Fault {
     Url(KeyError),
     /// A crawl came to no certified result. The reason is never want of memory.
     Crawl(CrawlError),
+    /// No host has the suffix that a crawl is kept within.
+    BadSuffix,
     /// A write or a flush failed.
     CannotWrite,
     /// A growth was refused. The other variants never hold this reason.
@@ -97,6 +99,17 @@ impl From<CrawlError> for Fault {
         match fault {
             CrawlError::NoMemory => Fault::NoMemory,
             _ => Fault::Crawl(fault),
+        }
+    }
+}
+
+impl From<FilterError> for Fault {
+    ghost from_gives = { λ filter fault. fault ≡ of_filter filter };
+
+    fn from(fault: FilterError) -> Fault {
+        match fault {
+            FilterError::BadSuffix(_) => Fault::BadSuffix,
+            FilterError::NoMemory => Fault::NoMemory,
         }
     }
 }

@@ -28,7 +28,7 @@ pub const RING_REPORT: &str = "ok 3 1 http://a.test/\n\
     missing http://c.test/gone\n\
     total 4 ok 3 missing 1\n";
 
-const TWO_LINKS: &str = "savedweb 1\npage http://a.test/\nlink 1\nlink 2\n";
+pub const TWO_LINKS: &str = "savedweb 1\npage http://a.test/\nlink 1\nlink 2\n";
 
 const TWO_LINKS_REPORT: &str = "ok 2 0 http://a.test/\n\
     missing http://a.test/1\n\
@@ -60,9 +60,11 @@ fn moved_report(rt: HostRuntime) -> Result<(), Fail> {
             "http://a.test/",
             "http://c.test/",
         ];
-        let (status, out) = answer(&rt, rt.alloc(), &row, MOVED)?;
-        assert_eq!(rt; status, DONE, "{workers} workers");
-        assert_eq!(rt; str::from_utf8(&out)?, MOVED_REPORT, "{workers} workers");
+        let told = answer(&rt, rt.alloc(), &row, MOVED)?;
+        assert!(rt;
+            told.is(DONE, MOVED_REPORT, ""),
+            "{workers} workers: {told:?}"
+        );
     }
     Ok(())
 }
@@ -115,9 +117,101 @@ fn empty_web_small_web_and_two_links(rt: HostRuntime) -> Result<(), Fail> {
         ),
     ];
     for (web, row, report) in rows {
-        let (status, out) = answer(&rt, rt.alloc(), row, web)?;
-        assert_eq!(rt; status, DONE, "{row:?}");
-        assert_eq!(rt; str::from_utf8(&out)?, report, "{row:?}");
+        let told = answer(&rt, rt.alloc(), row, web)?;
+        assert!(rt; told.is(DONE, report, ""), "{row:?}: {told:?}");
+    }
+    Ok(())
+}
+
+#[test]
+fn queue_lines_within_suffix_and_full_gate_by_words(rt: HostRuntime) -> Result<(), Fail> {
+    let b_alone = "ok 2 0 http://b.test/\ntotal 1 ok 1 missing 0\n";
+    let rows: [(&[&str], &str, &str, &str); 7] = [
+        (
+            &["crawl", "--queues", "--workers", "3", "-", "http://a.test/"],
+            RING,
+            RING_REPORT,
+            "queue 0 1\nqueue 1 1\nqueue 2 2\n",
+        ),
+        (
+            &["crawl", "-", "http://a.test/", "--workers", "2", "--queues"],
+            RING,
+            RING_REPORT,
+            "queue 0 1\nqueue 1 3\n",
+        ),
+        (
+            &[
+                "crawl",
+                "--within",
+                "b.test",
+                "-",
+                "http://a.test/",
+                "http://b.test/",
+            ],
+            RING,
+            b_alone,
+            "",
+        ),
+        (
+            &[
+                "crawl",
+                "--within",
+                "test",
+                "-",
+                "http://a.test/",
+                "http://b.test/",
+            ],
+            RING,
+            RING_REPORT,
+            "",
+        ),
+        (
+            &[
+                "crawl",
+                "--within",
+                "est",
+                "-",
+                "http://a.test/",
+                "http://b.test/",
+            ],
+            RING,
+            "total 0 ok 0 missing 0\n",
+            "",
+        ),
+        (
+            &[
+                "crawl",
+                "--within",
+                "est",
+                "--workers",
+                "2",
+                "--queues",
+                "-",
+                "http://a.test/",
+            ],
+            RING,
+            "total 0 ok 0 missing 0\n",
+            "queue 0 0\nqueue 1 0\n",
+        ),
+        (
+            &[
+                "crawl",
+                "--workers",
+                "1",
+                "--max-pending",
+                "3",
+                "-",
+                "http://a.test/",
+            ],
+            TWO_LINKS,
+            TWO_LINKS_REPORT,
+            "",
+        ),
+    ];
+    for (row, web, report, queues) in rows {
+        let told = answer(&rt, rt.alloc(), row, web)?;
+        let text = format!(in rt.alloc(); "{report}{queues}")?;
+        assert!(rt; told.is(DONE, &text, ""), "{row:?}: {told:?}");
     }
     Ok(())
 }

@@ -1,5 +1,5 @@
 use crate::key_line;
-use crate::tests::runs::{FAULT, answer};
+use crate::tests::runs::{DONE, answer};
 use std::test::Fail;
 
 #[test]
@@ -46,18 +46,8 @@ fn keys_told_and_key_of_512(rt: HostRuntime) -> Result<(), Fail> {
         ),
     ];
     for (row, text) in rows {
-        let (status, out) = answer(&rt, rt.alloc(), row, "")?;
-        assert_eq!(rt; status, 0, "{row:?}");
-        assert_eq!(rt; str::from_utf8(&out)?, text, "{row:?}");
-    }
-    Ok(())
-}
-
-#[test]
-fn keys_of_texts_that_have_none(rt: HostRuntime) -> Result<(), Fail> {
-    for text in ["mailto:x", "ftp://a.test/", "/x", ""] {
-        let (status, _) = answer(&rt, rt.alloc(), &["key", text], "")?;
-        assert_eq!(rt; status, FAULT, "{text:?}");
+        let told = answer(&rt, rt.alloc(), row, "")?;
+        assert!(rt; told.is(DONE, text, ""), "{row:?}: {told:?}");
     }
     Ok(())
 }

@@ -1,4 +1,11 @@
+use Rattle.std.proofs.Common.{arith, inr}
 use Rattle.mercator.proofs.commands.run_words.Goals as goal
 
-pub returns-clause-fault : goal.returns-clause-fault
-returns-clause-fault g c = rw c.status.ensures c.run.ensures.fault
+pub returns-in-Ok-clause-done : goal.returns-in-Ok-clause-done
+returns-in-Ok-clause-done g c = λ zero. inr (c.in-Ok.plan, c.in-Ok.ensures.limits, c.run_plan.ensures.done zero)
+
+pub returns-in-Ok-clause-fault : goal.returns-in-Ok-clause-fault
+returns-in-Ok-clause-fault g c = λ one. inr (c.in-Ok.plan, c.in-Ok.ensures.limits, c.run_plan.ensures.fault (omega (arith, one)))
+
+pub returns-in-Ok-clause-incomplete : goal.returns-in-Ok-clause-incomplete
+returns-in-Ok-clause-incomplete g c = λ two. (c.in-Ok.plan, c.in-Ok.ensures.limits, c.run_plan.ensures.fault (omega (arith, two)))

@@ -1,0 +1,71 @@
+-- The texts of faults, and their lines.
+use Rattle.std.specs.Prelude.{ℕ, List, [], ◌∷◌, ◌++◌, codes}
+use Rattle.std.specs.Fmt.{decimal}
+use Rattle.crawl_certificate.specs.declared.error.CertError.TheVariants as cert
+use Rattle.crawl_frontier.specs.declared.error.FinishError.TheVariants as finish
+use Rattle.crawl_keys.specs.CanonicalText.{message}
+use Rattle.crawl_web.specs.declared.saved_web.error.WebError.{WebError}
+use Rattle.crawl_web.specs.declared.saved_web.error.WebError.TheVariants as web
+use Rattle.mercator.specs.declared.commands.fault.Fault.{Fault}
+use Rattle.mercator.specs.declared.commands.fault.Fault.TheVariants as wrong
+use Rattle.mercator.specs.declared.crawling.error.CrawlError.{CrawlError}
+use Rattle.mercator.specs.declared.crawling.error.CrawlError.TheVariants as crawl
+use Rattle.mercator.specs.declared.script.error.ScriptError.{ScriptError}
+use Rattle.mercator.specs.declared.script.error.ScriptError.TheVariants as script
+
+-- what is wrong with a line
+abbrev pub line_text : ℕ → List ℕ → List ℕ
+line_text number words = codes "line " ++ decimal number ++ codes ": " ++ words
+
+-- why bytes are no saved web
+abbrev pub web_text : WebError → List ℕ
+web_text (web.LineTooLong number) = line_text number (codes "line too long")
+web_text (web.NotText number) = line_text number (codes "not UTF-8")
+web_text web.BadHeader = codes "bad header"
+web_text (web.BadLine number) = line_text number (codes "bad line")
+web_text (web.LinkBeforePage number) = line_text number (codes "link before page")
+web_text (web.MovedMixed number) = line_text number (codes "mixed page")
+web_text (web.BadPageUrl number) = line_text number (codes "bad page URL")
+web_text (web.PageTwice number) = line_text number (codes "page twice")
+web_text web.NoMemory = codes "out of memory"
+
+-- why bytes are no script
+abbrev pub script_text : ScriptError → List ℕ
+script_text (script.LineTooLong number) = line_text number (codes "line too long")
+script_text (script.NotText number) = line_text number (codes "not UTF-8")
+script_text script.BadHeader = codes "bad header"
+script_text (script.BadLine number) = line_text number (codes "bad line")
+script_text (script.BadUrl number) = line_text number (codes "bad URL")
+script_text script.NoMemory = codes "out of memory"
+
+-- why a crawl is incomplete. Want of memory is told as such, and the numbers of a plan have a frontier, so two texts never come
+abbrev pub crawl_text : CrawlError → List ℕ
+crawl_text (crawl.Cert cert.SeedMissing) = codes "seed missing"
+crawl_text (crawl.Cert cert.NotFetched) = codes "page not fetched"
+crawl_text (crawl.Cert cert.LinkMissing) = codes "link missing"
+crawl_text (crawl.Cert cert.Unfounded) = codes "unfounded URL"
+crawl_text (crawl.Cert cert.Twice) = codes "fetched twice"
+crawl_text (crawl.Cert cert.NoMemory) = codes "out of memory"
+crawl_text (crawl.Finish finish.MissingPart) = codes "part missing"
+crawl_text (crawl.Finish (finish.Unsettled word)) = codes "gate not closed"
+crawl_text (crawl.Finish (finish.Disagree queue)) = codes "subqueue " ++ decimal queue ++ codes " disagrees"
+crawl_text (crawl.Finish finish.NoMemory) = codes "out of memory"
+crawl_text (crawl.Run error) = codes "no thread"
+crawl_text (crawl.Frontier error) = codes "no frontier"
+crawl_text crawl.NoMemory = codes "out of memory"
+
+-- the text of a fault of a command that named this FILE
+abbrev pub fault_text : List ℕ → Fault → List ℕ
+fault_text file wrong.CannotRead = codes "cannot read " ++ file
+fault_text file wrong.CannotWrite = codes "cannot write"
+fault_text file wrong.NoMemory = codes "out of memory"
+fault_text file wrong.BadSuffix = codes "bad suffix"
+fault_text file (wrong.Url refusal) = codes "URL: " ++ message refusal
+fault_text file (wrong.Seed place refusal) = codes "seed " ++ decimal place ++ codes ": " ++ message refusal
+fault_text file (wrong.Web fault) = codes "saved web: " ++ web_text fault
+fault_text file (wrong.Script fault) = codes "script: " ++ script_text fault
+fault_text file (wrong.Crawl error) = codes "incomplete: " ++ crawl_text error
+
+-- the line that tells it
+abbrev pub fault_line : List ℕ → Fault → List ℕ
+fault_line file fault = codes "mercator: " ++ fault_text file fault ++ 10 ∷ []

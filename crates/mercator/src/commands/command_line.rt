@@ -1,0 +1,119 @@
+//! The commands and options as `clap` knows them, and their help.
+use clap::builder::ValueParser;
+use clap::{Arg, ArgAction, Command};
+use crawl_core::{PENDING_LIMIT, WORKER_LIMIT};
+use std::alloc::{AllocError, Global};
+
+/// The program's name, as usage lines have it.
+pub const NAME: &str = "mercator";
+
+const STATUSES: &str = "\
+Status: 0 done, 1 a fault, 2 an incomplete crawl, 3 a bad command line.
+Example: mercator crawl site.web http://site.test/";
+
+const CRAWL_HELP: &str = "\
+The report has a line for each URL, in the order of their bytes, and a line of totals. It is the
+same for every number of workers.
+Example: mercator crawl --workers 8 --within site.test site.web http://site.test/";
+
+const KEY_HELP: &str = "\
+The line has the canonical URL, its host key and its subqueue.
+Example: mercator key http://A.test:80/x/../y --workers 2";
+
+const REPLAY_HELP: &str = "\
+A script's first line is 'workers N max M', and each line after it an event.
+Example: mercator replay two_urls.script";
+
+/// The whole command line.
+pub fn command_line<'a>(alloc: Global) -> Result<Command<'a>, AllocError> {
+    Command::new(alloc, NAME)
+        .about("The URL frontier of a web crawler: crawls saved webs, by any number of workers")
+        .after_help(STATUSES)
+        .subcommand_required(true)
+        .subcommand(crawl_command(alloc)?)?
+        .subcommand(key_command(alloc)?)?
+        .subcommand(replay_command(alloc)?)
+}
+
+fn crawl_command<'a>(alloc: Global) -> Result<Command<'a>, AllocError> {
+    Command::new(alloc, "crawl")
+        .about("Crawls a saved web from its seeds, and writes the report")
+        .after_help(CRAWL_HELP)
+        .arg(workers(
+            alloc,
+            "Workers, each with a thread and a subqueue of its own: 1 to 512",
+        ))?
+        .arg(max_pending(alloc))?
+        .arg(queues(alloc))?
+        .arg(within(alloc))?
+        .arg(file(alloc, "The saved web, or - for standard input"))?
+        .arg(seeds(alloc))
+}
+
+fn key_command<'a>(alloc: Global) -> Result<Command<'a>, AllocError> {
+    Command::new(alloc, "key")
+        .about("Writes a URL's canonical text, host key and subqueue")
+        .after_help(KEY_HELP)
+        .arg(
+            Arg::new(alloc, "url")
+                .value_name("URL")
+                .required(true)
+                .help("The URL, with http or https"),
+        )?
+        .arg(workers(alloc, "Among how many subqueues: 1 to 512"))
+}
+
+fn replay_command<'a>(alloc: Global) -> Result<Command<'a>, AllocError> {
+    Command::new(alloc, "replay")
+        .about("Writes the frontier's replies to a script of its steps")
+        .after_help(REPLAY_HELP)
+        .arg(file(alloc, "The script, or - for standard input"))
+}
+
+fn workers<'a>(alloc: Global, help: &'a str) -> Arg<'a> {
+    Arg::new(alloc, "workers")
+        .long("workers")
+        .value_name("N")
+        .value_parser(ValueParser::unsigned(1, WORKER_LIMIT as u64))
+        .default_value("4")
+        .help(help)
+}
+
+fn max_pending<'a>(alloc: Global) -> Arg<'a> {
+    Arg::new(alloc, "max-pending")
+        .long("max-pending")
+        .value_name("M")
+        .value_parser(ValueParser::unsigned(1, PENDING_LIMIT))
+        .default_value("1048576")
+        .help("The most URLs that wait or are fetched at one time: 1 to 1099511627776")
+}
+
+fn queues<'a>(alloc: Global) -> Arg<'a> {
+    Arg::new(alloc, "queues")
+        .long("queues")
+        .action(ArgAction::SetTrue)
+        .help("Also writes how many URLs each subqueue had")
+}
+
+fn within<'a>(alloc: Global) -> Arg<'a> {
+    Arg::new(alloc, "within")
+        .long("within")
+        .value_name("SUFFIX")
+        .help("Crawls only hosts that are SUFFIX or end with a dot and it")
+}
+
+fn file<'a>(alloc: Global, help: &'a str) -> Arg<'a> {
+    Arg::new(alloc, "file")
+        .value_name("FILE")
+        .required(true)
+        .help(help)
+}
+
+fn seeds<'a>(alloc: Global) -> Arg<'a> {
+    Arg::new(alloc, "seed")
+        .value_name("SEED")
+        .required(true)
+        .num_args(1..)
+        .action(ArgAction::Append)
+        .help("The URLs that the crawl begins from")
+}

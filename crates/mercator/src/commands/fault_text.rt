@@ -1,0 +1,177 @@
+//! The texts of faults.
+ghost use Rattle.std.specs.Prelude.{Some};
+ghost use Rattle.mercator.specs.FaultText.{fault_text, line_text, web_text, script_text, crawl_text};
+
+use crate::commands::fault::Fault;
+use crate::crawling::CrawlError;
+use crate::script::ScriptError;
+use crawl_certificate::CertError;
+use crawl_frontier::FinishError;
+use crawl_web::WebError;
+use std::fmt;
+use std::fmt::Display;
+
+/// A fault as a person reads it, with the FILE that its command named.
+#[derive(Clone, Copy)]
+pub struct FaultText<'a> {
+    /// The FILE, as it was given.
+    pub file: &'a str,
+    /// The fault.
+    pub fault: Fault,
+}
+
+impl fmt::Display for FaultText<'_> {
+    ghost output = { λ told. Some (fault_text told.file.now told.fault) };
+
+    fn fmt<W: fmt::Write>(&self, f: &mut fmt::Formatter<W>) -> fmt::Result {
+        match self.fault {
+            Fault::CannotRead => {
+                let file = self.file;
+                write!(f, "cannot read {file}")
+            }
+            Fault::CannotWrite => f.write_str("cannot write"),
+            Fault::NoMemory => f.write_str("out of memory"),
+            Fault::BadSuffix => f.write_str("bad suffix"),
+            Fault::Url(why) => write!(f, "URL: {why}"),
+            Fault::Seed(place, why) => write!(f, "seed {place}: {why}"),
+            Fault::Web(fault) => {
+                let text = WebText(fault);
+                write!(f, "saved web: {text}")
+            }
+            Fault::Script(fault) => {
+                let text = ScriptText(fault);
+                write!(f, "script: {text}")
+            }
+            Fault::Crawl(error) => {
+                let text = CrawlText(error);
+                write!(f, "incomplete: {text}")
+            }
+        }
+    }
+}
+
+/// What is wrong with the line with this number.
+#[derive(Clone, Copy)]
+struct LineText {
+    number: u64,
+    words: &'static str,
+}
+
+impl fmt::Display for LineText {
+    ghost output = { λ told. Some (line_text told.number told.words.now) };
+
+    fn fmt<W: fmt::Write>(&self, f: &mut fmt::Formatter<W>) -> fmt::Result {
+        let (number, words) = (self.number, self.words);
+        write!(f, "line {number}: {words}")
+    }
+}
+
+#[derive(Clone, Copy)]
+struct WebText(WebError);
+
+impl fmt::Display for WebText {
+    ghost output = { λ told. Some (web_text told.0) };
+
+    fn fmt<W: fmt::Write>(&self, f: &mut fmt::Formatter<W>) -> fmt::Result {
+        match self.0 {
+            WebError::LineTooLong(number) => LineText {
+                number,
+                words: "line too long",
+            }
+            .fmt(f),
+            WebError::NotText(number) => LineText {
+                number,
+                words: "not UTF-8",
+            }
+            .fmt(f),
+            WebError::BadHeader => f.write_str("bad header"),
+            WebError::BadLine(number) => LineText {
+                number,
+                words: "bad line",
+            }
+            .fmt(f),
+            WebError::LinkBeforePage(number) => LineText {
+                number,
+                words: "link before page",
+            }
+            .fmt(f),
+            WebError::MovedMixed(number) => LineText {
+                number,
+                words: "mixed page",
+            }
+            .fmt(f),
+            WebError::BadPageUrl(number) => LineText {
+                number,
+                words: "bad page URL",
+            }
+            .fmt(f),
+            WebError::PageTwice(number) => LineText {
+                number,
+                words: "page twice",
+            }
+            .fmt(f),
+            WebError::NoMemory => f.write_str("out of memory"),
+        }
+    }
+}
+
+#[derive(Clone, Copy)]
+struct ScriptText(ScriptError);
+
+impl fmt::Display for ScriptText {
+    ghost output = { λ told. Some (script_text told.0) };
+
+    fn fmt<W: fmt::Write>(&self, f: &mut fmt::Formatter<W>) -> fmt::Result {
+        match self.0 {
+            ScriptError::LineTooLong(number) => LineText {
+                number,
+                words: "line too long",
+            }
+            .fmt(f),
+            ScriptError::NotText(number) => LineText {
+                number,
+                words: "not UTF-8",
+            }
+            .fmt(f),
+            ScriptError::BadHeader => f.write_str("bad header"),
+            ScriptError::BadLine(number) => LineText {
+                number,
+                words: "bad line",
+            }
+            .fmt(f),
+            ScriptError::BadUrl(number) => LineText {
+                number,
+                words: "bad URL",
+            }
+            .fmt(f),
+            ScriptError::NoMemory => f.write_str("out of memory"),
+        }
+    }
+}
+
+#[derive(Clone, Copy)]
+struct CrawlText(CrawlError);
+
+impl fmt::Display for CrawlText {
+    ghost output = { λ told. Some (crawl_text told.0) };
+
+    fn fmt<W: fmt::Write>(&self, f: &mut fmt::Formatter<W>) -> fmt::Result {
+        match self.0 {
+            CrawlError::Cert(CertError::SeedMissing) => f.write_str("seed missing"),
+            CrawlError::Cert(CertError::NotFetched) => f.write_str("page not fetched"),
+            CrawlError::Cert(CertError::LinkMissing) => f.write_str("link missing"),
+            CrawlError::Cert(CertError::Unfounded) => f.write_str("unfounded URL"),
+            CrawlError::Cert(CertError::Twice) => f.write_str("fetched twice"),
+            CrawlError::Finish(FinishError::MissingPart) => f.write_str("part missing"),
+            CrawlError::Finish(FinishError::Unsettled(_)) => f.write_str("gate not closed"),
+            CrawlError::Finish(FinishError::Disagree(queue)) => {
+                write!(f, "subqueue {queue} disagrees")
+            }
+            CrawlError::Run(_) => f.write_str("no thread"),
+            CrawlError::Frontier(_) => f.write_str("no frontier"),
+            CrawlError::Cert(CertError::NoMemory)
+            | CrawlError::Finish(FinishError::NoMemory)
+            | CrawlError::NoMemory => f.write_str("out of memory"),
+        }
+    }
+}

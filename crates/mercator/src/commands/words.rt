@@ -1,0 +1,204 @@
+//! The words of a command line, read by `clap`.
+ghost use Rattle.std.specs.Prelude.{◌≡◌, ◌≤◌, IfOk, IfErr, IfSome};
+ghost use Rattle.crawl_core.specs.Limits.{worker_limit, pending_limit};
+ghost use Rattle.mercator.specs.Plans.{IsWithinLimits, IsShown};
+ghost use Rattle.mercator.specs.declared.commands.words.PlanError.TheVariants as wrong;
+
+use crate::commands::command_line::{self, command_line};
+use crate::commands::planned::Plan;
+use clap::ArgMatches;
+use clap::error::ErrorKind;
+use crawl_core::{PENDING_LIMIT, WORKER_LIMIT};
+use std::alloc::{AllocError, AllocFailed, Global};
+
+/// Why words are no plan.
+#[derive(Debug, Drop)]
+pub enum PlanError {
+    /// What is to be shown in place of a command: help that was asked for, with status 0, or what is wrong with the words, with
+    /// status 3.
+    Shown {
+        /// The text, its last line ended by LF. It is empty where the words were read otherwise than they were checked.
+        text: String,
+        /// The program's status.
+        status: u8,
+    },
+    /// A growth was refused. One of `clap`'s may also be shown.
+    NoMemory,
+}
+
+impl From<AllocError> for PlanError {
+    ghost from_gives = { λ _ error. error ≡ wrong.NoMemory };
+
+    fn from(_refused: AllocError) -> PlanError {
+        PlanError::NoMemory
+    }
+}
+
+impl<T: Drop> From<AllocFailed<T>> for PlanError {
+    ghost from_gives = { λ _ error. error ≡ wrong.NoMemory };
+
+    fn from(_refused: AllocFailed<T>) -> PlanError {
+        PlanError::NoMemory
+    }
+}
+
+/// What the words after the program's name ask for.
+///
+/// # Errors
+/// `Shown` where they ask for help or are no command line; `NoMemory`.
+pub fn plan(alloc: Global, words: &[String]) -> Result<Plan, PlanError>
+    ensures limits { IfOk result IsWithinLimits }
+    ensures shown { IfErr result IsShown }
+{
+    let named = after_the_name(alloc, words)?;
+    match command_line(alloc)?.try_get_matches_from(named.as_slice()) {
+        Ok(matches) => plan_of(alloc, &matches),
+        Err(error) => Err(shown(alloc, &error)),
+    }
+}
+
+/// The words behind the program's name, which stands in usage lines.
+fn after_the_name<'a>(alloc: Global, words: &'a [String]) -> Result<Vec<&'a str>, AllocError> {
+    let mut named = Vec::new(alloc);
+    named.push(command_line::NAME)?;
+    for word in words {
+        named.push(word.as_str())?;
+    }
+    Ok(named)
+}
+
+/// What is shown for this answer of `clap`.
+fn shown(alloc: Global, error: &clap::Error) -> PlanError
+    ensures { IsShown result }
+{
+    if error.kind() == ErrorKind::OutOfMemory {
+        return PlanError::NoMemory;
+    }
+    let status = if error.use_stderr() {
+        BAD_COMMAND_LINE
+    } else {
+        0
+    };
+    match format!(in alloc; "{error}") {
+        Ok(text) => PlanError::Shown { text, status },
+        Err(_) => PlanError::NoMemory,
+    }
+}
+
+/// The status of a bad command line.
+pub const BAD_COMMAND_LINE: u8 = 3;
+
+/// Where the words were read otherwise than `clap` checked them.
+fn misread(alloc: Global) -> PlanError
+    ensures { IsShown result }
+{
+    PlanError::Shown {
+        text: String::new(alloc),
+        status: BAD_COMMAND_LINE,
+    }
+}
+
+fn plan_of(alloc: Global, matches: &ArgMatches<'_>) -> Result<Plan, PlanError>
+    ensures limits { IfOk result IsWithinLimits }
+    ensures shown { IfErr result IsShown }
+{
+    match matches.subcommand() {
+        Some(("crawl", found)) => crawl_of(alloc, found),
+        Some(("key", found)) => key_of(alloc, found),
+        Some(("replay", found)) => replay_of(alloc, found),
+        _ => Err(misread(alloc)),
+    }
+}
+
+fn crawl_of(alloc: Global, found: &ArgMatches<'_>) -> Result<Plan, PlanError>
+    ensures limits { IfOk result IsWithinLimits }
+    ensures shown { IfErr result IsShown }
+{
+    let (Some(workers), Some(max), Some(file)) = (
+        workers_of(found),
+        max_of(found),
+        found.get_str("file"),
+    ) else {
+        return Err(misread(alloc));
+    };
+    let seeds = seeds_of(alloc, found)?;
+    if seeds.is_empty() {
+        return Err(misread(alloc));
+    }
+    Ok(Plan::Crawl {
+        workers,
+        max,
+        queues: found.get_flag("queues"),
+        within: within_of(alloc, found)?,
+        file: String::from_str(alloc, file)?,
+        seeds,
+    })
+}
+
+fn key_of(alloc: Global, found: &ArgMatches<'_>) -> Result<Plan, PlanError>
+    ensures limits { IfOk result IsWithinLimits }
+    ensures shown { IfErr result IsShown }
+{
+    let (Some(url), Some(workers)) = (found.get_str("url"), workers_of(found)) else {
+        return Err(misread(alloc));
+    };
+    Ok(Plan::Key {
+        url: String::from_str(alloc, url)?,
+        workers,
+    })
+}
+
+fn replay_of(alloc: Global, found: &ArgMatches<'_>) -> Result<Plan, PlanError>
+    ensures limits { IfOk result IsWithinLimits }
+    ensures shown { IfErr result IsShown }
+{
+    let Some(file) = found.get_str("file") else {
+        return Err(misread(alloc));
+    };
+    Ok(Plan::Replay {
+        file: String::from_str(alloc, file)?,
+    })
+}
+
+/// The number of workers, tested once more.
+fn workers_of(found: &ArgMatches<'_>) -> Option<u32>
+    ensures some { IfSome result (λ workers. 1 ≤ workers) }
+    ensures few { IfSome result (λ workers. workers ≤ worker_limit) }
+{
+    let workers = found.get_one::<u32>("workers")?;
+    if 1 <= workers && workers <= WORKER_LIMIT {
+        Some(workers)
+    } else {
+        None
+    }
+}
+
+/// The maximum of pending URLs, tested once more.
+fn max_of(found: &ArgMatches<'_>) -> Option<u64>
+    ensures some { IfSome result (λ max. 1 ≤ max) }
+    ensures few { IfSome result (λ max. max ≤ pending_limit) }
+{
+    let max = found.get_one::<u64>("max-pending")?;
+    if 1 <= max && max <= PENDING_LIMIT {
+        Some(max)
+    } else {
+        None
+    }
+}
+
+fn within_of(alloc: Global, found: &ArgMatches<'_>) -> Result<Option<String>, AllocError> {
+    match found.get_str("within") {
+        Some(suffix) => Ok(Some(String::from_str(alloc, suffix)?)),
+        None => Ok(None),
+    }
+}
+
+fn seeds_of(alloc: Global, found: &ArgMatches<'_>) -> Result<Vec<String>, AllocError> {
+    let mut seeds = Vec::new(alloc);
+    if let Some(texts) = found.get_strs("seed") {
+        for text in texts {
+            seeds.push(String::from_str(alloc, text)?)?;
+        }
+    }
+    Ok(seeds)
+}

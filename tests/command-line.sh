@@ -1,0 +1,141 @@
+#!/bin/bash
+# Runs the built program on files, pipes, a closed output and a full device, outside the gate: what the system itself gives and
+# takes, no test of `run_words` sees. It builds the program first, unless it is there.
+#
+# Usage: tests/command-line.sh
+set -uo pipefail
+cd "$(dirname "$0")/.."
+program=$PWD/crates/mercator_cli/out/mercator_cli
+data=$PWD/crates/examples/data
+scratch=$(mktemp -d)
+trap 'rm -rf "$scratch"' EXIT
+[ -x "$program" ] || (cd crates/mercator_cli && rt run -- key http://a.test/ > "$scratch/build" 2>&1) || { cat "$scratch/build"; exit 1; }
+
+passed=0
+failed=0
+
+# expect NAME STATUS OUT ERR: compares what the last `run` left; OUT `@FILE` is a file's bytes, ERR `~TEXT` is a part of it.
+expect() {
+    local name=$1 status=$2 out=$3 err=$4 fine=1
+    [ "$got" -eq "$status" ] || fine=0
+    case $out in
+        @*) cmp -s "${out#@}" "$scratch/out" || fine=0 ;;
+        *) [ "$(cat "$scratch/out")" = "$out" ] || fine=0 ;;
+    esac
+    case $err in
+        ~*) grep -qF -- "${err#\~}" "$scratch/err" || fine=0 ;;
+        *) [ "$(cat "$scratch/err")" = "$err" ] || fine=0 ;;
+    esac
+    if [ "$fine" -eq 1 ]; then
+        passed=$((passed + 1))
+    else
+        failed=$((failed + 1))
+        echo "differs: $name: status $got"
+        head -c 400 "$scratch/out" "$scratch/err"
+    fi
+}
+
+# run WORD..: the program with no input, its status in `got`.
+run() {
+    got=0
+    : > "$scratch/out"
+    "$program" "$@" < /dev/null > "$scratch/out" 2> "$scratch/err" || got=$?
+}
+
+run crawl "$data/ring.web" http://a.test/
+expect "a file by name" 0 "@$data/ring.report" ""
+
+run crawl "$data/ring.web" --workers 512 http://a.test/
+expect "512 threads" 0 "@$data/ring.report" ""
+
+run replay "$data/two_urls.script"
+expect "a script by name" 0 "@$data/two_urls.replies" ""
+
+cp "$data/ring.web" "$scratch/a name.web"
+(cd "$scratch" && cp "a name.web" ./-)
+run crawl "$scratch/a name.web" http://a.test/
+expect "a name with a space" 0 "@$data/ring.report" ""
+
+run crawl "$scratch/-" http://a.test/
+expect "a file whose last part is -" 0 "@$data/ring.report" ""
+
+got=0
+cat "$data/ring.web" | "$program" crawl - http://a.test/ > "$scratch/out" 2> "$scratch/err" || got=$?
+expect "a pipe" 0 "@$data/ring.report" ""
+
+got=0
+(head -c 30 "$data/ring.web"; sleep 0.2; tail -c +31 "$data/ring.web") | "$program" crawl - http://a.test/ > "$scratch/out" 2> "$scratch/err" || got=$?
+expect "a pipe that is slow" 0 "@$data/ring.report" ""
+
+got=0
+"$program" crawl - http://a.test/ < "$data/ring.web" 2> "$scratch/err" | cat > "$scratch/out" || got=$?
+expect "an output that is a pipe" 0 "@$data/ring.report" ""
+
+mkfifo "$scratch/fifo"
+cat "$data/ring.web" > "$scratch/fifo" &
+run crawl "$scratch/fifo" http://a.test/
+expect "a named pipe" 0 "@$data/ring.report" ""
+wait
+
+run crawl "$scratch/none.web" http://a.test/
+expect "no such file" 1 "" "mercator: cannot read $scratch/none.web"
+
+run crawl "$scratch" http://a.test/
+expect "a folder" 1 "" "mercator: cannot read $scratch"
+
+run crawl /dev/null http://a.test/
+expect "an empty file" 1 "" "mercator: saved web: bad header"
+
+# Root may read everything, so this row needs another user.
+if [ "$(id -u)" -ne 0 ]; then
+    cp "$data/ring.web" "$scratch/closed.web"
+    chmod 0 "$scratch/closed.web"
+    run crawl "$scratch/closed.web" http://a.test/
+    expect "a file that may not be read" 1 "" "mercator: cannot read $scratch/closed.web"
+else
+    echo "left out, since root may read everything: a file that may not be read"
+fi
+
+got=0
+"$program" replay - <&- > "$scratch/out" 2> "$scratch/err" || got=$?
+expect "a closed input" 1 "" "mercator: cannot read -"
+
+got=0
+: > "$scratch/out"
+"$program" crawl "$data/ring.web" http://a.test/ >&- 2> "$scratch/err" || got=$?
+expect "a closed output" 1 "" "mercator: cannot write"
+
+got=0
+"$program" crawl "$data/ring.web" http://a.test/ > /dev/full 2> "$scratch/err" || got=$?
+expect "a full device" 1 "" "mercator: cannot write"
+
+got=0
+"$program" --help > /dev/full 2> "$scratch/err" || got=$?
+expect "help on a full device" 1 "" "mercator: cannot write"
+
+got=0
+: > "$scratch/err"
+"$program" key mailto:x > "$scratch/out" 2> /dev/full || got=$?
+expect "a fault that a full device refuses" 1 "" ""
+
+got=0
+"$program" key mailto:x > "$scratch/out" 2>&- || got=$?
+expect "a fault with standard error closed" 1 "" ""
+
+run crawl --max-pending 1 "$data/ring.web" http://a.test/
+expect "an incomplete crawl" 2 "" "mercator: incomplete: seed missing"
+
+run
+expect "no command" 3 "" "~requires a subcommand"
+
+run crawl --workers 513 "$data/ring.web" http://a.test/
+expect "513 workers" 3 "" "~513 is not in 1..=512"
+
+run key $'http://a.test/\xff'
+expect "a word that is not UTF-8" 3 "" "error: the command line is not UTF-8"
+
+run key http://A.test:80/x/../y#f --workers 2
+expect "a key" 0 "http://a.test/y a.test 1" ""
+
+echo "$passed passed, $failed failed"
+[ "$failed" -eq 0 ]
