@@ -15,6 +15,7 @@ use Rattle.crawl_keys.specs.Outcome.{Gives}
 use Rattle.crawl_web.specs.Pages.{links_of}
 use Rattle.crawl_certificate.specs.Reachable.{Reachable}
 
+-- the URLs of entries, and of results, in their order
 abbrev pub entry_urls : List Entry → List (List ℕ)
 entry_urls entries = map (λ e. e.url) entries
 

@@ -6,6 +6,7 @@ use Rattle.crawl_web.specs.declared.page.Page.{Page}
 use Rattle.crawl_web.specs.declared.page.Page.TheVariants.{Found}
 use Rattle.crawl_web.specs.declared.page.PageResult.{PageResult}
 
+-- URLs, filters, entries and results of the small runs
 abbrev pub url_a : List ℕ
 url_a = 97 ∷ []
 

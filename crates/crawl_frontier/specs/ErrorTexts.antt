@@ -7,6 +7,7 @@ use Rattle.crawl_frontier.specs.declared.error.OfferError.TheVariants as offer
 use Rattle.crawl_frontier.specs.declared.error.FinishError.{FinishError}
 use Rattle.crawl_frontier.specs.declared.error.FinishError.TheVariants as finish
 
+-- what each error prints
 abbrev pub frontier_error_text : FrontierError → List ℕ
 frontier_error_text BadWorkers = codes "workers not from 1 to 512"
 frontier_error_text BadLimit = codes "maximum not from 1 to 2^40"

@@ -9,6 +9,7 @@ use Rattle.crawl_frontier.specs.declared.rule.Home.{Home}
 use Rattle.crawl_frontier.specs.declared.rule.PassView.{PassView}
 use Rattle.crawl_frontier.specs.Entries.{KeepsRule}
 
+-- of a pass that has none yet
 abbrev pub no_home : Home
 no_home = record { gate = no_gate; workers = 0; place = 0 }
 

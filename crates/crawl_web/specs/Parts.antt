@@ -2,6 +2,7 @@
 use Rattle.std.specs.Prelude.{ℕ, ◌==◌, Bool, List, length, nat_lt, if◌then◌else◌, Option, Some, None}
 use Rattle.std.specs.List.{position_or_len, before_first, after_first}
 
+-- byte 32, which parts a word from what follows it
 abbrev pub is_space : ℕ → Bool
 is_space b = b == 32
 

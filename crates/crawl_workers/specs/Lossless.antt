@@ -7,6 +7,7 @@ use Rattle.crawl_frontier.specs.declared.entry.Entry.{Entry}
 use Rattle.crawl_frontier.specs.Entries.{has_url}
 use Rattle.crawl_frontier.specs.Accounts.{At}
 
+-- the URLs of results, and of entries, in their order
 abbrev pub result_urls : List PageResult → List (List ℕ)
 result_urls results = map (λ r. r.url) results
 

@@ -15,6 +15,7 @@ use Rattle.mercator.specs.declared.crawling.error.CrawlError.TheVariants as craw
 use Rattle.mercator.specs.declared.script.error.ScriptError.{ScriptError}
 use Rattle.mercator.specs.declared.script.error.ScriptError.TheVariants as script
 
+-- the fault that each refusal of a part leads to
 abbrev pub of_unread : Unread → Fault
 of_unread unread.NoMemory = wrong.NoMemory
 of_unread _ = wrong.CannotRead

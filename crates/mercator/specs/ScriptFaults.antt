@@ -4,6 +4,7 @@ use Rattle.crawl_web.specs.declared.lines.LineError.TheVariants.{TooLong, NotTex
 use Rattle.mercator.specs.declared.script.error.ScriptError.{ScriptError}
 use Rattle.mercator.specs.declared.script.error.ScriptError.TheVariants as wrong
 
+-- the fault of a script that has this fault of its lines
 abbrev pub fault_of : LineError → ScriptError
 fault_of (TooLong number) = wrong.LineTooLong number
 fault_of (NotText number) = wrong.NotText number
