@@ -1,12 +1,10 @@
 -- What each step of the gate does to its word, and which steps a gate makes.
-use Rattle.std.proofs.Common.{◌≡◌, ◌⊎◌, inl, inr, ℕ, zero, suc, ◌+◌, ◌<◌, ◌≤◌, ◌^◌, true, false, List, [], ◌∷◌, ◌++◌, refl, sym, ap, ◌∙◌, arith}
+use Rattle.std.proofs.Common.{◌≡◌, ℕ, zero, suc, ◌+◌, ◌<◌, ◌≤◌, ◌^◌, true, List, [], ◌∷◌, ◌++◌, refl, sym, ap, ◌∙◌, arith}
 use Rattle.crawl_gate.specs.declared.rule.View.{View}
 use Rattle.crawl_gate.specs.Word.{Word, bits, open_at, closed_at}
-use Rattle.crawl_gate.specs.View.{view_not_closing}
 use Rattle.crawl_gate.specs.GateInvariant.{Moment, GateInvariant}
 use Rattle.crawl_gate.specs.History.{SeatSteps, GateStep}
 use Rattle.crawl_gate.specs.History.GateStep.{splits, looks, enters, loses, leaves, closes, not_closes}
-use Rattle.crawl_gate.proofs.Histories.{word_found}
 use Rattle.crawl_tie.specs.Acts.{Splitting, Looking, Entering, Losing, Leaving, Closing, NotClosing}
 use Rattle.crawl_tie.specs.Parts.{GateMoves, splitting_one, looking_one, entering_one, losing_one, leaving_one, closing_one, not_closing_one}
 
@@ -53,11 +51,3 @@ gate_moves gate gate' (loses v n x none room other s) = losing_one n x (record {
 gate_moves gate gate' (leaves v n holds s) = leaving_one n (record { view = v; holds = holds; steps = s })
 gate_moves gate gate' (closes v none s) = closing_one (record { view = v; holds_none = none; steps = s })
 gate_moves gate gate' (not_closes v x none other s) = not_closing_one x (record { view = v; holds_none = none; other = other; steps = s })
-
--- the word that a closing exchange meets, where it does not close
-pub closing_words : (max : ℕ) (gate next : Moment) (x : Word) → GateInvariant max gate → NotClosing gate next x → (x ≡ closed_at 0) ⊎ ((n : ℕ) × (x ≡ open_at n))
-closing_words max gate next (n, false) k s = inr (n, refl)
-closing_words max gate next (n, true) k s =
-    let is = word_found max gate next k s.view (view_not_closing s.view (n, true)) (n, true) (n, true) s.steps in
-    let none = k.empty (sym (ap (λ x. x.1) is)) in
-    inl (ap (λ m. closed_at m) (ap (λ x. x.0) is ∙ none))

@@ -1,6 +1,6 @@
 //! What follows from the definitions alone, for every history of a frontier's atomic steps. None does anything when it is
 //! called.
-ghost use Rattle.std.specs.Prelude.{◌≡◌, ◌≢◌, ◌⊎◌, ℕ, List, [], ◌∷◌, ◌++◌, true, false};
+ghost use Rattle.std.specs.Prelude.{◌≡◌, ◌≢◌, ℕ, List, [], ◌∷◌, ◌++◌, true, false};
 ghost use Rattle.std.specs.List.{list_all};
 ghost use Rattle.crawl_core.specs.declared.event.Event.{Event};
 ghost use Rattle.crawl_core.specs.declared.reply.Reply.{Reply};
@@ -8,7 +8,6 @@ ghost use Rattle.crawl_core.specs.Subqueue.{Subqueue};
 ghost use Rattle.crawl_core.specs.State.{State, start, count_of};
 ghost use Rattle.crawl_core.specs.Run.{Run};
 ghost use Rattle.crawl_core.specs.Invariants as machine;
-ghost use Rattle.crawl_gate.specs.Word.{Word, open_at, closed_at};
 ghost use Rattle.crawl_gate.specs.GateInvariant as gates;
 ghost use Rattle.crawl_gate.specs.GateInvariant.{GateInvariant};
 ghost use Rattle.crawl_gate.specs.GateError.{IsMaximum};
@@ -21,7 +20,7 @@ ghost use Rattle.crawl_frontier.specs.Rule.{SubqueueInvariant, home};
 ghost use Rattle.crawl_frontier.specs.History as subqueues;
 ghost use Rattle.crawl_frontier.specs.History.{SubqueueStep};
 ghost use Rattle.crawl_tie.specs.Whole.{Whole, Owner, IsFirst, made};
-ghost use Rattle.crawl_tie.specs.Acts.{Act, Atomic, History, Leaving, NotClosing, IsOwner, IsUnitOf};
+ghost use Rattle.crawl_tie.specs.Acts.{Act, Atomic, History, Leaving, IsOwner, IsUnitOf};
 ghost use Rattle.crawl_tie.specs.Shows.{events, events_of, ShowsWhole, ShowsGate, ShowsLists, IsPlaced, CountsUnits, ListsKeep};
 ghost use Rattle.crawl_tie.specs.Headline.{Delivers, Finished, is_closing, is_quiet};
 ghost use Rattle.crawl_tie.specs.Sample.{offers_made, turns_made};
@@ -69,12 +68,10 @@ pub fn units_are_owned()
     ensures pushed { (w : Whole) (m : Message) (s : ℕ) → UnitsAreOwned w → IsUnitOf w s m → m.unit.view.holds_unit ≡ true }
 {}
 
-/// No step of a part is left out: each step of a gate is one of those that the atomic steps make of it, and an exchange that
-/// does not close finds the gate closed with count 0, or open. So is each step of a subqueue from where it is made, which
-/// takes two steps; and where a pass was taken in only those two kinds could follow.
+/// No step of a part is left out: each step of a gate is one of those that the atomic steps make of it. So is each step of a
+/// subqueue from where it is made, which takes two steps; and where a pass was taken in only those two kinds could follow.
 pub fn no_step_left_out()
     ensures gate { (gate next : gates.Moment) → GateStep gate next → GateMoves gate next }
-    ensures not_closing { (max : ℕ) (gate next : gates.Moment) (x : Word) → GateInvariant max gate → NotClosing gate next x → (x ≡ closed_at 0) ⊎ ((n : ℕ) × (x ≡ open_at n)) }
     ensures made { (h : Home) → (settled : subqueues.Moment) × SubqueueStep subqueues.first_moment settled × SubqueueStep settled (made h) }
     ensures divided { (gate : GateId) (workers q : ℕ) → IsDivided (made (home gate workers q)) }
     ensures subqueues { (m next : subqueues.Moment) → SubqueueInvariant m.items m.views → IsDivided m → SubqueueStep m next → LaneMoves m next }

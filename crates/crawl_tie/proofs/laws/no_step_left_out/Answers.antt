@@ -1,13 +1,10 @@
-use Rattle.crawl_tie.proofs.GateSteps.{gate_moves, closing_words}
+use Rattle.crawl_tie.proofs.GateSteps.{gate_moves}
 use Rattle.crawl_tie.proofs.LaneSteps.{made_divided, lane_moves, only_making}
 use Rattle.crawl_tie.proofs.Lanes.{settled, settling, dividing}
 use Rattle.crawl_tie.proofs.laws.no_step_left_out.Goals as goal
 
 pub returns-clause-gate : goal.returns-clause-gate
 returns-clause-gate c = gate_moves
-
-pub returns-clause-not_closing : goal.returns-clause-not_closing
-returns-clause-not_closing c = closing_words
 
 pub returns-clause-made : goal.returns-clause-made
 returns-clause-made c = λ h. (settled h, settling h, dividing h)
