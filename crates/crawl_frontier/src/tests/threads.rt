@@ -1,7 +1,7 @@
 //! Four workers in four threads, which offer what they find.
 ghost use Rattle.std.specs.Prelude.{◌≡◌};
 
-use crate::{Account, BusyWorker, ClosedWorker, FinishError, Frontier, Name, Setup, Turn, Worker};
+use crate::{Account, ClosedWorker, FinishError, Frontier, Name, Setup, Turn, Worker};
 use crawl_keys::{CanonUrl, Filter, canonical};
 use std::alloc::{AllocError, Global};
 use std::marker::Brand;
@@ -32,26 +32,6 @@ fn first_link(url: &CanonUrl) -> usize {
     }
 }
 
-// Offers the links of the page in hand. Answers how many were refused.
-fn offer_links<K: Name, R: Wait>(
-    rt: &R,
-    frontier: &Frontier<K>,
-    urls: &[CanonUrl],
-    busy: &mut BusyWorker<K>,
-) -> u64 {
-    let first = first_link(busy.url());
-    let mut refused = 0u64;
-    for number in first..first.saturating_add(3) {
-        let Some(url) = urls.get(number) else {
-            return refused;
-        };
-        if busy.offer(rt, frontier, url).is_err() {
-            refused = refused.saturating_add(1);
-        }
-    }
-    refused
-}
-
 fn work<K: Name, R: Wait>(
     rt: &R,
     frontier: &Frontier<K>,
@@ -62,8 +42,14 @@ fn work<K: Name, R: Wait>(
     for _ in rt.forever() {
         match worker.next(rt, frontier) {
             Turn::Busy(mut busy) => {
-                let more = offer_links(rt, frontier, urls, &mut busy);
-                refused = refused.saturating_add(more);
+                let first = first_link(busy.url());
+                for number in first..first.saturating_add(3) {
+                    if let Some(url) = urls.get(number) {
+                        if busy.offer(rt, frontier, url).is_err() {
+                            refused = refused.saturating_add(1);
+                        }
+                    }
+                }
                 worker = busy.done(frontier);
             }
             Turn::Idle(idle, _) => {
