@@ -178,6 +178,16 @@ fn bad_command_lines(rt: HostRuntime) -> Result<(), Fail> {
     Ok(())
 }
 
+/// Whether each text stands somewhere in the bytes.
+fn has_all(bytes: &[u8], texts: &[&str]) -> bool {
+    for text in texts {
+        if !has(bytes, text) {
+            return false;
+        }
+    }
+    true
+}
+
 #[test]
 fn help_that_is_asked_for(rt: HostRuntime) -> Result<(), Fail> {
     let program: &[&str] = &[
@@ -217,9 +227,7 @@ fn help_that_is_asked_for(rt: HostRuntime) -> Result<(), Fail> {
         let told = answer(&rt, rt.alloc(), row, RING)?;
         assert_eq!(rt; told.status, DONE, "{row:?}");
         assert_eq!(rt; told.err.len(), 0, "{row:?}");
-        for text in texts {
-            assert!(rt; has(&told.out, text), "{row:?}, {text}: {told:?}");
-        }
+        assert!(rt; has_all(&told.out, texts), "{row:?}: {told:?}");
     }
     Ok(())
 }

@@ -11,7 +11,7 @@ use crawl_workers::RunError;
 use std::test::Fail;
 
 #[test]
-fn line_of_each_fault(rt: HostRuntime) -> Result<(), Fail> {
+fn line_of_each_incomplete_crawl(rt: HostRuntime) -> Result<(), Fail> {
     let incomplete = [
         (
             CrawlError::Cert(CertError::SeedMissing),
@@ -59,7 +59,7 @@ fn line_of_each_fault(rt: HostRuntime) -> Result<(), Fail> {
 }
 
 #[test]
-fn line_of_each_other_fault(rt: HostRuntime) -> Result<(), Fail> {
+fn line_of_each_fault_of_a_command(rt: HostRuntime) -> Result<(), Fail> {
     let rows = [
         (Fault::CannotRead, "mercator: cannot read a b.web\n"),
         (Fault::CannotWrite, "mercator: cannot write\n"),
@@ -78,6 +78,17 @@ fn line_of_each_other_fault(rt: HostRuntime) -> Result<(), Fail> {
             Fault::Seed(12, KeyError::NotHttp),
             "mercator: seed 12: not http or https\n",
         ),
+    ];
+    for (fault, line) in rows {
+        assert_eq!(rt; line_of(rt.alloc(), "a b.web", fault)?.as_str(), line);
+        assert_eq!(rt; fault.status(), FAULT, "{line}");
+    }
+    Ok(())
+}
+
+#[test]
+fn line_of_each_fault_of_a_saved_web(rt: HostRuntime) -> Result<(), Fail> {
+    let rows = [
         (
             Fault::Web(WebError::BadHeader),
             "mercator: saved web: bad header\n",
@@ -110,6 +121,17 @@ fn line_of_each_other_fault(rt: HostRuntime) -> Result<(), Fail> {
             Fault::Web(WebError::NotText(6)),
             "mercator: saved web: line 6: not UTF-8\n",
         ),
+    ];
+    for (fault, line) in rows {
+        assert_eq!(rt; line_of(rt.alloc(), "a b.web", fault)?.as_str(), line);
+        assert_eq!(rt; fault.status(), FAULT, "{line}");
+    }
+    Ok(())
+}
+
+#[test]
+fn line_of_each_fault_of_a_script(rt: HostRuntime) -> Result<(), Fail> {
+    let rows = [
         (
             Fault::Script(ScriptError::BadHeader),
             "mercator: script: bad header\n",
