@@ -26,7 +26,10 @@ fn main(rt: HostRuntime) -> io::Result<()> {
 }
 
 /// Whether the example is done and writes what its file has.
-fn is_answered<R: Threads + Wait + Sync + Files + AllocGlobal>(rt: &R, line: &str) -> io::Result<bool> {
+fn is_answered<R: Threads + Wait + Sync + Files + AllocGlobal>(
+    rt: &R,
+    line: &str,
+) -> io::Result<bool> {
     let Some((words, files)) = line.split_once(" < ") else {
         return Ok(false);
     };
