@@ -3,7 +3,10 @@ use crate::tests::crawls::RING;
 use crate::tests::runs::{BAD_COMMAND, DONE, answer, has, words};
 use crate::{Plan, plan};
 use std::alloc::Global;
+use std::fs::Files;
+use std::sync::Wait;
 use std::test::Fail;
+use std::thread::Threads;
 
 /// The words as one line that says all of their plan, or none.
 fn plan_line(alloc: Global, row: &[&str]) -> Result<String, Fail> {
@@ -188,9 +191,22 @@ fn has_all(bytes: &[u8], texts: &[&str]) -> bool {
     true
 }
 
+/// Whether the words are answered by help that has each of the texts, and by nothing else.
+fn shows<R: Files + Threads + Wait + Sync>(
+    rt: &R,
+    alloc: Global,
+    row: &[&str],
+    texts: &[&str],
+) -> bool {
+    let Ok(told) = answer(rt, alloc, row, RING) else {
+        return false;
+    };
+    told.status == DONE && told.err.is_empty() && has_all(&told.out, texts)
+}
+
 #[test]
-fn help_that_is_asked_for(rt: HostRuntime) -> Result<(), Fail> {
-    let program: &[&str] = &[
+fn help_that_is_asked_for(rt: HostRuntime) {
+    let texts = [
         "Usage: mercator <COMMAND>",
         "  crawl ",
         "  key ",
@@ -198,7 +214,14 @@ fn help_that_is_asked_for(rt: HostRuntime) -> Result<(), Fail> {
         "Status: 0 done",
         "Example: ",
     ];
-    let crawl: &[&str] = &[
+    assert!(rt; shows(&rt, rt.alloc(), &["--help"], &texts));
+    assert!(rt; shows(&rt, rt.alloc(), &["-h"], &texts));
+    assert!(rt; shows(&rt, rt.alloc(), &["help"], &texts));
+}
+
+#[test]
+fn help_of_a_crawl(rt: HostRuntime) {
+    let texts = [
         "Usage: mercator crawl [OPTIONS] <FILE> <SEED>...",
         "--workers <N>",
         "1 to 512 [default: 4]",
@@ -208,26 +231,18 @@ fn help_that_is_asked_for(rt: HostRuntime) -> Result<(), Fail> {
         "--within <SUFFIX>",
         "Example: mercator crawl ",
     ];
-    let key: &[&str] = &[
+    assert!(rt; shows(&rt, rt.alloc(), &["crawl", "--help"], &texts));
+    assert!(rt; shows(&rt, rt.alloc(), &["help", "crawl"], &texts));
+}
+
+#[test]
+fn help_of_a_key_and_a_replay(rt: HostRuntime) {
+    let key = [
         "Usage: mercator key [OPTIONS] <URL>",
         "[default: 4]",
         "Example: mercator key ",
     ];
-    let replay: &[&str] = &["Usage: mercator replay <FILE>", "Example: mercator replay "];
-    let rows: [(&[&str], &[&str]); 7] = [
-        (&["--help"], program),
-        (&["-h"], program),
-        (&["help"], program),
-        (&["crawl", "--help"], crawl),
-        (&["help", "crawl"], crawl),
-        (&["key", "-h"], key),
-        (&["replay", "--help"], replay),
-    ];
-    for (row, texts) in rows {
-        let told = answer(&rt, rt.alloc(), row, RING)?;
-        assert_eq!(rt; told.status, DONE, "{row:?}");
-        assert_eq!(rt; told.err.len(), 0, "{row:?}");
-        assert!(rt; has_all(&told.out, texts), "{row:?}: {told:?}");
-    }
-    Ok(())
+    assert!(rt; shows(&rt, rt.alloc(), &["key", "-h"], &key));
+    let replay = ["Usage: mercator replay <FILE>", "Example: mercator replay "];
+    assert!(rt; shows(&rt, rt.alloc(), &["replay", "--help"], &replay));
 }
