@@ -4,10 +4,13 @@
 
 use anyhow::{Context, Result};
 use crawl_keys::Filter;
-use mercator::{DEFAULT_MAX_PENDING, Mode, report_of_saved_web};
+use mercator::{Mode, report_of_saved_web};
 use std::alloc::Global;
 
 const PAGES: u32 = 65_536;
+
+// More than are ever pending.
+const MAX_PENDING: u64 = 1_048_576;
 
 /// What the last page of a chain links to.
 const CHAINS: [(&str, Option<u32>); 3] = [
@@ -29,7 +32,7 @@ fn main(rt: HostRuntime) -> Result<()> {
             &seeds,
             &every,
             1,
-            DEFAULT_MAX_PENDING,
+            MAX_PENDING,
             Mode::Threads,
         );
         let Ok(report) = report else {
