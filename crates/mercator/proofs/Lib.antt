@@ -1,14 +1,5 @@
-pub mod Assigned
-pub mod EventLines
-pub mod HeaderWords
-pub mod Least
-pub mod LineWords
-pub mod NumberText
 pub mod QueueCounts
 pub mod PlanTexts
-pub mod ReadLines
-pub mod ReadNumbers
-pub mod ScriptWords
 pub mod RunResults
 pub mod Seeds
 pub mod SiteCrawls

@@ -10,8 +10,8 @@ use Rattle.mercator.specs.declared.commands.fault.Fault.{Fault}
 use Rattle.mercator.specs.declared.commands.fault.Fault.TheVariants as wrong
 use Rattle.mercator.specs.declared.crawling.error.CrawlError.{CrawlError}
 use Rattle.mercator.specs.declared.crawling.error.CrawlError.TheVariants as crawl
-use Rattle.mercator.specs.declared.script.error.ScriptError.{ScriptError}
-use Rattle.mercator.specs.declared.script.error.ScriptError.TheVariants as script
+use Rattle.crawl_replay.specs.declared.script.error.ScriptError.{ScriptError}
+use Rattle.crawl_replay.specs.declared.script.error.ScriptError.TheVariants as script
 
 -- what is wrong with a line
 abbrev pub line_text : ℕ → List ℕ → List ℕ

@@ -12,8 +12,8 @@ use Rattle.mercator.specs.declared.commands.input.Unread.{Unread}
 use Rattle.mercator.specs.declared.commands.input.Unread.TheVariants as unread
 use Rattle.mercator.specs.declared.crawling.error.CrawlError.{CrawlError}
 use Rattle.mercator.specs.declared.crawling.error.CrawlError.TheVariants as crawl
-use Rattle.mercator.specs.declared.script.error.ScriptError.{ScriptError}
-use Rattle.mercator.specs.declared.script.error.ScriptError.TheVariants as script
+use Rattle.crawl_replay.specs.declared.script.error.ScriptError.{ScriptError}
+use Rattle.crawl_replay.specs.declared.script.error.ScriptError.TheVariants as script
 
 -- the fault that each refusal of a part leads to
 abbrev pub of_unread : Unread → Fault

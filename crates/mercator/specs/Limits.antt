@@ -1,10 +1,6 @@
 -- The limits and defaults of the program. Each is a number here, and nowhere else in the definitions.
 use Rattle.std.specs.Prelude.{ℕ, ◌^◌}
 
--- the digits of a number
-abbrev pub most_digits : ℕ
-most_digits = 20
-
 -- the bytes of an input
 abbrev pub most_input_bytes : ℕ
 most_input_bytes = 2 ^ 30

@@ -9,8 +9,8 @@ use Rattle.mercator.specs.Faults.{status_of_fault}
 use Rattle.mercator.specs.KeyLine.{IsKeyLine}
 use Rattle.mercator.specs.Limits.{most_input_bytes}
 use Rattle.mercator.specs.Plans.{file_of, is_bad_suffix, is_input, known_bytes, suffixes_of}
-use Rattle.mercator.specs.Replay.{IsReplay}
-use Rattle.mercator.specs.Script.{script_of}
+use Rattle.crawl_replay.specs.Replay.{IsReplay}
+use Rattle.crawl_replay.specs.Script.{script_of}
 use Rattle.mercator.specs.WebCrawl.{IsCrawlable, IsCrawlText, IsRefused}
 use Rattle.mercator.specs.declared.commands.planned.Plan.{Plan}
 use Rattle.mercator.specs.declared.commands.planned.Plan.TheVariants as asks

@@ -7,10 +7,6 @@ mod crawling;
 mod key;
 /// What holds of the definitions together.
 pub mod laws;
-mod numbers;
-mod replay;
-mod replies;
-mod script;
 #[cfg(test)]
 mod tests;
 
@@ -18,8 +14,7 @@ pub use commands::{
     BAD_COMMAND_LINE, Fault, INPUT_LIMIT, Plan, PlanError, READ_LIMIT, Report, plan, queue_text,
     report_of_saved_web, run_plan, run_words,
 };
+pub use crawl_replay::{Script, ScriptError, read_script, replay_text};
 pub use crawl_web::LINE_LIMIT;
 pub use crawling::{CrawlError, Crawled, Mode, crawl};
 pub use key::key_line;
-pub use replay::replay_text;
-pub use script::{Script, ScriptError, read_script};

@@ -4,8 +4,6 @@ mod crawls;
 mod faults;
 mod inputs;
 mod keys;
-mod replays;
 mod runs;
-mod scripts;
 mod sources;
 mod threads;

@@ -5,8 +5,8 @@ ghost use Rattle.mercator.specs.declared.commands.fault.Fault.TheVariants as wro
 
 use crate::commands::input::Unread;
 use crate::crawling::CrawlError;
-use crate::script::ScriptError;
 use crawl_keys::{FilterError, KeyError};
+use crawl_replay::ScriptError;
 use crawl_web::WebError;
 use std::alloc::{AllocError, AllocFailed};
 

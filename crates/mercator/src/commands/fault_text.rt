@@ -4,9 +4,9 @@ ghost use Rattle.mercator.specs.FaultText.{fault_text, line_text, web_text, scri
 
 use crate::commands::fault::Fault;
 use crate::crawling::CrawlError;
-use crate::script::ScriptError;
 use crawl_certificate::CertError;
 use crawl_frontier::FinishError;
+use crawl_replay::ScriptError;
 use crawl_web::WebError;
 use std::fmt;
 use std::fmt::Display;

@@ -6,7 +6,7 @@ ghost use Rattle.crawl_keys.specs.Outcome.{Gives};
 ghost use Rattle.mercator.specs.KeyLine.{IsKeyLine};
 ghost use Rattle.mercator.specs.Plans.{IsWithinLimits, is_input, is_bad_suffix, reads_input, suffixes_of};
 ghost use Rattle.mercator.specs.QueueLines.{queue_lines};
-ghost use Rattle.mercator.specs.Replay.{IsReplay};
+ghost use Rattle.crawl_replay.specs.Replay.{IsReplay};
 ghost use Rattle.mercator.specs.Told.{IsTold, Fails, FailsReplay, FailsCrawl, FailsKey, OfFile};
 ghost use Rattle.mercator.specs.WebCrawl.{IsCrawlText};
 
@@ -17,8 +17,8 @@ use crate::commands::source::read_file;
 use crate::commands::web_crawl::{Report, report_of_saved_web};
 use crate::crawling::Mode;
 use crate::key::key_line;
-use crate::replay::replay_text;
 use crawl_keys::{Filter, FilterError};
+use crawl_replay::replay_text;
 use std::alloc::{AllocError, Global};
 use std::fs::Files;
 use std::io::Read;

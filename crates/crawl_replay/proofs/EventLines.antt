@@ -1,0 +1,147 @@
+-- What a line after the first says, in the words of the format.
+use Rattle.std.proofs.Common.{◌≡◌, ◌⊎◌, ℕ, Bool, true, false, List, ◌∷◌, ◌++◌, Option, Some, None, Result, Ok, Err, refl, sym, ap, subst, ◌∙◌, codes, inl, inr}
+use Rattle.std.specs.Prelude.{ok_or, option_and_then}
+use Rattle.std.specs.Bool.{if◌then◌else◌}
+use Rattle.std.specs.Option.{option_map}
+use Rattle.std.specs.Str.{bytes_eq}
+use Rattle.std.proofs.lemmas.Slice.Eq.{bytes_eq-Decides}
+use Rattle.crawl_core.specs.declared.event.Event.{Event}
+use Rattle.crawl_core.specs.declared.event.Event.TheVariants.{Look, Enter, Admit, Back, EndSeeds, Take, Done, Close}
+use Rattle.crawl_keys.specs.CanonicalText.{canonical}
+use Rattle.crawl_keys.specs.declared.error.KeyError.{KeyError}
+use Rattle.crawl_web.specs.Parts.{at_space}
+use Rattle.crawl_replay.specs.Numbers.{number_of}
+use Rattle.crawl_replay.specs.Script.{address_from, admit_at, admit_parts, admit_with, plain_event, numbered_event, event_from, event_of}
+use Rattle.crawl_replay.specs.ScriptLines.{IsNumber, IsNumbered, IsAdmit, IsBadAdmission, IsEventLine}
+use Rattle.crawl_replay.specs.declared.script.error.ScriptError.{ScriptError}
+use Rattle.crawl_replay.specs.declared.script.error.ScriptError.TheVariants.{BadLine, BadUrl}
+use Rattle.crawl_replay.proofs.NumberText.{number_is, number_of_is, at_space-joined, at_space-number, joined-at_space}
+
+-- ---- what is said stands there
+
+-- the value that a number gives
+by_number : (build : ℕ → Event) (found : Option ℕ) (event : Event) → option_map build found ≡ Some event → (value : ℕ) × (found ≡ Some value) × (build value ≡ event)
+by_number build None event e = absurd (cc)
+by_number build (Some value) event e = (value, refl, cc)
+
+numbered_line : (workers bits : ℕ) (build : ℕ → Event) (word : List ℕ) → ((value : ℕ) (line : List ℕ) → IsNumbered word bits value line → IsEventLine workers (build value) line) → (first number line : List ℕ) (event : Event) → line ≡ first ++ 32 ∷ number → bytes_eq first word ≡ true → option_map build (number_of bits number) ≡ Some event → IsEventLine workers event line
+numbered_line workers bits build word says first number line event split is_word e =
+    let found = by_number build (number_of bits number) event e in
+    let same : first ≡ word = (bytes_eq-Decides first word).0 is_word in
+    let written : line ≡ word ++ 32 ∷ number = split ∙ ap (λ w. w ++ 32 ∷ number) same in
+    let there : IsNumbered word bits found.0 line = record { number = number; written = written; valued = number_is bits number found.0 found.1 } in
+    subst (λ x. IsEventLine workers x line) found.2 (says found.0 line there)
+
+-- the first word that fits, or a later one
+by_word : {A : Type 0} (b : Bool) (first second : Option A) (x : A) (P : Type 0) → (b ≡ true → first ≡ Some x → P) → (second ≡ Some x → P) → (if b then first else second) ≡ Some x → P
+by_word true first second x P here later e = here refl e
+by_word false first second x P here later e = later e
+
+numbered_sound : (workers : ℕ) (first number line : List ℕ) (event : Event) → line ≡ first ++ 32 ∷ number → numbered_event first number ≡ Some event → IsEventLine workers event line
+numbered_sound workers first number line event split e =
+    by_word (bytes_eq first (codes "look")) _ _ event (IsEventLine workers event line) (numbered_line workers 64 Look (codes "look") (λ v l is. is) first number line event split)
+    (by_word (bytes_eq first (codes "enter")) _ _ event (IsEventLine workers event line) (numbered_line workers 64 Enter (codes "enter") (λ v l is. is) first number line event split)
+    (by_word (bytes_eq first (codes "back")) _ _ event (IsEventLine workers event line) (numbered_line workers 64 Back (codes "back") (λ v l is. is) first number line event split)
+    (by_word (bytes_eq first (codes "take")) _ _ event (IsEventLine workers event line) (numbered_line workers 32 Take (codes "take") (λ v l is. is) first number line event split)
+    (by_word (bytes_eq first (codes "done")) _ _ event (IsEventLine workers event line) (numbered_line workers 32 Done (codes "done") (λ v l is. is) first number line event split)
+    (λ none. absurd (cc)))))) e
+
+plain_sound : (workers : ℕ) (line : List ℕ) (event : Event) → plain_event line ≡ Some event → IsEventLine workers event line
+plain_sound workers line event e =
+    by_word (bytes_eq line (codes "endseeds")) _ _ event (IsEventLine workers event line)
+    (λ is same. let seeds : EndSeeds ≡ event = cc in subst (λ x. IsEventLine workers x line) seeds ((bytes_eq-Decides line (codes "endseeds")).0 is))
+    (by_word (bytes_eq line (codes "close")) _ _ event (IsEventLine workers event line)
+    (λ is same. let closes : Close ≡ event = cc in subst (λ x. IsEventLine workers x line) closes ((bytes_eq-Decides line (codes "close")).0 is))
+    (λ none. absurd (cc))) e
+
+-- what an admission has behind its first space
+parts_by_number : (found : Option ℕ) (address : List ℕ) (q : ℕ × List ℕ) → option_map (λ sender. (sender, address)) found ≡ Some q → (found ≡ Some q.0) × (address ≡ q.1)
+parts_by_number None address q e = absurd (cc)
+parts_by_number (Some sender) address q e = let same : (sender, address) ≡ q = cc in (ap (λ (x : ℕ × List ℕ). Some x.0) same, ap (λ (x : ℕ × List ℕ). x.1) same)
+
+parts_by_space : (rest line : List ℕ) (parts : Option (List ℕ × List ℕ)) (q : ℕ × List ℕ) → at_space rest ≡ parts → line ≡ codes "admit" ++ 32 ∷ rest → option_and_then (λ p. option_map (λ sender. (sender, p.1)) (number_of 64 p.0)) parts ≡ Some q → IsAdmit q.0 q.1 line
+parts_by_space rest line None q e split found = absurd (cc)
+parts_by_space rest line (Some p) q e split found =
+    let both = parts_by_number (number_of 64 p.0) p.1 q found in
+    let cut : rest ≡ p.0 ++ 32 ∷ p.1 = joined-at_space rest p e in record {
+      number = p.0;
+      written = split ∙ ap (λ r. codes "admit" ++ 32 ∷ r) (cut ∙ ap (λ a. p.0 ++ 32 ∷ a) both.1);
+      sent = number_is 64 p.0 q.0 both.0;
+    }
+
+-- ---- what stands there is said
+
+admit_parts-is : (rest number address : List ℕ) (sender : ℕ) → IsNumber 64 sender number → rest ≡ number ++ 32 ∷ address → admit_parts rest ≡ Some (sender, address)
+admit_parts-is rest number address sender sent is = rw (at_space-number rest number address sent.digits is, number_of_is 64 number sender sent) refl
+
+admit_from : (workers number sender : ℕ) (address line : List ℕ) → IsAdmit sender address line → event_of workers number line ≡ admit_at sender (address_from workers number (canonical address))
+admit_from workers number sender address line is =
+    let split = at_space-joined line (codes "admit") (is.number ++ 32 ∷ address) refl is.written in
+    let parts = admit_parts-is (is.number ++ 32 ∷ address) is.number address sender is.sent refl in
+    ap (event_from workers number line) split ∙ ap (admit_with workers number) parts
+
+numbered_said : (workers number : ℕ) (word : List ℕ) (bits value : ℕ) (line : List ℕ) (is : IsNumbered word bits value line) → at_space line ≡ Some (word, is.number) → event_of workers number line ≡ event_from workers number line (Some (word, is.number))
+numbered_said workers number word bits value line is split = ap (event_from workers number line) split
+
+pub event_said : (workers number : ℕ) (event : Event) (line : List ℕ) → IsEventLine workers event line → event_of workers number line ≡ Ok event
+event_said workers number (Look sender) line is =
+    let split = at_space-joined line (codes "look") is.number refl is.written in
+    ap (event_from workers number line) split ∙ ap (λ n. ok_or (option_map Look n) (BadLine number)) (number_of_is 64 is.number sender is.valued)
+event_said workers number (Enter sender) line is =
+    let split = at_space-joined line (codes "enter") is.number refl is.written in
+    ap (event_from workers number line) split ∙ ap (λ n. ok_or (option_map Enter n) (BadLine number)) (number_of_is 64 is.number sender is.valued)
+event_said workers number (Back sender) line is =
+    let split = at_space-joined line (codes "back") is.number refl is.written in
+    ap (event_from workers number line) split ∙ ap (λ n. ok_or (option_map Back n) (BadLine number)) (number_of_is 64 is.number sender is.valued)
+event_said workers number (Take queue) line is =
+    let split = at_space-joined line (codes "take") is.number refl is.written in
+    ap (event_from workers number line) split ∙ ap (λ n. ok_or (option_map Take n) (BadLine number)) (number_of_is 32 is.number queue is.valued)
+event_said workers number (Done queue) line is =
+    let split = at_space-joined line (codes "done") is.number refl is.written in
+    ap (event_from workers number line) split ∙ ap (λ n. ok_or (option_map Done n) (BadLine number)) (number_of_is 32 is.number queue is.valued)
+event_said workers number EndSeeds line is = ap (event_of workers number) is
+event_said workers number Close line is = ap (event_of workers number) is
+event_said workers number (Admit sender url queue) line is =
+    admit_from workers number sender is.address line is.admits
+    ∙ ap (λ r. admit_at sender (address_from workers number r)) is.named
+    ∙ ap (λ q. Ok (Admit sender url q)) (sym is.placed)
+
+pub bad_url_said : (workers number : ℕ) (line : List ℕ) → IsBadAdmission line → event_of workers number line ≡ Err (BadUrl number)
+bad_url_said workers number line is =
+    admit_from workers number is.sender is.address line is.admits ∙ ap (λ r. admit_at is.sender (address_from workers number r)) is.refused
+
+-- ---- both together: what a line says, in its words
+
+-- what the line says stands there
+abbrev pub Stands : ℕ → ℕ → List ℕ → Result Event ScriptError → Type 0
+Stands workers number line (Ok event) = IsEventLine workers event line
+Stands workers number line (Err fault) = (fault ≡ BadLine number) ⊎ ((fault ≡ BadUrl number) × IsBadAdmission line)
+
+stands_plain : (workers number : ℕ) (line : List ℕ) (found : Option Event) → ((event : Event) → found ≡ Some event → IsEventLine workers event line) → Stands workers number line (ok_or found (BadLine number))
+stands_plain workers number line None sound = inl refl
+stands_plain workers number line (Some event) sound = sound event refl
+
+stands_address : (workers number sender : ℕ) (address line : List ℕ) (read : Result (List ℕ) KeyError) → IsAdmit sender address line → canonical address ≡ read → Stands workers number line (admit_at sender (address_from workers number read))
+stands_address workers number sender address line (Ok url) admits read = record { address = address; admits = admits; named = read; placed = refl }
+stands_address workers number sender address line (Err refusal) admits read = inr (refl, record { sender = sender; address = address; admits = admits; refusal = refusal; refused = read })
+
+stands_admit : (workers number : ℕ) (rest line : List ℕ) (parts : Option (ℕ × List ℕ)) → ((q : ℕ × List ℕ) → parts ≡ Some q → IsAdmit q.0 q.1 line) → Stands workers number line (admit_with workers number parts)
+stands_admit workers number rest line None sound = inl refl
+stands_admit workers number rest line (Some q) sound = stands_address workers number q.0 q.1 line (canonical q.1) (sound q refl) refl
+
+stands_if : (workers number : ℕ) (line : List ℕ) (b : Bool) (first second : Result Event ScriptError) → (b ≡ true → Stands workers number line first) → Stands workers number line second → Stands workers number line (if b then first else second)
+stands_if workers number line true first second here later = here refl
+stands_if workers number line false first second here later = later
+
+stands_from : (workers number : ℕ) (line : List ℕ) (parts : Option (List ℕ × List ℕ)) → at_space line ≡ parts → Stands workers number line (event_from workers number line parts)
+stands_from workers number line None split = stands_plain workers number line (plain_event line) (plain_sound workers line)
+stands_from workers number line (Some p) split =
+    let cut : line ≡ p.0 ++ 32 ∷ p.1 = joined-at_space line p split in
+    stands_if workers number line (bytes_eq p.0 (codes "admit")) _ _
+    (λ is. let same : p.0 ≡ codes "admit" = (bytes_eq-Decides p.0 (codes "admit")).0 is in
+    let behind : line ≡ codes "admit" ++ 32 ∷ p.1 = cut ∙ ap (λ w. w ++ 32 ∷ p.1) same in
+    stands_admit workers number p.1 line (admit_parts p.1) (λ q found. parts_by_space p.1 line (at_space p.1) q refl behind found))
+    (stands_plain workers number line (numbered_event p.0 p.1) (λ event found. numbered_sound workers p.0 p.1 line event cut found))
+
+pub stands : (workers number : ℕ) (line : List ℕ) → Stands workers number line (event_of workers number line)
+stands workers number line = stands_from workers number line (at_space line) refl

@@ -1,0 +1,133 @@
+-- What the first line of a script says is what the format says of it.
+use Rattle.std.proofs.Common.{◌≡◌, ℕ, Bool, true, false, ◌&&◌, List, ◌∷◌, ◌++◌, nat_le, Option, Some, None, Result, Ok, Err, refl, sym, ap, subst, ◌∙◌, codes, ok_or, option_and_then}
+use Rattle.std.specs.Bool.{if◌then◌else◌}
+use Rattle.std.specs.Str.{bytes_eq}
+use Rattle.std.proofs.lemmas.Bool.{le-leb, leb-true, and_parts}
+use Rattle.std.proofs.lemmas.Slice.Eq.{bytes_eq-Decides}
+use Rattle.crawl_core.specs.Limits.{AreLimits, worker_limit, pending_limit}
+use Rattle.crawl_web.specs.Lines.{text_of}
+use Rattle.crawl_web.specs.Parts.{at_space}
+use Rattle.crawl_web.specs.declared.lines.LineError.{LineError}
+use Rattle.crawl_web.specs.declared.lines.LineError.TheVariants as without
+use Rattle.crawl_replay.specs.Numbers.{number_of}
+use Rattle.crawl_replay.specs.Script.{is_within, header_of, header_in, with_text}
+use Rattle.crawl_replay.specs.ScriptLines.{IsLineText, IsHeaderLine, HeaderSays}
+use Rattle.crawl_replay.specs.declared.script.header.Header.{Header}
+use Rattle.crawl_replay.specs.declared.script.error.ScriptError.{ScriptError}
+use Rattle.crawl_replay.specs.declared.script.error.ScriptError.TheVariants as wrong
+use Rattle.crawl_replay.proofs.NumberText.{number_is, number_of_is, at_space-joined, at_space-number, joined-at_space}
+use Rattle.crawl_replay.proofs.LineWords.{TextStands, text_stands, text_of-text, text_of-too_long, text_of-not_text}
+
+-- ---- the limits
+
+record All4 (a b c d : Bool) : Type 0 where
+  pub first : a ≡ true
+  pub second : b ≡ true
+  pub third : c ≡ true
+  pub fourth : d ≡ true
+
+all4 : (a b c d : Bool) → (a && b && c && d) ≡ true → All4 a b c d
+all4 true true true true e = record { first = refl; second = refl; third = refl; fourth = refl }
+all4 true true true false e = absurd (cc)
+all4 true true false d e = absurd (cc)
+all4 true false c d e = absurd (cc)
+all4 false b c d e = absurd (cc)
+
+within_limits : (workers max : ℕ) → is_within workers max ≡ true → AreLimits workers max
+within_limits workers max e = let all = all4 (nat_le 1 workers) (nat_le workers worker_limit) (nat_le 1 max) (nat_le max pending_limit) e in record {
+  some_worker = leb-true 1 workers all.first;
+  few_workers = leb-true workers worker_limit all.second;
+  some_pending = leb-true 1 max all.third;
+  few_pending = leb-true max pending_limit all.fourth;
+}
+
+limits_within : (workers max : ℕ) → AreLimits workers max → is_within workers max ≡ true
+limits_within workers max are = rw (le-leb 1 workers are.some_worker, le-leb workers worker_limit are.few_workers, le-leb 1 max are.some_pending, le-leb max pending_limit are.few_pending) refl
+
+-- ---- what is said stands there
+
+-- a chain of two steps
+by_step : {A B : Type 0} (f : A → Option B) (o : Option A) (y : B) → option_and_then f o ≡ Some y → (x : A) × (o ≡ Some x) × (f x ≡ Some y)
+by_step f None y e = absurd (cc)
+by_step f (Some x) y e = (x, refl, e)
+
+-- a test that is passed
+by_check : {A : Type 0} (b : Bool) (o : Option A) (y : A) → (if b then o else None) ≡ Some y → (b ≡ true) × (o ≡ Some y)
+by_check true o y e = (refl, e)
+by_check false o y e = absurd (cc)
+
+header_stands : (line : List ℕ) (header : Header) → header_of line ≡ Some header → IsHeaderLine header.workers header.max line
+header_stands line header e =
+    let a = by_step _ (at_space line) header e in
+    let b = by_step _ (at_space a.0.1) header a.2 in
+    let d = by_step _ (at_space b.0.1) header b.2 in
+    let words = by_check (bytes_eq a.0.0 (codes "workers") && bytes_eq d.0.0 (codes "max")) _ header d.2 in
+    let both = and_parts (bytes_eq a.0.0 (codes "workers")) (bytes_eq d.0.0 (codes "max")) words.0 in
+    let workers = by_step _ (number_of 32 b.0.0) header words.1 in
+    let max = by_step _ (number_of 64 d.0.1) header workers.2 in
+    let within = by_check (is_within workers.0 max.0) _ header max.2 in
+    let made : record { workers = workers.0; max = max.0 } ≡ header = cc in
+    let cut_a = joined-at_space line a.0 a.1 in
+    let cut_b = joined-at_space a.0.1 b.0 b.1 in
+    let cut_d = joined-at_space b.0.1 d.0 d.1 in
+    let first_is = (bytes_eq-Decides a.0.0 (codes "workers")).0 both.0 in
+    let second_is = (bytes_eq-Decides d.0.0 (codes "max")).0 both.1 in
+    let written : line ≡ codes "workers" ++ 32 ∷ (b.0.0 ++ 32 ∷ (codes "max" ++ 32 ∷ d.0.1)) =
+    cut_a ∙ (λ i. first_is i ++ 32 ∷ cut_b i) ∙ ap (λ r. codes "workers" ++ 32 ∷ (b.0.0 ++ 32 ∷ r)) (cut_d ∙ ap (λ w. w ++ 32 ∷ d.0.1) second_is) in
+    let P : Header → Type 0 = λ h. IsHeaderLine h.workers h.max line in
+    subst P made (record {
+      first = b.0.0;
+      second = d.0.1;
+      written = written;
+      workers_are = number_is 32 b.0.0 workers.0 workers.1;
+      max_is = number_is 64 d.0.1 max.0 max.1;
+      within = within_limits workers.0 max.0 within.0;
+    })
+
+-- ---- what stands there is said
+
+header_said : (workers max : ℕ) (line : List ℕ) → IsHeaderLine workers max line → header_of line ≡ Some (record { workers = workers; max = max })
+header_said workers max line is =
+    let rest_a = is.first ++ 32 ∷ (codes "max" ++ 32 ∷ is.second) in
+    let rest_b = codes "max" ++ 32 ∷ is.second in
+    rw (
+      at_space-joined line (codes "workers") rest_a refl is.written,
+      at_space-number rest_a is.first rest_b is.workers_are.digits refl,
+      at_space-joined rest_b (codes "max") is.second refl refl,
+      number_of_is 32 is.first workers is.workers_are,
+      number_of_is 64 is.second max is.max_is,
+      limits_within workers max is.within,
+    ) refl
+
+-- ---- the first line
+
+header_by : (line : List ℕ) (found : Option Header) → IsLineText line → header_of line ≡ found → HeaderSays line (ok_or found wrong.BadHeader)
+header_by line (Some header) text is = (text, header_stands line header is)
+header_by line None text is = (text, λ workers max there. let says = header_said workers max line there in absurd (cc))
+
+first_by : (line : List ℕ) (read : Result (List ℕ) LineError) → TextStands 1 line read → HeaderSays line (with_text read (λ text. ok_or (header_of text) wrong.BadHeader))
+first_by line (Ok text) there = subst (λ t. HeaderSays line (ok_or (header_of t) wrong.BadHeader)) (sym there.0) (header_by line (header_of line) there.1 refl)
+first_by line (Err (without.TooLong n)) there = there
+first_by line (Err (without.NotText n)) there = there
+
+first_stands : (line : List ℕ) → HeaderSays line (header_in line)
+first_stands line = first_by line (text_of 1 line) (text_stands 1 line)
+
+no_header : (line : List ℕ) (found : Option Header) → header_of line ≡ found → ((workers max : ℕ) → IsHeaderLine workers max line → ⊥) → found ≡ None
+no_header line None is none = refl
+no_header line (Some header) is none = absurd (none header.workers header.max (header_stands line header is))
+
+with_header : (line : List ℕ) (found : Option Header) → IsLineText line → header_of line ≡ found → header_in line ≡ ok_or found wrong.BadHeader
+with_header line found text is = ap (λ r. with_text r (λ t. ok_or (header_of t) wrong.BadHeader)) (text_of-text 1 line text) ∙ ap (λ o. ok_or o wrong.BadHeader) is
+
+first_said : (line : List ℕ) (said : Result Header ScriptError) → HeaderSays line said → header_in line ≡ said
+first_said line (Ok header) there = with_header line (Some header) there.0 (header_said header.workers header.max line there.1)
+first_said line (Err (wrong.LineTooLong n)) there = ap (λ r. with_text r (λ t. ok_or (header_of t) wrong.BadHeader)) (text_of-too_long 1 line there.1) ∙ ap (λ m. Err (wrong.LineTooLong m)) (sym there.0)
+first_said line (Err (wrong.NotText n)) there = ap (λ r. with_text r (λ t. ok_or (header_of t) wrong.BadHeader)) (text_of-not_text 1 line there.1 there.2) ∙ ap (λ m. Err (wrong.NotText m)) (sym there.0)
+first_said line (Err wrong.BadHeader) there = with_header line None there.0 (no_header line (header_of line) refl there.1)
+first_said line (Err (wrong.BadLine n)) there = absurd there
+first_said line (Err (wrong.BadUrl n)) there = absurd there
+first_said line (Err wrong.NoMemory) there = absurd there
+
+pub header_means : (line : List ℕ) (said : Result Header ScriptError) → (header_in line ≡ said → HeaderSays line said) × (HeaderSays line said → header_in line ≡ said)
+header_means line said = (λ is. subst (HeaderSays line) is (first_stands line), first_said line said)

@@ -1,0 +1,9 @@
+pub mod Assigned
+pub mod EventLines
+pub mod HeaderWords
+pub mod Least
+pub mod LineWords
+pub mod NumberText
+pub mod ReadLines
+pub mod ReadNumbers
+pub mod ScriptWords

@@ -1,0 +1,87 @@
+-- What the lines of a script say together is what the format says of them.
+use Rattle.std.proofs.Common.{◌≡◌, ℕ, ◌+◌, List, [], ◌∷◌, Option, Some, None, Result, Ok, Err, refl, sym, ap, subst, ◌∙◌, inl, inr}
+use Rattle.crawl_core.specs.declared.event.Event.{Event}
+use Rattle.crawl_replay.specs.Script.{Said, script_in, header_in, with_header, with_events, unless_fault, least_fault, events_in, said_from, said_by}
+use Rattle.crawl_replay.specs.ScriptLines.{HeaderSays, LinesSay, IsScript}
+use Rattle.crawl_replay.specs.declared.script.header.Header.{Header}
+use Rattle.crawl_replay.specs.declared.script.error.ScriptError.{ScriptError}
+use Rattle.crawl_replay.proofs.HeaderWords.{header_means}
+use Rattle.crawl_replay.proofs.LineWords.{line_means}
+
+-- ---- what is said stands there
+
+by_line : (workers number : ℕ) (line : List ℕ) (more : List (List ℕ)) (said : Result (Option Event) ScriptError) → said_by workers number line ≡ said → least_fault (said ∷ said_from workers (number + 1) more) ≡ None → (least_fault (said_from workers (number + 1) more) ≡ None → LinesSay workers (number + 1) more (events_in (said_from workers (number + 1) more))) → LinesSay workers number (line ∷ more) (events_in (said ∷ said_from workers (number + 1) more))
+by_line workers number line more (Err fault) is none later = absurd (cc)
+by_line workers number line more (Ok None) is none later = inl ((line_means workers number line (Ok None)).0 is, later none)
+by_line workers number line more (Ok (Some event)) is none later = inr (event, events_in (said_from workers (number + 1) more), refl, (line_means workers number line (Ok (Some event))).0 is, later none)
+
+lines_stand : (workers number : ℕ) (more : List (List ℕ)) → least_fault (said_from workers number more) ≡ None → LinesSay workers number more (events_in (said_from workers number more))
+lines_stand workers number [] none = refl
+lines_stand workers number (line ∷ more) none = by_line workers number line more (said_by workers number line) refl none (lines_stand workers (number + 1) more)
+
+record Without (header : Header) (fault : Option ScriptError) (events : List Event) (script : Said) : Type 0 where
+  pub none : fault ≡ None
+  pub workers : script.workers ≡ header.workers
+  pub max : script.max ≡ header.max
+  pub same : script.events ≡ events
+
+without : (header : Header) (fault : Option ScriptError) (events : List Event) (script : Said) → with_events header (unless_fault fault events) ≡ Ok script → Without header fault events script
+without header (Some fault) events script e = absurd (cc)
+without header None events script e =
+    let is : record { workers = header.workers; max = header.max; events = events } ≡ script = cc in record {
+      none = refl;
+      workers = ap (λ (x : Said). x.workers) (sym is);
+      max = ap (λ (x : Said). x.max) (sym is);
+      same = ap (λ (x : Said). x.events) (sym is);
+    }
+
+by_header : (line : List ℕ) (more : List (List ℕ)) (script : Said) (read : Result Header ScriptError) → header_in line ≡ read → with_header read more ≡ Ok script → IsScript (line ∷ more) script
+by_header line more script (Err fault) is e = absurd (cc)
+by_header line more script (Ok header) is e =
+    let found = without header (least_fault (said_from header.workers 2 more)) (events_in (said_from header.workers 2 more)) script e in
+    let there = lines_stand header.workers 2 more found.none in
+    let headed = (header_means line (Ok header)).0 is in
+    let P : ℕ × ℕ → Type 0 = λ x. HeaderSays line (Ok (record { workers = x.0; max = x.1 })) in
+    let Q : ℕ × List Event → Type 0 = λ x. LinesSay x.0 2 more x.1 in record {
+      first = line;
+      more = more;
+      split = refl;
+      headed = subst P (λ i. (sym found.workers i, sym found.max i)) headed;
+      events = subst Q (λ i. (sym found.workers i, sym found.same i)) there;
+    }
+
+script_stands : (lines : List (List ℕ)) (script : Said) → script_in lines ≡ Ok script → IsScript lines script
+script_stands [] script e = absurd (cc)
+script_stands (line ∷ more) script e = by_header line more script (header_in line) refl e
+
+-- ---- what stands there is said
+
+record AllSaid (workers number : ℕ) (more : List (List ℕ)) (events : List Event) : Type 0 where
+  pub none : least_fault (said_from workers number more) ≡ None
+  pub are : events_in (said_from workers number more) ≡ events
+
+lines_said : (workers number : ℕ) (more : List (List ℕ)) (events : List Event) → LinesSay workers number more events → AllSaid workers number more events
+lines_said workers number [] events is = record { none = refl; are = sym is }
+lines_said workers number (line ∷ more) events (inl (nothing, rest)) =
+    let later = lines_said workers (number + 1) more events rest in
+    let is = (line_means workers number line (Ok None)).1 nothing in record {
+      none = ap (λ s. least_fault (s ∷ said_from workers (number + 1) more)) is ∙ later.none;
+      are = ap (λ s. events_in (s ∷ said_from workers (number + 1) more)) is ∙ later.are;
+    }
+lines_said workers number (line ∷ more) events (inr (event, rest, split, says, others)) =
+    let later = lines_said workers (number + 1) more rest others in
+    let is = (line_means workers number line (Ok (Some event))).1 says in record {
+      none = ap (λ s. least_fault (s ∷ said_from workers (number + 1) more)) is ∙ later.none;
+      are = ap (λ s. events_in (s ∷ said_from workers (number + 1) more)) is ∙ ap (λ es. event ∷ es) later.are ∙ sym split;
+    }
+
+script_said : (lines : List (List ℕ)) (script : Said) → IsScript lines script → script_in lines ≡ Ok script
+script_said lines script is =
+    let header : Header = record { workers = script.workers; max = script.max } in
+    let all = lines_said script.workers 2 is.more script.events is.events in
+    ap script_in is.split ∙ ap (λ r. with_header r is.more) ((header_means is.first (Ok header)).1 is.headed)
+    ∙ ap (λ o. with_events header (unless_fault o (events_in (said_from script.workers 2 is.more)))) all.none
+    ∙ ap (λ es. with_events header (Ok es)) all.are
+
+pub script_means : (lines : List (List ℕ)) (script : Said) → (script_in lines ≡ Ok script → IsScript lines script) × (IsScript lines script → script_in lines ≡ Ok script)
+script_means lines script = (script_stands lines script, script_said lines script)

@@ -1,0 +1,22 @@
+use Rattle.std.proofs.Common.{sym, ◌∙◌}
+use Rattle.crawl_core.specs.declared.event.Event.TheVariants.{Admit}
+use Rattle.crawl_replay.proofs.Assigned.{placed_at}
+use Rattle.crawl_replay.proofs.laws.hosts_keep_to_their_subqueues.Goals as goal
+
+pub returns-clause-states : goal.returns-clause-states
+returns-clause-states c workers max history state run assigned queue k found m at at_k =
+    let admitted = c.admitted_before.ensures.accepted workers max history state run queue k found m at at_k in
+    (placed_at workers _ admitted.0 (Admit admitted.1 m.url queue) assigned admitted.2)
+
+pub returns-clause-once : goal.returns-clause-once
+returns-clause-once c workers max events replies run assigned =
+    c.taken_once_in_order.ensures.taken_once workers max events replies run
+    (λ i j sender other url queue there at_i at_j.
+    let first = placed_at workers events i (Admit sender url queue) assigned at_i in
+    let second = placed_at workers events j (Admit other url there) assigned at_j in
+    first ∙ sym second)
+
+pub returns-clause-alone : goal.returns-clause-alone
+returns-clause-alone c workers max events replies run assigned place queue url at =
+    let admitted = c.admitted_before.ensures.taken workers max events replies run place queue url at in
+    (placed_at workers events admitted.0 (Admit admitted.1 url queue) assigned admitted.2)

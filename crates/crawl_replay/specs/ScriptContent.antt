@@ -1,0 +1,7 @@
+-- What a `Script` holds.
+use Rattle.crawl_replay.specs.Script.{Said}
+use Rattle.crawl_replay.specs.declared.script.Script.{Script}
+
+-- its numbers and events, as lines say them
+abbrev pub content : Script → Said
+content script = record { workers = script.workers; max = script.max; events = script.events.items }

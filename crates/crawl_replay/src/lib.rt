@@ -1,0 +1,14 @@
+//! Scripts of atomic steps, and the replies of the machine to them.
+#![tactic(auto)]
+
+/// What holds of scripts, and of what they make the machine do.
+pub mod laws;
+mod numbers;
+mod replay;
+mod replies;
+mod script;
+#[cfg(test)]
+mod tests;
+
+pub use replay::replay_text;
+pub use script::{Script, ScriptError, read_script};

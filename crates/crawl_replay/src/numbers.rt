@@ -1,0 +1,42 @@
+//! Numbers as scripts write them: decimal digits alone, with or without leading zeros.
+ghost use Rattle.std.specs.Prelude.{◌≡◌};
+ghost use Rattle.std.specs.List.{list_all};
+ghost use Rattle.std.specs.Char.{is_ascii_digit};
+ghost use Rattle.crawl_replay.specs.Numbers.{is_number, number_of};
+
+/// The most digits of a number. The greatest `u64` has as many.
+pub const DIGIT_LIMIT: usize = 20;
+
+/// The number that the text is, if it is one that fits 32 bits.
+pub fn number32(text: &str) -> Option<u32>
+    ensures { result ≡ number_of 32 text.now }
+{
+    if is_number(text) {
+        text.parse::<u32>().ok()
+    } else {
+        None
+    }
+}
+
+/// The number that the text is, if it is one that fits 64 bits.
+pub fn number64(text: &str) -> Option<u64>
+    ensures { result ≡ number_of 64 text.now }
+{
+    if is_number(text) {
+        text.parse::<u64>().ok()
+    } else {
+        None
+    }
+}
+
+fn is_number(text: &str) -> bool
+    ensures { result ≡ is_number text.now }
+{
+    !text.is_empty() && text.len() <= DIGIT_LIMIT && has_digits_alone(text)
+}
+
+fn has_digits_alone(text: &str) -> bool
+    ensures { result ≡ list_all is_ascii_digit text.now }
+{
+    text.bytes().all(|b| b.is_ascii_digit())
+}

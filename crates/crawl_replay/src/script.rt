@@ -1,0 +1,100 @@
+//! Scripts: a header, and events in order, one a line.
+ghost use Rattle.std.specs.Prelude.{◌≡◌, ◌⊎◌, ◌+◌, ◌^◌, ◌<◌, ◌≤◌, length, IfOk, IfErr};
+ghost use Rattle.std.specs.Str.Lines.{lines};
+ghost use Rattle.crawl_keys.specs.Outcome.{Gives};
+ghost use Rattle.crawl_replay.specs.Script.{header_in, events_of, script_of};
+ghost use Rattle.crawl_replay.specs.ScriptContent.{content};
+ghost use Rattle.crawl_core.specs.Limits.{AreLimits};
+ghost use Rattle.crawl_replay.specs.Assignment.{IsAssigned, AreAddressed};
+ghost use Rattle.crawl_replay.specs.LeastFault.{IsScriptFault};
+ghost use Rattle.crawl_core.specs.Limits.{worker_limit};
+
+mod error;
+mod event;
+mod header;
+
+use crawl_core::Event;
+use crawl_web::{first_line, text_of};
+pub use error::ScriptError;
+use event::said_by;
+use header::{Header, header_of};
+use std::alloc::Global;
+
+/// Events for a frontier, and the numbers that it is made with.
+#[derive(Debug, PartialEq, Eq, Drop)]
+pub struct Script {
+    /// How many workers, and so subqueues, the frontier has: 1 to [`WORKER_LIMIT`](crawl_core::WORKER_LIMIT).
+    pub workers: u32,
+    /// The frontier's maximum of pending URLs: 1 to [`PENDING_LIMIT`](crawl_core::PENDING_LIMIT).
+    pub max: u64,
+    /// What happens, in order.
+    pub events: Vec<Event>,
+}
+
+/// The script that the bytes are.
+///
+/// The first line is `workers N max M`, and each line after it an event or empty: `look S`, `enter S`, `back S`,
+/// `admit S URL`, `endseeds`, `take Q`, `done Q` or `close`. Parts stand one space apart. A number has one to twenty
+/// digits. The URL is all that follows the second space, read by [`canonical`](crawl_keys::canonical), and goes to the
+/// subqueue that its host key is assigned to.
+///
+/// # Errors
+/// That of the least line that has a fault, and there the first of the checks, in the order of [`ScriptError`];
+/// `NoMemory` where a growth was refused.
+#[tactic(auto, using(crate::proofs::Least::least_of_script, crate::proofs::Assigned::assigned_script))]
+pub fn read_script(alloc: Global, bytes: &[u8]) -> Result<Script, ScriptError>
+    ensures exact { Gives ScriptError.NoMemory content result (script_of bytes.now) }
+    ensures limits { IfOk result (λ script. AreLimits script.workers script.max) }
+    // Each admission names the subqueue that its URL's host key is assigned to; and its text is a canonical URL.
+    ensures assigned { IfOk result (λ script. IsAssigned script.workers script.events.items) }
+    ensures addressed { IfOk result (λ script. AreAddressed script.workers script.events.items) }
+    // The fault is that of the least line that has one.
+    ensures least { IfErr result (λ fault. IsScriptFault (lines bytes.now) fault ⊎ (fault ≡ ScriptError.NoMemory)) }
+{
+    script_from(alloc, bytes)
+}
+
+fn script_from(alloc: Global, bytes: &[u8]) -> Result<Script, ScriptError>
+    ensures exact { Gives ScriptError.NoMemory content result (script_of bytes.now) }
+    ensures limits { IfOk result (λ script. AreLimits script.workers script.max) }
+    ensures addressed { IfOk result (λ script. AreAddressed script.workers script.events.items) }
+{
+    let Some((line, rest)) = first_line(bytes) else {
+        return Err(ScriptError::BadHeader);
+    };
+    let Header { workers, max } = header_in(line)?;
+    Ok(Script {
+        workers,
+        max,
+        events: events_of(alloc, workers, rest)?,
+    })
+}
+
+fn header_in(line: &[u8]) -> Result<Header, ScriptError>
+    ensures exact { result ≡ header_in line.now }
+    ensures limits { IfOk result (λ header. AreLimits header.workers header.max) }
+{
+    header_of(text_of(1, line)?).ok_or(ScriptError::BadHeader)
+}
+
+/// The events of the lines after the first.
+fn events_of(alloc: Global, workers: u32, bytes: &[u8]) -> Result<Vec<Event>, ScriptError>
+    requires some_worker { 1 ≤ workers }
+    requires few_workers { workers ≤ worker_limit }
+    requires room_to_count { length bytes.now + 1 < 2 ^ 64 }
+    ensures exact { Gives ScriptError.NoMemory (λ events. events.items) result (events_of workers 2 (lines bytes.now)) }
+    ensures addressed { IfOk result (λ events. AreAddressed workers events.items) }
+{
+    let mut events = Vec::new(alloc);
+    let mut rest = bytes;
+    let mut number: u64 = 1;
+    while let Some((line, more)) = first_line(rest) {
+        rest = more;
+        number += 1;
+        let said = said_by(alloc, workers, number, line)?;
+        if let Some(event) = said {
+            events.push(event)?;
+        }
+    }
+    Ok(events)
+}

@@ -1,0 +1,133 @@
+//! A line of a script after the first, and the event that it says.
+ghost use Rattle.std.specs.Prelude.{◌≡◌, ℕ, ◌≤◌, Ok, IfOk, IfSome};
+ghost use Rattle.crawl_core.specs.Limits.{worker_limit};
+ghost use Rattle.std.specs.Option.{option_map};
+ghost use Rattle.crawl_keys.specs.Outcome.{Gives};
+ghost use Rattle.crawl_keys.specs.Assignment.{subqueue_of};
+ghost use Rattle.crawl_keys.specs.CanonicalText.{canonical};
+ghost use Rattle.crawl_replay.specs.Assignment.{IsAddressed};
+ghost use Rattle.crawl_replay.specs.Script.{address_of, admit_parts, admit_of, plain_event, numbered_event, event_of, said_by};
+
+use crate::numbers::{number32, number64};
+use crate::script::error::ScriptError;
+use crawl_core::{Event, Text};
+use crawl_keys::{KeyError, canonical};
+use crawl_web::{split_space, text_of};
+use std::alloc::Global;
+
+/// The event that the line with this number says, to a frontier with so many workers, or nothing for an empty line.
+///
+/// # Errors
+/// `LineTooLong`, `NotText`, `BadLine`, `BadUrl`, in this order, each with the number; `NoMemory`.
+pub fn said_by(
+    alloc: Global,
+    workers: u32,
+    number: u64,
+    line: &[u8],
+) -> Result<Option<Event>, ScriptError>
+    requires some_worker { 1 ≤ workers }
+    requires few_workers { workers ≤ worker_limit }
+    ensures exact { Gives ScriptError.NoMemory (λ said. said) result (said_by workers number line.now) }
+    ensures addressed { IfOk result (λ said. IfSome said (IsAddressed workers)) }
+{
+    let text = text_of(number, line)?;
+    if text.is_empty() {
+        return Ok(None);
+    }
+    Ok(Some(event_of(alloc, workers, number, text)?))
+}
+
+fn event_of(alloc: Global, workers: u32, number: u64, text: &str) -> Result<Event, ScriptError>
+    requires some_worker { 1 ≤ workers }
+    requires few_workers { workers ≤ worker_limit }
+    ensures exact { Gives ScriptError.NoMemory (λ event. event) result (event_of workers number text.now) }
+    ensures addressed { IfOk result (IsAddressed workers) }
+{
+    let event = match split_space(text) {
+        None => plain_event(text),
+        Some(("admit", rest)) => return admit_of(alloc, workers, number, rest),
+        Some((word, rest)) => numbered_event(word, rest),
+    };
+    match event {
+        Some(event) => Ok(event),
+        None => Err(ScriptError::BadLine(number)),
+    }
+}
+
+fn plain_event(word: &str) -> Option<Event>
+    ensures exact { result ≡ plain_event word.now }
+    ensures addressed { (workers : ℕ) → IfSome result (IsAddressed workers) }
+{
+    match word {
+        "endseeds" => Some(Event::EndSeeds),
+        "close" => Some(Event::Close),
+        _ => None,
+    }
+}
+
+fn numbered_event(word: &str, number: &str) -> Option<Event>
+    ensures exact { result ≡ numbered_event word.now number.now }
+    ensures addressed { (workers : ℕ) → IfSome result (IsAddressed workers) }
+{
+    match word {
+        "look" => Some(Event::Look {
+            sender: number64(number)?,
+        }),
+        "enter" => Some(Event::Enter {
+            sender: number64(number)?,
+        }),
+        "back" => Some(Event::Back {
+            sender: number64(number)?,
+        }),
+        "take" => Some(Event::Take {
+            queue: number32(number)?,
+        }),
+        "done" => Some(Event::Done {
+            queue: number32(number)?,
+        }),
+        _ => None,
+    }
+}
+
+/// The event of an `admit` line, by what follows its first space: a sender, a space and a URL.
+fn admit_of(alloc: Global, workers: u32, number: u64, rest: &str) -> Result<Event, ScriptError>
+    requires some_worker { 1 ≤ workers }
+    requires few_workers { workers ≤ worker_limit }
+    ensures exact { Gives ScriptError.NoMemory (λ event. event) result (admit_of workers number rest.now) }
+    ensures addressed { IfOk result (IsAddressed workers) }
+{
+    let Some((sender, url)) = admit_parts(rest) else {
+        return Err(ScriptError::BadLine(number));
+    };
+    let (url, queue) = address_of(alloc, workers, number, url)?;
+    Ok(Event::Admit { sender, url, queue })
+}
+
+fn admit_parts(rest: &str) -> Option<(u64, &str)>
+    ensures { option_map (λ x. (x.0, x.1.now)) result ≡ admit_parts rest.now }
+{
+    let (sender, url) = split_space(rest)?;
+    Some((number64(sender)?, url))
+}
+
+/// The canonical URL of a text, and the subqueue that its host key is assigned to.
+fn address_of(
+    alloc: Global,
+    workers: u32,
+    number: u64,
+    text: &str,
+) -> Result<(Text, u32), ScriptError>
+    requires some_worker { 1 ≤ workers }
+    requires few_workers { workers ≤ worker_limit }
+    ensures exact { Gives ScriptError.NoMemory (λ address. (address.0, address.1)) result (address_of workers number text.now) }
+    ensures canonical { IfOk result (λ address. canonical address.0 ≡ Ok address.0) }
+    ensures assigned { IfOk result (λ address. address.1 ≡ subqueue_of address.0 workers) }
+{
+    let url = match canonical(alloc, text) {
+        Ok(url) => url,
+        Err(KeyError::NoMemory) => return Err(ScriptError::NoMemory),
+        Err(KeyError::NotUrl | KeyError::NotHttp) => return Err(ScriptError::BadUrl(number)),
+    };
+    let queue = url.subqueue(workers);
+    Ok((Text::from_str(alloc, url.as_str())?, queue))
+}

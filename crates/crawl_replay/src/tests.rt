@@ -1,0 +1,3 @@
+//! What no clause says: that calls succeed, the texts, and that the definitions mean the format.
+mod replays;
+mod scripts;
