@@ -19,7 +19,7 @@ END = "<!-- end of what docs/definitions.py wrote -->"
 
 # title, and the public functions whose contracts it is: crate, file of src/, function
 THEOREMS = [
-    ("The reply lines of a replay", [("mercator", "replay.rt", "replay_text")]),
+    ("The reply lines of a replay", [("crawl_replay", "replay.rt", "replay_text")]),
     ("The machine and its laws", [("crawl_core", "runs.rt", "run"), ("crawl_core", "laws.rt", None)]),
     ("The report of a crawl", [("mercator", "commands/web_crawl.rt", "report_of_saved_web"), ("mercator", "crawling.rt", "crawl")]),
     ("An account of the frontier for threads", [("crawl_frontier", "frontier.rt", None), ("crawl_frontier", "seeder.rt", None), ("crawl_frontier", "sender.rt", None), ("crawl_frontier", "worker.rt", None), ("crawl_frontier", "busy_worker.rt", None), ("crawl_frontier", "finish.rt", None), ("crawl_frontier", "account.rt", None), ("crawl_frontier", "laws.rt", None)]),
