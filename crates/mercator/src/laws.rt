@@ -15,6 +15,7 @@ ghost use Rattle.mercator.specs.Told.{AskForOneText, Gains};
 ghost use Rattle.mercator.specs.WebCrawl.{IsSiteCrawl, IsCrawlReport};
 ghost use Rattle.mercator.specs.declared.commands.planned.Plan.{Plan};
 
+// The laws of scripts, which stand where scripts do.
 pub use crawl_replay::laws::{hosts_keep_to_their_subqueues, lines_mean_what_the_format_says};
 
 /// What a crawl finds and writes depends on the saved web, the seeds and the filter alone. So two crawls of one input from one

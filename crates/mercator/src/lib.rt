@@ -1,5 +1,5 @@
-//! The program over the frontier: scripts of atomic steps and the replies of the machine to them, keys, and crawls of saved
-//! webs.
+//! The program over the frontier: keys, crawls of saved webs, and its command line. Scripts and their replay are
+//! `crawl_replay`'s, whose names stand here too.
 #![tactic(auto)]
 
 mod commands;
