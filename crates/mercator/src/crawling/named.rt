@@ -7,7 +7,7 @@ ghost use Rattle.mercator.specs.Crawls.{AreCounts, IsOfRun};
 
 use crate::crawling::gather::{counts_of, gathered};
 use crate::crawling::{CrawlError, Crawled, Mode};
-use crawl_certificate::certify;
+use crawl_certificate::certify_moved;
 use crawl_frontier::{Frontier, Name, Seeder, Setup, Worker};
 use crawl_keys::{CanonUrl, Filter};
 use crawl_web::Fetch;
@@ -42,7 +42,7 @@ pub fn crawl_named<K: Name + Send + Sync, F: Fetch + Sync, R: Threads + Wait + S
     let mut senders = Vec::new(alloc);
     senders.push(sender)?;
     let account = frontier.finish(closed, senders)?;
-    let result = certify(alloc, filter, seeds, &account, &results)?;
+    let result = certify_moved(alloc, filter, seeds, &account, results)?;
     let counts = counts_of(alloc, &account)?;
     Ok(Crawled { result, counts })
 }

@@ -4,7 +4,7 @@ use Rattle.crawl_certificate.proofs.Verdicts.{no_fault_from}
 use Rattle.crawl_certificate.specs.AccountEntries.{entries_of}
 use Rattle.crawl_keys.specs.HostFilter.{allows}
 use Rattle.mercator.proofs.RunResults.{all_pages, urls_counted}
-use Rattle.crawl_certificate.specs.Certificate.{ArePages, result_urls}
+use Rattle.crawl_certificate.specs.Certificate.{result_urls}
 use Rattle.mercator.specs.Crawls.{AreCounts}
 use Rattle.mercator.proofs.crawling.named.crawl_named.Goals as goal
 
@@ -12,7 +12,7 @@ pub returns-clause-pages : goal.returns-clause-pages
 returns-clause-pages g c =
     let meaning = g.F.Fetch.meaning c.args.fetcher.now in
     let found = c.in_ok-closed.ensures meaning (all_pages g.K.Name.workers (allows g.K.Name.filter) meaning _ _ c.in_ok-ends.ensures) in
-    whole_crawl meaning (allows c.args.filter.now) c.args.seeds.now (entries_of c.in_ok-account.account) _ _ (no_fault_from _ c.in_ok-result.ensures.fault) (subst (ArePages meaning) (sym c.deref.ensures.value) found) c.in_ok-result.ensures.same c.in_ok-result.ensures.ascends
+    whole_crawl meaning (allows c.args.filter.now) c.args.seeds.now (entries_of c.in_ok-account.account) _ _ (no_fault_from _ c.in_ok-result.ensures.fault) found c.in_ok-result.ensures.same c.in_ok-result.ensures.ascends
 
 pub returns-clause-counts : goal.returns-clause-counts
 returns-clause-counts g c =
