@@ -126,7 +126,34 @@ fn two_send<K: Name + Send + Sync, R: Threads + Wait + Sync>(
     )
 }
 
-// Two workers and two senders in four threads. When all workers are closed, each sender offers once more.
+// Each sender offers once more when all workers are closed; then the account.
+fn settle<K: Name, R: Wait>(
+    rt: &R,
+    alloc: Global,
+    frontier: Frontier<K>,
+    urls: &[CanonUrl],
+    closed: Vec<ClosedWorker<K>>,
+    sent: [Sent<K>; 2],
+    seeds: Sender<K>,
+    flags: &Flags,
+) -> Option<Raced> {
+    let mut senders = Vec::new(alloc);
+    let (mut accepted, mut late) = (0usize, 0usize);
+    for sent in sent {
+        let last = send(rt, &frontier, urls.get(..1)?, sent.sender, flags);
+        accepted = accepted.saturating_add(sent.accepted);
+        late = late.saturating_add(sent.late).saturating_add(last.late);
+        senders.push(last.sender).ok()?;
+    }
+    senders.push(seeds).ok()?;
+    Some(Raced {
+        accepted,
+        late,
+        end: frontier.finish(closed, senders),
+    })
+}
+
+// Two workers and two senders in four threads.
 fn race<K: Name + Send + Sync, R: Threads + Wait + Sync>(
     rt: &R,
     alloc: Global,
@@ -154,22 +181,19 @@ fn race<K: Name + Send + Sync, R: Threads + Wait + Sync>(
         move || two_work(rt, shared, workers, told),
         move || two_send(rt, shared, urls, (one, other), told),
     );
-    let (mut closed, mut senders) = (Vec::new(alloc), Vec::new(alloc));
+    let mut closed = Vec::new(alloc);
     closed.push(a).ok()?;
     closed.push(b).ok()?;
-    let (mut accepted, mut late) = (0usize, 0usize);
-    for sent in [one, other] {
-        let last = send(rt, &frontier, urls.get(..1)?, sent.sender, &flags);
-        accepted = accepted.saturating_add(sent.accepted);
-        late = late.saturating_add(sent.late).saturating_add(last.late);
-        senders.push(last.sender).ok()?;
-    }
-    senders.push(seeds).ok()?;
-    Some(Raced {
-        accepted,
-        late,
-        end: frontier.finish(closed, senders),
-    })
+    settle(
+        rt,
+        alloc,
+        frontier,
+        urls,
+        closed,
+        [one, other],
+        seeds,
+        &flags,
+    )
 }
 
 #[test]
