@@ -217,20 +217,21 @@ fn nothing_is_accepted_after_closing(rt: HostRuntime) {
             let Some(raced) = race::<Brand, _>(&rt, alloc, setup, &filter, some) else {
                 panic!(rt; "out of memory")
             };
-            let Ok(account) = raced.end else {
+            let Raced {
+                accepted,
+                late,
+                end,
+            } = raced;
+            let Ok(account) = end else {
                 panic!(rt; "no account")
             };
             let entries = entries_once(alloc, &account);
             assert_eq!(rt;
                 entries,
-                Some(raced.accepted),
+                Some(accepted),
                 "{count} URLs, maximum {max_pending}"
             );
-            assert!(rt;
-                raced.accepted > 0 && raced.late == 0,
-                "{} late",
-                raced.late
-            );
+            assert!(rt; accepted > 0 && late == 0, "{late} late");
         }
     }
 }
