@@ -1,5 +1,7 @@
 mod admission;
+mod closing;
 mod crawler;
+mod leaving;
 mod parts;
 mod rows;
 mod threads;

@@ -2,6 +2,8 @@
 mod answer;
 mod both;
 mod draw;
+mod merge;
+mod traces;
 
 use answer::Tally;
 use both::{Fault, Run, compare};

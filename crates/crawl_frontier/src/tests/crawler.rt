@@ -1,7 +1,7 @@
 //! A crawler: two threads, each of which fetches the pages of its hosts.
 ghost use Rattle.std.specs.Prelude.{◌≡◌};
 
-use crate::{Account, ClosedWorker, FinishError, Frontier, Name, Setup, Turn, Worker};
+use crate::{Account, BusyWorker, ClosedWorker, FinishError, Frontier, Name, Setup, Turn, Worker};
 use crawl_keys::{CanonUrl, Filter, canonical, resolve};
 use std::alloc::Global;
 use std::marker::Brand;
@@ -18,6 +18,20 @@ fn links_of(url: &CanonUrl) -> &'static [&'static str] {
     }
 }
 
+// Offers the links of the page in hand. A link that is refused is lost: a crawler would count it.
+fn offer_links<K: Name, R: Wait>(
+    rt: &R,
+    alloc: Global,
+    frontier: &Frontier<K>,
+    busy: &mut BusyWorker<K>,
+) {
+    for text in links_of(busy.url()) {
+        if let Ok(link) = resolve(alloc, busy.url(), text) {
+            let _ = busy.offer(rt, frontier, &link);
+        }
+    }
+}
+
 // Fetches the pages of its hosts, and offers their links, until nothing is left anywhere.
 fn crawl<K: Name, R: Wait>(
     rt: &R,
@@ -28,12 +42,7 @@ fn crawl<K: Name, R: Wait>(
     for _ in rt.forever() {
         match worker.next(rt, frontier) {
             Turn::Busy(mut busy) => {
-                for text in links_of(busy.url()) {
-                    if let Ok(link) = resolve(alloc, busy.url(), text) {
-                        // A link that is refused is lost: a crawler would count it.
-                        let _ = busy.offer(rt, frontier, &link);
-                    }
-                }
+                offer_links(rt, alloc, frontier, &mut busy);
                 worker = busy.done(frontier);
             }
             Turn::Idle(idle, _) => worker = idle,

@@ -1,7 +1,7 @@
 //! Four workers in four threads, which offer what they find.
 ghost use Rattle.std.specs.Prelude.{◌≡◌};
 
-use crate::{Account, ClosedWorker, FinishError, Frontier, Name, Setup, Turn, Worker};
+use crate::{Account, BusyWorker, ClosedWorker, FinishError, Frontier, Name, Setup, Turn, Worker};
 use crawl_keys::{CanonUrl, Filter, canonical};
 use std::alloc::{AllocError, Global};
 use std::marker::Brand;
@@ -32,6 +32,26 @@ fn first_link(url: &CanonUrl) -> usize {
     }
 }
 
+// Offers the links of the page in hand. Answers how many were refused.
+pub fn offer_links<K: Name, R: Wait>(
+    rt: &R,
+    frontier: &Frontier<K>,
+    urls: &[CanonUrl],
+    busy: &mut BusyWorker<K>,
+) -> u64 {
+    let first = first_link(busy.url());
+    let mut refused = 0u64;
+    for number in first..first.saturating_add(3) {
+        let Some(url) = urls.get(number) else {
+            return refused;
+        };
+        if busy.offer(rt, frontier, url).is_err() {
+            refused = refused.saturating_add(1);
+        }
+    }
+    refused
+}
+
 fn work<K: Name, R: Wait>(
     rt: &R,
     frontier: &Frontier<K>,
@@ -42,14 +62,8 @@ fn work<K: Name, R: Wait>(
     for _ in rt.forever() {
         match worker.next(rt, frontier) {
             Turn::Busy(mut busy) => {
-                let first = first_link(busy.url());
-                for number in first..first.saturating_add(3) {
-                    if let Some(url) = urls.get(number) {
-                        if busy.offer(rt, frontier, url).is_err() {
-                            refused = refused.saturating_add(1);
-                        }
-                    }
-                }
+                let more = offer_links(rt, frontier, urls, &mut busy);
+                refused = refused.saturating_add(more);
                 worker = busy.done(frontier);
             }
             Turn::Idle(idle, _) => {
@@ -115,7 +129,7 @@ fn four_work<K: Name + Send + Sync, R: Threads + Wait + Sync>(
     Some((frontier.finish(closed, senders), refused))
 }
 
-fn pages(alloc: Global) -> Option<Vec<CanonUrl>> {
+pub fn pages(alloc: Global) -> Option<Vec<CanonUrl>> {
     let mut urls = Vec::new(alloc);
     for number in 0..PAGES {
         let host = number % HOSTS;
@@ -126,7 +140,7 @@ fn pages(alloc: Global) -> Option<Vec<CanonUrl>> {
 }
 
 // How many entries there are, if no URL has two.
-fn entries_once(alloc: Global, account: &Account) -> Option<usize> {
+pub fn entries_once(alloc: Global, account: &Account) -> Option<usize> {
     let mut numbers = Vec::new(alloc);
     for queue in 0..account.workers() {
         for entry in account.queue(queue) {
