@@ -1,50 +1,59 @@
 -- What a crawl tells; and plans that ask for one text are told one.
-use Rattle.std.proofs.Common.{◌≡◌, ℕ, Bool, true, false, not, List, [], ◌∷◌, ◌++◌, Option, Some, None, Ok, String, Global, IfSome, map, string_bytes, refl, sym, ap, subst, ◌∙◌}
+use Rattle.std.proofs.Common.{◌≡◌, ℕ, Bool, true, false, not, ◌&&◌, List, [], ◌∷◌, ◌++◌, Option, Some, None, Ok, String, Global, IfSome, IfOk, IfErr, Result, Err, ◌≤◌, length, map, string_bytes, refl, sym, ap, subst, ◌∙◌}
 use Rattle.std.specs.Bool.{if◌then◌else◌}
 use Rattle.crawl_certificate.specs.Certificate.{result_urls}
-use Rattle.crawl_web.specs.ReportText.{report}
-use Rattle.crawl_web.specs.declared.page.PageResult.{PageResult}
 use Rattle.mercator.specs.Crawls.{AreCounts}
 use Rattle.crawl_keys.specs.HostFilter.{filter_of, is_good}
-use Rattle.mercator.specs.Plans.{is_bad_suffix, is_input, suffixes_of}
-use Rattle.mercator.specs.QueueLines.{queue_lines}
-use Rattle.mercator.specs.Told.{AskForOneText, Gains, OfFile}
-use Rattle.mercator.specs.WebCrawl.{IsCrawlReport, IsCrawlText, IsSiteCrawl}
+use Rattle.mercator.specs.Plans.{is_bad_suffix, is_input, known_bytes, known_seeds, lists_input, suffixes_of}
+use Rattle.mercator.specs.Limits.{most_input_bytes}
+use Rattle.mercator.specs.Told.{AskForOneText, FailsCrawl, Gains, OfFile, OfFiles}
+use Rattle.mercator.specs.WebCrawl.{IsCrawlText, IsFound, IsRefused, told_text}
+use Rattle.mercator.specs.declared.commands.fault.Fault.{Fault}
+use Rattle.mercator.specs.declared.commands.fault.Fault.TheVariants as wrong
+use Rattle.mercator.specs.declared.crawling.Crawled.{Crawled}
 use Rattle.mercator.specs.declared.commands.planned.Plan.{Plan}
 use Rattle.mercator.specs.declared.commands.planned.Plan.TheVariants as asks
 use Rattle.mercator.proofs.QueueCounts.{one_count}
 use Rattle.mercator.proofs.SiteCrawls.{one_site_crawl}
 
+-- what is known of a file's bytes holds of them
+of_known : (P : List ℕ → Type 0) (known : Option (List ℕ)) (bytes : List ℕ) → known ≡ Some bytes → OfFile known P → P bytes
+of_known P known bytes is of = subst P (subst (λ k. IfSome k (λ b. of.bytes ≡ b)) is of.read) of.holds
+
 -- the bytes of the FILE are those of the input
-its_bytes : (P : List ℕ → Type 0) (file bytes : List ℕ) → is_input file ≡ true → (of : OfFile file (Some bytes) P) → of.bytes ≡ bytes
-its_bytes P file bytes is of = subst (λ b. IfSome (if b then Some bytes else None) (λ known. of.bytes ≡ known)) is of.read
+of_input : (P : List ℕ → Type 0) (file bytes : List ℕ) → is_input file ≡ true → OfFile (known_bytes file (Some bytes)) P → P bytes
+of_input P file bytes is of = of_known P (known_bytes file (Some bytes)) bytes (ap (λ b. if b then Some bytes else None) is) of
 
--- what is known of them holds of the input's
-of_input : (P : List ℕ → Type 0) (file bytes : List ℕ) → is_input file ≡ true → OfFile file (Some bytes) P → P bytes
-of_input P file bytes is of = subst P (its_bytes P file bytes is of) of.holds
+-- of the input, and of no file of seeds
+of_web : (P : List ℕ → List ℕ → Type 0) (file : List ℕ) (listed : Option (String Global)) (bytes : List ℕ) → is_input file ≡ true → listed ≡ None → OfFiles file listed (Some bytes) P → P bytes []
+of_web P file listed bytes is none of =
+    of_known (P bytes) (known_seeds listed (Some bytes)) [] (ap (λ l. known_seeds l (Some bytes)) none)
+    (of_input (λ b. OfFile (known_seeds listed (Some bytes)) (P b)) file bytes is of)
 
-one_text : (workers others : ℕ) (queues : Bool) (bytes : List ℕ) (texts suffixes : List (List ℕ)) (text other : List ℕ) → (queues ≡ true → workers ≡ others)
-    → IsCrawlText workers queues bytes texts suffixes text → IsCrawlText others queues bytes texts suffixes other → text ≡ other
-one_text workers others false bytes texts suffixes text other many own its =
-    own.written ∙ ap (λ pages. report pages ++ []) (one_site_crawl bytes texts suffixes own.pages its.pages own.crawl its.crawl) ∙ sym its.written
-one_text workers others true bytes texts suffixes text other many own its =
-    let pages : own.pages ≡ its.pages = one_site_crawl bytes texts suffixes own.pages its.pages own.crawl its.crawl in
+one_text : (workers others : ℕ) (queues sources : Bool) (bytes listed : List ℕ) (texts suffixes : List (List ℕ)) (text other : List ℕ) → (queues ≡ true → workers ≡ others)
+    → IsCrawlText workers queues sources bytes listed texts suffixes text → IsCrawlText others queues sources bytes listed texts suffixes other → text ≡ other
+one_text workers others false sources bytes listed texts suffixes text other many own its =
+    own.written ∙ ap (λ pages. told_text false sources pages []) (one_site_crawl bytes listed texts suffixes own.pages its.pages own.crawl its.crawl) ∙ sym its.written
+one_text workers others true sources bytes listed texts suffixes text other many own its =
+    let pages : own.pages ≡ its.pages = one_site_crawl bytes listed texts suffixes own.pages its.pages own.crawl its.crawl in
     let counted : AreCounts others (result_urls its.pages) own.counts = subst (λ n. AreCounts n (result_urls its.pages) own.counts) (many refl) (subst (λ p. AreCounts workers (result_urls p) own.counts) pages own.counted) in
     let counts : own.counts ≡ its.counts = one_count others (result_urls its.pages) own.counts its.counts counted its.counted in
-    own.written ∙ ap (λ p. report p ++ queue_lines own.counts) pages ∙ ap (λ n. report its.pages ++ queue_lines n) counts ∙ sym its.written
+    own.written ∙ ap (λ p. told_text true sources p own.counts) pages ∙ ap (λ n. told_text true sources its.pages n) counts ∙ sym its.written
 
 pub one_output : (plan other : Plan) (bytes before after its : List ℕ) → AskForOneText plan other → Gains plan (Some bytes) (Some before) (Some after) → Gains other (Some bytes) (Some before) (Some its) → after ≡ its
-one_output (asks.Crawl workers max queues within file seeds) (asks.Crawl others other_max other_queues other_within other_file other_seeds) bytes before after its ask own other =
+one_output (asks.Crawl workers max queues sources within file listed seeds) (asks.Crawl others other_max other_queues other_sources other_within other_file other_listed other_seeds) bytes before after its ask own other =
+    let (own_input, other_input, own_none, other_none, seeded, filtered, sourced, queued, many) = ask in
     let texts = map string_bytes seeds.items in
     let suffixes = suffixes_of within in
-    let first : IsCrawlText workers queues bytes texts suffixes own.text = of_input (λ b. IsCrawlText workers queues b texts suffixes own.text) (string_bytes file) bytes ask.0 own.told.1 in
-    let plain = of_input (λ b. IsCrawlText others other_queues b (map string_bytes other_seeds.items) (suffixes_of other_within) other.text) (string_bytes other_file) bytes ask.1 other.told.1 in
-    let seeded = subst (λ t. IsCrawlText others other_queues bytes t (suffixes_of other_within) other.text) (sym ask.2) plain in
-    let within_it = subst (λ s. IsCrawlText others other_queues bytes texts s other.text) (sym ask.3) seeded in
-    let second : IsCrawlText others queues bytes texts suffixes other.text = subst (λ q. IsCrawlText others q bytes texts suffixes other.text) (sym ask.4) within_it in
-    own.gained ∙ ap (λ t. before ++ t) (one_text workers others queues bytes texts suffixes own.text other.text ask.5 first second) ∙ sym other.gained
-one_output (asks.Crawl workers max queues within file seeds) (asks.Key url others) bytes before after its ask own other = absurd ask
-one_output (asks.Crawl workers max queues within file seeds) (asks.Replay other_file) bytes before after its ask own other = absurd ask
+    let first : IsCrawlText workers queues sources bytes [] texts suffixes own.text = of_web (λ b l. IsCrawlText workers queues sources b l texts suffixes own.text) (string_bytes file) listed bytes own_input own_none own.told.1 in
+    let plain = of_web (λ b l. IsCrawlText others other_queues other_sources b l (map string_bytes other_seeds.items) (suffixes_of other_within) other.text) (string_bytes other_file) other_listed bytes other_input other_none other.told.1 in
+    let same_seeds = subst (λ t. IsCrawlText others other_queues other_sources bytes [] t (suffixes_of other_within) other.text) (sym seeded) plain in
+    let same_filter = subst (λ s. IsCrawlText others other_queues other_sources bytes [] texts s other.text) (sym filtered) same_seeds in
+    let same_sources = subst (λ s. IsCrawlText others other_queues s bytes [] texts suffixes other.text) (sym sourced) same_filter in
+    let second : IsCrawlText others queues sources bytes [] texts suffixes other.text = subst (λ q. IsCrawlText others q sources bytes [] texts suffixes other.text) (sym queued) same_sources in
+    own.gained ∙ ap (λ t. before ++ t) (one_text workers others queues sources bytes [] texts suffixes own.text other.text many first second) ∙ sym other.gained
+one_output (asks.Crawl workers max queues sources within file listed seeds) (asks.Key url others) bytes before after its ask own other = absurd ask
+one_output (asks.Crawl workers max queues sources within file listed seeds) (asks.Replay other_file) bytes before after its ask own other = absurd ask
 one_output (asks.Key url workers) other_plan bytes before after its ask own other = absurd ask
 one_output (asks.Replay file) other_plan bytes before after its ask own other = absurd ask
 
@@ -57,14 +66,60 @@ pub filter_is : (within : Option (String Global)) (filter : List (List ℕ)) →
 filter_is None filter is = (refl, cc)
 filter_is (Some suffix) filter is = single (string_bytes suffix) (not (is_good (string_bytes suffix))) filter refl is
 
--- a report and its counts make a crawl's text
-pub crawl_told : (workers : ℕ) (queues : Bool) (given bytes : List ℕ) (texts filter suffixes : List (List ℕ)) (told : List ℕ) (counts : List ℕ) (text : List ℕ) → given ≡ bytes → filter ≡ suffixes
-    → IsCrawlReport given texts filter told → ((pages : List PageResult) → IsSiteCrawl given texts filter pages → AreCounts workers (result_urls pages) counts)
-    → text ≡ told ++ (if queues then queue_lines counts else []) → IsCrawlText workers queues bytes texts suffixes text
-crawl_told workers queues given bytes texts filter suffixes told counts text bytes_are filter_is report each is = record {
-  pages = report.pages;
-  crawl = subst (λ s. IsSiteCrawl bytes texts s report.pages) filter_is (subst (λ b. IsSiteCrawl b texts filter report.pages) bytes_are report.crawl);
-  counts = counts;
-  counted = each report.pages report.crawl;
-  written = is ∙ ap (λ t. t ++ (if queues then queue_lines counts else [])) report.written;
+-- what is found by the filter's suffixes is found by those that they are
+pub found_within : (workers : ℕ) (bytes listed : List ℕ) (texts filter suffixes : List (List ℕ)) (found : Crawled) → filter ≡ suffixes → IsFound workers bytes listed texts filter found → IsFound workers bytes listed texts suffixes found
+found_within workers bytes listed texts filter suffixes found is own = subst (λ s. IsFound workers bytes listed texts s found) is own
+
+-- by whether FILE and the file of seeds are the input
+by_name : (own its : Bool) (before after : Option (List ℕ)) (bytes : List ℕ) → (own && its) ≡ false → (own ≡ false → after ≡ before)
+    → IfSome (if its then after else None) (λ known. bytes ≡ known) → IfSome (if its then before else None) (λ known. bytes ≡ known)
+by_name own false before after bytes one same known = known
+by_name false true before after bytes one same known = subst (λ i. IfSome i (λ k. bytes ≡ k)) (same refl) known
+by_name true true before after bytes one same known = absurd (cc)
+
+-- what is known of the file of seeds once FILE was read was known before: not both are the input
+pub still_known : (file : List ℕ) (listed : Option (String Global)) (before after : Option (List ℕ)) (bytes : List ℕ) → (is_input file && lists_input listed) ≡ false → (is_input file ≡ false → after ≡ before)
+    → IfSome (known_seeds listed after) (λ known. bytes ≡ known) → IfSome (known_seeds listed before) (λ known. bytes ≡ known)
+still_known file None before after bytes one same known = known
+still_known file (Some name) before after bytes one same known = by_name (is_input file) (is_input (string_bytes name)) before after bytes one same known
+
+-- the two files of a crawl, as they were read, one after the other
+pub files_read : (file : List ℕ) (listed : Option (String Global)) (input after : Option (List ℕ)) (P : List ℕ → List ℕ → Type 0) (bytes list given other : List ℕ) → (is_input file && lists_input listed) ≡ false
+    → IfSome (known_bytes file input) (λ known. bytes ≡ known) → length bytes ≤ most_input_bytes → (is_input file ≡ false → after ≡ input)
+    → IfSome (known_seeds listed after) (λ known. list ≡ known) → length list ≤ most_input_bytes → given ≡ bytes → other ≡ list → P given other → OfFiles file listed input P
+files_read file listed input after P bytes list given other one read few same seeds short is its holds = record {
+  bytes = bytes;
+  read = read;
+  few = few;
+  holds = record {
+    bytes = list;
+    read = still_known file listed input after list one same seeds;
+    few = short;
+    holds = subst (λ l. P bytes l) its (subst (λ b. P b other) is holds);
+  };
 }
+
+-- what is found of them
+pub found_in_files : (result : Result Crawled Fault) (P : Crawled → Type 0) (Q : Crawled → Type 0) → ((found : Crawled) → P found → Q found) → IfOk result P → IfOk result Q
+found_in_files (Ok found) P Q step own = step found own
+found_in_files (Err fault) P Q step own = tt
+
+-- why nothing is
+fails : (workers max : ℕ) (within : Option (String Global)) (file : List ℕ) (listed : Option (String Global)) (seeds : List (List ℕ)) (input : Option (List ℕ)) (fault : Fault) → is_bad_suffix within ≡ false
+    → OfFiles file listed input (λ bytes list. IsRefused workers max bytes list seeds fault) → FailsCrawl workers max within file listed seeds input fault
+fails workers max within file listed seeds input wrong.CannotRead good of = good
+fails workers max within file listed seeds input wrong.CannotReadSeeds good of = absurd of.holds.holds
+fails workers max within file listed seeds input (wrong.Script fault) good of = (good, of)
+fails workers max within file listed seeds input (wrong.Web fault) good of = (good, of)
+fails workers max within file listed seeds input (wrong.Seeds fault) good of = (good, of)
+fails workers max within file listed seeds input (wrong.Seed place refusal) good of = (good, of)
+fails workers max within file listed seeds input (wrong.Url refusal) good of = (good, of)
+fails workers max within file listed seeds input (wrong.Crawl error) good of = (good, of)
+fails workers max within file listed seeds input wrong.BadSuffix good of = absurd of.holds.holds
+fails workers max within file listed seeds input wrong.CannotWrite good of = (good, of)
+fails workers max within file listed seeds input wrong.NoMemory good of = tt
+
+pub refused_files : (workers max : ℕ) (within : Option (String Global)) (file : List ℕ) (listed : Option (String Global)) (seeds : List (List ℕ)) (input : Option (List ℕ)) (result : Result Crawled Fault) (P : Fault → Type 0) → is_bad_suffix within ≡ false
+    → ((fault : Fault) → P fault → OfFiles file listed input (λ bytes list. IsRefused workers max bytes list seeds fault)) → IfErr result P → IfErr result (FailsCrawl workers max within file listed seeds input)
+refused_files workers max within file listed seeds input (Ok found) P good step own = tt
+refused_files workers max within file listed seeds input (Err fault) P good step own = fails workers max within file listed seeds input fault good (step fault own)

@@ -1,6 +1,5 @@
 -- From the ends of a run to its results, and from an account to its counts.
-use Rattle.std.proofs.Common.{◌≡◌, ◌⊎◌, inl, inr, ℕ, suc, ◌+◌, ◌<◌, Bool, List, [], ◌∷◌, ◌++◌, length, slice_get, count_by, ◌==◌, Option, Some, refl, sym, ap, subst, ◌∙◌, arith, length-append}
-use Rattle.std.specs.List.{All}
+use Rattle.std.proofs.Common.{◌≡◌, inl, inr, ℕ, ◌+◌, Bool, List, [], ◌∷◌, ◌++◌, length, slice_get, Some, sym, ap, ◌∙◌, arith, length-append}
 use Rattle.std.proofs.lemmas.Bool.{cases_lt}
 use Rattle.std.proofs.lemmas.List.Elements.{All-nil, All-append, All-pop, All-cons}
 use Rattle.crawl_certificate.specs.Certificate.{ArePages, CountsOf}
@@ -8,7 +7,6 @@ use Rattle.crawl_certificate.proofs.Places.{get_push, get_last}
 use Rattle.crawl_frontier.specs.Accounts.{AccountId}
 use Rattle.crawl_frontier.specs.Parts.{WorkerId}
 use Rattle.crawl_frontier.specs.declared.entry.Entry.{Entry}
-use Rattle.crawl_keys.specs.Assignment.{subqueue_of}
 use Rattle.crawl_web.specs.declared.page.Page.{Page}
 use Rattle.crawl_web.specs.declared.page.PageResult.{PageResult}
 use Rattle.crawl_workers.specs.Runs.{AllRan}

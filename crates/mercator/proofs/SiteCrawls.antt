@@ -1,16 +1,16 @@
 -- The pages of a saved web that can be reached are one list, and so its report is one text.
-use Rattle.std.proofs.Common.{◌≡◌, ℕ, Bool, List, [], ◌∷◌, map, Result, Ok, Err, refl, sym, ap, subst, ◌∙◌}
+use Rattle.std.proofs.Common.{◌≡◌, ℕ, Bool, List, [], ◌∷◌, map, ◌++◌, Result, Ok, refl, sym, ap, subst, ◌∙◌}
 use Rattle.crawl_certificate.specs.Certificate.{IsCrawl}
 use Rattle.crawl_certificate.proofs.OneCrawl.{one_crawl}
-use Rattle.crawl_keys.specs.CanonicalText.{canonical}
 use Rattle.crawl_keys.specs.HostFilter.{allows}
 use Rattle.crawl_keys.specs.declared.error.KeyError.{KeyError}
+use Rattle.crawl_sources.specs.Seeds.{seeds_in}
 use Rattle.crawl_web.specs.SavedWeb.{page_of}
 use Rattle.crawl_web.specs.ReportText.{report}
 use Rattle.crawl_web.specs.declared.page.Page.{Page}
 use Rattle.crawl_web.specs.declared.page.PageResult.{PageResult}
 use Rattle.std.specs.Str.Lines.{lines}
-use Rattle.mercator.specs.WebCrawl.{IsSiteCrawl, IsCrawlReport}
+use Rattle.mercator.specs.WebCrawl.{AreAllSeeds, IsSiteCrawl, IsCrawlReport}
 
 -- of texts that are all canonical, there is one list of URLs
 abbrev as_ok : List ℕ → Result (List ℕ) KeyError
@@ -31,11 +31,20 @@ crawl_of_same meaning other allowed seeds pages same crawl =
     let both : meaning ≡ other = λ i url. same url i in
     subst (λ m. IsCrawl m allowed seeds pages) both crawl
 
-pub one_site_crawl : (bytes : List ℕ) (texts suffixes : List (List ℕ)) (pages others : List PageResult) → IsSiteCrawl bytes texts suffixes pages → IsSiteCrawl bytes texts suffixes others → pages ≡ others
-one_site_crawl bytes texts suffixes pages others own other =
-    let seeds : own.seeds ≡ other.seeds = same_oks own.seeds other.seeds (sym own.named ∙ other.named) in
+-- a file of seeds and texts have one list of seeds
+one_seeds : (listed : List ℕ) (texts seeds others : List (List ℕ)) → AreAllSeeds listed texts seeds → AreAllSeeds listed texts others → seeds ≡ others
+one_seeds listed texts seeds others own its =
+    let both : seeds_in (lines listed) ≡ Ok its.first = its.filed in
+    let same : Ok own.first ≡ Ok its.first = sym own.filed ∙ both in
+    let filed : own.first ≡ its.first = cc in
+    let named : own.others ≡ its.others = same_oks own.others its.others (sym own.named ∙ its.named) in
+    own.joined ∙ ap (λ f. f ++ own.others) filed ∙ ap (λ o. its.first ++ o) named ∙ sym its.joined
+
+pub one_site_crawl : (bytes listed : List ℕ) (texts suffixes : List (List ℕ)) (pages others : List PageResult) → IsSiteCrawl bytes listed texts suffixes pages → IsSiteCrawl bytes listed texts suffixes others → pages ≡ others
+one_site_crawl bytes listed texts suffixes pages others own other =
+    let seeds : own.seeds ≡ other.seeds = one_seeds listed texts own.seeds other.seeds own.named other.named in
     one_crawl (page_of (lines bytes)) (allows suffixes) other.seeds pages others (subst (λ s. IsCrawl (page_of (lines bytes)) (allows suffixes) s pages) seeds own.found) other.found
 
 pub one_report : (bytes : List ℕ) (texts suffixes text other : _) → IsCrawlReport bytes texts suffixes text → IsCrawlReport bytes texts suffixes other → text ≡ other
 one_report bytes texts suffixes text other own its =
-    own.written ∙ ap report (one_site_crawl bytes texts suffixes own.pages its.pages own.crawl its.crawl) ∙ sym its.written
+    own.written ∙ ap report (one_site_crawl bytes [] texts suffixes own.pages its.pages own.crawl its.crawl) ∙ sym its.written

@@ -1,5 +1,5 @@
 -- What a run without loss leaves for the certificate.
-use Rattle.std.proofs.Common.{◌≡◌, ◌⊎◌, inl, inr, ℕ, ◌<◌, Bool, true, List, [], ◌∷◌, ◌++◌, map, slice_get, Some, IsTrue, refl, sym, ap, subst, ◌∙◌}
+use Rattle.std.proofs.Common.{◌≡◌, inl, inr, ℕ, ◌<◌, Bool, true, List, [], ◌∷◌, map, slice_get, Some, IsTrue, refl, sym, ap, subst, ◌∙◌}
 use Rattle.std.proofs.lemmas.Bool.{or_cases}
 use Rattle.std.proofs.lemmas.List.Elements.{All-weaker, All-contains, All-contains_itself, Contains-append_left, Contains-append_right, Contains-append_cases}
 use Rattle.std.proofs.lemmas.Option.{slice_get_within}
@@ -10,7 +10,7 @@ use Rattle.crawl_certificate.proofs.Lists.{no_element, here, there, first_or_lat
 use Rattle.crawl_certificate.proofs.Places.{place_among, among_at}
 use Rattle.crawl_certificate.specs.AccountEntries.{entries_in}
 use Rattle.crawl_certificate.specs.Certificate.{entry_urls, result_urls, AllowedAreIn, NothingLost}
-use Rattle.crawl_frontier.specs.Accounts.{At, IsPart, Accounts}
+use Rattle.crawl_frontier.specs.Accounts.{Accounts}
 use Rattle.crawl_frontier.specs.Entries.{has_url}
 use Rattle.crawl_frontier.specs.Parts.{WorkerId, SenderId}
 use Rattle.crawl_frontier.specs.declared.entry.Entry.{Entry}

@@ -6,6 +6,8 @@ use Rattle.crawl_frontier.specs.declared.error.FinishError.TheVariants as finish
 use Rattle.crawl_keys.specs.CanonicalText.{message}
 use Rattle.crawl_web.specs.declared.saved_web.error.WebError.{WebError}
 use Rattle.crawl_web.specs.declared.saved_web.error.WebError.TheVariants as web
+use Rattle.crawl_sources.specs.declared.seeds.SeedsFault.{SeedsFault}
+use Rattle.crawl_sources.specs.declared.seeds.SeedsFault.TheVariants as seeds
 use Rattle.mercator.specs.declared.commands.fault.Fault.{Fault}
 use Rattle.mercator.specs.declared.commands.fault.Fault.TheVariants as wrong
 use Rattle.mercator.specs.declared.crawling.error.CrawlError.{CrawlError}
@@ -28,6 +30,14 @@ web_text (web.MovedMixed number) = line_text number (codes "mixed page")
 web_text (web.BadPageUrl number) = line_text number (codes "bad page URL")
 web_text (web.PageTwice number) = line_text number (codes "page twice")
 web_text web.NoMemory = codes "out of memory"
+
+-- why bytes are no seeds
+abbrev pub seeds_text : SeedsFault → List ℕ
+seeds_text (seeds.LineTooLong number) = line_text number (codes "line too long")
+seeds_text (seeds.NotText number) = line_text number (codes "not UTF-8")
+seeds_text (seeds.NotUrl number) = line_text number (codes "not a URL")
+seeds_text (seeds.NotHttp number) = line_text number (codes "not http or https")
+seeds_text seeds.NoMemory = codes "out of memory"
 
 -- why bytes are no script
 abbrev pub script_text : ScriptError → List ℕ
@@ -54,14 +64,16 @@ crawl_text (crawl.Run error) = codes "no thread"
 crawl_text (crawl.Frontier error) = codes "no frontier"
 crawl_text crawl.NoMemory = codes "out of memory"
 
--- the text of a fault of a command that named this FILE
+-- the text of a fault that speaks of this file
 abbrev pub fault_text : List ℕ → Fault → List ℕ
 fault_text file wrong.CannotRead = codes "cannot read " ++ file
+fault_text file wrong.CannotReadSeeds = codes "cannot read " ++ file
 fault_text file wrong.CannotWrite = codes "cannot write"
 fault_text file wrong.NoMemory = codes "out of memory"
 fault_text file wrong.BadSuffix = codes "bad suffix"
 fault_text file (wrong.Url refusal) = codes "URL: " ++ message refusal
 fault_text file (wrong.Seed place refusal) = codes "seed " ++ decimal place ++ codes ": " ++ message refusal
+fault_text file (wrong.Seeds fault) = codes "seeds: " ++ seeds_text fault
 fault_text file (wrong.Web fault) = codes "saved web: " ++ web_text fault
 fault_text file (wrong.Script fault) = codes "script: " ++ script_text fault
 fault_text file (wrong.Crawl error) = codes "incomplete: " ++ crawl_text error

@@ -6,6 +6,8 @@ use Rattle.crawl_keys.specs.declared.filter.error.FilterError.{FilterError}
 use Rattle.crawl_keys.specs.declared.filter.error.FilterError.TheVariants as filter
 use Rattle.crawl_web.specs.declared.saved_web.error.WebError.{WebError}
 use Rattle.crawl_web.specs.declared.saved_web.error.WebError.TheVariants as web
+use Rattle.crawl_sources.specs.declared.seeds.SeedsFault.{SeedsFault}
+use Rattle.crawl_sources.specs.declared.seeds.SeedsFault.TheVariants as seeds
 use Rattle.mercator.specs.declared.commands.fault.Fault.{Fault}
 use Rattle.mercator.specs.declared.commands.fault.Fault.TheVariants as wrong
 use Rattle.mercator.specs.declared.commands.input.Unread.{Unread}
@@ -19,6 +21,15 @@ use Rattle.crawl_replay.specs.declared.script.error.ScriptError.TheVariants as s
 abbrev pub of_unread : Unread → Fault
 of_unread unread.NoMemory = wrong.NoMemory
 of_unread _ = wrong.CannotRead
+
+-- the same of a file of seeds
+abbrev pub of_unread_seeds : Unread → Fault
+of_unread_seeds unread.NoMemory = wrong.NoMemory
+of_unread_seeds _ = wrong.CannotReadSeeds
+
+abbrev pub of_seeds : SeedsFault → Fault
+of_seeds seeds.NoMemory = wrong.NoMemory
+of_seeds fault = wrong.Seeds fault
 
 abbrev pub of_script : ScriptError → Fault
 of_script script.NoMemory = wrong.NoMemory

@@ -1,5 +1,5 @@
 -- What each command tells, and why it fails, by the bytes of its FILE.
-use Rattle.std.specs.Prelude.{◌≡◌, ◌⊎◌, ℕ, ◌≤◌, true, false, List, [], length, map, Option, Err, IfSome, IsSomeAnd, IsErr, String, string_bytes}
+use Rattle.std.specs.Prelude.{◌≡◌, ◌⊎◌, ℕ, ◌≤◌, true, false, List, [], length, map, Option, None, Err, IfSome, IsSome, IsSomeAnd, IsErr, String, string_bytes}
 use Rattle.std.specs.Io.KnownBytes.{Appends}
 use Rattle.std.specs.declared.alloc.Global.{Global}
 use Rattle.crawl_keys.specs.CanonicalText.{canonical}
@@ -8,7 +8,7 @@ use Rattle.mercator.specs.FaultText.{fault_line}
 use Rattle.mercator.specs.Faults.{status_of_fault}
 use Rattle.mercator.specs.KeyLine.{IsKeyLine}
 use Rattle.mercator.specs.Limits.{most_input_bytes}
-use Rattle.mercator.specs.Plans.{file_of, is_bad_suffix, is_input, known_bytes, suffixes_of}
+use Rattle.mercator.specs.Plans.{is_bad_suffix, is_input, known_bytes, known_seeds, suffixes_of, told_file}
 use Rattle.crawl_replay.specs.Replay.{IsReplay}
 use Rattle.crawl_replay.specs.Script.{script_of}
 use Rattle.mercator.specs.WebCrawl.{IsCrawlable, IsCrawlText, IsRefused}
@@ -17,36 +17,41 @@ use Rattle.mercator.specs.declared.commands.planned.Plan.TheVariants as asks
 use Rattle.mercator.specs.declared.commands.fault.Fault.{Fault}
 use Rattle.mercator.specs.declared.commands.fault.Fault.TheVariants as wrong
 
--- it holds of some bytes that the FILE can have: all that the input has left where that is known and meant, and no more than
--- the limit
-pub record OfFile (file : List ℕ) (input : Option (List ℕ)) (P : List ℕ → Type 0) : Type 0 where
+-- it holds of some bytes that a file can have: those that are known of it, if they are, and no more than the limit
+pub record OfFile (known : Option (List ℕ)) (P : List ℕ → Type 0) : Type 0 where
   pub bytes : List ℕ
-  pub read : IfSome (known_bytes file input) (λ known. bytes ≡ known)
+  pub read : IfSome known (λ known. bytes ≡ known)
   pub few : length bytes ≤ most_input_bytes
   pub holds : P bytes
 
+-- it holds of some bytes that the two files of a crawl can have: of the web's, and of those of the listed seeds
+abbrev pub OfFiles : List ℕ → Option (String Global) → Option (List ℕ) → (List ℕ → List ℕ → Type 0) → Type 0
+OfFiles file listed input P = OfFile (known_bytes file input) (λ bytes. OfFile (known_seeds listed input) (λ seeds. P bytes seeds))
+
 -- the text is the plan's
 abbrev pub IsTold : Plan → Option (List ℕ) → List ℕ → Type 0
-IsTold (asks.Crawl workers max queues within file seeds) input text =
-    (is_bad_suffix within ≡ false) × OfFile (string_bytes file) input (λ bytes. IsCrawlText workers queues bytes (map string_bytes seeds.items) (suffixes_of within) text)
+IsTold (asks.Crawl workers max queues sources within file listed seeds) input text =
+    (is_bad_suffix within ≡ false)
+    × OfFiles (string_bytes file) listed input (λ bytes list. IsCrawlText workers queues sources bytes list (map string_bytes seeds.items) (suffixes_of within) text)
 IsTold (asks.Key url workers) input text = IsKeyLine (string_bytes url) workers text
-IsTold (asks.Replay file) input text = OfFile (string_bytes file) input (λ bytes. IsReplay bytes text)
+IsTold (asks.Replay file) input text = OfFile (known_bytes (string_bytes file) input) (λ bytes. IsReplay bytes text)
 
 -- why a replay fails: the FILE cannot be read, or is no script, by this fault; or want of memory
 abbrev pub FailsReplay : List ℕ → Option (List ℕ) → Fault → Type 0
 FailsReplay file input wrong.CannotRead = Unit {0}
-FailsReplay file input (wrong.Script fault) = OfFile file input (λ bytes. script_of bytes ≡ Err fault)
+FailsReplay file input (wrong.Script fault) = OfFile (known_bytes file input) (λ bytes. script_of bytes ≡ Err fault)
 FailsReplay file input wrong.NoMemory = Unit {0}
 FailsReplay file input _ = ⊥
 
--- why a crawl fails, in this order: the suffix is bad; the FILE cannot be read; it is refused, or a seed is, or the crawl is
--- incomplete; or want of memory
-abbrev pub FailsCrawl : ℕ → ℕ → Option (String Global) → List ℕ → List (List ℕ) → Option (List ℕ) → Fault → Type 0
-FailsCrawl workers max within file seeds input wrong.BadSuffix = is_bad_suffix within ≡ true
-FailsCrawl workers max within file seeds input wrong.CannotRead = is_bad_suffix within ≡ false
-FailsCrawl workers max within file seeds input wrong.NoMemory = Unit {0}
-FailsCrawl workers max within file seeds input fault =
-    (is_bad_suffix within ≡ false) × OfFile file input (λ bytes. IsRefused workers max bytes seeds fault)
+-- why a crawl fails, in this order: the suffix is bad; the FILE cannot be read; a file of seeds cannot be; the web is refused, or
+-- a seed is, or the crawl is incomplete; or want of memory
+abbrev pub FailsCrawl : ℕ → ℕ → Option (String Global) → List ℕ → Option (String Global) → List (List ℕ) → Option (List ℕ) → Fault → Type 0
+FailsCrawl workers max within file listed seeds input wrong.BadSuffix = is_bad_suffix within ≡ true
+FailsCrawl workers max within file listed seeds input wrong.CannotRead = is_bad_suffix within ≡ false
+FailsCrawl workers max within file listed seeds input wrong.CannotReadSeeds = (is_bad_suffix within ≡ false) × IsSome listed
+FailsCrawl workers max within file listed seeds input wrong.NoMemory = Unit {0}
+FailsCrawl workers max within file listed seeds input fault =
+    (is_bad_suffix within ≡ false) × OfFiles file listed input (λ bytes list. IsRefused workers max bytes list seeds fault)
 
 -- why a key is not told: the text has no canonical URL, by this refusal; or want of memory
 abbrev pub FailsKey : List ℕ → Fault → Type 0
@@ -56,22 +61,22 @@ FailsKey url _ = ⊥
 
 -- the fault is one by which the plan's command fails before it writes
 abbrev pub Fails : Plan → Option (List ℕ) → Fault → Type 0
-Fails (asks.Crawl workers max queues within file seeds) input fault = FailsCrawl workers max within (string_bytes file) (map string_bytes seeds.items) input fault
+Fails (asks.Crawl workers max queues sources within file listed seeds) input fault = FailsCrawl workers max within (string_bytes file) listed (map string_bytes seeds.items) input fault
 Fails (asks.Key url workers) input fault = FailsKey (string_bytes url) fault
 Fails (asks.Replay file) input fault = FailsReplay (string_bytes file) input fault
 
--- there is nothing that the command could tell: the FILE is known and no script, or no saved web; or a suffix is bad, or a seed
--- or the URL has no canonical URL
+-- there is nothing that the command could tell: the FILE is known and no script; whatever bytes the files of a crawl have, by
+-- what is known of them, there is no web or a seed has no canonical URL; a suffix is bad; or the URL has no canonical URL
 abbrev pub CannotTell : Plan → Option (List ℕ) → Type 0
-CannotTell (asks.Crawl workers max queues within file seeds) input =
-    (is_bad_suffix within ≡ true) ⊎ IsSomeAnd (known_bytes (string_bytes file) input) (λ bytes. IsCrawlable bytes (map string_bytes seeds.items) → ⊥)
+CannotTell (asks.Crawl workers max queues sources within file listed seeds) input =
+    (is_bad_suffix within ≡ true) ⊎ (OfFiles (string_bytes file) listed input (λ bytes list. IsCrawlable bytes list (map string_bytes seeds.items)) → ⊥)
 CannotTell (asks.Key url workers) input = IsErr (canonical (string_bytes url))
 CannotTell (asks.Replay file) input = IsSomeAnd (known_bytes (string_bytes file) input) (λ bytes. IsErr (script_of bytes))
 
 -- a crawl alone can be incomplete, and it is one of a saved web from seeds that have canonical URLs
 abbrev pub MayLose : Plan → Option (List ℕ) → Type 0
-MayLose (asks.Crawl workers max queues within file seeds) input =
-    (is_bad_suffix within ≡ false) × OfFile (string_bytes file) input (λ bytes. IsCrawlable bytes (map string_bytes seeds.items))
+MayLose (asks.Crawl workers max queues sources within file listed seeds) input =
+    (is_bad_suffix within ≡ false) × OfFiles (string_bytes file) listed input (λ bytes list. IsCrawlable bytes list (map string_bytes seeds.items))
 MayLose _ input = ⊥
 
 -- a writer that held the old bytes gained the plan's text, where it says what it holds
@@ -85,15 +90,16 @@ pub record Gains (plan : Plan) (input old new : Option (List ℕ)) : Type 0 wher
 pub record EndsByFault (plan : Plan) (ended : ℕ) (input err_old err_new : Option (List ℕ)) (Unwritten : Type 0) : Type 0 where
   pub fault : Fault
   pub status : ended ≡ status_of_fault fault
-  pub told : Begins err_old err_new (fault_line (file_of plan) fault)
+  pub told : Begins err_old err_new (fault_line (told_file plan fault) fault)
   pub why : (Fails plan input fault × Unwritten) ⊎ ((fault ≡ wrong.CannotWrite) × ((text : List ℕ) × IsTold plan input text))
 
--- both plans crawl the input, from the same seeds within the same suffix; with the lines of subqueues, where there are as many
+-- both plans crawl the input, from the same seeds of the command line within the same suffix, and tell the sources or not; with
+-- the lines of subqueues, where there are as many
 abbrev pub AskForOneText : Plan → Plan → Type 0
-AskForOneText (asks.Crawl workers max queues within file seeds) (asks.Crawl others other_max other_queues other_within other_file other_seeds) =
-    (is_input (string_bytes file) ≡ true) × (is_input (string_bytes other_file) ≡ true)
+AskForOneText (asks.Crawl workers max queues sources within file listed seeds) (asks.Crawl others other_max other_queues other_sources other_within other_file other_listed other_seeds) =
+    (is_input (string_bytes file) ≡ true) × (is_input (string_bytes other_file) ≡ true) × (listed ≡ None) × (other_listed ≡ None)
     × (map string_bytes seeds.items ≡ map string_bytes other_seeds.items) × (suffixes_of within ≡ suffixes_of other_within)
-    × (queues ≡ other_queues) × (queues ≡ true → workers ≡ others)
+    × (sources ≡ other_sources) × (queues ≡ other_queues) × (queues ≡ true → workers ≡ others)
 AskForOneText _ _ = ⊥
 
 -- words led to no plan, and the writer for faults was told why: help could not be written, or there was no memory and nothing

@@ -1,7 +1,9 @@
 -- A crawl of a saved web, from its bytes to the report.
-use Rattle.std.specs.Prelude.{◌≡◌, ℕ, ◌+◌, Bool, if◌then◌else◌, List, [], ◌∷◌, ◌++◌, length, map, Ok, Err}
+use Rattle.std.specs.Prelude.{◌≡◌, ℕ, ◌+◌, Bool, if◌then◌else◌, List, [], ◌∷◌, ◌++◌, length, map, Ok, Err, IsOk}
 use Rattle.std.specs.Str.Lines.{lines}
 use Rattle.crawl_keys.specs.CanonicalText.{canonical}
+use Rattle.crawl_sources.specs.Seeds.{seeds_in}
+use Rattle.crawl_sources.specs.Sources.{sources}
 use Rattle.crawl_web.specs.SavedWeb.{page_of}
 use Rattle.crawl_keys.specs.declared.error.KeyError.{KeyError}
 use Rattle.crawl_web.specs.WebFaults.{IsSound, IsWebFault}
@@ -11,6 +13,7 @@ use Rattle.crawl_certificate.specs.Certificate.{IsCrawl, result_urls}
 use Rattle.crawl_keys.specs.HostFilter.{allows}
 use Rattle.mercator.specs.Crawls.{AreCounts, CrawlFails}
 use Rattle.mercator.specs.QueueLines.{queue_lines}
+use Rattle.mercator.specs.declared.crawling.Crawled.{Crawled}
 use Rattle.crawl_web.specs.ReportText.{report}
 use Rattle.crawl_web.specs.declared.page.PageResult.{PageResult}
 
@@ -18,11 +21,20 @@ use Rattle.crawl_web.specs.declared.page.PageResult.{PageResult}
 abbrev pub AreSeeds : List (List ℕ) → List (List ℕ) → Type 0
 AreSeeds texts seeds = map canonical texts ≡ map Ok seeds
 
--- the bytes are a saved web, and each seed has a canonical URL
-pub record IsCrawlable (bytes : List ℕ) (texts : List (List ℕ)) : Type 0 where
+-- these are the seeds of a crawl: those of a seeds file with the bytes listed, and then those of the texts. A crawl without such
+-- a file has the seeds of no bytes, which are none
+pub record AreAllSeeds (listed : List ℕ) (texts seeds : List (List ℕ)) : Type 0 where
+  pub first : List (List ℕ)
+  pub others : List (List ℕ)
+  pub filed : seeds_in (lines listed) ≡ Ok first
+  pub named : AreSeeds texts others
+  pub joined : seeds ≡ first ++ others
+
+-- the bytes are a saved web, those listed a seeds file, and each seed has a canonical URL
+pub record IsCrawlable (bytes listed : List ℕ) (texts : List (List ℕ)) : Type 0 where
   pub sound : IsSound (lines bytes)
   pub seeds : List (List ℕ)
-  pub named : AreSeeds texts seeds
+  pub named : AreAllSeeds listed texts seeds
 
 -- the seed with this number, counted from 1, is the first that has no canonical URL, by this refusal
 pub record IsFirstBadSeed (texts : List (List ℕ)) (place : ℕ) (refusal : KeyError) : Type 0 where
@@ -41,33 +53,45 @@ IsSeedFault texts (wrong.Seed place refusal) = IsFirstBadSeed texts place refusa
 IsSeedFault texts wrong.NoMemory = Unit {0}
 IsSeedFault texts _ = ⊥
 
--- why there is no report of a crawl with these numbers, in this order: the bytes are no saved web, by this fault; the first
--- seed that has no canonical URL, by its refusal; the crawl fails, by its error; or want of memory
-abbrev pub IsRefused : ℕ → ℕ → List ℕ → List (List ℕ) → Fault → Type 0
-IsRefused workers max bytes texts (wrong.Web fault) = IsWebFault (lines bytes) fault
-IsRefused workers max bytes texts (wrong.Seed place refusal) = IsSound (lines bytes) × IsFirstBadSeed texts place refusal
-IsRefused workers max bytes texts (wrong.Crawl error) = IsCrawlable bytes texts × CrawlFails workers max error
-IsRefused workers max bytes texts wrong.NoMemory = Unit {0}
-IsRefused workers max bytes texts _ = ⊥
+-- why a crawl with these numbers finds no pages, in this order: the bytes are no saved web, by this fault; those listed are no
+-- seeds file, by this fault; the first text that has no canonical URL, by its refusal; the crawl fails, by its error; or want of
+-- memory
+abbrev pub IsRefused : ℕ → ℕ → List ℕ → List ℕ → List (List ℕ) → Fault → Type 0
+IsRefused workers max bytes listed texts (wrong.Web fault) = IsWebFault (lines bytes) fault
+IsRefused workers max bytes listed texts (wrong.Seeds fault) = IsSound (lines bytes) × (seeds_in (lines listed) ≡ Err fault)
+IsRefused workers max bytes listed texts (wrong.Seed place refusal) = IsSound (lines bytes) × IsOk (seeds_in (lines listed)) × IsFirstBadSeed texts place refusal
+IsRefused workers max bytes listed texts (wrong.Crawl error) = IsCrawlable bytes listed texts × CrawlFails workers max error
+IsRefused workers max bytes listed texts wrong.NoMemory = Unit {0}
+IsRefused workers max bytes listed texts _ = ⊥
 
 -- the bytes are a saved web, and these are its pages at exactly the URLs that can be reached from the seeds by URLs that the
 -- filter with these suffixes allows
-pub record IsSiteCrawl (bytes : List ℕ) (texts suffixes : List (List ℕ)) (pages : List PageResult) : Type 0 where
+pub record IsSiteCrawl (bytes listed : List ℕ) (texts suffixes : List (List ℕ)) (pages : List PageResult) : Type 0 where
   pub sound : IsSound (lines bytes)
   pub seeds : List (List ℕ)
-  pub named : AreSeeds texts seeds
+  pub named : AreAllSeeds listed texts seeds
   pub found : IsCrawl (page_of (lines bytes)) (allows suffixes) seeds pages
 
--- the text is the report of those pages
+-- this was found: those pages, and for each subqueue how many of their URLs belong to it
+pub record IsFound (workers : ℕ) (bytes listed : List ℕ) (texts suffixes : List (List ℕ)) (found : Crawled) : Type 0 where
+  pub crawl : IsSiteCrawl bytes listed texts suffixes found.result
+  pub counted : AreCounts workers (result_urls found.result) found.counts.items
+
+-- the text is the report of the pages that can be reached from the seeds of the texts
 pub record IsCrawlReport (bytes : List ℕ) (texts suffixes : List (List ℕ)) (text : List ℕ) : Type 0 where
   pub pages : List PageResult
-  pub crawl : IsSiteCrawl bytes texts suffixes pages
+  pub crawl : IsSiteCrawl bytes [] texts suffixes pages
   pub written : text ≡ report pages
 
--- the text is that report, and where they are wanted the lines that count its URLs by subqueue
-pub record IsCrawlText (workers : ℕ) (queues : Bool) (bytes : List ℕ) (texts suffixes : List (List ℕ)) (text : List ℕ) : Type 0 where
+-- the text that is told of pages and counts: the report, then where they are wanted the lines that count its URLs by subqueue,
+-- and then where they are wanted those that tell where its missing URLs are linked from
+abbrev pub told_text : Bool → Bool → List PageResult → List ℕ → List ℕ
+told_text with_queues with_sources pages counts = report pages ++ (if with_queues then queue_lines counts else []) ++ (if with_sources then sources pages else [])
+
+-- the text is that of such a crawl
+pub record IsCrawlText (workers : ℕ) (with_queues with_sources : Bool) (bytes listed : List ℕ) (texts suffixes : List (List ℕ)) (text : List ℕ) : Type 0 where
   pub pages : List PageResult
-  pub crawl : IsSiteCrawl bytes texts suffixes pages
+  pub crawl : IsSiteCrawl bytes listed texts suffixes pages
   pub counts : List ℕ
   pub counted : AreCounts workers (result_urls pages) counts
-  pub written : text ≡ report pages ++ (if queues then queue_lines counts else [])
+  pub written : text ≡ told_text with_queues with_sources pages counts

@@ -17,7 +17,7 @@ mod planned;
 mod queues;
 mod source;
 mod tell;
-mod web_crawl;
+pub(crate) mod web_crawl;
 mod words;
 pub(crate) mod writing;
 
@@ -99,7 +99,7 @@ pub fn run_plan<R: Files + Threads + Wait + Sync, I: Read, O: Write, E: Write>(
     match end(out, told) {
         Ok(()) => 0,
         Err(fault) => {
-            tell_fault(alloc, err, plan.file(), fault);
+            tell_fault(alloc, err, plan.told_file(fault), fault);
             fault.status()
         }
     }

@@ -19,11 +19,11 @@ ghost use Rattle.mercator.specs.declared.commands.planned.Plan.{Plan};
 pub use crawl_replay::laws::{hosts_keep_to_their_subqueues, lines_mean_what_the_format_says};
 
 /// What a crawl finds and writes depends on the saved web, the seeds and the filter alone. So two crawls of one input from one
-/// list of seeds within one suffix that both end with status 0, and began with an output that held the same, leave the same
+/// list of seeds within one suffix, both with the lines of sources or both without, that both end with status 0, and began with an output that held the same, leave the same
 /// bytes there, whatever their numbers of workers and their maximums were; with the lines of their subqueues, where they have as
 /// many.
 pub fn same_bytes_for_any_workers()
-    ensures pages { (bytes : List ℕ) (seeds suffixes : List (List ℕ)) (pages others : List PageResult) → IsSiteCrawl bytes seeds suffixes pages → IsSiteCrawl bytes seeds suffixes others → pages ≡ others }
+    ensures pages { (bytes listed : List ℕ) (seeds suffixes : List (List ℕ)) (pages others : List PageResult) → IsSiteCrawl bytes listed seeds suffixes pages → IsSiteCrawl bytes listed seeds suffixes others → pages ≡ others }
     ensures reports { (bytes : List ℕ) (seeds suffixes : List (List ℕ)) (text other : List ℕ) → IsCrawlReport bytes seeds suffixes text → IsCrawlReport bytes seeds suffixes other → text ≡ other }
     ensures outputs { (plan other : Plan) (bytes before after its : List ℕ) → AskForOneText plan other → Gains plan (Some bytes) (Some before) (Some after) → Gains other (Some bytes) (Some before) (Some its) → after ≡ its }
 {}

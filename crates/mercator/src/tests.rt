@@ -1,4 +1,5 @@
 //! What no clause says: that calls succeed, the texts, and that the definitions mean the formats.
+mod broken_links;
 mod command_lines;
 mod crawls;
 mod faults;

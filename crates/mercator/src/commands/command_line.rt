@@ -45,9 +45,11 @@ fn crawl_command<'a>(alloc: Global) -> Result<Command<'a>, AllocError> {
         ))?
         .arg(max_pending(alloc))?
         .arg(queues(alloc))?
+        .arg(sources(alloc))?
         .arg(within(alloc))?
+        .arg(listed(alloc))?
         .arg(file(alloc, "The saved web, or - for standard input"))?
-        .arg(seeds(alloc))
+        .arg(seeds(alloc)?)
 }
 
 fn key_command<'a>(alloc: Global) -> Result<Command<'a>, AllocError> {
@@ -95,6 +97,20 @@ fn queues<'a>(alloc: Global) -> Arg<'a> {
         .help("Also writes how many URLs each subqueue had")
 }
 
+fn sources<'a>(alloc: Global) -> Arg<'a> {
+    Arg::new(alloc, "sources")
+        .long("sources")
+        .action(ArgAction::SetTrue)
+        .help("Also writes, for each missing URL, how many pages link to it, and the first of them")
+}
+
+fn listed<'a>(alloc: Global) -> Arg<'a> {
+    Arg::new(alloc, "seeds")
+        .long("seeds")
+        .value_name("LIST")
+        .help("A file of seeds, one a line, before those given here; or - for standard input")
+}
+
 fn within<'a>(alloc: Global) -> Arg<'a> {
     Arg::new(alloc, "within")
         .long("within")
@@ -109,11 +125,11 @@ fn file<'a>(alloc: Global, help: &'a str) -> Arg<'a> {
         .help(help)
 }
 
-fn seeds<'a>(alloc: Global) -> Arg<'a> {
+fn seeds<'a>(alloc: Global) -> Result<Arg<'a>, AllocError> {
     Arg::new(alloc, "seed")
         .value_name("SEED")
-        .required(true)
         .num_args(1..)
         .action(ArgAction::Append)
-        .help("The URLs that the crawl begins from")
+        .help("The URLs that the crawl begins from; at least one where --seeds is not given")
+        .required_unless_present("seeds")
 }

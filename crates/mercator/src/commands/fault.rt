@@ -1,12 +1,13 @@
 //! Why a command ends before it is done.
 ghost use Rattle.std.specs.Prelude.{◌≡◌};
-ghost use Rattle.mercator.specs.Faults.{of_script, of_web, of_url, of_crawl, of_filter};
+ghost use Rattle.mercator.specs.Faults.{of_script, of_seeds, of_web, of_url, of_crawl, of_filter};
 ghost use Rattle.mercator.specs.declared.commands.fault.Fault.TheVariants as wrong;
 
 use crate::commands::input::Unread;
 use crate::crawling::CrawlError;
 use crawl_keys::{FilterError, KeyError};
 use crawl_replay::ScriptError;
+use crawl_sources::SeedsFault;
 use crawl_web::WebError;
 use std::alloc::{AllocError, AllocFailed};
 
@@ -15,11 +16,15 @@ use std::alloc::{AllocError, AllocFailed};
 pub enum Fault {
     /// A read failed, or the input is beyond a limit.
     CannotRead,
+    /// The same of the file of seeds.
+    CannotReadSeeds,
     /// The input is no script.
     Script(ScriptError),
     /// The input is no saved web.
     Web(WebError),
-    /// A seed has no canonical URL: the first such seed, counted from 1, and why.
+    /// The file of seeds is none, or one of its lines is no seed.
+    Seeds(SeedsFault),
+    /// A seed of the command line has no canonical URL: the first such seed, counted from 1, and why.
     Seed(usize, KeyError),
     /// The URL whose key is asked for has no canonical URL.
     Url(KeyError),
@@ -55,6 +60,16 @@ impl Fault {
             KeyError::NotUrl | KeyError::NotHttp => Fault::Seed(place, refusal),
         }
     }
+
+    /// The fault of a file of seeds that was not read to its end.
+    pub fn of_unread_seeds(why: Unread) -> Fault
+        ensures { result ≡ spec.of_unread_seeds why }
+    {
+        match why {
+            Unread::Failed | Unread::Beyond => Fault::CannotReadSeeds,
+            Unread::NoMemory => Fault::NoMemory,
+        }
+    }
 }
 
 impl From<Unread> for Fault {
@@ -77,6 +92,17 @@ impl From<ScriptError> for Fault {
         match fault {
             ScriptError::NoMemory => Fault::NoMemory,
             _ => Fault::Script(fault),
+        }
+    }
+}
+
+impl From<SeedsFault> for Fault {
+    ghost from_gives = { λ seeds fault. fault ≡ of_seeds seeds };
+
+    fn from(fault: SeedsFault) -> Fault {
+        match fault {
+            SeedsFault::NoMemory => Fault::NoMemory,
+            _ => Fault::Seeds(fault),
         }
     }
 }

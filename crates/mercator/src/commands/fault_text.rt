@@ -1,20 +1,21 @@
 //! The texts of faults.
 ghost use Rattle.std.specs.Prelude.{Some};
-ghost use Rattle.mercator.specs.FaultText.{fault_text, line_text, web_text, script_text, crawl_text};
+ghost use Rattle.mercator.specs.FaultText.{fault_text, line_text, web_text, seeds_text, script_text, crawl_text};
 
 use crate::commands::fault::Fault;
 use crate::crawling::CrawlError;
 use crawl_certificate::CertError;
 use crawl_frontier::FinishError;
 use crawl_replay::ScriptError;
+use crawl_sources::SeedsFault;
 use crawl_web::WebError;
 use std::fmt;
 use std::fmt::Display;
 
-/// A fault as a person reads it, with the FILE that its command named.
+/// A fault as a person reads it, with the file that it speaks of.
 #[derive(Clone, Copy)]
 pub struct FaultText<'a> {
-    /// The FILE, as it was given.
+    /// The file's name, as it was given.
     pub file: &'a str,
     /// The fault.
     pub fault: Fault,
@@ -25,7 +26,7 @@ impl fmt::Display for FaultText<'_> {
 
     fn fmt<W: fmt::Write>(&self, f: &mut fmt::Formatter<W>) -> fmt::Result {
         match self.fault {
-            Fault::CannotRead => {
+            Fault::CannotRead | Fault::CannotReadSeeds => {
                 let file = self.file;
                 write!(f, "cannot read {file}")
             }
@@ -34,6 +35,10 @@ impl fmt::Display for FaultText<'_> {
             Fault::BadSuffix => f.write_str("bad suffix"),
             Fault::Url(why) => write!(f, "URL: {why}"),
             Fault::Seed(place, why) => write!(f, "seed {place}: {why}"),
+            Fault::Seeds(fault) => {
+                let text = SeedsText(fault);
+                write!(f, "seeds: {text}")
+            }
             Fault::Web(fault) => {
                 let text = WebText(fault);
                 write!(f, "saved web: {text}")
@@ -111,6 +116,39 @@ impl fmt::Display for WebText {
             }
             .fmt(f),
             WebError::NoMemory => f.write_str("out of memory"),
+        }
+    }
+}
+
+#[derive(Clone, Copy)]
+struct SeedsText(SeedsFault);
+
+impl fmt::Display for SeedsText {
+    ghost output = { λ told. Some (seeds_text told.0) };
+
+    fn fmt<W: fmt::Write>(&self, f: &mut fmt::Formatter<W>) -> fmt::Result {
+        match self.0 {
+            SeedsFault::LineTooLong(number) => LineText {
+                number,
+                words: "line too long",
+            }
+            .fmt(f),
+            SeedsFault::NotText(number) => LineText {
+                number,
+                words: "not UTF-8",
+            }
+            .fmt(f),
+            SeedsFault::NotUrl(number) => LineText {
+                number,
+                words: "not a URL",
+            }
+            .fmt(f),
+            SeedsFault::NotHttp(number) => LineText {
+                number,
+                words: "not http or https",
+            }
+            .fmt(f),
+            SeedsFault::NoMemory => f.write_str("out of memory"),
         }
     }
 }

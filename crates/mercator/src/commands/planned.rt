@@ -1,9 +1,11 @@
 //! What a command line asks for.
 ghost use Rattle.std.specs.Prelude.{◌≡◌};
-ghost use Rattle.mercator.specs.Plans.{file_of};
+ghost use Rattle.mercator.specs.Plans.{file_of, told_file};
+
+use crate::commands::fault::Fault;
 
 /// What the words of a command line ask for. [`plan`](crate::plan) answers one whose numbers are within the limits, and
-/// a crawl with at least one seed.
+/// a crawl with at least one seed or a file of seeds, and not both of its files the input.
 #[derive(Debug, Drop)]
 pub enum Plan {
     /// `crawl`: the report of a crawl of a saved web.
@@ -14,11 +16,15 @@ pub enum Plan {
         max: u64,
         /// Whether the counts of the subqueues follow the report.
         queues: bool,
+        /// Whether the lines that tell where missing URLs are linked from stand at the end.
+        sources: bool,
         /// The suffix of the hosts that are wanted, where not all are.
         within: Option<String>,
         /// The saved web's name, or `-` for the input.
         file: String,
-        /// Where the crawl begins.
+        /// The name of a file of seeds, or `-` for the input, where there is one.
+        listed: Option<String>,
+        /// Where the crawl begins, behind the seeds of that file.
         seeds: Vec<String>,
     },
     /// `key`: the URL's key line.
@@ -43,6 +49,22 @@ impl Plan {
         match self {
             Plan::Crawl { file, .. } | Plan::Replay { file } => file.as_str(),
             Plan::Key { .. } => "",
+        }
+    }
+
+    /// The file that this fault speaks of: that of the seeds where this one cannot be read, else FILE.
+    pub fn told_file(&self, fault: Fault) -> &str
+        ensures { result.now ≡ told_file self.now fault }
+    {
+        match (self, fault) {
+            (
+                Plan::Crawl {
+                    listed: Some(listed),
+                    ..
+                },
+                Fault::CannotReadSeeds,
+            ) => listed.as_str(),
+            _ => self.file(),
         }
     }
 }

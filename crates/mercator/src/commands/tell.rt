@@ -1,35 +1,39 @@
 //! What each command tells.
-ghost use Rattle.std.specs.Prelude.{◌≡◌, ◌≤◌, ◌++◌, map, string_bytes, if◌then◌else◌, true, false, IfOk, IfErr, []};
+ghost use Rattle.std.specs.Prelude.{◌≡◌, ◌≤◌, ◌⊎◌, ◌&&◌, ◌||◌, map, string_bytes, vec_len, true, false, IfOk, IfErr, IfSome, IsSome};
 ghost use Rattle.crawl_core.specs.Limits.{worker_limit};
 ghost use Rattle.crawl_keys.specs.HostFilter.{filter_of};
 ghost use Rattle.crawl_keys.specs.Outcome.{Gives};
 ghost use Rattle.mercator.specs.KeyLine.{IsKeyLine};
-ghost use Rattle.mercator.specs.Plans.{IsWithinLimits, is_input, is_bad_suffix, reads_input, suffixes_of};
-ghost use Rattle.mercator.specs.QueueLines.{queue_lines};
+ghost use Rattle.mercator.specs.Limits.{most_input_bytes};
+ghost use Rattle.mercator.specs.Plans.{IsWithinLimits, is_input, is_bad_suffix, known_bytes, known_seeds, lists_input, reads_input, suffixes_of};
 ghost use Rattle.crawl_replay.specs.Replay.{IsReplay};
-ghost use Rattle.mercator.specs.Told.{IsTold, Fails, FailsReplay, FailsCrawl, FailsKey, OfFile};
-ghost use Rattle.mercator.specs.WebCrawl.{IsCrawlText};
+ghost use Rattle.mercator.specs.Told.{IsTold, Fails, FailsReplay, FailsCrawl, FailsKey, OfFile, OfFiles};
+ghost use Rattle.mercator.specs.WebCrawl.{IsFound, told_text};
+ghost use Rattle.mercator.specs.declared.commands.fault.Fault.TheVariants as wrong;
 
 use crate::commands::fault::Fault;
 use crate::commands::planned::Plan;
 use crate::commands::queues::queue_text;
 use crate::commands::source::read_file;
-use crate::commands::web_crawl::{Report, report_of_saved_web};
-use crate::crawling::Mode;
+use crate::commands::web_crawl::crawl_web;
+use crate::crawling::{Crawled, Mode};
 use crate::key::key_line;
 use crawl_keys::{Filter, FilterError};
 use crawl_replay::replay_text;
-use std::alloc::{AllocError, Global};
+use crawl_sources::sources_text;
+use crawl_web::report_text;
+use std::alloc::Global;
 use std::fs::Files;
 use std::io::Read;
 use std::sync::Wait;
 use std::thread::Threads;
 
-/// What the plan's command tells. A replay and a crawl read their whole FILE first, and a crawl looks at its suffix before.
+/// What the plan's command tells. A replay and a crawl read their whole FILE first, and a crawl looks at its suffix before, and
+/// reads its file of seeds after it.
 ///
 /// # Errors
-/// `BadSuffix`; `CannotRead`; the faults of the script, of the saved web, of the first bad seed, of an incomplete crawl, or of the
-/// URL; `NoMemory`.
+/// `BadSuffix`; `CannotRead`; `CannotReadSeeds`; the faults of the script, of the saved web, of the file of seeds, of the first bad
+/// seed, of an incomplete crawl, or of the URL; `NoMemory`.
 pub fn tell<R: Files + Threads + Wait + Sync, I: Read>(
     rt: &R,
     alloc: Global,
@@ -47,12 +51,17 @@ pub fn tell<R: Files + Threads + Wait + Sync, I: Read>(
             workers,
             max,
             queues,
+            sources,
             within,
             file,
+            listed,
             seeds,
-        } => tell_crawl(
-            rt, alloc, *workers, *max, *queues, within, file, seeds, input,
-        ),
+        } => {
+            let found = crawl_files(
+                rt, alloc, *workers, *max, within, file, listed, seeds, input,
+            )?;
+            text_of(alloc, &found, *queues, *sources)
+        }
         Plan::Key { url, workers } => tell_key(alloc, url, *workers),
     }
 }
@@ -63,7 +72,7 @@ fn tell_replay<R: Files, I: Read>(
     file: &str,
     input: &mut I,
 ) -> Result<Vec<u8>, Fault>
-    ensures text { IfOk result (λ text. OfFile file.now (I.remaining input.old) (λ bytes. IsReplay bytes text.items)) }
+    ensures text { IfOk result (λ text. OfFile (known_bytes file.now (I.remaining input.old)) (λ bytes. IsReplay bytes text.items)) }
     ensures fault { IfErr result (FailsReplay file.now (I.remaining input.old)) }
     ensures unread { is_input file.now ≡ false → input.new ≡ input.old }
 {
@@ -71,35 +80,50 @@ fn tell_replay<R: Files, I: Read>(
     Ok(replay_text(alloc, &bytes)?)
 }
 
-fn tell_crawl<R: Files + Threads + Wait + Sync, I: Read>(
+/// What a crawl of its files finds.
+fn crawl_files<R: Files + Threads + Wait + Sync, I: Read>(
     rt: &R,
     alloc: Global,
     workers: u32,
     max: u64,
-    queues: bool,
     within: &Option<String>,
     file: &str,
+    listed: &Option<String>,
     seeds: &[String],
     input: &mut I,
-) -> Result<Vec<u8>, Fault>
-    ensures text { IfOk result (λ text. (is_bad_suffix within.now ≡ false) × OfFile file.now (I.remaining input.old) (λ bytes. IsCrawlText workers queues bytes (map string_bytes seeds.now) (suffixes_of within.now) text.items)) }
-    ensures fault { IfErr result (FailsCrawl workers max within.now file.now (map string_bytes seeds.now) (I.remaining input.old)) }
+) -> Result<Crawled, Fault>
+    requires one_input { (is_input file.now && lists_input listed.now) ≡ false }
+    ensures found { IfOk result (λ crawled. (is_bad_suffix within.now ≡ false) × OfFiles file.now listed.now (I.remaining input.old) (λ bytes list. IsFound workers bytes list (map string_bytes seeds.now) (suffixes_of within.now) crawled)) }
+    ensures fault { IfErr result (FailsCrawl workers max within.now file.now listed.now (map string_bytes seeds.now) (I.remaining input.old)) }
     ensures unfiltered { is_bad_suffix within.now ≡ true → input.new ≡ input.old }
-    ensures unread { is_input file.now ≡ false → input.new ≡ input.old }
+    ensures unread { (is_input file.now || lists_input listed.now) ≡ false → input.new ≡ input.old }
 {
     let filter = filter_of(alloc, within)?;
     let bytes = read_file(rt, alloc, file, input)?;
-    let report = report_of_saved_web(
-        rt,
-        alloc,
-        &bytes,
-        seeds,
-        &filter,
-        workers,
-        max,
-        Mode::Threads,
-    )?;
-    Ok(text_of(alloc, report, queues)?)
+    let list = read_list(rt, alloc, listed, input)?;
+    let mode = Mode::Threads;
+    crawl_web(rt, alloc, &bytes, &list, seeds, &filter, workers, max, mode)
+}
+
+/// All bytes of the file of seeds; none where there is no such file.
+fn read_list<R: Files, I: Read>(
+    rt: &R,
+    alloc: Global,
+    listed: &Option<String>,
+    input: &mut I,
+) -> Result<Vec<u8>, Fault>
+    ensures whole { IfOk result (λ bytes. IfSome (known_seeds listed.now (I.remaining input.old)) (λ known. bytes.items ≡ known)) }
+    ensures within { IfOk result (λ bytes. vec_len bytes ≤ most_input_bytes) }
+    ensures fault { IfErr result (λ fault. (fault ≡ wrong.NoMemory) ⊎ ((fault ≡ wrong.CannotReadSeeds) × IsSome listed.now)) }
+    ensures unread { lists_input listed.now ≡ false → input.new ≡ input.old }
+{
+    let Some(file) = listed else {
+        return Ok(Vec::new(alloc));
+    };
+    match read_file(rt, alloc, file, input) {
+        Ok(bytes) => Ok(bytes),
+        Err(why) => Err(Fault::of_unread_seeds(why)),
+    }
 }
 
 /// The filter of a crawl.
@@ -112,13 +136,18 @@ fn filter_of(alloc: Global, within: &Option<String>) -> Result<Filter, FilterErr
     }
 }
 
-/// The text of a report, with the lines of its counts where they are wanted.
-fn text_of(alloc: Global, report: Report, queues: bool) -> Result<Vec<u8>, AllocError>
-    ensures { IfOk result (λ text. text.items ≡ report.text.items ++ (if queues then queue_lines report.counts.items else [])) }
+/// The text of what was found: the report, and where they are wanted the lines of its counts, and those of the sources of its
+/// missing URLs.
+fn text_of(alloc: Global, found: &Crawled, queues: bool, sources: bool) -> Result<Vec<u8>, Fault>
+    ensures text { IfOk result (λ text. text.items ≡ told_text queues sources found.now.result found.now.counts.items) }
+    ensures fault { IfErr result (λ fault. fault ≡ wrong.NoMemory) }
 {
-    let Report { mut text, counts } = report;
+    let mut text = report_text(alloc, found.result.pages())?;
     if queues {
-        text.extend_from_slice(&queue_text(alloc, &counts)?)?;
+        text.extend_from_slice(&queue_text(alloc, &found.counts)?)?;
+    }
+    if sources {
+        text.extend_from_slice(&sources_text(alloc, found.result.pages())?)?;
     }
     Ok(text)
 }

@@ -1,13 +1,14 @@
 //! A crawl of a saved web, from its bytes to the report.
-ghost use Rattle.std.specs.Prelude.{List, map, string_bytes, IfOk, IfErr};
+ghost use Rattle.std.specs.Prelude.{List, [], map, string_bytes, IfOk, IfErr};
 ghost use Rattle.crawl_certificate.specs.Certificate.{result_urls};
 ghost use Rattle.crawl_web.specs.declared.page.PageResult.{PageResult};
 ghost use Rattle.mercator.specs.Crawls.{AreCounts};
-ghost use Rattle.mercator.specs.WebCrawl.{AreSeeds, IsSiteCrawl, IsCrawlReport, IsRefused, IsSeedFault};
+ghost use Rattle.mercator.specs.WebCrawl.{AreSeeds, IsFound, IsSiteCrawl, IsCrawlReport, IsRefused, IsSeedFault};
 
 use crate::commands::fault::Fault;
-use crate::crawling::{Mode, crawl};
+use crate::crawling::{Crawled, Mode, crawl};
 use crawl_keys::{CanonUrl, Filter, canonical};
+use crawl_sources::read_seeds;
 use crawl_web::{SavedWeb, report_text};
 use std::alloc::Global;
 use std::sync::Wait;
@@ -42,17 +43,51 @@ pub fn report_of_saved_web<R: Threads + Wait + Sync>(
     mode: Mode,
 ) -> Result<Report, Fault>
     ensures report { IfOk result (λ r. IsCrawlReport bytes.now (map string_bytes seeds.now) filter.now r.text.items) }
-    ensures counts { IfOk result (λ r. (pages : List PageResult) → IsSiteCrawl bytes.now (map string_bytes seeds.now) filter.now pages → AreCounts workers (result_urls pages) r.counts.items) }
-    ensures refused { IfErr result (λ fault. IsRefused workers max_pending bytes.now (map string_bytes seeds.now) fault) }
+    ensures counts { IfOk result (λ r. (pages : List PageResult) → IsSiteCrawl bytes.now [] (map string_bytes seeds.now) filter.now pages → AreCounts workers (result_urls pages) r.counts.items) }
+    ensures refused { IfErr result (λ fault. IsRefused workers max_pending bytes.now [] (map string_bytes seeds.now) fault) }
 {
-    let web = SavedWeb::read(alloc, bytes)?;
-    let seeds = seed_urls(alloc, seeds)?;
-    let crawled = crawl(rt, alloc, &web, filter, &seeds, workers, max_pending, mode)?;
-    let text = report_text(alloc, crawled.result.pages())?;
+    let found = crawl_web(
+        rt,
+        alloc,
+        bytes,
+        &[],
+        seeds,
+        filter,
+        workers,
+        max_pending,
+        mode,
+    )?;
+    let text = report_text(alloc, found.result.pages())?;
     Ok(Report {
         text,
-        counts: crawled.counts,
+        counts: found.counts,
     })
+}
+
+/// What a crawl of the saved web that the bytes are finds, from the seeds of the file with the bytes `listed`, and then from
+/// those given.
+///
+/// # Errors
+/// `Web`; `Seeds`; and then those of [`report_of_saved_web`].
+pub fn crawl_web<R: Threads + Wait + Sync>(
+    rt: &R,
+    alloc: Global,
+    bytes: &[u8],
+    listed: &[u8],
+    seeds: &[String],
+    filter: &Filter,
+    workers: u32,
+    max_pending: u64,
+    mode: Mode,
+) -> Result<Crawled, Fault>
+    ensures found { IfOk result (λ crawled. IsFound workers bytes.now listed.now (map string_bytes seeds.now) filter.now crawled) }
+    ensures refused { IfErr result (λ fault. IsRefused workers max_pending bytes.now listed.now (map string_bytes seeds.now) fault) }
+{
+    let web = SavedWeb::read(alloc, bytes)?;
+    let mut urls = read_seeds(alloc, listed)?;
+    let mut others = seed_urls(alloc, seeds)?;
+    urls.append(&mut others)?;
+    Ok(crawl(rt, alloc, &web, filter, &urls, workers, max_pending, mode)?)
 }
 
 /// The seeds' canonical URLs.

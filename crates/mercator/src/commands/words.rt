@@ -1,7 +1,7 @@
 //! The words of a command line, read by `clap`.
 ghost use Rattle.std.specs.Prelude.{◌≡◌, ◌≤◌, IfOk, IfErr, IfSome};
 ghost use Rattle.crawl_core.specs.Limits.{worker_limit, pending_limit};
-ghost use Rattle.mercator.specs.Plans.{IsWithinLimits, IsShown};
+ghost use Rattle.mercator.specs.Plans.{IsWithinLimits, IsShown, lists_input};
 ghost use Rattle.mercator.specs.declared.commands.words.PlanError.TheVariants as wrong;
 
 use crate::commands::command_line::{self, command_line};
@@ -88,6 +88,12 @@ fn shown(alloc: Global, error: &clap::Error) -> PlanError
 /// The status of a bad command line.
 pub const BAD_COMMAND_LINE: u8 = 3;
 
+const TWO_INPUTS: &str = "\
+error: FILE and '--seeds <LIST>' cannot both be '-'
+
+For more information, try '--help'.
+";
+
 /// Where the words were read otherwise than `clap` checked them.
 fn misread(alloc: Global) -> PlanError
     ensures { IsShown result }
@@ -121,16 +127,22 @@ fn crawl_of(alloc: Global, found: &ArgMatches<'_>) -> Result<Plan, PlanError>
     ) else {
         return Err(misread(alloc));
     };
+    let listed = option_of(alloc, found, "seeds")?;
     let seeds = seeds_of(alloc, found)?;
-    if seeds.is_empty() {
+    if listed.is_none() && seeds.is_empty() {
         return Err(misread(alloc));
+    }
+    if file == "-" && is_input(&listed) {
+        return Err(two_inputs(alloc)?);
     }
     Ok(Plan::Crawl {
         workers,
         max,
         queues: found.get_flag("queues"),
-        within: within_of(alloc, found)?,
+        sources: found.get_flag("sources"),
+        within: option_of(alloc, found, "within")?,
         file: String::from_str(alloc, file)?,
+        listed,
         seeds,
     })
 }
@@ -186,11 +198,36 @@ fn max_of(found: &ArgMatches<'_>) -> Option<u64>
     }
 }
 
-fn within_of(alloc: Global, found: &ArgMatches<'_>) -> Result<Option<String>, AllocError> {
-    match found.get_str("within") {
-        Some(suffix) => Ok(Some(String::from_str(alloc, suffix)?)),
+/// The value of an option that may be left out.
+fn option_of(
+    alloc: Global,
+    found: &ArgMatches<'_>,
+    option: &str,
+) -> Result<Option<String>, AllocError> {
+    match found.get_str(option) {
+        Some(value) => Ok(Some(String::from_str(alloc, value)?)),
         None => Ok(None),
     }
+}
+
+/// Whether a file of seeds is named, and is the input.
+fn is_input(listed: &Option<String>) -> bool
+    ensures { result ≡ lists_input listed.now }
+{
+    match listed {
+        Some(file) => file.as_str() == "-",
+        None => false,
+    }
+}
+
+/// What is shown where both files of a crawl would be read from the input.
+fn two_inputs(alloc: Global) -> Result<PlanError, AllocError>
+    ensures { IfOk result IsShown }
+{
+    Ok(PlanError::Shown {
+        text: String::from_str(alloc, TWO_INPUTS)?,
+        status: BAD_COMMAND_LINE,
+    })
 }
 
 fn seeds_of(alloc: Global, found: &ArgMatches<'_>) -> Result<Vec<String>, AllocError> {

@@ -19,10 +19,15 @@ fn plan_line(alloc: Global, row: &[&str]) -> Result<String, Fail> {
             workers,
             max,
             queues,
+            sources,
             within,
             file,
+            listed,
             seeds,
-        } => format!(in alloc; "crawl {workers} {max} {queues} {within:?} {file} {seeds:?}")?,
+        } => {
+            let limits = format!(in alloc; "{workers} {max} {queues} {sources}")?;
+            format!(in alloc; "crawl {limits} {within:?} {file} {listed:?} {seeds:?}")?
+        }
         Plan::Key { url, workers } => format!(in alloc; "key {url} {workers}")?,
         Plan::Replay { file } => format!(in alloc; "replay {file}")?,
     })
@@ -30,12 +35,15 @@ fn plan_line(alloc: Global, row: &[&str]) -> Result<String, Fail> {
 
 #[test]
 fn plans_of_words(rt: HostRuntime) -> Result<(), Fail> {
-    let all = "crawl 2 7 true Some(\"b.test\") - [\"x\", \"y\"]";
+    let all = "crawl 2 7 true false Some(\"b.test\") - None [\"x\", \"y\"]";
     let rows: [(&[&str], &str); 14] = [
-        (&["crawl", "-", "x"], "crawl 4 1048576 false None - [\"x\"]"),
+        (
+            &["crawl", "-", "x"],
+            "crawl 4 1048576 false false None - None [\"x\"]",
+        ),
         (
             &["crawl", "w.web", "x", "y"],
-            "crawl 4 1048576 false None w.web [\"x\", \"y\"]",
+            "crawl 4 1048576 false false None w.web None [\"x\", \"y\"]",
         ),
         (
             &[
@@ -92,19 +100,19 @@ fn plans_of_words(rt: HostRuntime) -> Result<(), Fail> {
                 "-",
                 "x",
             ],
-            "crawl 512 1099511627776 false None - [\"x\"]",
+            "crawl 512 1099511627776 false false None - None [\"x\"]",
         ),
         (
             &["crawl", "--workers", "1", "--max-pending", "1", "-", "x"],
-            "crawl 1 1 false None - [\"x\"]",
+            "crawl 1 1 false false None - None [\"x\"]",
         ),
         (
             &["crawl", "--", "-", "--workers", "2"],
-            "crawl 4 1048576 false None - [\"--workers\", \"2\"]",
+            "crawl 4 1048576 false false None - None [\"--workers\", \"2\"]",
         ),
         (
             &["crawl", "--within", "", "-", ""],
-            "crawl 4 1048576 false Some(\"\") - [\"\"]",
+            "crawl 4 1048576 false false Some(\"\") - None [\"\"]",
         ),
         (&["key", "x"], "key x 4"),
         (&["key", "x", "--workers", "512"], "key x 512"),
@@ -222,13 +230,15 @@ fn help_that_is_asked_for(rt: HostRuntime) {
 #[test]
 fn help_of_a_crawl(rt: HostRuntime) {
     let texts = [
-        "Usage: mercator crawl [OPTIONS] <FILE> <SEED>...",
+        "Usage: mercator crawl [OPTIONS] <FILE> [SEED]...",
         "--workers <N>",
         "1 to 512 [default: 4]",
         "--max-pending <M>",
         "1 to 1099511627776 [default: 1048576]",
         "--queues",
+        "--sources",
         "--within <SUFFIX>",
+        "--seeds <LIST>",
         "Example: mercator crawl ",
     ];
     assert!(rt; shows(&rt, rt.alloc(), &["crawl", "--help"], &texts));
