@@ -1,38 +1,188 @@
 #!/bin/bash
-# Runs the stored row of mercator_cli with its first, second, .. growth refused, one a run. Each run ends with status 1
-# and nothing on standard output, or with status 0 and the row's bytes, where the growth was not needed or not met. No
-# message tells which of the two it was, so the runs go on until five in a row have the row's bytes. It prints how many
-# growths the row meets, and fails where a run ends otherwise.
+# Runs each command of the built program with its first, second, .. growth of memory refused, one a run, until a run asks for
+# none more; and a crawl of 2,000 pages with growths farther on. A run must end with status 0 and the whole bytes of a run
+# without a refusal, or with status 1, 2 or 3, nothing on standard output, and on standard error a line that the formats or
+# `clap` give, or nothing, where the line was lost to the refusal. It must neither hang, crash, nor write anything else. It prints
+# how many growths each command asks for, and fails where a run ended otherwise.
 #
-# Usage: tests/refused-growths.sh [FIRST], to begin at that growth and not at the first.
+# Growths are calls of malloc, calloc, realloc and aligned_alloc, which a small library answers in the C library's place.
+# Wants `rt` (where the program is not built), a C compiler and Python 3.9.
 set -euo pipefail
-cd "$(dirname "$0")/../crates/mercator_cli"
+cd "$(dirname "$0")/.."
+program=${PROGRAM:-$PWD/crates/mercator_cli/out/mercator_cli}
 scratch=$(mktemp -d)
 trap 'rm -rf "$scratch"' EXIT
-mapfile -t words < args
 
-growth=${1:-1}
-refused=0
-last=0
-whole=0
-while [ "$whole" -lt 5 ]; do
-    status=0
-    rt try --fail-alloc "$growth" -- "${words[@]}" < stdin > "$scratch/out" 2> "$scratch/err" || status=$?
-    if [ "$status" -eq 0 ] && cmp -s "$scratch/out" stdout; then
-        whole=$((whole + 1))
-    elif [ "$status" -eq 1 ] && [ ! -s "$scratch/out" ] && grep -q '^run=ended status=1 ' "$scratch/err"; then
-        whole=0
-        refused=$((refused + 1))
-        last=$growth
-    else
-        echo "growth $growth refused: status $status"
-        cat "$scratch/err" "$scratch/out"
-        exit 1
-    fi
-    growth=$((growth + 1))
-done
-if [ "$refused" -eq 0 ]; then
-    echo "no refused growth ended the program"
-    exit 1
+# `rt run` proves and builds the program, and leaves it in out/.
+if [ ! -x "$program" ]; then
+    (cd crates/mercator_cli && rt run -- key http://a.test/ > /dev/null)
 fi
-echo "the row meets $last growths; refused, $refused of them end with status 1 and no output, the others with its bytes"
+
+# Refuses the growth with the number in REFUSE, from 1, and then makes the file in REFUSED, so that it is known to be met.
+cat > "$scratch/refuse.c" <<'LIBRARY'
+#define _GNU_SOURCE
+#include <errno.h>
+#include <fcntl.h>
+#include <stdatomic.h>
+#include <stddef.h>
+#include <stdlib.h>
+#include <unistd.h>
+
+extern void *__libc_malloc(size_t);
+extern void *__libc_calloc(size_t, size_t);
+extern void *__libc_realloc(void *, size_t);
+extern void *__libc_memalign(size_t, size_t);
+
+static atomic_ulong asked;
+
+static int refuses(void) {
+    static _Atomic long wanted = -1;
+    long number = atomic_load(&wanted);
+    if (number < 0) {
+        const char *text = getenv("REFUSE");
+        number = text ? atol(text) : 0;
+        atomic_store(&wanted, number);
+    }
+    if (number == 0 || atomic_fetch_add(&asked, 1) + 1 != (unsigned long)number) return 0;
+    int met = open(getenv("REFUSED"), O_WRONLY | O_CREAT | O_CLOEXEC, 0600);
+    if (met >= 0) close(met);
+    errno = ENOMEM;
+    return 1;
+}
+
+void *malloc(size_t size) { return refuses() ? NULL : __libc_malloc(size); }
+void *calloc(size_t count, size_t size) { return refuses() ? NULL : __libc_calloc(count, size); }
+void *realloc(void *old, size_t size) { return refuses() ? NULL : __libc_realloc(old, size); }
+void *aligned_alloc(size_t align, size_t size) { return refuses() ? NULL : __libc_memalign(align, size); }
+LIBRARY
+"${CC:-cc}" -O1 -shared -fPIC -o "$scratch/refuse.so" "$scratch/refuse.c"
+
+python3 bench/make_web.py 2000 > "$scratch/pages.web"
+
+cat > "$scratch/run.py" <<'RUN'
+import os
+import re
+import subprocess
+import sys
+from concurrent.futures import ThreadPoolExecutor
+
+PROGRAM, SCRATCH, DATA = sys.argv[1:]
+SECONDS = 60
+AT_ONCE = os.cpu_count() or 2
+
+with open(f"{SCRATCH}/pages.web", encoding="utf-8") as web:
+    next(web)
+    FIRST_PAGE = next(web).split(" ", 1)[1].strip()
+
+RING = f"{DATA}/ring.web"
+SITE = f"{DATA}/site.web"
+
+# Words, and the file on standard input.
+COMMANDS = [
+    (["crawl", "--workers", "1", RING, "http://a.test/"], None),
+    (["crawl", "--workers", "2", RING, "http://a.test/"], None),
+    (["crawl", "--workers", "4", RING, "http://a.test/"], None),
+    (["crawl", "--workers", "2", "-", "http://a.test/"], RING),
+    (["crawl", "--workers", "3", "--queues", RING, "http://a.test/"], None),
+    (["crawl", "--workers", "2", "--within", "a.test", RING, "http://a.test/"], None),
+    (["crawl", "--workers", "2", "--sources", SITE, "http://site.test/"], None),
+    (["crawl", "--workers", "1", "--seeds", f"{DATA}/moved.seeds", f"{DATA}/moved.web"], None),
+    (["crawl", "--workers", "1", "--seeds", "-", f"{DATA}/moved.web"], f"{DATA}/moved.seeds"),
+    (["replay", f"{DATA}/two_urls.script"], None),
+    (["replay", "-"], f"{DATA}/two_urls.script"),
+    (["key", "http://A.test:80/x/../y#f", "--workers", "2"], None),
+    (["--help"], None),
+    (["crawl", "--help"], None),
+    (["help", "replay"], None),
+    # a fault of each kind
+    (["crawl", "--within", "*", RING, "http://a.test/"], None),
+    (["crawl", "no/such.web", "http://a.test/"], None),
+    (["crawl", "--seeds", "no/such.seeds", RING], None),
+    (["crawl", f"{DATA}/two_urls.script", "http://a.test/"], None),
+    (["crawl", "--seeds", RING, RING], None),
+    (["crawl", RING, "mailto:x"], None),
+    (["crawl", "--max-pending", "1", RING, "http://a.test/"], None),
+    (["replay", RING], None),
+    (["key", "x"], None),
+    (["crawl", "--workers", "513", RING, "http://a.test/"], None),
+    (["crawl", "--seeds", "-", "-"], None),
+    (["play"], None),
+    ([], None),
+]
+
+FAULT = re.compile(
+    rb"mercator: (out of memory|cannot read [^\n]*|cannot write|bad suffix|(seed \d+|URL): [a-z A-Z]+"
+    rb"|(saved web|script|seeds): (line \d+: )?[a-zA-Z -]+8?|incomplete: [a-z0-9 ]+)\n"
+)
+
+
+def run(words, given, growth, mark):
+    env = {"LD_PRELOAD": f"{SCRATCH}/refuse.so", "REFUSE": str(growth), "REFUSED": mark}
+    with open(given or os.devnull, "rb") as stdin:
+        ended = subprocess.run([PROGRAM, *words], stdin=stdin, capture_output=True, env=env, timeout=SECONDS)
+    met = os.path.exists(mark)
+    if met:
+        os.remove(mark)
+    return ended.returncode, ended.stdout, ended.stderr, met
+
+
+def is_told(status, told):
+    """A fault's line, what `clap` tells, or a beginning of either that was cut off, or nothing."""
+    if not told or (status in (1, 2) and FAULT.fullmatch(told)):
+        return True
+    return status == 3 and (told.startswith(b"error: ") or told.startswith(b"The URL frontier"))
+
+
+def wrong(words, given, growth, whole):
+    """What is wrong with the run whose growth with this number is refused, and whether it asked for it."""
+    status, out, told, met = run(words, given, growth, f"{SCRATCH}/met.{os.getpid()}.{growth}.{id(words)}")
+    if (status, out, told) == whole:
+        return None, met
+    if not met:
+        return f"status {status} and another answer, though nothing was refused: {out[:200]!r} {told[:200]!r}", met
+    if status in (1, 2, 3) and not out and is_told(status, told):
+        return None, met
+    return f"status {status}: {out[:200]!r} {told[:200]!r}", met
+
+
+def growths(words, given, numbers, pool):
+    whole = run(words, given, 0, f"{SCRATCH}/none")[:3]
+    failed, asked = 0, 0
+    numbers = iter(numbers)
+    while True:
+        batch = [number for _, number in zip(range(4 * AT_ONCE), numbers)]
+        if not batch:
+            break
+        found = list(pool.map(lambda number: wrong(words, given, number, whole), batch))
+        for number, (text, met) in zip(batch, found):
+            asked = max(asked, number) if met else asked
+            if text:
+                failed += 1
+                print(f"{' '.join(words)}: growth {number}: {text}")
+        if not all(met for _, met in found):
+            break
+    return asked, failed
+
+
+def main():
+    failed = 0
+    with ThreadPoolExecutor(AT_ONCE) as pool:
+        for words, given in COMMANDS:
+            asked, wrongs = growths(words, given, range(1, 1_000_000), pool)
+            failed += wrongs
+            print(f"{asked:6} growths: mercator {' '.join(word.replace(DATA + '/', '') for word in words)}", flush=True)
+        pages = ["crawl", "--workers", "2", f"{SCRATCH}/pages.web", FIRST_PAGE]
+        farther = [1_000, 3_000, 10_000, 10_001, 10_002, 10_003]
+        asked, wrongs = growths(pages, None, farther, pool)
+        failed += wrongs
+        print(f"a crawl of 2,000 pages: growth {asked} and others before it refused")
+        if asked < 10_000:
+            failed += 1
+            print("it asks for fewer than 10,000 growths")
+    print(f"{failed} runs ended otherwise" if failed else "all as wanted")
+    sys.exit(1 if failed else 0)
+
+
+main()
+RUN
+python3 "$scratch/run.py" "$program" "$scratch" "$PWD/crates/examples/data"
