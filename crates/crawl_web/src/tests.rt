@@ -1,3 +1,5 @@
 //! What no clause says: that calls succeed, the texts, and that the definitions mean the formats.
+mod drawn_webs;
+mod plain_web;
 mod report;
 mod saved_webs;
