@@ -86,15 +86,38 @@ expect "a folder" 1 "" "mercator: cannot read $scratch"
 run crawl /dev/null http://a.test/
 expect "an empty file" 1 "" "mercator: saved web: bad header"
 
-# Root may read everything, so this row needs another user.
-if [ "$(id -u)" -ne 0 ]; then
-    cp "$data/ring.web" "$scratch/closed.web"
-    chmod 0 "$scratch/closed.web"
-    run crawl "$scratch/closed.web" http://a.test/
-    expect "a file that may not be read" 1 "" "mercator: cannot read $scratch/closed.web"
-else
-    echo "left out, since root may read everything: a file that may not be read"
-fi
+# Root may read everything, so root runs this row as another user, from a folder that this one may enter.
+closed=$(mktemp -d)
+trap 'rm -rf "$scratch" "$closed"' EXIT
+cp "$program" "$closed/program"
+cp "$data/ring.web" "$closed/closed.web"
+chmod 755 "$closed" "$closed/program"
+chmod 0 "$closed/closed.web"
+as=()
+if [ "$(id -u)" -eq 0 ]; then as=(setpriv --reuid 65534 --regid 65534 --clear-groups); fi
+got=0
+"${as[@]}" "$closed/program" crawl "$closed/closed.web" http://a.test/ < /dev/null > "$scratch/out" 2> "$scratch/err" || got=$?
+expect "a file that may not be read" 1 "" "mercator: cannot read $closed/closed.web"
+
+run crawl --sources --within site.test "$data/site.web" http://site.test/
+expect "the sources of missing URLs" 0 "@$data/site.broken" ""
+
+run crawl --seeds "$data/moved.seeds" "$data/moved.web"
+expect "seeds from a file" 0 "@$data/moved.report" ""
+
+got=0
+"$program" crawl "$data/moved.web" --seeds - < "$data/moved.seeds" > "$scratch/out" 2> "$scratch/err" || got=$?
+expect "seeds from a pipe" 0 "@$data/moved.report" ""
+
+run crawl --seeds "$scratch/gone.seeds" "$data/moved.web"
+expect "no such file of seeds" 1 "" "mercator: cannot read $scratch/gone.seeds"
+
+printf 'http://a.test/\n\nno seed\n' > "$scratch/bad.seeds"
+run crawl --seeds "$scratch/bad.seeds" "$data/moved.web" mailto:x
+expect "a bad line of seeds" 1 "" "mercator: seeds: line 3: not a URL"
+
+run crawl --seeds - -
+expect "one input for two files" 3 "" "~cannot both be '-'"
 
 got=0
 "$program" replay - <&- > "$scratch/out" 2> "$scratch/err" || got=$?

@@ -2,8 +2,8 @@
 # Crawls real sites from their folders: the shipped one, and Python's documentation where its package is installed (or in the
 # folder that DOCUMENTATION names). Each is converted by tools/site_to_web.py and crawled with 1 and 4 workers. The shipped
 # site's report is a stored one; each site's is also that of an independent search, which joins links by Python's standard
-# library and leaves out, before both, the links where that may differ from the URL Standard; it says how many. Once the
-# program has --sources, the lines of sources are held against the stored ones and the search's too.
+# library and leaves out, before both, the links where that may differ from the URL Standard; it says how many. The lines of
+# sources are held against the stored ones and the search's too.
 # Wants `rt` (where the program is not built) and Python 3.9.
 set -euo pipefail
 cd "$(dirname "$0")/.."
@@ -15,8 +15,6 @@ trap 'rm -rf "$made"' EXIT
 if [ ! -x "$program" ]; then
     (cd crates/mercator_cli && rt run -- key http://a.test/ > /dev/null)
 fi
-sources=()
-if "$program" crawl --help | grep -q -e --sources; then sources=(--sources); fi
 
 # Written by hand from the site's files.
 cat > "$made/stored.sources" <<'SOURCES'
@@ -153,10 +151,10 @@ same() {
 
 # crawls a saved web from a seed with 1 and 4 workers: NAME WEB SEED REPORT SOURCES
 crawls() {
-    cat "$4" "${sources[@]:+$5}" > "$made/wanted"
+    cat "$4" "$5" > "$made/wanted"
     local workers
     for workers in 1 4; do
-        "$program" crawl "${sources[@]}" --workers "$workers" - "$3" < "$2" > "$made/told"
+        "$program" crawl --sources --workers "$workers" - "$3" < "$2" > "$made/told"
         same "$1, $workers workers" "$made/wanted" "$made/told"
     done
 }
@@ -181,6 +179,5 @@ if [ -n "$found" ]; then
 else
     echo "Python's documentation is not installed: not crawled"
 fi
-if [ "${#sources[@]}" = 0 ]; then echo "the program has no --sources: not compared"; fi
 if [ "$status" = 0 ]; then echo "all as wanted"; fi
 exit "$status"
