@@ -5,8 +5,13 @@
 # `clap` give, or nothing, where the line was lost to the refusal. It must neither hang, crash, nor write anything else. It prints
 # how many growths each command asks for, and fails where a run ended otherwise.
 #
+# With `tests` it does the same with each test of each crate whose tests were built (`rt test` in its folder leaves them in
+# `out/`), with growths more and more apart: a test must pass, or fail by want of memory, and neither hang nor crash.
+#
 # Growths are calls of malloc, calloc, realloc and aligned_alloc, which a small library answers in the C library's place.
 # Wants `rt` (where the program is not built), a C compiler and Python 3.9.
+#
+# Usage: tests/refused-growths.sh [tests]
 set -euo pipefail
 cd "$(dirname "$0")/.."
 program=${PROGRAM:-$PWD/crates/mercator_cli/out/mercator_cli}
@@ -14,7 +19,7 @@ scratch=$(mktemp -d)
 trap 'rm -rf "$scratch"' EXIT
 
 # `rt run` proves and builds the program, and leaves it in out/.
-if [ ! -x "$program" ]; then
+if [ "${1:-}" != tests ] && [ ! -x "$program" ]; then
     (cd crates/mercator_cli && rt run -- key http://a.test/ > /dev/null)
 fi
 
@@ -60,13 +65,14 @@ LIBRARY
 python3 bench/make_web.py 2000 > "$scratch/pages.web"
 
 cat > "$scratch/run.py" <<'RUN'
+import glob
 import os
 import re
 import subprocess
 import sys
 from concurrent.futures import ThreadPoolExecutor
 
-PROGRAM, SCRATCH, DATA = sys.argv[1:]
+PROGRAM, SCRATCH, DATA, WHAT = sys.argv[1:]
 SECONDS = 60
 AT_ONCE = os.cpu_count() or 2
 
@@ -116,10 +122,10 @@ FAULT = re.compile(
 )
 
 
-def run(words, given, growth, mark):
+def run(words, given, growth, mark, program=PROGRAM):
     env = {"LD_PRELOAD": f"{SCRATCH}/refuse.so", "REFUSE": str(growth), "REFUSED": mark}
     with open(given or os.devnull, "rb") as stdin:
-        ended = subprocess.run([PROGRAM, *words], stdin=stdin, capture_output=True, env=env, timeout=SECONDS)
+        ended = subprocess.run([program, *words], stdin=stdin, capture_output=True, env=env, timeout=SECONDS)
     met = os.path.exists(mark)
     if met:
         os.remove(mark)
@@ -164,7 +170,48 @@ def growths(words, given, numbers, pool):
     return asked, failed
 
 
-def main():
+def apart():
+    """Numbers of growths, more and more apart."""
+    number = 1
+    while number < 10_000_000:
+        yield number
+        number = max(number + 1, number * 5 // 4)
+
+
+def test_fails(program, name):
+    """How a test fails otherwise than by want of memory, and how many growths were refused to it.
+
+    A test whose result is an error ends with 101, and one that an assertion stops says so and aborts.
+    """
+    refused = 0
+    for growth in apart():
+        mark = f"{SCRATCH}/met.{os.path.basename(program)}.{name}"
+        status, out, told, met = run([name], None, growth, mark, program)
+        if not met:
+            return None, refused
+        refused += 1
+        stopped = status == 101 or status == -6 and b"test stopped at " in out
+        if status != 0 and not (stopped and re.search(rb"NoMemory|Alloc|memory", told)):
+            return f"growth {growth}: status {status}: {out[-200:]!r} {told[:400]!r}", refused
+    return None, refused
+
+
+def tests():
+    failed = 0
+    for program in sorted(glob.glob("crates/*/out/*_tests")):
+        listed = subprocess.run([program, "--list"], capture_output=True, text=True, check=True).stdout
+        names = [line.removesuffix(": test") for line in listed.splitlines() if line.endswith(": test")]
+        with ThreadPoolExecutor(AT_ONCE) as pool:
+            found = list(pool.map(lambda name: test_fails(program, name), names))
+        for name, (text, _) in zip(names, found):
+            if text:
+                failed += 1
+                print(f"{name}: {text}")
+        print(f"{sum(refused for _, refused in found):6} growths refused: {len(names)} tests of {program.split('/')[1]}", flush=True)
+    return failed
+
+
+def commands():
     failed = 0
     with ThreadPoolExecutor(AT_ONCE) as pool:
         for words, given in COMMANDS:
@@ -179,10 +226,15 @@ def main():
         if asked < 10_000:
             failed += 1
             print("it asks for fewer than 10,000 growths")
+    return failed
+
+
+def main():
+    failed = tests() if WHAT == "tests" else commands()
     print(f"{failed} runs ended otherwise" if failed else "all as wanted")
     sys.exit(1 if failed else 0)
 
 
 main()
 RUN
-python3 "$scratch/run.py" "$program" "$scratch" "$PWD/crates/examples/data"
+python3 "$scratch/run.py" "$program" "$scratch" "$PWD/crates/examples/data" "${1:-commands}"

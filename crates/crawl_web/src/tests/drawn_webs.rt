@@ -186,7 +186,7 @@ fn with_other_byte(
 ) -> Result<Vec<u8>, Fail> {
     let mut changed = Vec::new(alloc);
     for (index, &byte) in bytes.iter().enumerate() {
-        if index != place || kind == 0 {
+        if index != place {
             changed.push(byte)?;
         }
         if index == place && kind > 0 {

@@ -2,7 +2,7 @@
 use crate::commands::web_crawl::crawl_web;
 use crate::commands::writing::line_of;
 use crate::tests::crawls::{RING, RING_REPORT};
-use crate::tests::runs::{BAD_COMMAND, DONE, FAULT, answer, words};
+use crate::tests::runs::{BAD_COMMAND, DONE, FAULT, answer};
 use crate::{Fault, Mode};
 use crawl_keys::{Filter, KeyError};
 use crawl_sources::SeedsFault;
@@ -65,22 +65,28 @@ fn no_sources_where_nothing_is_missing(rt: HostRuntime) -> Result<(), Fail> {
     Ok(())
 }
 
-/// How many pages a crawl of the web finds from a file of seeds and from those given, or its fault's line.
+/// How many pages a crawl of the web finds from a file of seeds and from those given, with spaces between, or its fault's line.
 fn found<R: Threads + Wait + Sync>(
     rt: &R,
     alloc: Global,
     web: &str,
     listed: &[u8],
-    seeds: &[&str],
+    seeds: &str,
 ) -> Result<String, Fail> {
-    let seeds = words(alloc, seeds)?;
+    let mut given = Vec::new(alloc);
+    for seed in seeds.split(' ') {
+        if !seed.is_empty() {
+            given.push(String::from_str(alloc, seed)?)?;
+        }
+    }
     let every = Filter::new(alloc, &[])?;
+    let bytes = web.as_bytes();
     match crawl_web(
         rt,
         alloc,
-        web.as_bytes(),
+        bytes,
         listed,
-        &seeds,
+        &given,
         &every,
         2,
         100,
@@ -96,46 +102,43 @@ fn found<R: Threads + Wait + Sync>(
 
 #[test]
 fn seeds_of_a_file_before_those_given(rt: HostRuntime) -> Result<(), Fail> {
-    let rows: [(&str, &[u8], &[&str], &str); 9] = [
-        (RING, b"http://a.test/\n", &[], "4 pages\n"),
+    // The file of seeds, the seeds given, and what a crawl of the ring finds.
+    let rows = [
+        ("http://a.test/\n", "", "4 pages\n"),
+        ("\nhttp://c.test\r\n\n", "http://x.test/", "5 pages\n"),
+        ("", "", "0 pages\n"),
         (
-            RING,
-            b"\nhttp://c.test\r\n\n",
-            &["http://x.test/"],
-            "5 pages\n",
-        ),
-        (RING, b"", &[], "0 pages\n"),
-        (
-            RING,
-            b"\n\n/x\n",
-            &["mailto:x"],
+            "\n\n/x\n",
+            "mailto:x",
             "mercator: seeds: line 3: not a URL\n",
         ),
         (
-            RING,
-            b"http://a.test/\nmailto:x",
-            &[],
+            "http://a.test/\nmailto:x",
+            "",
             "mercator: seeds: line 2: not http or https\n",
         ),
-        (RING, b"\xff\n", &[], "mercator: seeds: line 1: not UTF-8\n"),
         (
-            RING,
-            b"http://a.test/\n",
-            &["http://a.test/", "x"],
+            "http://a.test/\n",
+            "http://a.test/ x",
             "mercator: seed 2: not a URL\n",
         ),
-        ("", b"x", &["x"], "mercator: saved web: bad header\n"),
-        (
-            "savedweb 1\nx",
-            b"x",
-            &[],
-            "mercator: saved web: line 2: bad line\n",
-        ),
     ];
-    for (web, listed, seeds, told) in rows {
-        let line = found(&rt, rt.alloc(), web, listed, seeds)?;
+    for (listed, seeds, told) in rows {
+        let line = found(&rt, rt.alloc(), RING, listed.as_bytes(), seeds)?;
         assert_eq!(rt; line.as_str(), told, "{listed:?} {seeds:?}");
     }
+    Ok(())
+}
+
+#[test]
+fn the_web_is_judged_before_the_seeds(rt: HostRuntime) -> Result<(), Fail> {
+    let alloc = rt.alloc();
+    let line = found(&rt, alloc, "", b"x", "x")?;
+    assert_eq!(rt; line.as_str(), "mercator: saved web: bad header\n");
+    let line = found(&rt, alloc, "savedweb 1\nx", b"\xff", "")?;
+    assert_eq!(rt; line.as_str(), "mercator: saved web: line 2: bad line\n");
+    let line = found(&rt, alloc, RING, b"\xff", "x")?;
+    assert_eq!(rt; line.as_str(), "mercator: seeds: line 1: not UTF-8\n");
     Ok(())
 }
 
