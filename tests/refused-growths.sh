@@ -6,7 +6,8 @@
 # how many growths each command asks for, and fails where a run ended otherwise.
 #
 # With `tests` it does the same with each test of each crate whose tests were built (`rt test` in its folder leaves them in
-# `out/`), with growths more and more apart: a test must pass, or fail by want of memory, and neither hang nor crash.
+# `out/`), with growths more and more apart: a test must pass, or be stopped by an error or an assertion of its own, and neither
+# hang nor crash.
 #
 # Growths are calls of malloc, calloc, realloc and aligned_alloc, which a small library answers in the C library's place.
 # Wants `rt` (where the program is not built), a C compiler and Python 3.9.
@@ -73,7 +74,7 @@ import sys
 from concurrent.futures import ThreadPoolExecutor
 
 PROGRAM, SCRATCH, DATA, WHAT = sys.argv[1:]
-SECONDS = 60
+SECONDS = 20
 AT_ONCE = os.cpu_count() or 2
 
 with open(f"{SCRATCH}/pages.web", encoding="utf-8") as web:
@@ -179,19 +180,22 @@ def apart():
 
 
 def test_fails(program, name):
-    """How a test fails otherwise than by want of memory, and how many growths were refused to it.
+    """How a test ends otherwise than it may, and how many growths were refused to it.
 
-    A test whose result is an error ends with 101, and one that an assertion stops says so and aborts.
+    A test whose result is an error ends with 101, and one that an assertion of its own stops says so and aborts.
     """
     refused = 0
     for growth in apart():
         mark = f"{SCRATCH}/met.{os.path.basename(program)}.{name}"
-        status, out, told, met = run([name], None, growth, mark, program)
+        try:
+            status, out, told, met = run([name], None, growth, mark, program)
+        except subprocess.TimeoutExpired:
+            return f"growth {growth}: did not end in {SECONDS} s", refused
         if not met:
             return None, refused
         refused += 1
-        stopped = status == 101 or status == -6 and b"test stopped at " in out
-        if status != 0 and not (stopped and re.search(rb"NoMemory|Alloc|memory", told)):
+        stopped = status == -6 and out.startswith(b"\ntest stopped at src/tests")
+        if status not in (0, 101) and not stopped:
             return f"growth {growth}: status {status}: {out[-200:]!r} {told[:400]!r}", refused
     return None, refused
 
