@@ -8,7 +8,6 @@ ghost use Rattle.crawl_certificate.specs.Places.{pointed, is_in};
 use crate::lookups::Urls;
 use crawl_frontier::Entry;
 use crawl_keys::Filter;
-use hash_order::HashedText;
 
 /// Whether an entry is not founded, by marks for those that are linked.
 pub fn some_unfounded<'a>(
@@ -33,7 +32,7 @@ fn is_founded<'a>(filter: &Filter, seeds: &Urls<'a>, entry: &'a Entry, is_linked
 {
     filter.allows(&entry.url)
         && if entry.hops == 0 {
-            seeds.contains(&HashedText::from(entry.url.as_str()))
+            seeds.contains(&entry.url.hashed())
         } else {
             is_linked
         }

@@ -40,7 +40,7 @@ pub fn places_of<'a>(alloc: Global, entries: &[&'a Entry]) -> Result<Places<'a>,
 {
     let mut places = BTreeMap::new(alloc);
     for (place, entry) in entries.iter().enumerate() {
-        places.insert(HashedText::from(entry.url.as_str()), place)?;
+        places.insert(entry.url.hashed(), place)?;
     }
     Ok(places)
 }
@@ -51,7 +51,7 @@ pub fn place_at<'a>(accepted: &Places<'a>, entries: &[&Entry], url: &'a CanonUrl
     ensures value { result ≡ place_of accepted.now url.now }
     ensures within { IfSome result (λ place. place < length entries.now) }
 {
-    accepted.get(&HashedText::from(url.as_str())).copied()
+    accepted.get(&url.hashed()).copied()
 }
 
 /// The URLs as a set.
@@ -60,7 +60,7 @@ pub fn url_set(alloc: Global, urls: &[CanonUrl]) -> Result<Urls<'_>, AllocError>
 {
     let mut set = BTreeSet::new(alloc);
     for url in urls {
-        set.insert(HashedText::from(url.as_str()))?;
+        set.insert(url.hashed())?;
     }
     Ok(set)
 }

@@ -7,12 +7,11 @@ ghost use Rattle.crawl_certificate.specs.CertFaults.{some_missing};
 
 use crate::lookups::Places;
 use crawl_keys::{CanonUrl, Filter};
-use hash_order::HashedText;
 
 fn is_missing<'a>(filter: &Filter, accepted: &Places<'a>, url: &'a CanonUrl) -> bool
     ensures { result ≡ (allows filter.now url.now && not (has_place accepted.now url.now)) }
 {
-    filter.allows(url) && !accepted.contains_key(&HashedText::from(url.as_str()))
+    filter.allows(url) && !accepted.contains_key(&url.hashed())
 }
 
 /// Whether an allowed URL among these is not accepted.

@@ -5,7 +5,7 @@ use Rattle.std.specs.declared.cmp.Ordering.TheVariants.{Equal}
 use Rattle.std.specs.Ordering.{is_eq}
 use Rattle.std.specs.BTreeMap.{BTreeMap, get, Updates, is_at}
 use Rattle.std.proofs.lemmas.Slice.Eq.{bytes_eq-Decides}
-use Rattle.crawl_frontier.specs.HashOrder.{by_hash, by_hash_ties}
+use Rattle.hash_order.specs.HashOrder.{by_hash, by_hash_ties}
 use Rattle.crawl_frontier.specs.Tables.{has_in}
 
 some_cond : (b : Bool) (w o : Option ℕ) → is_some (cond b w o) ≡ cond b (is_some w) (is_some o)

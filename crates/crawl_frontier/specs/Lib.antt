@@ -1,5 +1,4 @@
 pub mod Limits
-pub mod HashOrder
 pub mod QueueId
 pub mod Entries
 pub mod Rule

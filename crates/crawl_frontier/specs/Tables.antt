@@ -2,7 +2,7 @@
 use Rattle.std.specs.Prelude.{ℕ, Bool, List, unwrap_or, is_some}
 use Rattle.std.specs.Ordering.{nat_cmp}
 use Rattle.std.specs.BTreeMap.{BTreeMap, get}
-use Rattle.crawl_frontier.specs.HashOrder.{by_hash}
+use Rattle.hash_order.specs.HashOrder.{by_hash}
 
 -- the number of a sender, 0 where it has none
 abbrev pub count_in : BTreeMap ℕ ℕ → ℕ → ℕ

@@ -5,7 +5,7 @@ ghost use Rattle.crawl_frontier.specs.Accounts.{At};
 
 use crate::entry::Entry;
 use crate::tables::{Counts, Places, count, kept};
-use crate::url_key::UrlKey;
+use crawl_keys::UrlKey;
 use std::marker::Model;
 
 /// The list sent, with the two tables that look it up. To a contract it is the list.

@@ -27,7 +27,6 @@ mod subqueue;
 mod tables;
 #[cfg(test)]
 mod tests;
-mod url_key;
 mod worker;
 
 pub use account::Account;

@@ -11,8 +11,8 @@ use crate::error::OfferError;
 use crate::frontier::Frontier;
 use crate::name::Name;
 use crate::shard::Admit;
-use crate::url_key::UrlKey;
 use crawl_gate::{Pass, Unit};
+use crawl_keys::UrlKey;
 use std::sync::Wait;
 
 /// What became of a URL that an offer was not refused.

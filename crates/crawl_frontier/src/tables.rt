@@ -4,8 +4,7 @@ ghost use Rattle.std.specs.BTreeMap.{get};
 ghost use Rattle.std.specs.Ordering.{nat_cmp};
 ghost use Rattle.crawl_frontier.specs.Tables.{count_in, has_in};
 
-use crate::url_key::UrlKey;
-use crawl_keys::CanonUrl;
+use crawl_keys::{CanonUrl, UrlKey};
 use std::alloc::AllocError;
 use std::collections::BTreeMap;
 

@@ -4,6 +4,7 @@ use Rattle.std.specs.Prelude.{slice_range, string_bytes, IsAscii}
 use Rattle.url.specs.declared.slicing.Position.TheVariants.{BeforeHost, AfterHost}
 use Rattle.url.specs.Parts.{Parts, IsValid, offset, pieces, serialize}
 use Rattle.url.proofs.PiecesLemmas.{slice_at, upto-le, upto_ordered}
+use Rattle.hash_order.specs.HashOrder.{hash_of}
 use Rattle.crawl_keys.specs.declared.canon_url.Laid.TheInside.{Inside}
 use Rattle.crawl_keys.specs.CanonicalText.{is_web, without_fragment}
 use Rattle.crawl_keys.specs.HostKey.{host_key, host_of_parse}
@@ -17,11 +18,12 @@ slice_range-host url valid web =
     ∙ sym (ap host_of_parse (parse_url-without_fragment url valid web))
 
 -- the fields that are read off a web URL are laid out
-pub laid_out : (u : Inside) (url : Parts) → IsValid url → is_web url ≡ true → string_bytes u.text ≡ serialize (without_fragment url) → IsAscii (string_bytes u.text) → u.host_start ≡ offset url BeforeHost → u.host_end ≡ offset url AfterHost → IsLaidOut u
-laid_out u url valid web spelled ascii start end = record {
+pub laid_out : (u : Inside) (url : Parts) → IsValid url → is_web url ≡ true → string_bytes u.text ≡ serialize (without_fragment url) → IsAscii (string_bytes u.text) → u.host_start ≡ offset url BeforeHost → u.host_end ≡ offset url AfterHost → u.hash ≡ hash_of (string_bytes u.text) → IsLaidOut u
+laid_out u url valid web spelled ascii start end hashed = record {
   canonical = rw spelled (canonical_text url valid web);
   ascii = ascii;
   ordered = rw (start, end) (upto_ordered (pieces url) 6 7 (omega arith));
   inside = rw (end, spelled) (upto-le (pieces (without_fragment url)) 7);
   host = rw (start, end, spelled) (slice_range-host url valid web);
+  hashed = hashed;
 }

@@ -1,5 +1,6 @@
 //! A canonical URL, the parts of it that callers ask for, and its copies.
 ghost use Rattle.std.specs.Prelude.{◌≡◌, ◌<◌, ◌≤◌, Ok};
+ghost use Rattle.hash_order.specs.HashOrder.{hash_of};
 ghost use Rattle.crawl_keys.specs.Assignment.{subqueue_of};
 ghost use Rattle.crawl_keys.specs.CanonicalText.{IsCanonical, text_of};
 ghost use Rattle.crawl_keys.specs.CanonicalText as spec;
@@ -8,6 +9,7 @@ ghost use Rattle.crawl_keys.specs.Limits.{subqueues_limit};
 ghost use Rattle.crawl_keys.specs.Outcome.{Gives};
 
 use crate::{KeyError, assign};
+use hash_order::HashedText;
 use std::alloc::{AllocError, Global};
 use std::marker::Model;
 use std::sync::Arc;
@@ -35,12 +37,13 @@ impl Model for CanonUrl {
     ghost view = { λ url. arc_value url.shared };
 }
 
-// What the copies share: the text, and where its host begins and ends.
+// What the copies share: the text, where its host begins and ends, and the text's hash.
 #[derive(Drop)]
 struct Laid {
     text: String,
     host_start: u32,
     host_end: u32,
+    hash: u64,
 }
 
 // Contracts see the text alone.
@@ -87,6 +90,20 @@ impl CanonUrl {
         ensures { result.now ≡ spec_host.host_key self.now }
     {
         self.shared.as_ref().host_key()
+    }
+
+    /// The hash of the text, which is computed once, when the URL is made.
+    pub fn text_hash(&self) -> u64
+        ensures { result ≡ hash_of self.now }
+    {
+        self.shared.as_ref().hash()
+    }
+
+    /// The text as a key of sets and maps in the order of hashes; no byte of it is read.
+    pub fn hashed(&self) -> HashedText<'_>
+        ensures { result ≡ self.now }
+    {
+        HashedText::with_hash(self.as_str(), self.text_hash())
     }
 
     /// Which of n subqueues the URL belongs to: the one that its host key is assigned to.

@@ -7,6 +7,7 @@ mod canon_url;
 mod error;
 mod filter;
 mod read;
+mod url_key;
 
 pub use assignment::{SUBQUEUES_LIMIT, assign, can_assign, hash};
 pub use base::Base;
@@ -14,6 +15,7 @@ pub use canon_url::CanonUrl;
 pub use error::KeyError;
 pub use filter::{Filter, FilterError};
 pub use read::{canonical, resolve};
+pub use url_key::UrlKey;
 
 #[cfg(test)]
 mod tests;

@@ -11,7 +11,6 @@ mod report;
 mod saved_web;
 #[cfg(test)]
 mod tests;
-mod url_key;
 
 pub use fetch::{Fetch, FetchError};
 pub use lines::{LINE_LIMIT, LineError, first_line, text_of};

@@ -41,6 +41,16 @@ impl<'a> Model for HashedText<'a> {
     ghost invariant = { λ key. key.hash ≡ hash_of key.text.now };
 }
 
+impl<'a> HashedText<'a> {
+    /// The key of a text whose hash is kept.
+    pub fn with_hash(text: &'a str, hash: u64) -> HashedText<'a>
+        requires { hash ≡ spec.hash_of text.now }
+        ensures { result ≡ text.now }
+    {
+        HashedText { hash, text }
+    }
+}
+
 impl<'a> From<&'a str> for HashedText<'a> {
     ghost from_gives = { λ text key. key ≡ text.now };
 

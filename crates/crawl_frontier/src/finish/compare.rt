@@ -10,7 +10,7 @@ ghost use Rattle.crawl_frontier.specs.Finishing.{StandsAt, LogStands, CountsStan
 use crate::accepted::AcceptedList;
 use crate::book::{Book, Logged};
 use crate::entry::Entry;
-use crate::url_key::UrlKey;
+use crawl_keys::UrlKey;
 use std::alloc::{AllocError, Global};
 use std::collections::BTreeSet;
 

@@ -1,5 +1,6 @@
 //! Laying a URL out, and reading what was laid out.
 ghost use Rattle.std.specs.Prelude.{◌≡◌};
+ghost use Rattle.hash_order.specs.HashOrder as spec_hash;
 ghost use Rattle.crawl_keys.specs.CanonicalText.{IsCanonical, text_of};
 ghost use Rattle.crawl_keys.specs.CanonicalText as spec;
 ghost use Rattle.crawl_keys.specs.HostKey as spec_host;
@@ -7,6 +8,7 @@ ghost use Rattle.crawl_keys.specs.Outcome.{Gives};
 
 use super::Laid;
 use crate::KeyError;
+use hash_order::hash_of;
 use std::alloc::Global;
 use url::{Position, Url};
 
@@ -29,10 +31,12 @@ impl Laid {
             alloc,
             url.slice(Position::BeforeScheme, Position::AfterQuery),
         )?;
+        let hash = hash_of(text.as_str());
         Ok(Laid {
             text,
             host_start,
             host_end,
+            hash,
         })
     }
 
@@ -42,6 +46,13 @@ impl Laid {
         ensures canonical { IsCanonical self.now }
     {
         self.text.as_str()
+    }
+
+    /// The hash of the text.
+    pub(super) fn hash(&self) -> u64
+        ensures { result ≡ spec_hash.hash_of self.now }
+    {
+        self.hash
     }
 
     /// The host without its port.

@@ -11,8 +11,7 @@ ghost use Rattle.crawl_web.specs.KnownPages.{kept_before, has, Adds, Follows};
 use crate::lines::text_of;
 use crate::saved_web::error::WebError;
 use crate::saved_web::line::{Line, line_of_text};
-use crate::url_key::UrlKey;
-use crawl_keys::{KeyError, canonical};
+use crawl_keys::{KeyError, UrlKey, canonical};
 use std::alloc::Global;
 use std::collections::BTreeMap;
 

@@ -11,8 +11,8 @@ loop-place-preserved c =
     let i = c.loop-place.place in
     let more = map_more (λ (y : _). y.now) all i x c.loop-place-test.true ∙ ap (λ y. pointed (take i all) ++ y.now ∷ []) (sym c.index-entries-place.is) in
     subst (λ es. ArePlaces es c.insert.new.self) (sym more)
-    (ArePlaces-push (pointed (take i all)) x.now c.loop-place.places c.insert.new.self c.from.result i
+    (ArePlaces-push (pointed (take i all)) x.now c.loop-place.places c.insert.new.self c.hashed.result i
     (first_differ all i x c.loop-place-test.true c.index-entries-place.is c.requires)
-    (c.from.ensures ∙ c.as_str.ensures.value)
+    c.hashed.ensures
     (sym (length_pointed (take i all) ∙ length-take-le i all c.loop-place.auto.place-end))
     c.in_ok-insert.ensures.updates c.loop-place.invariant)

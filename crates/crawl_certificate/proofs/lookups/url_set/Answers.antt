@@ -8,8 +8,8 @@ use Rattle.crawl_certificate.proofs.lookups.url_set.Goals as goal
 pub loop-url-preserved : goal.loop-url-preserved
 loop-url-preserved c = λ url.
     let i = c.loop-url.url-index in
-    set_put c.loop-url.set c.insert.new.self c.from.result c.in_ok-insert.ensures.updates url
-    ∙ ap (λ b. b || bytes_eq c.from.result url) (c.loop-url.invariant url)
-    ∙ ap (λ t. stands_in (take i c.args.urls.now) url || bytes_eq t url) (c.from.ensures ∙ c.as_str.ensures.value)
+    set_put c.loop-url.set c.insert.new.self c.hashed.result c.in_ok-insert.ensures.updates url
+    ∙ ap (λ b. b || bytes_eq c.hashed.result url) (c.loop-url.invariant url)
+    ∙ ap (λ t. stands_in (take i c.args.urls.now) url || bytes_eq t url) c.hashed.ensures
     ∙ sym (any_push (λ own. bytes_eq own url) (take i c.args.urls.now) c.url-item.result)
     ∙ ap (λ us. stands_in us url) (ap (λ x. take i c.args.urls.now ++ x ∷ []) c.url-item.is ∙ sym (take_more c.args.urls.now i c.url-item.result c.loop-url-test.true))

@@ -1,5 +1,6 @@
 use Rattle.std.proofs.Common.{Ok, ap, inl, subst, sym, ◌∙◌}
 use Rattle.std.specs.Prelude.{IsAscii}
+use Rattle.hash_order.specs.HashOrder.{hash_of}
 use Rattle.crawl_keys.proofs.CanonicalLemmas.{text_of-web, text_of-other}
 use Rattle.crawl_keys.proofs.LaidLemmas.{laid_out}
 use Rattle.crawl_keys.proofs.canon_url.Laid.keep.Goals as goal
@@ -13,6 +14,7 @@ invariant_of-result c =
     (c.in_ok-text.ensures.ok ∙ c.slice.ensures.value)
     (subst IsAscii (sym c.in_ok-text.ensures.ok) c.slice.ensures.ascii)
     (c.in-Ok.ensures.1 ∙ c.index.ensures) (c.in-Ok-try_from.ensures.1 ∙ c.index-2.ensures)
+    (c.hash_of-hash.ensures ∙ ap hash_of c.as_str.ensures.value)
 
 pub returns : goal.returns
 returns c =

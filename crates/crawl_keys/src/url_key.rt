@@ -1,16 +1,16 @@
-//! A canonical URL as a key of a map.
-ghost use Rattle.std.specs.Prelude.{◌≡◌, Some, refl, bytes_eq};
+//! A canonical URL as a key of maps.
+ghost use Rattle.std.specs.Prelude.{◌≡◌, Some, Ok, refl, bytes_eq};
 ghost use Rattle.std.specs.Cmp.{partial_equiv_from_equiv};
 ghost use Rattle.std.specs.Cmp.Lexicographic.{nat_list_eq_equiv};
+ghost use Rattle.crawl_keys.specs.Outcome.{Gives};
 ghost use Rattle.hash_order.specs.HashOrder.{by_hash, by_hash_total, by_hash_ties, by_hash_po};
 
-use crawl_keys::CanonUrl;
-use hash_order::hash_of;
+use crate::{CanonUrl, KeyError};
 use std::cmp::Ordering;
 use std::marker::Model;
 
 /// A canonical URL with the hash of its text beside it. Its order is by hash, and by bytes where hashes are equal: a
-/// search reads another URL's text only there.
+/// search reads another URL's text only there, and URLs that were picked to collide are found as fast as in byte order.
 #[derive(Debug, Drop)]
 pub struct UrlKey {
     hash: u64,
@@ -29,12 +29,39 @@ impl Model for UrlKey {
     ghost invariant = { λ key. key.hash ≡ hash_of key.url };
 }
 
+impl UrlKey {
+    /// The URL.
+    pub fn url(&self) -> &CanonUrl
+        ensures { result.now ≡ self.now }
+    {
+        &self.url
+    }
+
+    /// The URL, without its hash.
+    pub fn into_url(self) -> CanonUrl
+        ensures { result ≡ self }
+    {
+        let UrlKey { url, .. } = self;
+        url
+    }
+
+    /// One more owner of the same text. The only error is `NoMemory`, where the count of owners is at its limit.
+    pub fn copy(&self) -> Result<UrlKey, KeyError>
+        ensures { Gives KeyError.NoMemory (λ key. key) result (Ok self.now) }
+    {
+        Ok(UrlKey {
+            hash: self.hash,
+            url: self.url.copy()?,
+        })
+    }
+}
+
 impl From<CanonUrl> for UrlKey {
     ghost from_gives = { λ url key. key ≡ url };
 
     fn from(url: CanonUrl) -> UrlKey {
         UrlKey {
-            hash: hash_of(url.as_str()),
+            hash: url.text_hash(),
             url,
         }
     }
