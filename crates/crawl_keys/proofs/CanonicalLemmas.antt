@@ -1,5 +1,5 @@
 -- A canonical text parses to the very URL that it is the text of.
-use Rattle.std.proofs.Common.{◌≡◌, List, ℕ, None, Ok, Err, refl, ap, sym, ◌∙◌, true, false}
+use Rattle.std.proofs.Common.{◌≡◌, List, ℕ, None, Ok, Err, refl, ap, sym, subst, ◌∙◌, true, false}
 use Rattle.std.proofs.lemmas.Bool.{or_cases, cond-true, cond-false}
 use Rattle.std.proofs.lemmas.Slice.Eq.{bytes_eq-Decides}
 use Rattle.std.proofs.Common.{⊎_elim}
@@ -9,7 +9,7 @@ use Rattle.url.specs.Scheme.{scheme_type, default_port}
 use Rattle.url.specs.Parts.{Parts, IsValid, kind_of, serialize}
 use Rattle.url.specs.Parser.{parse_url}
 use Rattle.url.proofs.Theorems.{parse_url-serialize_special}
-use Rattle.crawl_keys.specs.CanonicalText.{IsCanonical, canonical, is_web, text_of, text_of_parse, without_fragment}
+use Rattle.crawl_keys.specs.CanonicalText.{IsCanonical, IsPage, canonical, is_web, text_of, text_of_parse, without_fragment}
 use Rattle.crawl_keys.specs.declared.error.KeyError.TheVariants.{NotHttp}
 
 -- the standard calls the scheme of a web URL special, and it is no file
@@ -75,3 +75,15 @@ serialize-parsed text url key parsed =
     let both : Ok key.url ≡ Ok url = sym key.parses ∙ parsed in
     let same : key.url ≡ url = cc in
     ap serialize (sym same) ∙ key.spelled
+
+-- and it is that of a page
+pub page-parsed : (text : List ℕ) (url : Parts) → IsCanonical text → parse_url None text ≡ Ok url → IsPage url
+page-parsed text url key parsed =
+    let both : Ok key.url ≡ Ok url = sym key.parses ∙ parsed in
+    let same : key.url ≡ url = cc in
+    let own : IsPage key.url = record {
+      web = key.web;
+      bare = key.bare;
+      parses = ap (parse_url None) key.spelled ∙ key.parses;
+    } in
+    subst IsPage same own

@@ -2,5 +2,6 @@ pub mod CanonicalLemmas
 pub mod LaidLemmas
 pub mod HashLemmas
 pub mod FilterLemmas
+pub mod FolderLemmas
 pub mod InOrderLemmas
 pub mod MarkLemmas

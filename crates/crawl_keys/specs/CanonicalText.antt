@@ -47,6 +47,12 @@ pub record IsCanonical (text : List ℕ) : Type 0 where
   pub spelled : serialize url ≡ text
   pub parses : parse_url None text ≡ Ok url
 
+-- a web URL with no fragment, which its own text parses to
+pub record IsPage (url : Parts) : Type 0 where
+  pub web : is_web url ≡ true
+  pub bare : url.fragment ≡ None
+  pub parses : parse_url None (serialize url) ≡ Ok url
+
 -- the refusal that the parser's error leads to: what `url` cannot hold is want of memory
 abbrev pub key_error : ParseError → KeyError
 key_error OutOfMemory = NoMemory

@@ -1,4 +1,5 @@
 pub mod CanonicalText
+pub mod Folders
 pub mod HostKey
 pub mod Layout
 pub mod Assignment

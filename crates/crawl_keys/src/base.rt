@@ -1,8 +1,10 @@
 //! A page whose links are resolved.
-ghost use Rattle.std.specs.Prelude.{Ok};
+ghost use Rattle.std.specs.Prelude.{◌≡◌, ℕ, List, Ok, true};
 ghost use Rattle.crawl_keys.specs.CanonicalText as spec;
+ghost use Rattle.crawl_keys.specs.Folders.{is_of_folder};
 ghost use Rattle.crawl_keys.specs.Outcome.{Gives};
 
+use crate::folder::folder_of;
 use crate::{CanonUrl, KeyError};
 use std::alloc::Global;
 use std::marker::Model;
@@ -16,15 +18,15 @@ pub struct Base {
 
 // Contracts see a base as the canonical text of its page.
 impl Model for Base {
-    ghost use Rattle.std.specs.Prelude.{◌≡◌, ℕ, List, None, Ok};
+    ghost use Rattle.std.specs.Prelude.{ℕ, List};
     ghost use Rattle.url.specs.Parts.{serialize};
-    ghost use Rattle.url.specs.Parser.{parse_url};
+    ghost use Rattle.crawl_keys.specs.CanonicalText.{IsPage};
 
     ghost Value = { List ℕ };
 
     ghost view = { λ base. serialize base.url };
 
-    ghost invariant = { λ base. parse_url None (serialize base.url) ≡ Ok base.url };
+    ghost invariant = { λ base. IsPage base.url };
 }
 
 impl Base {
@@ -43,5 +45,13 @@ impl Base {
     {
         let url = self.url.join(text)?;
         CanonUrl::keep(alloc, &url)
+    }
+
+    /// Whether both pages lie in one folder: their URLs have one text up to the last slash of their
+    /// paths. From both then leads each link that `is_of_folder` to one URL.
+    pub fn is_beside(&self, other: &Base) -> bool
+        ensures { result ≡ true → (text : List ℕ) → is_of_folder text ≡ true → spec.resolve self.now text ≡ spec.resolve other.now text }
+    {
+        folder_of(&self.url) == folder_of(&other.url)
     }
 }

@@ -6,6 +6,7 @@ mod base;
 mod canon_url;
 mod error;
 mod filter;
+mod folder;
 mod read;
 mod url_key;
 
@@ -14,6 +15,7 @@ pub use base::Base;
 pub use canon_url::CanonUrl;
 pub use error::KeyError;
 pub use filter::{Filter, FilterError};
+pub use folder::is_of_folder;
 pub use read::{canonical, resolve};
 pub use url_key::UrlKey;
 

@@ -1,0 +1,327 @@
+-- Where a link of a folder leads depends on the page's folder alone.
+use Rattle.std.proofs.Common.{◌≡◌, ◌≢◌, ◌⊎◌, ℕ, zero, suc, ◌<◌, ◌≤◌, ◌-◌, ◌==◌, ◌&&◌, Bool, true, false, not, List, [], ◌∷◌, ◌++◌, length, get_or, take, drop, reverse, refl, ap, sym, subst, ◌∙◌, ⊎_elim, inl, inr, All, Some, None, Ok, arith, append-nil, rules}
+use Rattle.std.specs.Prelude.{Option, slice_index, unwrap_or, filter, if◌then◌else◌}
+use Rattle.std.specs.List.{prefix_len, suffix_len, position_or_len, list_any}
+use Rattle.std.proofs.lemmas.Bool.{and_left, and_right, and_parts, or_from, or_parts, not-true, eq-eqb, ltb-true, true≢false, cases_eq, cases_lt, cases_Bool, cond_both, cond-true, cond-false, eqb-true, lt-leb, ne_eqb, or_cases}
+use Rattle.std.proofs.lemmas.Bool.Decides.{nat_tests}
+use Rattle.std.proofs.lemmas.List.{append_assoc, get_or-reverse, get_or_past, length-append, length-reverse}
+use Rattle.std.proofs.lemmas.List.Elements.{All-nil, All-cons, All-filter, All-head, All-tail, All-take}
+use Rattle.url.specs.declared.scheme.SchemeType.TheVariants.{SpecialNotFile}
+use Rattle.url.specs.declared.slicing.Position.TheVariants.{BeforeScheme, AfterPort, AfterPath}
+use Rattle.url.specs.Head.{head_only}
+use Rattle.url.specs.Input.{is_c0_control_or_space, is_empty, is_tab_or_new_line, rsplit_once, rsplit_step, split_once, strip_tabs_and_new_lines, trim_c0_control_and_space}
+use Rattle.url.specs.Parser.{Parsed, and_then, after_double_slash, after_slashes, before_tail, leading_slashes, parse_all, parse_body, parse_by_scheme, parse_parts, parse_relative, parse_url, parse_without_scheme, split_scheme, with_path, with_tail}
+use Rattle.url.specs.Parts.{Parts, IsValid, cannot_be_a_base, has_authority, kind_of, serialize, text_between}
+use Rattle.url.specs.Path.{IsSegmentList, parse_path, shorten_path, without_last_segment}
+use Rattle.url.specs.Scheme.{is_file, is_special, scheme_len}
+use Rattle.url.proofs.InputLemmas.{is_empty_nonempty, rsplit_once_at}
+use Rattle.url.proofs.PathLemmas.{empty_segment, push_valid, rooted, without_last_valid}
+use Rattle.url.proofs.Theorems.{parse_url-serialize_special}
+use Rattle.url.proofs.ValidLemmas.{base_from_authority, hierarchical, special_has_authority}
+use Rattle.crawl_keys.specs.CanonicalText.{IsPage, is_web, resolve, resolve_from, text_of_parse}
+use Rattle.crawl_keys.specs.Folders.{folder_text, is_colon, is_of_folder}
+use Rattle.crawl_keys.proofs.CanonicalLemmas.{web_kind}
+
+-- ---- what the parser makes of the text
+
+-- the list begins with the byte, and all in it have the property
+record Begins (b : ℕ) (P : ℕ → Type 0) (l : List ℕ) : Type 0 where
+  rest : List ℕ
+  is : l ≡ b ∷ rest
+  all : All P l
+
+-- a byte that does not pass ends the front that does
+prefix_len-stops : (p : ℕ → Bool) (xs : List ℕ) (i : ℕ) → i < length xs → p (get_or xs i 0) ≡ false → prefix_len p xs ≤ i
+prefix_len-stops p [] i inside fails = absurd (omega arith)
+prefix_len-stops p (x ∷ xs) zero inside fails = rw fails (omega arith)
+prefix_len-stops p (x ∷ xs) (suc i) inside fails =
+    let later = prefix_len-stops p xs i (omega arith) fails in
+    ⊎_elim (λ passes. rw passes (omega arith)) (λ stops. rw stops (omega arith)) (cases_Bool (p x))
+
+-- nor does one at the front end the end that does
+suffix_len-stops : (p : ℕ → Bool) (b : ℕ) (rest : List ℕ) → p b ≡ false → suffix_len p (b ∷ rest) ≤ length rest
+suffix_len-stops p b rest fails =
+    let len = length-reverse (b ∷ rest) in
+    let place : length (b ∷ rest) - 1 - length rest ≡ 0 = omega arith in
+    let last = get_or-reverse (b ∷ rest) (length rest) 0 (omega arith) ∙ ap (λ k. get_or (b ∷ rest) k 0) place in
+    prefix_len-stops p (reverse (b ∷ rest)) (length rest) (omega (arith, len)) (ap p last ∙ fails)
+
+-- some of the front of a list that is not empty
+begins-take : (b : ℕ) (P : ℕ → Type 0) (rest : List ℕ) (n : ℕ) → 0 < n → All P (b ∷ rest) → Begins b P (take n (b ∷ rest))
+begins-take b P rest zero some all = absurd (omega arith)
+begins-take b P rest (suc n) some all = record { rest = take n rest; is = refl; all = All-take P (suc n) (b ∷ rest) all }
+
+begins-trim : (b : ℕ) (P : ℕ → Type 0) (rest : List ℕ) → 32 < b → All P (b ∷ rest) → Begins b P (trim_c0_control_and_space (b ∷ rest))
+unfolding trim_c0_control_and_space
+begins-trim b P rest above all =
+    let fails : is_c0_control_or_space b ≡ false = lt-leb b 32 above in
+    let end = suffix_len-stops is_c0_control_or_space b rest fails in
+    rw fails (begins-take b P rest (length (b ∷ rest) - suffix_len is_c0_control_or_space (b ∷ rest)) (omega (arith, end)) all)
+
+begins-strip : (b : ℕ) (P : ℕ → Type 0) (l : List ℕ) → 32 < b → Begins b P l → Begins b P (strip_tabs_and_new_lines l)
+unfolding strip_tabs_and_new_lines
+begins-strip b P l above k =
+    let stays : not (is_tab_or_new_line b) ≡ true = grind (arith, nat_tests) in
+    let kept = λ (x : ℕ). not (is_tab_or_new_line x) in
+    record {
+      rest = filter kept k.rest;
+      is = ap (filter kept) k.is ∙ cond-true _ _ _ stays;
+      all = All-filter kept P l k.all;
+    }
+
+abbrev Split : Type 0
+Split = List ℕ × Option (List ℕ)
+
+All-split : (s : ℕ) (P : ℕ → Type 0) (l : List ℕ) → All P l → All P (split_once s l).0
+unfolding split_once
+All-split s P [] all = All-nil P
+All-split s P (x ∷ l) all =
+    let later = All-split s P l (All-tail P x l all) in
+    cond_both {A = Split} (x == s) ([], Some l) (x ∷ (split_once s l).0, (split_once s l).1) (λ (r : Split). All P r.0) (λ _. All-nil P) (λ _. All-cons P x _ (All-head P x l all) later)
+
+begins-split : (b s : ℕ) (P : ℕ → Type 0) (l : List ℕ) → b ≢ s → Begins b P l → Begins b P (split_once s l).0
+unfolding split_once
+begins-split b s P l other k = record {
+  rest = (split_once s k.rest).0;
+  is = ap (λ x. (split_once s x).0) k.is ∙ ap (λ (r : Split). r.0) (cond-false _ _ _ (ne_eqb b s other));
+  all = All-split s P l k.all;
+}
+
+-- the scheme's end would be a colon
+abbrev NoScheme : ℕ → ℕ → Type 0
+NoScheme b x = (b ≡ 47) ⊎ (x ≢ 58)
+
+no_colon_at : (l : List ℕ) (n : ℕ) → All (λ x. x ≢ 58) l → get_or l n 0 ≢ 58
+no_colon_at l n all = ⊎_elim (λ inside. all n 0 inside) (λ past same. let none = get_or_past l n 0 past in omega (arith, none, same)) (cases_lt n (length l))
+
+no_scheme : (b : ℕ) (l : List ℕ) → Begins b (NoScheme b) l → split_scheme l ≡ None
+unfolding split_scheme scheme_len
+no_scheme b l k =
+    ⊎_elim (λ slash. let none : l ≡ 47 ∷ k.rest = k.is ∙ ap (λ x. x ∷ k.rest) slash in rw none refl)
+    (λ other. cond-false _ _ _ (and_right _ _ (ne_eqb _ 58 (no_colon_at l (scheme_len l) (λ n d inside. ⊎_elim (λ slash. absurd (other slash)) (λ plain. plain) (k.all n d inside))))))
+    (slash_or_not b)
+  where
+    slash_or_not : (b : ℕ) → (b ≡ 47) ⊎ (b ≢ 47)
+    slash_or_not b = cases_eq b 47
+
+-- ---- what the parser takes from the page
+
+-- the folder of the page, as a page of its own
+abbrev folder : Parts → Parts
+folder url = record url { path = without_last_segment url.path ++ 47 ∷ []; query = None; fragment = None }
+
+front_of_last : (front : List ℕ) → without_last_segment (front ++ 47 ∷ []) ≡ front
+front_of_last front = ap (λ (r : Option (List ℕ) × List ℕ). unwrap_or r.0 []) (rsplit_once_at 47 front [] (All-nil _))
+
+shorten_web : (path : List ℕ) → shorten_path SpecialNotFile path ≡ without_last_segment path
+unfolding shorten_path
+shorten_web path = refl
+
+shorten-folder : (url : Parts) → kind_of url ≡ SpecialNotFile → shorten_path (kind_of url) url.path ≡ shorten_path (kind_of url) (folder url).path
+shorten-folder url kind =
+    ap (λ k. shorten_path k url.path) kind ∙ shorten_web url.path
+    ∙ sym (ap (λ k. shorten_path k (folder url).path) kind ∙ shorten_web (folder url).path ∙ front_of_last (without_last_segment url.path))
+
+-- against the URL with this path left of the page's
+abbrev relative_to : Parts → List ℕ → List ℕ → Parsed Parts
+relative_to url body path =
+    let kind = kind_of url in
+    let slashes = leading_slashes kind body in
+    let start = with_path (head_only url) (if slashes == 0 then path else []) in
+    if slashes == 2 then after_double_slash url.scheme (after_slashes kind body)
+    else Ok (with_path start (parse_path kind start.path (drop slashes body)))
+
+parse_relative-folder : (url : Parts) (body : List ℕ) → kind_of url ≡ SpecialNotFile → parse_relative url body ≡ parse_relative (folder url) body
+unfolding parse_relative
+parse_relative-folder url body kind = ap (relative_to url body) (shorten-folder url kind)
+
+parse_body-web : (url : Parts) (body : List ℕ) → kind_of url ≡ SpecialNotFile → parse_body url.scheme (Some url) body ≡ parse_relative url body
+unfolding parse_body
+parse_body-web url body kind = cond-false _ _ _ (ap is_file kind)
+
+parse_body-folder : (url : Parts) (body : List ℕ) → kind_of url ≡ SpecialNotFile → parse_body url.scheme (Some url) body ≡ parse_body url.scheme (Some (folder url)) body
+parse_body-folder url body kind =
+    parse_body-web url body kind ∙ parse_relative-folder url body kind ∙ sym (parse_body-web (folder url) body kind)
+
+parse_parts-more : (url : Parts) (body : List ℕ) (query fragment : Option (List ℕ)) → 0 < length body → parse_parts url.scheme (Some url) body query fragment ≡ parse_all url.scheme (Some url) body query fragment
+unfolding parse_parts
+parse_parts-more url body query fragment more = cond-false _ _ _ (is_empty_nonempty body more)
+
+parse_without_scheme-web : (url : Parts) (body : List ℕ) (query fragment : Option (List ℕ)) → has_authority url ≡ true → 0 < length body → parse_without_scheme (Some url) body query fragment ≡ parse_all url.scheme (Some url) body query fragment
+parse_without_scheme-web url body query fragment authority more =
+    cond-false _ _ _ (and_left _ _ (base_from_authority url authority)) ∙ parse_parts-more url body query fragment more
+
+parse_without_scheme-folder : (url : Parts) (body : List ℕ) (query fragment : Option (List ℕ)) → kind_of url ≡ SpecialNotFile → has_authority url ≡ true → 0 < length body → parse_without_scheme (Some url) body query fragment ≡ parse_without_scheme (Some (folder url)) body query fragment
+parse_without_scheme-folder url body query fragment kind authority more =
+    parse_without_scheme-web url body query fragment authority more
+    ∙ ap (λ (r : Parsed Parts). and_then r (λ made. Ok (with_tail (before_tail made query fragment) query fragment))) (parse_body-folder url body kind)
+    ∙ sym (parse_without_scheme-web (folder url) body query fragment authority more)
+
+-- ---- the folder's text
+
+-- the list has a slash
+record Cut (l : List ℕ) : Type 0 where
+  front : List ℕ
+  back : List ℕ
+  at : rsplit_once 47 l ≡ (Some front, back)
+
+cut_step : (rest : List ℕ) (front : Option (List ℕ)) (back : List ℕ) → rsplit_once 47 rest ≡ (front, back) → Cut (47 ∷ rest)
+unfolding rsplit_once
+cut_step rest (Some front) back is = record { front = 47 ∷ front; back = back; at = ap (λ (r : Option (List ℕ) × List ℕ). rsplit_step 47 47 r.0 r.1) is }
+cut_step rest None back is = record { front = []; back = back; at = ap (λ (r : Option (List ℕ) × List ℕ). rsplit_step 47 47 r.0 r.1) is }
+
+cut_path : (path : List ℕ) → 0 < length path → (path ≡ []) ⊎ (get_or path 0 0 ≡ 47) → Cut path
+cut_path [] some first = absurd (omega arith)
+cut_path (b ∷ rest) some first =
+    ⊎_elim (λ empty. absurd (let none = ap length empty in omega arith))
+    (λ slash. subst (λ x. Cut (x ∷ rest)) (sym slash) (cut_step rest (rsplit_once 47 rest).0 (rsplit_once 47 rest).1 refl))
+    first
+
+rsplit-append : (xs ys front back : List ℕ) → rsplit_once 47 ys ≡ (Some front, back) → rsplit_once 47 (xs ++ ys) ≡ (Some (xs ++ front), back)
+unfolding rsplit_once
+rsplit-append [] ys front back at = at
+rsplit-append (x ∷ xs) ys front back at =
+    ap (λ (r : Option (List ℕ) × List ℕ). rsplit_step 47 x r.0 r.1) (rsplit-append xs ys front back at)
+
+without_last-append : (xs ys : List ℕ) → Cut ys → without_last_segment (xs ++ ys) ≡ xs ++ without_last_segment ys
+without_last-append xs ys k =
+    ap (λ (r : Option (List ℕ) × List ℕ). unwrap_or r.0 []) (rsplit-append xs ys k.front k.back k.at)
+    ∙ sym (ap (λ (r : Option (List ℕ) × List ℕ). xs ++ unwrap_or r.0 []) k.at)
+
+-- what stands before the path
+abbrev root_text : Parts → List ℕ
+root_text url = text_between url BeforeScheme AfterPort
+
+path_text : (url : Parts) → has_authority url ≡ true → text_between url BeforeScheme AfterPath ≡ root_text url ++ url.path
+path_text url authority = rw authority (simp (append_assoc, append-nil))
+
+bare_text : (url : Parts) → has_authority url ≡ true → url.query ≡ None → url.fragment ≡ None → serialize url ≡ root_text url ++ url.path
+bare_text url authority query fragment = rw (authority, query, fragment) (simp (append_assoc, append-nil))
+
+-- what a web URL is
+record IsWeb (url : Parts) : Type 0 where
+  valid : IsValid url
+  kind : kind_of url ≡ SpecialNotFile
+  authority : has_authority url ≡ true
+  list : IsSegmentList (kind_of url) url.path
+  some : 0 < length url.path
+
+web_url : (url : Parts) → IsValid url → is_web url ≡ true → IsWeb url
+web_url url valid web =
+    let kind = web_kind url web in
+    let authority = special_has_authority url valid.head (ap is_special kind) in
+    let path = hierarchical url valid.path (base_from_authority url authority) in
+    record {
+      valid = valid;
+      kind = kind;
+      authority = authority;
+      list = path.0;
+      some = path.1 (ap is_special kind);
+    }
+
+folder_valid : (url : Parts) → IsWeb url → IsValid (folder url)
+folder_valid url web =
+    let front = without_last_valid (kind_of url) url.path web.list in
+    let list = push_valid (kind_of url) (without_last_segment url.path) [] front (empty_segment (kind_of url)) in
+    let len = length-append (without_last_segment url.path) (47 ∷ []) in
+    record {
+      head = record {
+        scheme = web.valid.head.scheme;
+        username = web.valid.head.username;
+        password = web.valid.head.password;
+        host = web.valid.head.host;
+        port = web.valid.head.port;
+        bare = web.valid.head.bare;
+      };
+      path = inl (list, λ _. omega (arith, len));
+      query = tt;
+      fragment = tt;
+    }
+
+serialize-folder : (url : Parts) → IsWeb url → serialize (folder url) ≡ folder_text url ++ 47 ∷ []
+unfolding folder_text
+serialize-folder url web =
+    let cut = cut_path url.path web.some (rooted (kind_of url) url.path web.list) in
+    let text = ap without_last_segment (path_text url web.authority) ∙ without_last-append (root_text url) url.path cut in
+    bare_text (folder url) web.authority refl refl ∙ sym (append_assoc (root_text url) (without_last_segment url.path) (47 ∷ [])) ∙ ap (λ l. l ++ 47 ∷ []) (sym text)
+
+-- two pages whose folders have one text have one folder
+same_folder : (one other : Parts) → IsWeb one → IsWeb other → folder_text one ≡ folder_text other → folder one ≡ folder other
+same_folder one other its own same =
+    let text = serialize-folder one its ∙ ap (λ l. l ++ 47 ∷ []) same ∙ sym (serialize-folder other own) in
+    let both = sym (parse_url-serialize_special (folder one) None (folder_valid one its) its.kind) ∙ ap (parse_url None) text ∙ parse_url-serialize_special (folder other) None (folder_valid other own) own.kind in
+    cc
+
+-- ---- the whole
+
+-- a text with no first colon has none
+pub none_from_first : (p : ℕ → Bool) (l : List ℕ) → position_or_len p l ≡ length l → list_any p l ≡ false
+none_from_first p [] first = refl
+none_from_first p (x ∷ l) first =
+    ⊎_elim (λ passes. absurd (let here = rw passes at first in omega (arith, here)))
+    (λ fails. or_from _ _ fails (none_from_first p l (let later = rw fails at first in omega (arith, later))))
+    (cases_Bool (p x))
+
+-- the text begins visibly, and has no scheme
+record IsPlain (text : List ℕ) : Type 0 where
+  first : ℕ
+  above : 32 < first
+  no_query : first ≢ 63
+  no_fragment : first ≢ 35
+  begins : Begins first (NoScheme first) text
+
+no_colon : (l : List ℕ) → list_any is_colon l ≡ false → All (λ x. x ≢ 58) l
+no_colon [] none = All-nil (λ x. x ≢ 58)
+no_colon (x ∷ l) none =
+    let parts = or_parts _ _ none in
+    All-cons (λ x. x ≢ 58) x l (λ same. absurd (true≢false (sym (eq-eqb x 58 same) ∙ parts.0))) (no_colon l parts.1)
+
+differs : (b s : ℕ) → not (b == s) ≡ true → b ≢ s
+differs b s other same = true≢false (sym (eq-eqb b s same) ∙ not-true _ other)
+
+plain_text : (text : List ℕ) → is_of_folder text ≡ true → IsPlain text
+plain_text [] plain = absurd (true≢false (sym plain))
+plain_text (b ∷ rest) plain =
+    let one = and_parts _ _ plain in
+    let two = and_parts _ _ one.0 in
+    let three = and_parts _ _ two.0 in
+    record {
+      first = b;
+      above = ltb-true 32 b three.0;
+      no_query = differs b 63 three.1;
+      no_fragment = differs b 35 two.1;
+      begins = record {
+        rest = rest;
+        is = refl;
+        all = ⊎_elim (λ slash n d inside. inl (eqb-true b 47 slash)) (λ none n d inside. inr (no_colon (b ∷ rest) (not-true _ none) n d inside)) (or_cases _ _ one.1);
+      };
+    }
+
+begins-text : (text : List ℕ) (k : IsPlain text) → Begins k.first (NoScheme k.first) (strip_tabs_and_new_lines (trim_c0_control_and_space text))
+begins-text text k =
+    let P = NoScheme k.first in
+    let trimmed = subst (λ t. Begins k.first P (trim_c0_control_and_space t)) (sym k.begins.is) (begins-trim k.first P k.begins.rest k.above (subst (All P) k.begins.is k.begins.all)) in
+    begins-strip k.first P _ k.above trimmed
+
+parse_url-folder : (url : Parts) (text : List ℕ) → IsWeb url → IsPlain text → parse_url (Some url) text ≡ parse_url (Some (folder url)) text
+unfolding parse_url
+parse_url-folder url text web k =
+    let P = NoScheme k.first in
+    let hash = split_once 35 (strip_tabs_and_new_lines (trim_c0_control_and_space text)) in
+    let question = split_once 63 hash.0 in
+    let body = begins-split k.first 63 P hash.0 k.no_query (begins-split k.first 35 P _ k.no_fragment (begins-text text k)) in
+    let none = no_scheme k.first question.0 body in
+    let len = ap length body.is in
+    ap (λ s. parse_by_scheme s (Some url) question.0 question.1 hash.1) none
+    ∙ parse_without_scheme-folder url question.0 question.1 hash.1 web.kind web.authority (omega (arith, len))
+    ∙ sym (ap (λ s. parse_by_scheme s (Some (folder url)) question.0 question.1 hash.1) none)
+
+pub resolve-beside : (one other : Parts) → IsValid one → IsValid other → IsPage one → IsPage other → folder_text one ≡ folder_text other → (text : List ℕ) → is_of_folder text ≡ true → resolve (serialize one) text ≡ resolve (serialize other) text
+resolve-beside one other valid its_valid page its_page same text plain =
+    let k = plain_text text plain in
+    let web = web_url one valid page.web in
+    let its_web = web_url other its_valid its_page.web in
+    let folders = same_folder one other web its_web same in
+    ap (λ p. resolve_from p text) page.parses
+    ∙ ap text_of_parse (parse_url-folder one text web k ∙ ap (λ u. parse_url (Some u) text) folders ∙ sym (parse_url-folder other text its_web k))
+    ∙ sym (ap (λ p. resolve_from p text) its_page.parses)
