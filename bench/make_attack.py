@@ -10,6 +10,7 @@ What is expected is by docs/FORMATS.md and the count of what was written, not by
 environment is another number of pages, links or senders (the lines of 2^29 bytes and line ends then have so many).
 """
 import os
+import string
 import sys
 
 BLOCK = 1 << 20  # bytes of a write
@@ -19,6 +20,12 @@ SEED = "http://a.test/"
 WEB, SCRIPT = "savedweb 1", "workers 1 max 1099511627776"  # the headers
 LETTERS = "abcdefghijklmnopqrstuvwxyz012345"
 URL_LENGTH = 4_090  # with `page ` and the LF it is a line of 4,096 bytes
+
+# std's FoldHasher, by which the program orders texts: its first state, the number in each of its steps, and a word's bits.
+HASH_START, HASH_STEP, WORD = 0x243F_6A88_85A3_08D3, 0x9E37_79B9_7F4A_7C15, (1 << 64) - 1
+HASHED = 48  # bytes of a URL of the one hash: two steps, the state after them, and a name of eight bytes
+# those that stand in a path as they are
+PATH_BYTES = frozenset((string.ascii_letters + string.digits + "-_~!$&'()*+,;=:@").encode())
 
 
 def count(usual):
@@ -82,6 +89,60 @@ def prefix_of(length, filling):
 
 
 LONG_BASE = prefix_of(URL_LENGTH, '"')
+
+
+def word(text, place):
+    return int.from_bytes(text[place : place + 8], "little")
+
+
+def hash_step(state, text, place):
+    """The two words at this place, multiplied to 128 bits whose halves are joined by xor."""
+    product = (word(text, place) ^ state) * (word(text, place + 8) ^ HASH_STEP)
+    return product & WORD ^ product >> 64
+
+
+def hash_of(text):
+    """The hash of a text of at least sixteen bytes: a step for each sixteen, the last one of the last sixteen."""
+    state = HASH_START + len(text) & WORD
+    for place in range(0, (len(text) - 1) // 16 * 16, 16):
+        state = hash_step(state, text, place)
+    return hash_step(state, text, len(text) - 16)
+
+
+def prefix_of_one_hash():
+    """A URL's text of 40 bytes behind which any eight bytes give the hash 0.
+
+    Its last eight bytes are the state that the 32 before them lead to, so the last step multiplies by 0. The 32 are
+    numbered until that state is of bytes that a path keeps; some 10,000 tries find it.
+    """
+    number = 0
+    while True:
+        text = SEED.encode() + b"%018d" % number
+        state = HASH_START + HASHED & WORD
+        for place in (0, 16):
+            state = hash_step(state, text, place)
+        last = state.to_bytes(8, "little")
+        if PATH_BYTES.issuperset(last):
+            return (text + last).decode()
+        number += 1
+
+
+def one_hash(prefix):
+    """A page that links to all others by their whole URLs, so that pages, link texts and offers all have one hash."""
+
+    def url(page):
+        text = f"{prefix}{page:08}"
+        assert len(text) == HASHED and hash_of(text.encode()) == 0
+        return text
+
+    def lines(pages):
+        yield f"{WEB}\npage {url(0)}\n"
+        for page in range(1, pages):
+            yield f"link {url(page)}\n"
+        for page in range(1, pages):
+            yield f"page {url(page)}\n"
+
+    return lines, url(0)
 
 
 def many_links(links):
@@ -163,6 +224,11 @@ def chained(hosts):
     return web(lines, seed, MILLION)
 
 
+def hashed_to_one():
+    lines, seed = one_hash(prefix_of_one_hash())
+    return web(lines, seed, 100_000)
+
+
 def page_and_missing(links):
     return f"total {links + 1} ok 1 missing {links}"
 
@@ -182,6 +248,7 @@ ATTACKS = {
     "grown": prefixed(URL_LENGTH - 4, 20_000, filling='"'),
     "one_host": prefixed(52, 100_000),
     "prefix_2000": prefixed(2_000, 100_000),
+    "one_hash": hashed_to_one(),
     "script_long_line": ("replay", "-", 1, long_line(SCRIPT, f"admit 1 {SEED}"), count(LINE), None),
     "script_line_ends": ("replay", "-", 0, line_ends(SCRIPT), count(LINE), None),
     "long_base": web(long_base, LONG_BASE, 50_000, page_and_missing),

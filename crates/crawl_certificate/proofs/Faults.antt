@@ -6,7 +6,8 @@ use Rattle.crawl_frontier.specs.declared.entry.Entry.{Entry}
 use Rattle.crawl_web.specs.declared.page.PageResult.{PageResult}
 use Rattle.crawl_certificate.specs.CertFaults.{first_of, is_accepted, has_result, stands_in, some_missing, seed_missing, not_fetched, link_missing, is_linked}
 use Rattle.crawl_web.specs.Pages.{links_of}
-use Rattle.crawl_certificate.specs.Places.{Places, has_place, ArePlaces, Urls, is_in}
+use Rattle.crawl_certificate.specs.declared.lookups.Places.{Places}
+use Rattle.crawl_certificate.specs.Places.{has_place, ArePlaces, Urls, is_in}
 use Rattle.crawl_certificate.proofs.Places.{placed_accepted, any_map}
 
 pub seeds_known : (allowed : List ℕ → Bool) (seeds : List (List ℕ)) (entries : List Entry) (places : Places) → ArePlaces entries places → some_missing allowed (has_place places) seeds ≡ seed_missing allowed seeds entries

@@ -16,7 +16,8 @@ use Rattle.crawl_web.specs.declared.page.PageResult.{PageResult}
 use Rattle.crawl_certificate.specs.CertFaults.{is_accepted, has_result, stands_in, is_behind, is_linked, twice}
 use Rattle.crawl_web.specs.Pages.{links_of}
 use Rattle.crawl_certificate.specs.AccountEntries.{DifferByUrl}
-use Rattle.crawl_certificate.specs.Places.{Places, place_of, has_place, ArePlaces, Urls, is_in, pointed}
+use Rattle.crawl_certificate.specs.Places.{place_of, has_place, ArePlaces, Urls, is_in, pointed}
+use Rattle.crawl_certificate.specs.declared.lookups.Places.{Places}
 use Rattle.crawl_certificate.proofs.Lists.{no_element, first_or_later, some_has, any_from, same_text, text_itself}
 
 -- ---- lists
@@ -140,17 +141,17 @@ set_put old new key updates url =
 
 -- ---- places of entries
 
-place_put : (old new : Places) (key : List ℕ) (k : ℕ) → tree.Updates by_hash old new key (Some k) → (url : List ℕ) → place_of new url ≡ cond (bytes_eq key url) (Some k) (place_of old url)
+place_put : (old new : Places) (key : List ℕ) (k : ℕ) → tree.Updates by_hash old.by_url new.by_url key (Some k) → (url : List ℕ) → place_of new url ≡ cond (bytes_eq key url) (Some k) (place_of old url)
 place_put old new key k updates url =
     updates.0 url ∙ ap (λ b. cond b (Some k) (place_of old url)) (sym (by_hash_ties key url))
 
-pub ArePlaces-none : (places : Places) → places.entries ≡ [] → ArePlaces [] places
+pub ArePlaces-none : (places : Places) → places.by_url.entries ≡ [] → ArePlaces [] places
 ArePlaces-none places none = record {
   kept = λ k e at. absurd (cc);
   meant = λ url k at. let nothing : place_of places url ≡ None = rw none refl in absurd (cc);
 }
 
-pub ArePlaces-push : (entries : List Entry) (e : Entry) (old new : Places) (key : List ℕ) (k : ℕ) → DifferByUrl (entries ++ e ∷ []) → key ≡ e.url → k ≡ length entries → tree.Updates by_hash old new key (Some k) → ArePlaces entries old → ArePlaces (entries ++ e ∷ []) new
+pub ArePlaces-push : (entries : List Entry) (e : Entry) (old new : Places) (key : List ℕ) (k : ℕ) → DifferByUrl (entries ++ e ∷ []) → key ≡ e.url → k ≡ length entries → tree.Updates by_hash old.by_url new.by_url key (Some k) → ArePlaces entries old → ArePlaces (entries ++ e ∷ []) new
 ArePlaces-push entries e old new key k apart text count updates places =
     let put : (url : List ℕ) → place_of new url ≡ cond (bytes_eq e.url url) (Some k) (place_of old url) = λ url. subst (λ u. place_of new url ≡ cond (bytes_eq u url) (Some k) (place_of old url)) text (place_put old new key k updates url) in
     record {

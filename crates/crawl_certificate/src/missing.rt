@@ -11,7 +11,7 @@ use crawl_keys::{CanonUrl, Filter};
 fn is_missing<'a>(filter: &Filter, accepted: &Places<'a>, url: &'a CanonUrl) -> bool
     ensures { result ≡ (allows filter.now url.now && not (has_place accepted.now url.now)) }
 {
-    filter.allows(url) && !accepted.contains_key(&url.hashed())
+    filter.allows(url) && !accepted.has(url)
 }
 
 /// Whether an allowed URL among these is not accepted.

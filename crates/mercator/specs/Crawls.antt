@@ -17,6 +17,8 @@ use Rattle.crawl_web.specs.declared.page.Page.{Page}
 use Rattle.crawl_workers.specs.declared.error.RunError.{RunError}
 use Rattle.crawl_workers.specs.declared.error.RunError.TheVariants as run
 use Rattle.crawl_workers.specs.declared.worker_end.WorkerEnd.{WorkerEnd}
+use Rattle.mercator.specs.declared.crawling.Mode.{Mode}
+use Rattle.mercator.specs.declared.crawling.Mode.TheVariants.{Threads}
 use Rattle.mercator.specs.declared.crawling.error.CrawlError.{CrawlError}
 use Rattle.mercator.specs.declared.crawling.error.CrawlError.TheVariants as wrong
 
@@ -59,6 +61,11 @@ IsOfRun (wrong.Finish finish.NoMemory) = ⊥
 IsOfRun (wrong.Finish (finish.Unsettled word)) = ⊥
 IsOfRun (wrong.Cert cert.NoMemory) = ⊥
 IsOfRun _ = Unit {0}
+
+-- an error that comes in this mode: a thread that cannot be started is told of workers in threads alone
+abbrev pub ComesIn : Mode → CrawlError → Type 0
+ComesIn mode (wrong.Run error) = mode ≡ Threads
+ComesIn mode _ = Unit {0}
 
 -- why a crawl with these numbers fails: the first number that no frontier takes, and only where both are taken another error
 abbrev pub CrawlFails : ℕ → ℕ → CrawlError → Type 0

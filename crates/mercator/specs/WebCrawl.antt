@@ -11,9 +11,10 @@ use Rattle.mercator.specs.declared.commands.fault.Fault.{Fault}
 use Rattle.mercator.specs.declared.commands.fault.Fault.TheVariants as wrong
 use Rattle.crawl_certificate.specs.Certificate.{IsCrawl, result_urls}
 use Rattle.crawl_keys.specs.HostFilter.{allows}
-use Rattle.mercator.specs.Crawls.{AreCounts, CrawlFails}
+use Rattle.mercator.specs.Crawls.{AreCounts, ComesIn, CrawlFails}
 use Rattle.mercator.specs.QueueLines.{queue_lines}
 use Rattle.mercator.specs.declared.crawling.Crawled.{Crawled}
+use Rattle.mercator.specs.declared.crawling.Mode.{Mode}
 use Rattle.crawl_web.specs.ReportText.{report}
 use Rattle.crawl_web.specs.declared.page.PageResult.{PageResult}
 
@@ -63,6 +64,11 @@ IsRefused workers max bytes listed texts (wrong.Seed place refusal) = IsSound (l
 IsRefused workers max bytes listed texts (wrong.Crawl error) = IsCrawlable bytes listed texts × CrawlFails workers max error
 IsRefused workers max bytes listed texts wrong.NoMemory = Unit {0}
 IsRefused workers max bytes listed texts _ = ⊥
+
+-- a fault of a crawl in this mode
+abbrev pub ComesOf : Mode → Fault → Type 0
+ComesOf mode (wrong.Crawl error) = ComesIn mode error
+ComesOf mode _ = Unit {0}
 
 -- the bytes are a saved web, and these are its pages at exactly the URLs that can be reached from the seeds by URLs that the
 -- filter with these suffixes allows

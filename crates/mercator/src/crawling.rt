@@ -1,10 +1,10 @@
 //! A whole crawl: from its seeds to its pages, certified.
-ghost use Rattle.std.specs.Prelude.{IfOk, MatchResult};
+ghost use Rattle.std.specs.Prelude.{IfOk, IfErr, MatchResult};
 ghost use Rattle.crawl_certificate.specs.Certificate.{IsCrawl, result_urls};
 ghost use Rattle.crawl_frontier.specs.Limits.{IsWorkers};
 ghost use Rattle.crawl_gate.specs.GateError.{IsMaximum};
 ghost use Rattle.crawl_keys.specs.HostFilter.{allows};
-ghost use Rattle.mercator.specs.Crawls.{AreCounts, CrawlFails};
+ghost use Rattle.mercator.specs.Crawls.{AreCounts, ComesIn, CrawlFails};
 
 mod error;
 mod gather;
@@ -66,6 +66,8 @@ pub fn crawl<F: Fetch + Sync, R: Threads + Wait + Sync>(
     ensures counts { IfOk result (λ crawled. AreCounts workers (result_urls crawled.result) crawled.counts.items) }
     // Numbers that no frontier takes are refused, each by its own error; other errors come only where both are taken.
     ensures numbers { MatchResult result (λ _. IsWorkers workers × IsMaximum max_pending) (λ error. CrawlFails workers max_pending error) }
+    // That a thread cannot be started is told of workers in threads alone.
+    ensures mode { IfErr result (ComesIn mode) }
 {
     let setup = Setup::new(alloc, workers, max_pending)?;
     crawl_named::<Brand, F, R>(rt, alloc, setup, filter, fetcher, seeds, mode)

@@ -1,9 +1,11 @@
 //! A crawl of a saved web, from its bytes to the report.
 ghost use Rattle.std.specs.Prelude.{List, [], map, string_bytes, IfOk, IfErr};
 ghost use Rattle.crawl_certificate.specs.Certificate.{result_urls};
+ghost use Rattle.crawl_frontier.specs.Limits.{IsWorkers};
+ghost use Rattle.crawl_gate.specs.GateError.{IsMaximum};
 ghost use Rattle.crawl_web.specs.declared.page.PageResult.{PageResult};
 ghost use Rattle.mercator.specs.Crawls.{AreCounts};
-ghost use Rattle.mercator.specs.WebCrawl.{AreSeeds, IsFound, IsSiteCrawl, IsCrawlReport, IsRefused, IsSeedFault};
+ghost use Rattle.mercator.specs.WebCrawl.{AreSeeds, ComesOf, IsFound, IsSiteCrawl, IsCrawlReport, IsRefused, IsSeedFault};
 
 use crate::commands::fault::Fault;
 use crate::crawling::{Crawled, Mode, crawl};
@@ -45,6 +47,9 @@ pub fn report_of_saved_web<R: Threads + Wait + Sync>(
     ensures report { IfOk result (λ r. IsCrawlReport bytes.now (map string_bytes seeds.now) filter.now r.text.items) }
     ensures counts { IfOk result (λ r. (pages : List PageResult) → IsSiteCrawl bytes.now [] (map string_bytes seeds.now) filter.now pages → AreCounts workers (result_urls pages) r.counts.items) }
     ensures refused { IfErr result (λ fault. IsRefused workers max_pending bytes.now [] (map string_bytes seeds.now) fault) }
+    // No report comes of numbers that no frontier takes, and no want of a thread of workers in turn.
+    ensures numbers { IfOk result (λ _. IsWorkers workers × IsMaximum max_pending) }
+    ensures mode { IfErr result (ComesOf mode) }
 {
     let found = crawl_web(
         rt,
@@ -82,6 +87,8 @@ pub fn crawl_web<R: Threads + Wait + Sync>(
 ) -> Result<Crawled, Fault>
     ensures found { IfOk result (λ crawled. IsFound workers bytes.now listed.now (map string_bytes seeds.now) filter.now crawled) }
     ensures refused { IfErr result (λ fault. IsRefused workers max_pending bytes.now listed.now (map string_bytes seeds.now) fault) }
+    ensures numbers { IfOk result (λ _. IsWorkers workers × IsMaximum max_pending) }
+    ensures mode { IfErr result (ComesOf mode) }
 {
     let web = SavedWeb::read(alloc, bytes)?;
     let mut urls = read_seeds(alloc, listed)?;

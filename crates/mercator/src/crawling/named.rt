@@ -1,9 +1,11 @@
 //! A crawl on a frontier that has a name.
-ghost use Rattle.std.specs.Prelude.{◌≡◌, IfOk, IfErr};
+ghost use Rattle.std.specs.Prelude.{◌≡◌, ◌⊎◌, IfOk, IfErr};
 ghost use Rattle.crawl_certificate.specs.Certificate.{IsCrawl, result_urls};
 ghost use Rattle.crawl_keys.specs.HostFilter.{allows};
 ghost use Rattle.crawl_workers.specs.Runs.{AllRan};
-ghost use Rattle.mercator.specs.Crawls.{AreCounts, IsOfRun};
+ghost use Rattle.crawl_workers.specs.declared.error.RunError.TheVariants as unrun;
+ghost use Rattle.mercator.specs.Crawls.{AreCounts, ComesIn, IsOfRun};
+ghost use Rattle.mercator.specs.declared.crawling.Mode.TheVariants as modes;
 
 use crate::crawling::gather::{counts_of, gathered};
 use crate::crawling::{CrawlError, Crawled, Mode};
@@ -33,6 +35,7 @@ pub fn crawl_named<K: Name + Send + Sync, F: Fetch + Sync, R: Threads + Wait + S
     ensures pages { IfOk result (λ crawled. IsCrawl (F.meaning fetcher.now) (allows filter.now) seeds.now crawled.result) }
     ensures counts { IfOk result (λ crawled. AreCounts setup.workers (result_urls crawled.result) crawled.counts.items) }
     ensures errors { IfErr result IsOfRun }
+    ensures mode { IfErr result (ComesIn mode) }
 {
     let (frontier, workers, mut seeder) = Frontier::<K>::new(alloc, setup, filter)?;
     offer_seeds(rt, &frontier, &mut seeder, seeds);
@@ -68,7 +71,8 @@ fn run<K: Name + Send + Sync, F: Fetch + Sync, R: Threads + Wait + Sync>(
     fetcher: &F,
     mode: Mode,
 ) -> Result<Vec<WorkerEnd<K>>, RunError>
-    ensures { IfOk result (λ ends. AllRan K.workers (allows K.filter) (F.meaning fetcher.now) workers.items ends.items) }
+    ensures ran { IfOk result (λ ends. AllRan K.workers (allows K.filter) (F.meaning fetcher.now) workers.items ends.items) }
+    ensures mode { IfErr result (λ error. (error ≡ unrun.NoMemory) ⊎ (mode ≡ modes.Threads)) }
 {
     match mode {
         Mode::Turns => run_turns(rt, alloc, frontier, workers, fetcher),
