@@ -14,10 +14,10 @@ const MEMORIES: usize = 8;
 const PLACES: usize = 1_024;
 
 /// A folder of which more texts are known is forgotten.
-const FOLDER_LIMIT: usize = 4_096;
+const FOLDER_LIMIT: usize = 1_024;
 
 /// A memory of more texts is emptied.
-const MEMORY_LIMIT: usize = 16_384;
+const MEMORY_LIMIT: usize = 131_072;
 
 /// Folders, each at the place that its text picks. A folder keeps of itself that what it knows is right, so a place may hold
 /// any.
