@@ -8,4 +8,5 @@ pub mod Queues
 pub mod KeptRules
 pub mod Places
 pub mod Faults
+pub mod Index
 pub mod Verdicts

@@ -1,12 +1,11 @@
 -- What is known while entries, seeds and results are looked up.
-use Rattle.std.proofs.Common.{◌≡◌, ◌≢◌, ◌⊎◌, inl, inr, ℕ, zero, suc, ◌+◌, ◌<◌, ◌==◌, Bool, true, false, ◌||◌, ◌&&◌, not, cond, List, [], ◌∷◌, ◌++◌, length, map, take, replicate, min, get_or, set, slice_get, Option, Some, None, IfSome, is_some, refl, sym, ap, subst, ◌∙◌, arith, length-append, suc-le-suc, zero-le}
+use Rattle.std.proofs.Common.{◌≡◌, ◌≢◌, ◌⊎◌, inl, inr, ℕ, zero, suc, ◌+◌, ◌<◌, ◌==◌, Bool, true, false, ◌||◌, ◌&&◌, not, cond, List, [], ◌∷◌, ◌++◌, length, map, take, replicate, min, get_or, set, slice_get, Option, Some, None, IfSome, is_some, refl, sym, ap, subst, ◌∙◌, arith, suc-le-suc, zero-le}
 use Rattle.std.specs.Borrow.{Bor}
-use Rattle.std.specs.BTreeMap as tree
 use Rattle.std.specs.BTreeSet as sorted
 use Rattle.hash_order.specs.HashOrder.{by_hash, by_hash_ties}
 use Rattle.std.specs.List.{Contains, list_any}
 use Rattle.std.specs.Str.{bytes_eq}
-use Rattle.std.proofs.lemmas.Bool.{cond-true, cond-false, cases_Bool, both_ways, false_from_ne_true, and_parts, and_from, or_right, or_parts}
+use Rattle.std.proofs.lemmas.Bool.{cases_Bool, both_ways, false_from_ne_true, and_parts, and_from, or_right, or_parts}
 use Rattle.std.proofs.lemmas.Option.{slice_get_within, get_or_from_slice_get}
 use Rattle.std.proofs.lemmas.List.{length-take, map_more, take-map, get_or-take, get_or-map}
 use Rattle.std.proofs.Math.Seq.{take-append_seam}
@@ -141,85 +140,45 @@ set_put old new key updates url =
 
 -- ---- places of entries
 
-place_put : (old new : Places) (key : List ℕ) (k : ℕ) → tree.Updates by_hash old.by_url new.by_url key (Some k) → (url : List ℕ) → place_of new url ≡ cond (bytes_eq key url) (Some k) (place_of old url)
-place_put old new key k updates url =
-    updates.0 url ∙ ap (λ b. cond b (Some k) (place_of old url)) (sym (by_hash_ties key url))
-
-pub ArePlaces-none : (places : Places) → places.by_url.entries ≡ [] → ArePlaces [] places
-ArePlaces-none places none = record {
-  kept = λ k e at. absurd (cc);
-  meant = λ url k at. let nothing : place_of places url ≡ None = rw none refl in absurd (cc);
-}
-
-pub ArePlaces-push : (entries : List Entry) (e : Entry) (old new : Places) (key : List ℕ) (k : ℕ) → DifferByUrl (entries ++ e ∷ []) → key ≡ e.url → k ≡ length entries → tree.Updates by_hash old.by_url new.by_url key (Some k) → ArePlaces entries old → ArePlaces (entries ++ e ∷ []) new
-ArePlaces-push entries e old new key k apart text count updates places =
-    let put : (url : List ℕ) → place_of new url ≡ cond (bytes_eq e.url url) (Some k) (place_of old url) = λ url. subst (λ u. place_of new url ≡ cond (bytes_eq u url) (Some k) (place_of old url)) text (place_put old new key k updates url) in
-    record {
-      kept = λ i x at. elim (push_cases entries e i x at) [
-        | inl before ↦
-            let differs : bytes_eq e.url x.url ≡ false =
-            false_from_ne_true _ (λ same.
-            let near = get_or_from_slice_get (entries ++ e ∷ []) i x x at in
-            let far = get_or_from_slice_get (entries ++ e ∷ []) (length entries) e x (get_last entries e) in
-            let clash = apart i (length entries) x before.0 (omega (arith, length-append entries (e ∷ []))) in
-            let P : Entry → Type 0 = λ z. z.url ≢ (get_or (entries ++ e ∷ []) (length entries) x).url in
-            let Q : Entry → Type 0 = λ z. x.url ≢ z.url in
-            subst Q far (subst P near clash) (sym (same_text e.url x.url same))) in
-            put x.url ∙ cond-false _ _ _ differs ∙ places.kept i x before.1
-        | inr last ↦
-            let same : bytes_eq e.url x.url ≡ true = subst (λ z. bytes_eq e.url z.url ≡ true) last.1 (text_itself e.url) in
-            put x.url ∙ cond-true _ _ _ same ∙ ap Some (count ∙ sym last.0)
-      ];
-      meant = λ url i at. elim (cases_Bool (bytes_eq e.url url)) [
-        | inl same ↦
-            let now : Some k ≡ Some i = sym (cond-true _ _ _ same) ∙ sym (put url) ∙ at in
-            let place : k ≡ i = cc in
-            (e, subst (λ n. slice_get (entries ++ e ∷ []) n ≡ Some e) (sym count ∙ place) (get_last entries e), same_text e.url url same)
-        | inr other ↦
-            let before = places.meant url i (sym (cond-false _ _ _ other) ∙ sym (put url) ∙ at) in
-            (before.0, get_push entries e i before.0 before.1, before.2)
-      ];
-    }
-
 -- the place that is kept says what is accepted
-some_place : (entries : List Entry) (places : Places) → ArePlaces entries places → (url : List ℕ) (o : Option ℕ) → place_of places url ≡ o → is_some o ≡ is_accepted entries url
+some_place : (entries : List Entry) (places : Places) → ArePlaces entries places → (url : List ℕ) (o : Option ℕ) → place_of entries places url ≡ o → is_some o ≡ is_accepted entries url
 some_place entries places are url None at =
     sym (false_from_ne_true _ (λ has.
     let found = some_has (λ (e : Entry). bytes_eq e.url url) entries has in
     let where' = place_among entries found.0 found.1 in
     let kept = are.kept where'.0 found.0 where'.1 in
-    let clash : Some where'.0 ≡ None = sym kept ∙ ap (place_of places) (same_text found.0.url url found.2) ∙ at in
+    let clash : Some where'.0 ≡ None = sym kept ∙ ap (place_of entries places) (same_text found.0.url url found.2) ∙ at in
     absurd (cc)))
 some_place entries places are url (Some k) at =
     let entry = are.meant url k at in
     sym (any_from (λ (e : Entry). bytes_eq e.url url) entries entry.0 (among_at entries k entry.0 entry.1) (subst (λ u. bytes_eq entry.0.url u ≡ true) entry.2 (text_itself entry.0.url)))
 
-pub placed_accepted : (entries : List Entry) (places : Places) → ArePlaces entries places → (url : List ℕ) → has_place places url ≡ is_accepted entries url
-placed_accepted entries places are url = some_place entries places are url (place_of places url) refl
+pub placed_accepted : (entries : List Entry) (places : Places) → ArePlaces entries places → (url : List ℕ) → has_place entries places url ≡ is_accepted entries url
+placed_accepted entries places are url = some_place entries places are url (place_of entries places url) refl
 
 -- the entry at a place that is kept for a URL
-pub placed : (entries : List Entry) (places : Places) → ArePlaces entries places → (url : List ℕ) (k : ℕ) → place_of places url ≡ Some k → (d : Entry) → (k < length entries) × (slice_get entries k ≡ Some (get_or entries k d)) × ((get_or entries k d).url ≡ url)
+pub placed : (entries : List Entry) (places : Places) → ArePlaces entries places → (url : List ℕ) (k : ℕ) → place_of entries places url ≡ Some k → (d : Entry) → (k < length entries) × (slice_get entries k ≡ Some (get_or entries k d)) × ((get_or entries k d).url ≡ url)
 placed entries places are url k at d =
     let entry = are.meant url k at in
     let same = get_or_from_slice_get entries k entry.0 d entry.1 in
     (slice_get_within entries k entry.0 entry.1, entry.1 ∙ ap Some (sym same), ap (λ (e : Entry). e.url) same ∙ entry.2)
 
-pub place_within : (entries : List (Bor Entry)) (places : Places) → ArePlaces (pointed entries) places → (url : List ℕ) (o : Option ℕ) → o ≡ place_of places url → IfSome o (λ k. k < length entries)
+pub place_within : (entries : List (Bor Entry)) (places : Places) → ArePlaces (pointed entries) places → (url : List ℕ) (o : Option ℕ) → o ≡ place_of (pointed entries) places url → IfSome o (λ k. k < length entries)
 place_within entries places are url None at = tt
 place_within entries places are url (Some k) at =
     let entry = are.meant url k (sym at) in
     omega (arith, slice_get_within (pointed entries) k entry.0 entry.1, length_pointed entries)
 
 -- an entry with the URL stands at the place that is kept for it
-pub only_place : (entries : List Entry) (places : Places) → ArePlaces entries places → (url : List ℕ) (k : ℕ) → place_of places url ≡ Some k → (i : ℕ) (e : Entry) → slice_get entries i ≡ Some e → bytes_eq url e.url ≡ true → i ≡ k
+pub only_place : (entries : List Entry) (places : Places) → ArePlaces entries places → (url : List ℕ) (k : ℕ) → place_of entries places url ≡ Some k → (i : ℕ) (e : Entry) → slice_get entries i ≡ Some e → bytes_eq url e.url ≡ true → i ≡ k
 only_place entries places are url k at i e here' same =
-    let both : Some i ≡ Some k = sym (are.kept i e here') ∙ ap (place_of places) (sym (same_text url e.url same)) ∙ at in cc
+    let both : Some i ≡ Some k = sym (are.kept i e here') ∙ ap (place_of entries places) (sym (same_text url e.url same)) ∙ at in cc
 
 -- where no place is kept for a URL no entry has it
-pub no_place : (entries : List Entry) (places : Places) → ArePlaces entries places → (url : List ℕ) → place_of places url ≡ None → (i : ℕ) (e : Entry) → slice_get entries i ≡ Some e → bytes_eq url e.url ≡ false
+pub no_place : (entries : List Entry) (places : Places) → ArePlaces entries places → (url : List ℕ) → place_of entries places url ≡ None → (i : ℕ) (e : Entry) → slice_get entries i ≡ Some e → bytes_eq url e.url ≡ false
 no_place entries places are url none i e here' =
     false_from_ne_true _ (λ same.
-    let clash : Some i ≡ None = sym (are.kept i e here') ∙ ap (place_of places) (sym (same_text url e.url same)) ∙ none in
+    let clash : Some i ≡ None = sym (are.kept i e here') ∙ ap (place_of entries places) (sym (same_text url e.url same)) ∙ none in
     absurd (cc))
 
 -- ---- marks
@@ -251,7 +210,7 @@ or_both true b c p q = refl
 or_both false b c p q = sym (and_from b c p q)
 
 -- what is known of the entries after the one with this URL was marked, if it passes the test
-pub marked : (entries : List Entry) (places : Places) → ArePlaces entries places → (url : List ℕ) (k : ℕ) → place_of places url ≡ Some k → (known test : Entry → Bool) (d : Entry) → test (get_or entries k d) ≡ true → set (map known entries) k true ≡ map (λ e. known e || (bytes_eq url e.url && test e)) entries
+pub marked : (entries : List Entry) (places : Places) → ArePlaces entries places → (url : List ℕ) (k : ℕ) → place_of entries places url ≡ Some k → (known test : Entry → Bool) (d : Entry) → test (get_or entries k d) ≡ true → set (map known entries) k true ≡ map (λ e. known e || (bytes_eq url e.url && test e)) entries
 marked entries places are url k at known test d passes =
     let there' = placed entries places are url k at d in
     set_agrees known (λ e. known e || (bytes_eq url e.url && test e)) entries k true
@@ -260,7 +219,7 @@ marked entries places are url k at known test d passes =
     or_both (known e) (bytes_eq url e.url) (test e) (subst (λ u. bytes_eq url u ≡ true) (sym there'.2 ∙ ap (λ (z : Entry). z.url) same) (text_itself url)) (subst (λ z. test z ≡ true) same passes))
     (λ i e here' differs. or_none (known e) (bytes_eq url e.url) (test e) (false_from_ne_true _ (λ same. differs (only_place entries places are url k at i e here' same))))
 
-pub unmarked : (entries : List Entry) (places : Places) → ArePlaces entries places → (url : List ℕ) (k : ℕ) → place_of places url ≡ Some k → (known test : Entry → Bool) (d : Entry) → test (get_or entries k d) ≡ false → map known entries ≡ map (λ e. known e || (bytes_eq url e.url && test e)) entries
+pub unmarked : (entries : List Entry) (places : Places) → ArePlaces entries places → (url : List ℕ) (k : ℕ) → place_of entries places url ≡ Some k → (known test : Entry → Bool) (d : Entry) → test (get_or entries k d) ≡ false → map known entries ≡ map (λ e. known e || (bytes_eq url e.url && test e)) entries
 unmarked entries places are url k at known test d fails =
     maps_agree known (λ e. known e || (bytes_eq url e.url && test e)) entries
     (λ i e here'. elim (cases_Bool (bytes_eq url e.url)) [
@@ -271,7 +230,7 @@ unmarked entries places are url k at known test d fails =
       | inr other ↦ or_none (known e) (bytes_eq url e.url) (test e) other
     ])
 
-pub unmarked_unknown : (entries : List Entry) (places : Places) → ArePlaces entries places → (url : List ℕ) → place_of places url ≡ None → (known test : Entry → Bool) → map known entries ≡ map (λ e. known e || (bytes_eq url e.url && test e)) entries
+pub unmarked_unknown : (entries : List Entry) (places : Places) → ArePlaces entries places → (url : List ℕ) → place_of entries places url ≡ None → (known test : Entry → Bool) → map known entries ≡ map (λ e. known e || (bytes_eq url e.url && test e)) entries
 unmarked_unknown entries places are url none known test =
     maps_agree known (λ e. known e || (bytes_eq url e.url && test e)) entries
     (λ i e here'. or_none (known e) (bytes_eq url e.url) (test e) (no_place entries places are url none i e here'))
@@ -293,7 +252,7 @@ marks_push entries links link known test =
 
 -- ---- entries one hop behind the entry of a URL
 
-behind_place : (entries : List Entry) (places : Places) → ArePlaces entries places → (url : List ℕ) (k : ℕ) → place_of places url ≡ Some k → (d e : Entry) → (e.hops == (get_or entries k d).hops + 1) ≡ is_behind entries url e
+behind_place : (entries : List Entry) (places : Places) → ArePlaces entries places → (url : List ℕ) (k : ℕ) → place_of entries places url ≡ Some k → (d e : Entry) → (e.hops == (get_or entries k d).hops + 1) ≡ is_behind entries url e
 behind_place entries places are url k at d e =
     let there' = placed entries places are url k at d in
     let p : Entry → Bool = λ b. bytes_eq b.url url && e.hops == b.hops + 1 in
@@ -312,7 +271,7 @@ behind_place entries places are url k at d e =
           both_ways _ not_next (subst (λ z. (e.hops == z.hops + 1) ≡ true) (sym one) fits.1)))
     ]
 
-behind_none : (entries : List Entry) (places : Places) → ArePlaces entries places → (url : List ℕ) → place_of places url ≡ None → (e : Entry) → is_behind entries url e ≡ false
+behind_none : (entries : List Entry) (places : Places) → ArePlaces entries places → (url : List ℕ) → place_of entries places url ≡ None → (e : Entry) → is_behind entries url e ≡ false
 behind_none entries places are url none e =
     let p : Entry → Bool = λ b. bytes_eq b.url url && e.hops == b.hops + 1 in
     false_from_ne_true _ (λ has.
@@ -323,12 +282,12 @@ behind_none entries places are url none e =
     both_ways _ (no_place entries places are url none at_found.0 found.0 at_found.1) (subst (λ u. bytes_eq url u ≡ true) same_url (text_itself url)))
 
 -- marks by the hops of the entry of a result
-pub behind_marks : (entries : List Entry) (places : Places) → ArePlaces entries places → (r : PageResult) (k : ℕ) → place_of places r.url ≡ Some k → (d : Entry) (known : Entry → Bool) → map (λ e. known e || (stands_in (links_of r.page) e.url && e.hops == (get_or entries k d).hops + 1)) entries ≡ map (λ e. known e || (stands_in (links_of r.page) e.url && is_behind entries r.url e)) entries
+pub behind_marks : (entries : List Entry) (places : Places) → ArePlaces entries places → (r : PageResult) (k : ℕ) → place_of entries places r.url ≡ Some k → (d : Entry) (known : Entry → Bool) → map (λ e. known e || (stands_in (links_of r.page) e.url && e.hops == (get_or entries k d).hops + 1)) entries ≡ map (λ e. known e || (stands_in (links_of r.page) e.url && is_behind entries r.url e)) entries
 behind_marks entries places are r k at d known =
     maps_agree _ _ entries (λ i e here'. ap (λ b. known e || (stands_in (links_of r.page) e.url && b)) (behind_place entries places are r.url k at d e))
 
 -- a result whose URL is not accepted gives none
-pub behind_no_marks : (entries : List Entry) (places : Places) → ArePlaces entries places → (r : PageResult) → place_of places r.url ≡ None → (known : Entry → Bool) → map known entries ≡ map (λ e. known e || (stands_in (links_of r.page) e.url && is_behind entries r.url e)) entries
+pub behind_no_marks : (entries : List Entry) (places : Places) → ArePlaces entries places → (r : PageResult) → place_of entries places r.url ≡ None → (known : Entry → Bool) → map known entries ≡ map (λ e. known e || (stands_in (links_of r.page) e.url && is_behind entries r.url e)) entries
 behind_no_marks entries places are r none known =
     maps_agree _ _ entries (λ i e here'. or_none_last (known e) (stands_in (links_of r.page) e.url) (is_behind entries r.url e) (behind_none entries places are r.url none e))
 
@@ -353,7 +312,7 @@ or_nothing true b h = refl
 or_nothing false b h = sym h
 
 -- the entry with the URL of a result is marked
-pub fetched_marked : (entries : List Entry) (places : Places) → ArePlaces entries places → (url : List ℕ) (k : ℕ) → place_of places url ≡ Some k → (known : List ℕ → Bool) → set (map (λ e. known e.url) entries) k true ≡ map (λ e. known e.url || bytes_eq url e.url) entries
+pub fetched_marked : (entries : List Entry) (places : Places) → ArePlaces entries places → (url : List ℕ) (k : ℕ) → place_of entries places url ≡ Some k → (known : List ℕ → Bool) → set (map (λ e. known e.url) entries) k true ≡ map (λ e. known e.url || bytes_eq url e.url) entries
 fetched_marked entries places are url k at known =
     let found = are.meant url k at in
     set_agrees (λ e. known e.url) (λ e. known e.url || bytes_eq url e.url) entries k true
@@ -363,12 +322,12 @@ fetched_marked entries places are url k at known =
     sym (or_right (known e.url) (bytes_eq url e.url) (subst (λ u. bytes_eq url u ≡ true) (sym found.2 ∙ ap (λ (z : Entry). z.url) same) (text_itself url))))
     (λ i e here' differs. or_nothing (known e.url) (bytes_eq url e.url) (false_from_ne_true _ (λ same. differs (only_place entries places are url k at i e here' same))))
 
-pub fetched_unmarked : (entries : List Entry) (places : Places) → ArePlaces entries places → (url : List ℕ) → place_of places url ≡ None → (known : List ℕ → Bool) → map (λ e. known e.url) entries ≡ map (λ e. known e.url || bytes_eq url e.url) entries
+pub fetched_unmarked : (entries : List Entry) (places : Places) → ArePlaces entries places → (url : List ℕ) → place_of entries places url ≡ None → (known : List ℕ → Bool) → map (λ e. known e.url) entries ≡ map (λ e. known e.url || bytes_eq url e.url) entries
 fetched_unmarked entries places are url none known =
     maps_agree _ _ entries (λ i e here'. or_nothing (known e.url) (bytes_eq url e.url) (no_place entries places are url none i e here'))
 
 -- whether the entry with the URL was marked
-pub fetched_before : (entries : List Entry) (places : Places) → ArePlaces entries places → (url : List ℕ) (k : ℕ) → place_of places url ≡ Some k → (known : List ℕ → Bool) (d : Bool) → get_or (map (λ e. known e.url) entries) k d ≡ known url
+pub fetched_before : (entries : List Entry) (places : Places) → ArePlaces entries places → (url : List ℕ) (k : ℕ) → place_of entries places url ≡ Some k → (known : List ℕ → Bool) (d : Bool) → get_or (map (λ e. known e.url) entries) k d ≡ known url
 fetched_before entries places are url k at known d =
     let found = are.meant url k at in
     get_or-map (λ (e : Entry). known e.url) entries k found.0 d (slice_get_within entries k found.0 found.1)

@@ -1,11 +1,13 @@
--- Look-ups by URL: where an entry stands, and which URLs are in a set, both in the order of the URLs' hashes.
-use Rattle.std.specs.Prelude.{◌≡◌, ℕ, Bool, false, List, map, slice_get, Option, Some, None, is_some}
+-- Look-ups by URL: where an entry stands, and which URLs are in a set.
+use Rattle.std.specs.Prelude.{◌≡◌, ◌<◌, ◌⊎◌, ℕ, Bool, false, List, map, slice_get, Option, Some, None, is_some}
 use Rattle.std.specs.Str.{bytes_eq}
+use Rattle.std.specs.Bool.{if◌then◌else◌}
 use Rattle.std.specs.Borrow.{Bor}
 use Rattle.std.specs.BTreeMap.{get}
 use Rattle.std.specs.BTreeSet.{BTreeSet, contains}
-use Rattle.hash_order.specs.HashOrder.{by_hash}
+use Rattle.hash_order.specs.HashOrder.{hash_of, by_hash}
 use Rattle.crawl_frontier.specs.declared.entry.Entry.{Entry}
+use Rattle.crawl_certificate.specs.Hints.{vacant, first_hint, second_hint, IsHinted}
 use Rattle.crawl_certificate.specs.declared.lookups.Places.{Places}
 
 -- there is an entry, and it has the URL
@@ -21,17 +23,34 @@ pointed xs = map (λ x. x.now) xs
 abbrev pub stands_at : List Entry → ℕ → List ℕ → Bool
 stands_at entries place url = at_this (slice_get entries place) url
 
--- the place that is kept for the URL
-abbrev pub place_of : Places → List ℕ → Option ℕ
-place_of places url = get by_hash places.by_url url
+-- the place that the map keeps for the URL
+abbrev pub kept_place : Places → List ℕ → Option ℕ
+kept_place places url = get by_hash places.others url
 
-abbrev pub has_place : Places → List ℕ → Bool
-has_place places url = is_some (place_of places url)
+-- where the URL stands among the entries: at a place that is hinted at, or else at the one that the map keeps
+abbrev pub place_of : List Entry → Places → List ℕ → Option ℕ
+place_of entries places url =
+    if stands_at entries (first_hint places.hints (hash_of url)) url then Some (first_hint places.hints (hash_of url))
+    else if stands_at entries (second_hint places.hints (hash_of url)) url then Some (second_hint places.hints (hash_of url))
+    else kept_place places url
 
--- for each entry its place is kept, and no place of another URL
+abbrev pub has_place : List Entry → Places → List ℕ → Bool
+has_place entries places url = is_some (place_of entries places url)
+
+-- each entry is found at its place, and no other URL is found
 pub record ArePlaces (entries : List Entry) (places : Places) : Type 0 where
-  pub kept : (k : ℕ) (e : Entry) → slice_get entries k ≡ Some e → place_of places e.url ≡ Some k
-  pub meant : (url : List ℕ) (k : ℕ) → place_of places url ≡ Some k → (e : Entry) × (slice_get entries k ≡ Some e) × (e.url ≡ url)
+  pub kept : (k : ℕ) (e : Entry) → slice_get entries k ≡ Some e → place_of entries places e.url ≡ Some k
+  pub meant : (url : List ℕ) (k : ℕ) → place_of entries places url ≡ Some k → (e : Entry) × (slice_get entries k ≡ Some e) × (e.url ≡ url)
+
+-- the place is hinted at by the URL's hash, or kept for the URL
+abbrev pub IsKnown : Places → List ℕ → ℕ → Type 0
+IsKnown places url k = ((k < vacant) × IsHinted places.hints (hash_of url) k) ⊎ (kept_place places url ≡ Some k)
+
+-- the place of one more URL is known
+pub record AddsPlace (old new : Places) (url : List ℕ) (k : ℕ) : Type 0 where
+  pub own : IsKnown new url k
+  pub others : (other : List ℕ) (j : ℕ) → bytes_eq url other ≡ false → IsKnown old other j → IsKnown new other j
+  pub kept : (other : List ℕ) (j : ℕ) → kept_place new other ≡ Some j → (kept_place old other ≡ Some j) ⊎ ((url ≡ other) × (k ≡ j))
 
 abbrev pub Urls : Type 0
 Urls = BTreeSet (List ℕ)

@@ -118,7 +118,7 @@ fn find_fault<'a>(
     ensures { Tells result (first_fault (allows filter.now) seeds.now (pointed entries.now) results.now) }
 {
     let accepted = places_of(alloc, entries)?;
-    let seed_missing = some_missing(filter, &accepted, seeds);
+    let seed_missing = some_missing(filter, &accepted, entries, seeds);
     let marks = marks_of(alloc, filter, &accepted, entries, results)?;
     let not_fetched = some_unmarked(&marks.fetched);
     let seed_set = url_set(alloc, seeds)?;

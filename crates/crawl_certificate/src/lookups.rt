@@ -3,7 +3,7 @@ ghost use Rattle.std.specs.Prelude.{◌≡◌, ◌<◌, ℕ, List, take, length,
 ghost use Rattle.crawl_keys.specs.Assignment.{subqueue_of};
 ghost use Rattle.crawl_certificate.specs.Queues.{AreQueues};
 ghost use Rattle.crawl_certificate.specs.AccountEntries.{entries_of, DifferByUrl};
-ghost use Rattle.crawl_certificate.specs.Places.{pointed, place_of, has_place, stands_at, ArePlaces, is_in};
+ghost use Rattle.crawl_certificate.specs.Places.{pointed, place_of, stands_at, ArePlaces, AddsPlace, is_in};
 ghost use Rattle.crawl_certificate.specs.CertFaults.{stands_in};
 
 use crate::hints::Hints;
@@ -13,12 +13,24 @@ use hash_order::HashedText;
 use std::alloc::{AllocError, Global};
 use std::collections::{BTreeMap, BTreeSet};
 
-/// The place of each entry, by its URL.
+/// The place of each entry, by its URL: in a table by the URL's hash, or where the table is taken in a map.
 #[derive(Drop)]
 pub struct Places<'a> {
-    pub by_url: BTreeMap<HashedText<'a>, usize>,
-    // Most URLs are found by a guess, without a search in the map. Guesses need not be right.
     pub hints: Hints,
+    pub others: BTreeMap<HashedText<'a>, usize>,
+}
+
+impl<'a> Places<'a> {
+    /// Adds the place of one more URL.
+    fn add(&mut self, url: &'a CanonUrl, place: usize) -> Result<(), AllocError>
+        ensures { IfOk result (λ _. AddsPlace self.old self.new url.now place) }
+    {
+        if self.hints.keep(url.text_hash(), place) {
+            return Ok(());
+        }
+        self.others.insert(url.hashed(), place)?;
+        Ok(())
+    }
 }
 
 /// A set of URLs.
@@ -45,12 +57,11 @@ pub fn places_of<'a>(alloc: Global, entries: &[&'a Entry]) -> Result<Places<'a>,
     ensures { IfOk result (λ places. ArePlaces (pointed entries.now) places) }
 {
     let mut places = Places {
-        by_url: BTreeMap::new(alloc),
         hints: Hints::new(alloc, entries.len())?,
+        others: BTreeMap::new(alloc),
     };
     for (place, entry) in entries.iter().enumerate() {
-        places.by_url.insert(entry.url.hashed(), place)?;
-        places.hints.keep(entry.url.text_hash(), place);
+        places.add(&entry.url, place)?;
     }
     Ok(places)
 }
@@ -58,7 +69,7 @@ pub fn places_of<'a>(alloc: Global, entries: &[&'a Entry]) -> Result<Places<'a>,
 /// The place of the entry with the URL, if it is accepted.
 pub fn place_at<'a>(accepted: &Places<'a>, entries: &[&Entry], url: &'a CanonUrl) -> Option<usize>
     requires { ArePlaces (pointed entries.now) accepted.now }
-    ensures value { result ≡ place_of accepted.now url.now }
+    ensures value { result ≡ place_of (pointed entries.now) accepted.now url.now }
     ensures within { IfSome result (λ place. place < length entries.now) }
 {
     let hash = url.text_hash();
@@ -70,7 +81,7 @@ pub fn place_at<'a>(accepted: &Places<'a>, entries: &[&Entry], url: &'a CanonUrl
     if is_at(entries, second, url) {
         return Some(second);
     }
-    accepted.by_url.get(&url.hashed()).copied()
+    accepted.others.get(&url.hashed()).copied()
 }
 
 /// Whether the entry at the place has the URL.
@@ -80,15 +91,6 @@ fn is_at(entries: &[&Entry], place: usize, url: &CanonUrl) -> bool
     match entries.get(place) {
         Some(entry) => entry.url == *url,
         None => false,
-    }
-}
-
-impl<'a> Places<'a> {
-    /// Whether the URL is accepted.
-    pub fn has(&self, url: &'a CanonUrl) -> bool
-        ensures { result ≡ has_place self.now url.now }
-    {
-        self.by_url.contains_key(&url.hashed())
     }
 }
 

@@ -60,8 +60,8 @@ pub fn marks_of<'a>(
     requires { ArePlaces (pointed entries.now) accepted.now }
     ensures fetched { IfOk result (λ marks. marks.fetched.items ≡ map (λ e. has_result results.now e.url) (pointed entries.now)) }
     ensures linked { IfOk result (λ marks. marks.linked.items ≡ map (is_linked (pointed entries.now) results.now) (pointed entries.now)) }
-    ensures missing { IfOk result (λ marks. marks.told.missing ≡ list_any (λ r. some_missing (allows filter.now) (has_place accepted.now) (links_of r.page)) results.now) }
-    ensures stray { IfOk result (λ marks. marks.told.stray ≡ list_any (λ r. not (has_place accepted.now r.url)) results.now) }
+    ensures missing { IfOk result (λ marks. marks.told.missing ≡ list_any (λ r. some_missing (allows filter.now) (has_place (pointed entries.now) accepted.now) (links_of r.page)) results.now) }
+    ensures stray { IfOk result (λ marks. marks.told.stray ≡ list_any (λ r. not (has_place (pointed entries.now) accepted.now r.url)) results.now) }
     ensures twice { IfOk result (λ marks. marks.told.stray ≡ false → marks.told.twice ≡ twice results.now) }
 {
     let mut fetched = no_marks(alloc, entries)?;
@@ -101,8 +101,8 @@ fn mark_results<'a>(
     requires none_linked { linked.old ≡ map (λ _. false) (pointed entries.now) }
     ensures fetched { fetched.new ≡ map (λ e. has_result results.now e.url) (pointed entries.now) }
     ensures linked { linked.new ≡ map (is_linked (pointed entries.now) results.now) (pointed entries.now) }
-    ensures missing { result.missing ≡ list_any (λ r. some_missing (allows filter.now) (has_place accepted.now) (links_of r.page)) results.now }
-    ensures stray { result.stray ≡ list_any (λ r. not (has_place accepted.now r.url)) results.now }
+    ensures missing { result.missing ≡ list_any (λ r. some_missing (allows filter.now) (has_place (pointed entries.now) accepted.now) (links_of r.page)) results.now }
+    ensures stray { result.stray ≡ list_any (λ r. not (has_place (pointed entries.now) accepted.now r.url)) results.now }
     ensures twice { result.stray ≡ false → result.twice ≡ twice results.now }
 {
     let mut told = Told {
@@ -132,8 +132,8 @@ fn mark_result<'a>(
     requires long_linked { length linked.old ≡ length entries.now }
     ensures fetched { (known : List ℕ → Bool) → fetched.old ≡ map (λ e. known e.url) (pointed entries.now) → fetched.new ≡ map (λ e. known e.url || bytes_eq one.now.url e.url) (pointed entries.now) }
     ensures linked { (known : Entry → Bool) → linked.old ≡ map known (pointed entries.now) → linked.new ≡ map (λ e. known e || (stands_in (links_of one.now.page) e.url && is_behind (pointed entries.now) one.now.url e)) (pointed entries.now) }
-    ensures missing { result.missing ≡ some_missing (allows filter.now) (has_place accepted.now) (links_of one.now.page) }
-    ensures stray { result.stray ≡ not (has_place accepted.now one.now.url) }
+    ensures missing { result.missing ≡ some_missing (allows filter.now) (has_place (pointed entries.now) accepted.now) (links_of one.now.page) }
+    ensures stray { result.stray ≡ not (has_place (pointed entries.now) accepted.now one.now.url) }
     ensures twice { (known : List ℕ → Bool) → fetched.old ≡ map (λ e. known e.url) (pointed entries.now) → result.stray ≡ false → result.twice ≡ known one.now.url }
 {
     let links = links_of(&one.page);
@@ -150,7 +150,7 @@ fn mark_result<'a>(
             }
         }
         None => Told {
-            missing: some_missing(filter, accepted, links),
+            missing: some_missing(filter, accepted, entries, links),
             stray: true,
             twice: false,
         },
@@ -169,7 +169,7 @@ fn mark_links<'a>(
     requires places { ArePlaces (pointed entries.now) accepted.now }
     requires long { length linked.old ≡ length entries.now }
     ensures linked { (known : Entry → Bool) → linked.old ≡ map known (pointed entries.now) → linked.new ≡ map (λ e. known e || (stands_in links.now e.url && e.hops == hops + 1)) (pointed entries.now) }
-    ensures missing { result ≡ some_missing (allows filter.now) (has_place accepted.now) links.now }
+    ensures missing { result ≡ some_missing (allows filter.now) (has_place (pointed entries.now) accepted.now) links.now }
 {
     let mut missing = false;
     for link in links {
@@ -190,7 +190,7 @@ fn mark<'a>(
     requires places { ArePlaces (pointed entries.now) accepted.now }
     requires long { length linked.old ≡ length entries.now }
     ensures linked { (known : Entry → Bool) → linked.old ≡ map known (pointed entries.now) → linked.new ≡ map (λ e. known e || (bytes_eq link.now e.url && e.hops == hops + 1)) (pointed entries.now) }
-    ensures missing { result ≡ (allows filter.now link.now && not (has_place accepted.now link.now)) }
+    ensures missing { result ≡ (allows filter.now link.now && not (has_place (pointed entries.now) accepted.now link.now)) }
 {
     match place_at(accepted, entries, link) {
         Some(place) => {

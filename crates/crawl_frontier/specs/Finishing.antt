@@ -68,9 +68,13 @@ Stands es (Seen u q) = has_url u es ≡ true
 abbrev pub StandsAt : List (List Entry) → Logged → Type 0
 StandsAt lists l = (es : List Entry) → At lists (place_of l) es → Stands es l
 
--- below `least` each line of the log is true of its subqueue's list
+-- below `least` the line at k of the log is true of its subqueue's list
+abbrev pub LineStands : ℕ → List (List Entry) → List Logged → ℕ → Type 0
+LineStands least lists log k = (l : Logged) → At log k l → place_of l < least → StandsAt lists l
+
+-- and each line is
 abbrev pub LogStands : ℕ → List (List Entry) → List Logged → Type 0
-LogStands least lists log = (k : ℕ) (l : Logged) → At log k l → place_of l < least → StandsAt lists l
+LogStands least lists log = (k : ℕ) → LineStands least lists log k
 
 -- below `least` each count is that of the list
 abbrev pub CountsStand : ℕ → List (List Entry) → BookId → Type 0

@@ -4,6 +4,7 @@ pub mod Entries
 pub mod Rule
 pub mod PassId
 pub mod SetupId
+pub mod Logs
 pub mod Books
 pub mod Parts
 pub mod Tables

@@ -1,9 +1,10 @@
 //! What a part that sends keeps of its own offers.
-ghost use Rattle.std.specs.Prelude.{◌≡◌, ◌<◌, ◌^◌, IfOk, OnOk, Some, slice_get, vec_len, vec_capacity};
+ghost use Rattle.std.specs.Prelude.{◌≡◌, ◌<◌, ◌^◌, IfOk, OnOk, Some, slice_get, vec_len};
 ghost use Rattle.crawl_frontier.specs.Entries.{entry};
-ghost use Rattle.crawl_frontier.specs.Books.{IsBook, book_of, book_accepting, book_seeing, fresh_book, place_of};
+ghost use Rattle.crawl_frontier.specs.Books.{IsBook, HasRoom, book_of, book_accepting, book_seeing, fresh_book, place_of};
 
 use crate::entry::Entry;
+use crate::log::Log;
 use crawl_keys::CanonUrl;
 use std::alloc::{AllocError, Global};
 
@@ -33,7 +34,7 @@ impl Logged {
 pub struct Book {
     pub id: u64,
     pub counts: Vec<u64>,
-    pub log: Vec<Logged>,
+    pub log: Log,
 }
 
 impl Book {
@@ -45,17 +46,16 @@ impl Book {
         Ok(Book {
             id,
             counts,
-            log: Vec::new(alloc),
+            log: Log::new(alloc),
         })
     }
 
     /// Makes room for one line more.
     pub fn reserve(&mut self) -> Result<(), AllocError>
         ensures same { book_of self.new ≡ book_of self.old }
-        ensures room { OnOk result (vec_len self.new.log < vec_capacity self.new.log) }
+        ensures room { OnOk result (HasRoom self.new.log) }
     {
-        self.log.reserve(1)?;
-        Ok(())
+        self.log.reserve()
     }
 
     /// Enters a URL that subqueue `place` accepted, as the `number`-th from 0. Nothing grows.
@@ -63,34 +63,28 @@ impl Book {
         requires within { place < vec_len self.old.counts }
         requires number { slice_get self.old.counts.items place ≡ Some number }
         requires small { number < 2 ^ 63 }
-        requires room { vec_len self.old.log < vec_capacity self.old.log }
+        requires room { HasRoom self.old.log }
         ensures { book_of self.new ≡ book_accepting (book_of self.old) place number (entry url self.old.id number hops) }
     {
         self.counts[place as usize] = number + 1;
-        let entry = Entry {
-            url,
-            sender: self.id,
-            number,
-            hops,
-        };
-        self.log.push_reserved(Logged::Accepted(entry, place));
+        self.log.accept(url, place, number, hops);
     }
 
     /// Enters a URL that was found in subqueue `place`. Nothing grows.
     pub fn see(&mut self, url: CanonUrl, place: u32)
-        requires room { vec_len self.old.log < vec_capacity self.old.log }
+        requires room { HasRoom self.old.log }
         ensures { book_of self.new ≡ book_seeing (book_of self.old) url place }
     {
-        self.log.push_reserved(Logged::Seen(url, place));
+        self.log.see(url, place);
     }
 
     /// Lets `url` share the text of the last line, where that has the same URL as seen.
     pub fn share_last(&self, url: &mut CanonUrl)
         ensures { url.new ≡ url.old }
     {
-        if let Some(Logged::Seen(logged, _)) = self.log.last() {
-            if *logged == *url {
-                if let Ok(shared) = logged.copy() {
+        if let Some(line) = self.log.lines.last() {
+            if !line.accepted && line.url == *url {
+                if let Ok(shared) = line.url.copy() {
                     *url = shared;
                 }
             }

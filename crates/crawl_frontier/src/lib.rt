@@ -15,6 +15,7 @@ mod error;
 mod finish;
 mod frontier;
 pub mod laws;
+mod log;
 mod name;
 mod offer;
 mod rights;

@@ -1,8 +1,8 @@
 //! What an offer answers, and its half after it has entered the gate.
-ghost use Rattle.std.specs.Prelude.{◌≡◌, ◌<◌, vec_len, vec_capacity};
+ghost use Rattle.std.specs.Prelude.{◌≡◌, ◌<◌};
 ghost use Rattle.crawl_keys.specs.Assignment.{subqueue_of};
 ghost use Rattle.crawl_gate.specs.Seat.{IsSeatOf};
-ghost use Rattle.crawl_frontier.specs.Books.{IsBook, book_of};
+ghost use Rattle.crawl_frontier.specs.Books.{IsBook, HasRoom, book_of};
 ghost use Rattle.crawl_frontier.specs.Offers.{Replies, OfferBooks, Delivers};
 ghost use Rattle.crawl_frontier.specs.Units.{GaveBack};
 
@@ -73,7 +73,7 @@ pub(crate) fn deliver<K: Name, R: Wait>(
     unit: Unit,
 ) -> Result<Offer, OfferError>
     requires book { IsBook K.workers (book_of book.old) }
-    requires room { vec_len book.old.log < vec_capacity book.old.log }
+    requires room { HasRoom book.old.log }
     requires pass { IsSeatOf K.gate pass.old }
     requires unit { IsSeatOf K.gate unit }
     ensures book { IsBook K.workers (book_of book.new) }

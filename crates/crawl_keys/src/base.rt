@@ -52,6 +52,8 @@ impl Base {
     pub fn is_beside(&self, other: &Base) -> bool
         ensures { result ≡ true → (text : List ℕ) → is_of_folder text ≡ true → spec.resolve self.now text ≡ spec.resolve other.now text }
     {
-        folder_of(&self.url) == folder_of(&other.url)
+        let own = folder_of(&self.url);
+        let its = folder_of(&other.url);
+        own == its
     }
 }

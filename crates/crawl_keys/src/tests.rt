@@ -195,3 +195,91 @@ fn crosses_threads(rt: HostRuntime) -> Result<(), Fail> {
     moves_and_shares(&Filter::new(rt.alloc(), &["a.test"])?);
     Ok(())
 }
+
+// Pairs of pages, and whether both lie in one folder; just then a name leads to one URL from both.
+#[test]
+fn pages_of_a_folder(rt: HostRuntime) -> Result<(), Fail> {
+    let alloc = rt.alloc();
+    let rows = [
+        ("http://a.test/a/b", "http://a.test/a/c?q", true),
+        ("http://a.test/a/", "http://a.test/a/x", true),
+        ("http://a.test/a/b?q", "http://a.test/a/b?r", true),
+        ("http://a.test/a/b?q=/x/y", "http://a.test/a/c", true),
+        ("http://a.test", "http://a.test/x", true),
+        (
+            "http://u:p@a.test:8080/a/b",
+            "http://u:p@a.test:8080/a/",
+            true,
+        ),
+        ("http://[::1]/a/b", "http://[::1]:80/a/c", true),
+        ("http://a.test/a", "http://a.test/a/x", false),
+        ("http://a.test/a/b", "http://a.test/b/b", false),
+        ("http://a.test/a//b", "http://a.test/a/b", false),
+        ("http://a.test/", "http://a.test/b/", false),
+        ("http://a.test/a/b", "http://b.test/a/b", false),
+        ("http://a.test/a/b", "https://a.test/a/b", false),
+        ("http://a.test/a/b", "http://a.test:8080/a/b", false),
+        ("http://a.test/a/b", "http://u@a.test/a/b", false),
+        ("http://u@a.test/a/b", "http://u:p@a.test/a/b", false),
+    ];
+    for (one, other, expected) in rows {
+        let base = Base::new(alloc, &canonical(alloc, one)?)?;
+        let beside = Base::new(alloc, &canonical(alloc, other)?)?;
+        assert_eq!(rt; base.is_beside(&beside), expected, "{one} {other}");
+        assert_eq!(rt; beside.is_beside(&base), expected, "{other} {one}");
+        let (from_one, from_other) = (base.resolve(alloc, "x")?, beside.resolve(alloc, "x")?);
+        assert_eq!(rt; from_one == from_other, expected, "{one} {other}");
+    }
+    Ok(())
+}
+
+// A link, whether it is of a folder, and where it leads from two pages of one folder, the second of
+// which has a query.
+#[test]
+fn links_of_a_folder(rt: HostRuntime) -> Result<(), Fail> {
+    let alloc = rt.alloc();
+    let one = Base::new(alloc, &canonical(alloc, "http://a.test/d/e")?)?;
+    let other = Base::new(alloc, &canonical(alloc, "http://a.test/d/f?q")?)?;
+    let rows = [
+        ("x", true, "http://a.test/d/x", "http://a.test/d/x"),
+        ("../x?y#z", true, "http://a.test/x?y", "http://a.test/x?y"),
+        (".", true, "http://a.test/d/", "http://a.test/d/"),
+        ("/x:y", true, "http://a.test/x:y", "http://a.test/x:y"),
+        (
+            "//b.test:81/",
+            true,
+            "http://b.test:81/",
+            "http://b.test:81/",
+        ),
+        ("\\x", true, "http://a.test/x", "http://a.test/x"),
+        ("x ", true, "http://a.test/d/x", "http://a.test/d/x"),
+        ("", false, "http://a.test/d/e", "http://a.test/d/f?q"),
+        ("#x", false, "http://a.test/d/e", "http://a.test/d/f?q"),
+        ("?x", false, "http://a.test/d/e?x", "http://a.test/d/f?x"),
+        (" ?x", false, "http://a.test/d/e?x", "http://a.test/d/f?x"),
+        ("http:", false, "http://a.test/d/e", "http://a.test/d/f?q"),
+        (
+            "http:?x",
+            false,
+            "http://a.test/d/e?x",
+            "http://a.test/d/f?x",
+        ),
+        ("x:y", false, "", ""),
+    ];
+    for (link, expected, from_one, from_other) in rows {
+        assert_eq!(rt; is_of_folder(link), expected, "{link}");
+        let target = one.resolve(alloc, link);
+        assert_eq!(rt;
+            target.as_ref().map_or("", |url| url.as_str()),
+            from_one,
+            "{link}"
+        );
+        let target = other.resolve(alloc, link);
+        assert_eq!(rt;
+            target.as_ref().map_or("", |url| url.as_str()),
+            from_other,
+            "{link}"
+        );
+    }
+    Ok(())
+}

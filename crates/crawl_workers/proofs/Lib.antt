@@ -1,3 +1,4 @@
 pub mod Lossless
+pub mod Meeting
 pub mod Running
 pub mod Turning

@@ -1,5 +1,5 @@
 -- How a worker's run goes on.
-use Rattle.std.proofs.Common.{◌≡◌, ◌⊎◌, inl, inr, ℕ, suc, ◌+◌, ◌-◌, ◌^◌, ◌<◌, ◌≤◌, Bool, List, [], ◌∷◌, ◌++◌, length, map, Option, None, Some, Result, Ok, Err, refl, sym, ap, subst, ◌∙◌, arith, IsTrue, slice_set, slice_index_or}
+use Rattle.std.proofs.Common.{◌≡◌, ◌⊎◌, inl, inr, ℕ, suc, ◌+◌, ◌-◌, ◌^◌, ◌<◌, ◌≤◌, Bool, List, [], ◌∷◌, ◌++◌, length, map, Option, None, Some, Result, Ok, Err, refl, sym, ap, subst, ◌∙◌, arith, IsTrue, IfSome, slice_set, slice_index_or}
 use Rattle.std.specs.List.{All, AllZip}
 use Rattle.std.proofs.lemmas.List.{append_assoc, map-append, length_push, set-get_or}
 use Rattle.std.proofs.lemmas.Grind.{flat_map-append}
@@ -21,7 +21,9 @@ use Rattle.crawl_frontier.specs.Offers.{OfferBooks}
 use Rattle.crawl_frontier.specs.Parts.{WorkerId, BusyId, worker}
 use Rattle.crawl_workers.specs.declared.harvest.Harvest.{Harvest}
 use Rattle.crawl_workers.specs.declared.worker_end.WorkerEnd.{WorkerEnd}
+use Rattle.crawl_workers.specs.declared.met.Met.{Met}
 use Rattle.crawl_workers.specs.Logs.{line_of, HasLine, AllLogged, Grows}
+use Rattle.crawl_workers.specs.Met.{Knows}
 use Rattle.crawl_workers.specs.Ran.{Fate, result_at, results_of, taken_in, AtLeast, Ran}
 use Rattle.crawl_workers.specs.Turn.{Finds, Loses, SameBusy}
 use Rattle.crawl_workers.specs.Runs.{AllRan}
@@ -79,6 +81,15 @@ all_logged_more workers allowed b b' urls url grows all has =
 
 pub all_logged_none : (workers : ℕ) (allowed : List ℕ → Bool) (log : List Logged) → AllLogged workers allowed log []
 all_logged_none workers allowed log = All-nil (λ u. IsTrue (allowed u) → HasLine workers log u)
+
+slot_on : (workers : ℕ) (b b' : BookId) (slot : Option (List ℕ)) → Grows b b' → IfSome slot (HasLine workers b.log) → IfSome slot (HasLine workers b'.log)
+slot_on workers b b' (Some url) grows has = has_line_on workers b b' url grows has
+slot_on workers b b' None grows has = tt
+
+-- what is remembered stays known
+pub knows_on : (workers : ℕ) (b b' : BookId) (met : Met) → Grows b b' → Knows workers b.log met → Knows workers b'.log met
+knows_on workers b b' met grows all =
+    All-weaker (λ slot. IfSome slot (HasLine workers b.log)) (λ slot. IfSome slot (HasLine workers b'.log)) (λ slot has. slot_on workers b b' slot grows has) met.slots.items all
 
 -- a list with the same element written once more
 pub unchanged_at : {X : Type 0} (xs : List X) (i : ℕ) (x y : X) → y ≡ slice_index_or xs i x → slice_set xs i y ≡ xs

@@ -5,12 +5,12 @@ use Rattle.crawl_web.specs.declared.page.Page.{Page}
 use Rattle.crawl_frontier.specs.Parts.{WorkerId}
 use Rattle.crawl_workers.specs.declared.turns.Runner.{Runner}
 use Rattle.crawl_workers.specs.declared.turns.Runner.TheVariants.{Going, Ended, Moved}
-use Rattle.crawl_workers.specs.Ran.{Ran}
+use Rattle.crawl_workers.specs.Turn.{Goes}
 use Rattle.crawl_workers.specs.Runs.{RanTo}
 
 -- how far one came; while it is moved out of its place nothing is known
 abbrev pub RunnerRan : {K : _} → ℕ → (List ℕ → Bool) → (List ℕ → Page) → WorkerId → Runner K → Type 0
-RunnerRan workers allowed meaning start (Going w h) = Ran workers allowed meaning start w h.results.items h.lost
+RunnerRan workers allowed meaning start (Going w h) = Goes workers allowed meaning start w h
 RunnerRan workers allowed meaning start (Ended e) = RanTo workers allowed meaning start e
 RunnerRan workers allowed meaning start Moved = ⊥
 

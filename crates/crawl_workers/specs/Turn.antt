@@ -8,13 +8,19 @@ use Rattle.crawl_workers.specs.declared.harvest.Harvest.{Harvest}
 use Rattle.crawl_workers.specs.declared.turn.Step.{Step}
 use Rattle.crawl_workers.specs.declared.turn.Step.TheVariants.{Worked, Waits, Closes}
 use Rattle.crawl_workers.specs.Logs.{AllLogged, Grows}
-use Rattle.crawl_workers.specs.Ran.{AtLeast}
+use Rattle.crawl_workers.specs.Met.{Knows}
+use Rattle.crawl_workers.specs.Ran.{AtLeast, Ran}
 
 -- the worker after a turn
 abbrev pub worker_in : {K : _} → Step K → WorkerId
 worker_in (Worked w) = w
 worker_in (Waits w) = w
 worker_in (Closes w) = w
+
+-- so far as in `Ran`, with this harvest; and the log has a line of each URL that it remembers
+abbrev pub Goes : ℕ → (List ℕ → Bool) → (List ℕ → Page) → WorkerId → WorkerId → Harvest → Type 0
+Goes workers allowed meaning start now harvest =
+    Ran workers allowed meaning start now harvest.results.items harvest.lost × Knows workers now.book.log harvest.met
 
 -- one result more
 abbrev pub Keeps : List ℕ → Page → Harvest → Harvest → Type 0

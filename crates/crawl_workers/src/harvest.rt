@@ -1,34 +1,41 @@
 //! What a worker has found so far.
-ghost use Rattle.std.specs.Prelude.{◌≡◌, ◌⊎◌, ◌+◌, ◌++◌, ◌∷◌, []};
+ghost use Rattle.std.specs.Prelude.{◌≡◌, ◌⊎◌, ◌+◌, ◌++◌, ◌∷◌, [], ℕ, List};
+ghost use Rattle.crawl_frontier.specs.declared.book.Logged.{Logged};
+ghost use Rattle.crawl_workers.specs.Met.{Knows};
 ghost use Rattle.crawl_workers.specs.Turn.{Keeps, Loses};
 ghost use Rattle.crawl_workers.specs.Ran.{AtLeast};
 
+use crate::met::Met;
 use crate::worker_end::WorkerEnd;
 use crawl_frontier::{ClosedWorker, Name};
 use crawl_keys::CanonUrl;
 use crawl_web::{Page, PageResult};
 use std::alloc::Global;
 
-/// The results so far, and how much was lost, up to the greatest u64.
+/// The results so far, how much was lost, up to the greatest u64, and the URLs that were met.
 #[derive(Drop)]
 pub(crate) struct Harvest {
     pub results: Vec<PageResult>,
     pub lost: u64,
+    pub met: Met,
 }
 
 impl Harvest {
     pub fn new(alloc: Global) -> Harvest
-        ensures { (result.results.items ≡ []) × (result.lost ≡ 0) }
+        ensures nothing { (result.results.items ≡ []) × (result.lost ≡ 0) }
+        ensures met { (workers : ℕ) (log : List Logged) → Knows workers log result.met }
     {
         Harvest {
             results: Vec::new(alloc),
             lost: 0,
+            met: Met::new(alloc),
         }
     }
 
     /// Counts so many losses.
     pub fn lose(&mut self, count: u64)
         ensures same { self.new.results ≡ self.old.results }
+        ensures met { self.new.met ≡ self.old.met }
         ensures more { AtLeast (self.old.lost + count) self.new.lost }
         ensures none { self.new.lost ≡ 0 → (self.old.lost ≡ 0) × (count ≡ 0) }
     {
@@ -37,7 +44,8 @@ impl Harvest {
 
     /// Keeps a result, or counts it as lost where there is no room for it.
     pub fn keep(&mut self, url: &CanonUrl, page: Page)
-        ensures { Keeps url.now page self.old self.new ⊎ Loses self.old self.new }
+        ensures kept { Keeps url.now page self.old self.new ⊎ Loses self.old self.new }
+        ensures met { self.new.met ≡ self.old.met }
     {
         let Ok(url) = url.copy() else {
             self.lose(1);
@@ -53,7 +61,7 @@ impl Harvest {
         ensures results { result.results ≡ self.results }
         ensures lost { result.lost ≡ self.lost }
     {
-        let Harvest { results, lost } = self;
+        let Harvest { results, lost, .. } = self;
         WorkerEnd {
             closed,
             results,

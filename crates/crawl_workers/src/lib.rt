@@ -8,6 +8,7 @@
 mod error;
 mod harvest;
 pub mod laws;
+mod met;
 mod run;
 #[cfg(test)]
 mod tests;

@@ -4,10 +4,11 @@ ghost use Rattle.crawl_keys.specs.HostFilter.{allows};
 ghost use Rattle.crawl_frontier.specs.Parts.{WorkerId};
 ghost use Rattle.crawl_web.specs.Pages.{links_of};
 ghost use Rattle.crawl_workers.specs.Logs.{AllLogged, HasLine};
-ghost use Rattle.crawl_workers.specs.Ran.{Ran};
-ghost use Rattle.crawl_workers.specs.Turn.{Finds, Loses, SameBusy, worker_in};
+ghost use Rattle.crawl_workers.specs.Met.{Knows};
+ghost use Rattle.crawl_workers.specs.Turn.{Finds, Goes, Loses, SameBusy, worker_in};
 
 use crate::harvest::Harvest;
+use crate::met::Met;
 use crawl_frontier::{BusyWorker, ClosedWorker, Frontier, Name, OfferError, Turn, Worker};
 use crawl_keys::CanonUrl;
 use crawl_web::{Fetch, Links, Page};
@@ -25,20 +26,29 @@ pub(crate) enum Step<K: Name> {
     Closes(ClosedWorker<K>),
 }
 
-// Offers a link, and answers whether it is lost. One that the filter does not allow is not. A link that was seen shares the
-// frontier's text from then on.
+// Offers a link that was not met before, and answers whether it is lost. One that the filter does not allow is not. A link
+// that was met or seen shares the text of the frontier's from then on.
 fn is_refused<K: Name, R: Wait>(
     rt: &R,
+    alloc: Global,
     frontier: &Frontier<K>,
     busy: &mut BusyWorker<K>,
+    met: &mut Met,
     url: &mut CanonUrl,
 ) -> bool
     ensures url { url.new ≡ url.old }
     ensures same { SameBusy busy.old busy.new }
-    ensures line { result ≡ false → allows K.filter url.old ≡ true → HasLine K.workers busy.new.worker.book.log url.old }
+    ensures line { Knows K.workers busy.old.worker.book.log met.old → result ≡ false → allows K.filter url.old ≡ true → HasLine K.workers busy.new.worker.book.log url.old }
+    ensures met { Knows K.workers busy.old.worker.book.log met.old → Knows K.workers busy.new.worker.book.log met.new }
 {
+    if met.has(url) {
+        return false;
+    }
     match busy.offer_shared(rt, frontier, url) {
-        Ok(_) => false,
+        Ok(_) => {
+            met.meet(alloc, url);
+            false
+        }
         Err(OfferError::Filtered) => false,
         Err(_) => true,
     }
@@ -47,17 +57,20 @@ fn is_refused<K: Name, R: Wait>(
 // Offers all links, in order, and answers how many are lost.
 fn offer_links<K: Name, R: Wait>(
     rt: &R,
+    alloc: Global,
     frontier: &Frontier<K>,
     busy: &mut BusyWorker<K>,
+    met: &mut Met,
     links: &mut [CanonUrl],
 ) -> u64
     ensures links { links.new ≡ links.old }
     ensures same { SameBusy busy.old busy.new }
-    ensures lines { result ≡ 0 → AllLogged K.workers (allows K.filter) busy.new.worker.book.log links.old }
+    ensures lines { Knows K.workers busy.old.worker.book.log met.old → result ≡ 0 → AllLogged K.workers (allows K.filter) busy.new.worker.book.log links.old }
+    ensures met { Knows K.workers busy.old.worker.book.log met.old → Knows K.workers busy.new.worker.book.log met.new }
 {
     let mut refused = 0;
     for place in 0..links.len() {
-        if is_refused(rt, frontier, busy, &mut links[place]) {
+        if is_refused(rt, alloc, frontier, busy, met, &mut links[place]) {
             refused += 1;
         }
     }
@@ -67,23 +80,26 @@ fn offer_links<K: Name, R: Wait>(
 // Offers the links of a page, in order, and answers how many are lost, with the page as it was.
 fn offer_page<K: Name, R: Wait>(
     rt: &R,
+    alloc: Global,
     frontier: &Frontier<K>,
     busy: &mut BusyWorker<K>,
+    met: &mut Met,
     page: Page,
 ) -> (Page, u64)
     ensures page { result.0 ≡ page }
     ensures same { SameBusy busy.old busy.new }
-    ensures lines { result.1 ≡ 0 → AllLogged K.workers (allows K.filter) busy.new.worker.book.log (links_of page) }
+    ensures lines { Knows K.workers busy.old.worker.book.log met.old → result.1 ≡ 0 → AllLogged K.workers (allows K.filter) busy.new.worker.book.log (links_of page) }
+    ensures met { Knows K.workers busy.old.worker.book.log met.old → Knows K.workers busy.new.worker.book.log met.new }
 {
     match page {
         Page::Found { links, skipped } => {
             let mut urls = Vec::from(links);
-            let refused = offer_links(rt, frontier, busy, urls.as_mut_slice());
+            let refused = offer_links(rt, alloc, frontier, busy, met, urls.as_mut_slice());
             let links = Links::from(urls);
             (Page::Found { links, skipped }, refused)
         }
         Page::Moved { to: Some(mut url) } => {
-            let refused = is_refused(rt, frontier, busy, &mut url);
+            let refused = is_refused(rt, alloc, frontier, busy, met, &mut url);
             (Page::Moved { to: Some(url) }, u64::from(refused))
         }
         Page::Moved { to: None } => (Page::Moved { to: None }, 0),
@@ -101,13 +117,14 @@ fn work<K: Name, F: Fetch, R: Wait>(
     harvest: &mut Harvest,
 )
     ensures same { SameBusy busy.old busy.new }
-    ensures finds { Finds K.workers (allows K.filter) (F.meaning fetcher.now) busy.old.message.entry.url busy.new.worker.book.log harvest.old harvest.new ⊎ Loses harvest.old harvest.new }
+    ensures finds { Knows K.workers busy.old.worker.book.log harvest.old.met → Finds K.workers (allows K.filter) (F.meaning fetcher.now) busy.old.message.entry.url busy.new.worker.book.log harvest.old harvest.new ⊎ Loses harvest.old harvest.new }
+    ensures met { Knows K.workers busy.old.worker.book.log harvest.old.met → Knows K.workers busy.new.worker.book.log harvest.new.met }
 {
     let Ok(page) = fetcher.fetch(alloc, busy.url()) else {
         harvest.lose(1);
         return;
     };
-    let (page, refused) = offer_page(rt, frontier, busy, page);
+    let (page, refused) = offer_page(rt, alloc, frontier, busy, &mut harvest.met, page);
     harvest.lose(refused);
     harvest.keep(busy.url(), page);
 }
@@ -122,9 +139,7 @@ pub(crate) fn turn<K: Name, F: Fetch, R: Wait>(
     harvest: &mut Harvest,
 ) -> Step<K>
     // Whatever the run began with, the turn goes on with it.
-    ensures { (start : WorkerId)
-        → Ran K.workers (allows K.filter) (F.meaning fetcher.now) start worker harvest.old.results.items harvest.old.lost
-        → Ran K.workers (allows K.filter) (F.meaning fetcher.now) start (worker_in result) harvest.new.results.items harvest.new.lost }
+    ensures { (start : WorkerId) → Goes K.workers (allows K.filter) (F.meaning fetcher.now) start worker harvest.old → Goes K.workers (allows K.filter) (F.meaning fetcher.now) start (worker_in result) harvest.new }
 {
     match worker.next(rt, frontier) {
         Turn::Busy(mut busy) => {

@@ -1,8 +1,12 @@
 -- From the ends of a run to its results, and from an account to its counts.
-use Rattle.std.proofs.Common.{◌≡◌, inl, inr, ℕ, ◌+◌, Bool, List, [], ◌∷◌, ◌++◌, length, slice_get, Some, sym, ap, ◌∙◌, arith, length-append}
+use Rattle.std.proofs.Common.{◌≡◌, inl, inr, ℕ, ◌+◌, Bool, List, [], ◌∷◌, ◌++◌, length, slice_get, Option, Some, None, Err, refl, sym, ap, ◌∙◌, arith, length-append}
 use Rattle.std.proofs.lemmas.Bool.{cases_lt}
 use Rattle.std.proofs.lemmas.List.Elements.{All-nil, All-append, All-pop, All-cons}
-use Rattle.crawl_certificate.specs.Certificate.{ArePages, CountsOf}
+use Rattle.crawl_certificate.specs.Certificate.{ArePages, CountsOf, unless_fault}
+use Rattle.crawl_certificate.specs.CertFaults.{first_fault}
+use Rattle.crawl_certificate.specs.declared.error.CertError.{CertError}
+use Rattle.crawl_certificate.specs.declared.error.CertError.TheVariants as cert
+use Rattle.crawl_keys.specs.Outcome.{IsRefusal}
 use Rattle.crawl_certificate.proofs.Places.{get_push, get_last}
 use Rattle.crawl_frontier.specs.Accounts.{AccountId}
 use Rattle.crawl_frontier.specs.Parts.{WorkerId}
@@ -11,7 +15,7 @@ use Rattle.crawl_web.specs.declared.page.Page.{Page}
 use Rattle.crawl_web.specs.declared.page.PageResult.{PageResult}
 use Rattle.crawl_workers.specs.Runs.{AllRan}
 use Rattle.crawl_workers.specs.declared.worker_end.WorkerEnd.{WorkerEnd}
-use Rattle.mercator.specs.Crawls.{AllPages, AreCounts, CountedBelow}
+use Rattle.mercator.specs.Crawls.{AllPages, AreCounts, CountedBelow, IsFaultOf, IsJudged, of_cert}
 
 pub all_pages : {K : _} (workers : ℕ) (allowed : List ℕ → Bool) (meaning : List ℕ → Page) (starts : List WorkerId) (ends : List (WorkerEnd K)) → AllRan workers allowed meaning starts ends → AllPages meaning ends
 all_pages {K} workers allowed meaning [] [] ran = All-nil (λ (e : WorkerEnd K). ArePages meaning e.results.items)
@@ -48,3 +52,24 @@ urls_counted account urls counts counted own = record {
       let here = counted.each queue below in
       here.1.1 ∙ ap Some (sym (own queue here.0 below here.1.0));
 }
+
+-- ---- the fault of a certificate
+
+fault_from : (fault : Option CertError) (error : CertError) → unless_fault fault ≡ Err error → fault ≡ Some error
+fault_from None error told = absurd (cc)
+fault_from (Some fault) error told = cc
+
+at_fault : (meaning : List ℕ → Page) (allowed : List ℕ → Bool) (seeds : List (List ℕ)) (entries : List Entry) (results : List PageResult) (error : CertError) → ¬ (error ≡ cert.NoMemory) → ArePages meaning results → IsRefusal cert.NoMemory (unless_fault (first_fault allowed seeds entries results)) error → IsFaultOf meaning allowed seeds error
+at_fault meaning allowed seeds entries results error other means told = elim told [
+  | inl is ↦ record { entries = entries; results = results; means = means; first = fault_from _ error is }
+  | inr no_memory ↦ absurd (other no_memory)
+]
+
+-- a refusal of the certificate, of these entries and results, as the crawl tells it
+pub judged : (meaning : List ℕ → Page) (allowed : List ℕ → Bool) (seeds : List (List ℕ)) (entries : List Entry) (results : List PageResult) (error : CertError) → ArePages meaning results → IsRefusal cert.NoMemory (unless_fault (first_fault allowed seeds entries results)) error → IsJudged meaning allowed seeds (of_cert error)
+judged meaning allowed seeds entries results cert.NoMemory means told = tt
+judged meaning allowed seeds entries results cert.SeedMissing means told = at_fault meaning allowed seeds entries results _ (λ e. absurd (cc)) means told
+judged meaning allowed seeds entries results cert.NotFetched means told = at_fault meaning allowed seeds entries results _ (λ e. absurd (cc)) means told
+judged meaning allowed seeds entries results cert.LinkMissing means told = at_fault meaning allowed seeds entries results _ (λ e. absurd (cc)) means told
+judged meaning allowed seeds entries results cert.Unfounded means told = at_fault meaning allowed seeds entries results _ (λ e. absurd (cc)) means told
+judged meaning allowed seeds entries results cert.Twice means told = at_fault meaning allowed seeds entries results _ (λ e. absurd (cc)) means told

@@ -1,7 +1,8 @@
 -- What a crawl answers beside its pages.
-use Rattle.std.specs.Prelude.{◌≡◌, ℕ, ◌<◌, ◌==◌, List, length, count_by, slice_get, Some}
+use Rattle.std.specs.Prelude.{◌≡◌, ℕ, ◌<◌, ◌==◌, Bool, List, length, count_by, slice_get, Some}
 use Rattle.std.specs.List.{All}
 use Rattle.crawl_certificate.specs.Certificate.{ArePages}
+use Rattle.crawl_certificate.specs.CertFaults.{first_fault}
 use Rattle.crawl_certificate.specs.declared.error.CertError.{CertError}
 use Rattle.crawl_certificate.specs.declared.error.CertError.TheVariants as cert
 use Rattle.crawl_frontier.specs.Accounts.{AccountId}
@@ -14,6 +15,7 @@ use Rattle.crawl_frontier.specs.declared.error.FrontierError.TheVariants as fron
 use Rattle.crawl_gate.specs.GateError.{IsMaximum}
 use Rattle.crawl_keys.specs.Assignment.{subqueue_of}
 use Rattle.crawl_web.specs.declared.page.Page.{Page}
+use Rattle.crawl_web.specs.declared.page.PageResult.{PageResult}
 use Rattle.crawl_workers.specs.declared.error.RunError.{RunError}
 use Rattle.crawl_workers.specs.declared.error.RunError.TheVariants as run
 use Rattle.crawl_workers.specs.declared.worker_end.WorkerEnd.{WorkerEnd}
@@ -66,6 +68,18 @@ IsOfRun _ = Unit {0}
 abbrev pub ComesIn : Mode → CrawlError → Type 0
 ComesIn mode (wrong.Run error) = mode ≡ Threads
 ComesIn mode _ = Unit {0}
+
+-- the certificate's fault is the first fault of some accepted entries, and of some results that each have the page that the URL means
+pub record IsFaultOf (meaning : List ℕ → Page) (allowed : List ℕ → Bool) (seeds : List (List ℕ)) (error : CertError) : Type 0 where
+  pub entries : List Entry
+  pub results : List PageResult
+  pub means : ArePages meaning results
+  pub first : first_fault allowed seeds entries results ≡ Some error
+
+-- a fault of a certificate that is told is such a one
+abbrev pub IsJudged : (List ℕ → Page) → (List ℕ → Bool) → List (List ℕ) → CrawlError → Type 0
+IsJudged meaning allowed seeds (wrong.Cert error) = IsFaultOf meaning allowed seeds error
+IsJudged meaning allowed seeds _ = Unit {0}
 
 -- why a crawl with these numbers fails: the first number that no frontier takes, and only where both are taken another error
 abbrev pub CrawlFails : ℕ → ℕ → CrawlError → Type 0

@@ -4,7 +4,7 @@ ghost use Rattle.crawl_certificate.specs.Certificate.{IsCrawl, result_urls};
 ghost use Rattle.crawl_frontier.specs.Limits.{IsWorkers};
 ghost use Rattle.crawl_gate.specs.GateError.{IsMaximum};
 ghost use Rattle.crawl_keys.specs.HostFilter.{allows};
-ghost use Rattle.mercator.specs.Crawls.{AreCounts, ComesIn, CrawlFails};
+ghost use Rattle.mercator.specs.Crawls.{AreCounts, ComesIn, CrawlFails, IsJudged};
 
 mod error;
 mod gather;
@@ -68,6 +68,8 @@ pub fn crawl<F: Fetch + Sync, R: Threads + Wait + Sync>(
     ensures numbers { MatchResult result (λ _. IsWorkers workers × IsMaximum max_pending) (λ error. CrawlFails workers max_pending error) }
     // That a thread cannot be started is told of workers in threads alone.
     ensures mode { IfErr result (ComesIn mode) }
+    // A fault of the certificate is the first one of some entries and of results that have the fetcher's pages.
+    ensures judged { IfErr result (IsJudged (F.meaning fetcher.now) (allows filter.now) seeds.now) }
 {
     let setup = Setup::new(alloc, workers, max_pending)?;
     crawl_named::<Brand, F, R>(rt, alloc, setup, filter, fetcher, seeds, mode)

@@ -1,15 +1,17 @@
 //! The books of all parts, compared with the lists of all subqueues.
-ghost use Rattle.std.specs.Prelude.{◌≡◌, ◌<◌, ◌≤◌, ℕ, List, true, false, IfOk, length, map};
+ghost use Rattle.std.specs.Prelude.{◌≡◌, ◌<◌, ◌≤◌, ℕ, List, true, false, IfOk, length, map, take};
 ghost use Rattle.std.specs.Ordering.{nat_cmp};
 ghost use Rattle.std.specs.BTreeSet.{contains};
 ghost use Rattle.crawl_frontier.specs.declared.entry.Entry.{Entry};
-ghost use Rattle.crawl_frontier.specs.Books.{IsBook, book_of, place_of};
+ghost use Rattle.crawl_frontier.specs.Logs.{accepted_in};
+ghost use Rattle.crawl_frontier.specs.Books.{IsBook, book_of, logged_by, place_of};
 ghost use Rattle.crawl_frontier.specs.Accounts.{At};
-ghost use Rattle.crawl_frontier.specs.Finishing.{StandsAt, LogStands, CountsStand, AgreesBelow, KeepRuleBelow, AllAre, IdsOf, SendersIn, Stranger};
+ghost use Rattle.crawl_frontier.specs.Finishing.{StandsAt, LineStands, LogStands, CountsStand, AgreesBelow, KeepRuleBelow, AllAre, IdsOf, SendersIn, Stranger};
 
 use crate::accepted::AcceptedList;
 use crate::book::{Book, Logged};
 use crate::entry::Entry;
+use crate::log::Log;
 use crawl_keys::UrlKey;
 use std::alloc::{AllocError, Global};
 use std::collections::BTreeSet;
@@ -52,9 +54,9 @@ pub fn all_senders_in(lists: &[AcceptedList], ids: &BTreeSet<u64>) -> bool
 }
 
 // Whether the line of a log is true of its subqueue's list.
-fn stands(lists: &[AcceptedList], logged: &Logged) -> Result<bool, AllocError>
-    requires { place_of logged.now < length lists.now }
-    ensures { IfOk result (λ is. is ≡ true → StandsAt lists.now logged.now) }
+fn stands(lists: &[AcceptedList], logged: Logged) -> Result<bool, AllocError>
+    requires { place_of logged < length lists.now }
+    ensures { IfOk result (λ is. is ≡ true → StandsAt lists.now logged) }
 {
     match logged {
         Logged::Accepted(entry, place) => {
@@ -62,27 +64,47 @@ fn stands(lists: &[AcceptedList], logged: &Logged) -> Result<bool, AllocError>
                 return Err(AllocError);
             };
             let url = UrlKey::from(url);
-            Ok(lists[*place as usize].has_entry(entry, &url))
+            Ok(lists[place as usize].has_entry(&entry, &url))
         }
         Logged::Seen(url, place) => {
-            let Ok(url) = url.copy() else {
-                return Err(AllocError);
-            };
             let url = UrlKey::from(url);
-            Ok(lists[*place as usize].has_url(&url))
+            Ok(lists[place as usize].has_url(&url))
         }
     }
 }
 
-// The least place at which a line of the log is false, where that is less.
-fn log_stands(lists: &[AcceptedList], log: &[Logged], mut least: u32) -> Result<u32, AllocError>
-    requires { least ≤ length lists.now }
-    ensures { IfOk result (λ r. (r ≤ least) × LogStands r lists.now log.now) }
+// The place of a line of the log of part `id`, where that is less and the line is false. Of the lines before it
+// `accepted` were accepted.
+fn line_stands(
+    lists: &[AcceptedList],
+    log: &Log,
+    id: u64,
+    at: usize,
+    accepted: usize,
+    least: u32,
+) -> Result<u32, AllocError>
+    requires lists { least ≤ length lists.now }
+    requires within { at < length log.now.lines.items }
+    requires accepted { accepted ≡ accepted_in (take at log.now.lines.items) }
+    ensures { IfOk result (λ r. (r ≤ least) × LineStands r lists.now (logged_by id log.now) at) }
 {
-    for logged in log {
-        let place = logged.place();
-        if place < least && !stands(lists, logged)? {
-            least = place;
+    let place = log.lines[at].place;
+    if place < least && !stands(lists, log.line(id, at, accepted)?)? {
+        return Ok(place);
+    }
+    Ok(least)
+}
+
+// The least place at which a line of the log of part `id` is false, where that is less.
+fn log_stands(lists: &[AcceptedList], log: &Log, id: u64, mut least: u32) -> Result<u32, AllocError>
+    requires { least ≤ length lists.now }
+    ensures { IfOk result (λ r. (r ≤ least) × LogStands r lists.now (logged_by id log.now)) }
+{
+    let mut accepted = 0;
+    for at in 0..log.lines.len() {
+        least = line_stands(lists, log, id, at, accepted, least)?;
+        if log.lines[at].accepted {
+            accepted += 1;
         }
     }
     Ok(least)
@@ -116,7 +138,7 @@ fn book_agrees(
     requires rule { KeepRuleBelow workers least lists.now }
     ensures { IfOk result (λ r. (r ≤ least) × AgreesBelow r lists.now (book_of book.now)) }
 {
-    let below = log_stands(lists, book.log.as_slice(), least)?;
+    let below = log_stands(lists, &book.log, book.id, least)?;
     Ok(counts_stand(lists, book, below))
 }
 

@@ -1,7 +1,6 @@
 //! What is known of the links on the pages of a folder.
-ghost use Rattle.std.specs.Prelude.{◌≡◌, ℕ, List, true, IfOk, IfErr, OnOk};
+ghost use Rattle.std.specs.Prelude.{◌≡◌, true, IfOk, IfErr};
 ghost use Rattle.crawl_keys.specs.Folders as spec;
-ghost use Rattle.crawl_web.specs.KnownLinks.{AreLinks};
 ghost use Rattle.crawl_web.specs.SavedWeb.{link_url};
 
 use crate::fetch::FetchError;

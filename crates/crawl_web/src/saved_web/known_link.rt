@@ -1,5 +1,5 @@
 //! Where links lead, each text resolved once.
-ghost use Rattle.std.specs.Prelude.{◌≡◌, ℕ, List, true, IfOk, IfErr, OnOk};
+ghost use Rattle.std.specs.Prelude.{◌≡◌, ℕ, List, true, IfOk, IfErr};
 ghost use Rattle.crawl_keys.specs.Folders.{is_of_folder};
 ghost use Rattle.crawl_web.specs.KnownLinks.{AreLinks, AreOfFolder};
 ghost use Rattle.crawl_web.specs.SavedWeb.{link_url};

@@ -14,22 +14,23 @@ const MEMORIES: usize = 8;
 const PLACES: usize = 1_024;
 
 /// A folder of which more texts are known is forgotten.
-const FOLDER_LIMIT: usize = 4_096;
+const FOLDER_LIMIT: usize = 1_024;
 
 /// A memory of more texts is emptied.
-const MEMORY_LIMIT: usize = 16_384;
+const MEMORY_LIMIT: usize = 131_072;
 
 /// Folders, each at the place that its text picks. A folder keeps of itself that what it knows is right, so a place may hold
 /// any.
 #[derive(Debug, Drop)]
 pub struct Memory<'a> {
-    // None before the first page is put back.
+    // There are none before a folder is put here.
     places: Vec<Option<Folder<'a>>>,
+    // How many texts the folders here know.
     texts: usize,
 }
 
 impl<'a> Memory<'a> {
-    /// No folder. It has no places before one is put there.
+    /// A memory of no folder.
     pub fn new(alloc: Global) -> Memory<'a> {
         Memory {
             places: Vec::new(alloc),
@@ -37,7 +38,7 @@ impl<'a> Memory<'a> {
         }
     }
 
-    /// The folder of this page, whose place it is, with what was known of the folder of the last page there.
+    /// The folder of this page, with what the folder at its place knew, if that is the same.
     pub fn take(&mut self, alloc: Global, place: usize, page: Base) -> Folder<'a>
         ensures { result ≡ page }
     {
@@ -50,7 +51,7 @@ impl<'a> Memory<'a> {
         Folder::new(alloc, page)
     }
 
-    /// Keeps the folder at its place.
+    /// Puts the folder back to its place, unless it knows too many texts.
     pub fn put(
         &mut self,
         alloc: Global,
@@ -60,13 +61,12 @@ impl<'a> Memory<'a> {
         if folder.len() > FOLDER_LIMIT {
             return Ok(());
         }
-        self.texts = self.texts.saturating_add(folder.len());
-        if self.texts > MEMORY_LIMIT {
-            self.places = Vec::new(alloc);
-            self.texts = 0;
-        }
-        if self.places.is_empty() {
+        let texts = self.texts.saturating_add(folder.len());
+        if self.places.is_empty() || texts > MEMORY_LIMIT {
             self.places = places(alloc)?;
+            self.texts = folder.len();
+        } else {
+            self.texts = texts;
         }
         if place < self.places.len() {
             self.places[place] = Some(folder);

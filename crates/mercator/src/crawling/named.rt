@@ -4,7 +4,7 @@ ghost use Rattle.crawl_certificate.specs.Certificate.{IsCrawl, result_urls};
 ghost use Rattle.crawl_keys.specs.HostFilter.{allows};
 ghost use Rattle.crawl_workers.specs.Runs.{AllRan};
 ghost use Rattle.crawl_workers.specs.declared.error.RunError.TheVariants as unrun;
-ghost use Rattle.mercator.specs.Crawls.{AreCounts, ComesIn, IsOfRun};
+ghost use Rattle.mercator.specs.Crawls.{AreCounts, ComesIn, IsJudged, IsOfRun};
 ghost use Rattle.mercator.specs.declared.crawling.Mode.TheVariants as modes;
 
 use crate::crawling::gather::{counts_of, gathered};
@@ -36,6 +36,7 @@ pub fn crawl_named<K: Name + Send + Sync, F: Fetch + Sync, R: Threads + Wait + S
     ensures counts { IfOk result (λ crawled. AreCounts setup.workers (result_urls crawled.result) crawled.counts.items) }
     ensures errors { IfErr result IsOfRun }
     ensures mode { IfErr result (ComesIn mode) }
+    ensures judged { IfErr result (IsJudged (F.meaning fetcher.now) (allows filter.now) seeds.now) }
 {
     let (frontier, workers, mut seeder) = Frontier::<K>::new(alloc, setup, filter)?;
     offer_seeds(rt, &frontier, &mut seeder, seeds);

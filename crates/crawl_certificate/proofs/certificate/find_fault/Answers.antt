@@ -1,7 +1,6 @@
-use Rattle.std.proofs.Common.{◌≡◌, false, not, ◌||◌, sym, ap, subst, ◌∙◌}
+use Rattle.std.proofs.Common.{not, ap, subst, ◌∙◌}
 use Rattle.std.specs.List.{list_any}
 use Rattle.crawl_keys.specs.HostFilter.{allows}
-use Rattle.crawl_web.specs.declared.page.PageResult.{PageResult}
 use Rattle.crawl_certificate.specs.Certificate.{Tells}
 use Rattle.crawl_certificate.specs.CertFaults.{is_linked, twice}
 use Rattle.crawl_certificate.specs.Places.{pointed}

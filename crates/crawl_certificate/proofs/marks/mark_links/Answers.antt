@@ -14,7 +14,7 @@ loop-link-preserved c =
     let i = c.loop-link.link-index in
     let test : Entry → Bool = λ e. e.hops == c.args.hops + 1 in
     let allowed = allows c.args.filter.now in
-    let accepted = has_place c.args.accepted.now in
+    let accepted = has_place (pointed c.args.entries.now) c.args.accepted.now in
     let more = ap (λ x. take i links ++ x ∷ []) c.link-item.is ∙ sym (take_more links i c.link-item.result c.loop-link-test.true) in
     record {
       linked = λ known is.

@@ -3,7 +3,7 @@ use Rattle.crawl_frontier.specs.declared.entry.Entry.{Entry}
 use Rattle.crawl_certificate.specs.CertFaults.{stands_in}
 use Rattle.crawl_web.specs.Pages.{links_of}
 use Rattle.crawl_certificate.specs.Places.{pointed}
-use Rattle.crawl_certificate.proofs.Places.{behind_marks, behind_no_marks, get_pointed, fetched_marked, fetched_unmarked, fetched_before}
+use Rattle.crawl_certificate.proofs.Places.{behind_marks, behind_no_marks, get_pointed, fetched_marked, fetched_unmarked}
 use Rattle.crawl_certificate.proofs.marks.mark_result.Goals as goal
 
 pub returns-in-Some-clause-fetched : goal.returns-in-Some-clause-fetched

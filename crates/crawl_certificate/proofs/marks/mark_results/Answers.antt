@@ -1,4 +1,4 @@
-use Rattle.std.proofs.Common.{◌≡◌, Bool, false, not, ◌||◌, [], ◌∷◌, ◌++◌, map, take, sym, ap, subst, ◌∙◌}
+use Rattle.std.proofs.Common.{Bool, false, not, [], ◌∷◌, ◌++◌, map, take, sym, ap, ◌∙◌}
 use Rattle.std.proofs.lemmas.List.{take_more}
 use Rattle.std.specs.List.{list_any}
 use Rattle.crawl_frontier.specs.declared.entry.Entry.{Entry}
@@ -17,8 +17,8 @@ loop-one-preserved c =
     let i = c.loop-one.one-index in
     let r = c.one-item.result in
     let more = ap (λ x. take i all ++ x ∷ []) c.one-item.is ∙ sym (take_more all i r c.loop-one-test.true) in
-    let stray' : PageResult → Bool = λ x. not (has_place c.args.accepted.now x.url) in
-    let missing' : PageResult → Bool = λ x. some_missing (allows c.args.filter.now) (has_place c.args.accepted.now) (links_of x.page) in
+    let stray' : PageResult → Bool = λ x. not (has_place (pointed c.args.entries.now) c.args.accepted.now x.url) in
+    let missing' : PageResult → Bool = λ x. some_missing (allows c.args.filter.now) (has_place (pointed c.args.entries.now) c.args.accepted.now) (links_of x.page) in
     record {
       fetched =
           c.mark_result-of_one.ensures.fetched (has_result (take i all)) c.loop-one.invariant.fetched

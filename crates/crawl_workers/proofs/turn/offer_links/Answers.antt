@@ -19,12 +19,16 @@ loop-place-preserved g c =
         | else-is_refused w ↦ omega (arith, w.refused-is, inv.0)
       ],
       busy_on _ _ _ inv.1 same,
-      elim c.if-is_refused.branch [
-        | then-is_refused w ↦ λ none. absurd (omega (arith, w.refused-is, none))
-        | else-is_refused w ↦ λ none.
-            rw (take_more links i x c.loop-place-test.true)
-            (all_logged_more g.K.Name.workers (allows g.K.Name.filter) _ _ (take i links) (slice_index_or links i x) same.grows (inv.2 (omega (arith, w.refused-is, none)))
-            (subst (λ ls. allows g.K.Name.filter (slice_index_or ls i x) ≡ true → HasLine g.K.Name.workers log (slice_index_or ls i x)) inv.3 (c.is_refused.ensures.line w.if-is_refused.false)))
-      ],
+      λ known.
+          let before = inv.2 known in (
+            elim c.if-is_refused.branch [
+              | then-is_refused w ↦ λ none. absurd (omega (arith, w.refused-is, none))
+              | else-is_refused w ↦ λ none.
+                  rw (take_more links i x c.loop-place-test.true)
+                  (all_logged_more g.K.Name.workers (allows g.K.Name.filter) _ _ (take i links) (slice_index_or links i x) same.grows (before.0 (omega (arith, w.refused-is, none)))
+                  (subst (λ ls. allows g.K.Name.filter (slice_index_or ls i x) ≡ true → HasLine g.K.Name.workers log (slice_index_or ls i x)) inv.3 (c.is_refused.ensures.line before.1 w.if-is_refused.false)))
+            ],
+            c.is_refused.ensures.met before.1,
+          ),
       unchanged_at c.loop-place.links i x c.is_refused.new.url c.is_refused.ensures.url ∙ inv.3,
     )

@@ -1,6 +1,7 @@
 use Rattle.std.proofs.Common.{◌≡◌, ◌≤◌, take, length}
 use Rattle.crawl_keys.specs.HostFilter.{allows}
 use Rattle.crawl_workers.specs.Logs.{AllLogged}
+use Rattle.crawl_workers.specs.Met.{Knows}
 use Rattle.crawl_workers.specs.Turn.{SameBusy}
 use Rattle.crawl_workers.proofs.turn.offer_links.Given as goal
 
@@ -8,5 +9,7 @@ abbrev pub invariant-loop-place : goal.invariant-loop-place
 invariant-loop-place g l =
     (l.refused ≤ l.place)
     × SameBusy l.fn.busy l.busy
-    × (l.refused ≡ 0 → AllLogged g.K.Name.workers (allows g.K.Name.filter) l.busy.worker.book.log (take l.place l.fn.links))
+    × (Knows g.K.Name.workers l.fn.busy.worker.book.log l.fn.met
+    → (l.refused ≡ 0 → AllLogged g.K.Name.workers (allows g.K.Name.filter) l.busy.worker.book.log (take l.place l.fn.links))
+    × Knows g.K.Name.workers l.busy.worker.book.log l.met)
     × (l.links ≡ l.fn.links)

@@ -2,16 +2,22 @@ use Rattle.std.proofs.Common.{◌≡◌, sym, ap, subst, ◌∙◌}
 use Rattle.crawl_keys.specs.HostFilter.{allows}
 use Rattle.crawl_web.specs.Pages.{links_of}
 use Rattle.crawl_workers.specs.Logs.{AllLogged}
+use Rattle.crawl_workers.specs.Met.{Knows}
 use Rattle.crawl_workers.proofs.Running.{kept}
 use Rattle.crawl_workers.proofs.turn.work.Goals as goal
 
 pub returns-clause-finds : goal.returns-clause-finds
-returns-clause-finds g c =
+returns-clause-finds g c = λ known.
     let offered = c.offer_page-page in
     let log = offered.new.busy.worker.book.log in
     let url : c.url-2.result.now ≡ c.args.busy.now.message.entry.url = c.url-2.ensures ∙ ap (λ e. e.url) offered.ensures.same.entry in
     kept g.K.Name.workers (allows g.K.Name.filter) (g.F.Fetch.meaning c.args.fetcher.now) c.args.busy.now.message.entry.url log
     c.args.harvest.now c.lose-2.new.self c.keep.new.self offered.result.1 offered.result.0
     (offered.ensures.page ∙ c.in-Ok.ensures.meaning ∙ ap (g.F.Fetch.meaning c.args.fetcher.now) c.url.ensures)
-    (subst (λ p. offered.result.1 ≡ 0 → AllLogged g.K.Name.workers (allows g.K.Name.filter) log (links_of p)) (sym offered.ensures.page) offered.ensures.lines)
-    c.lose-2.ensures.same c.lose-2.ensures.more c.lose-2.ensures.none (rw url at c.keep.ensures)
+    (subst (λ p. offered.result.1 ≡ 0 → AllLogged g.K.Name.workers (allows g.K.Name.filter) log (links_of p)) (sym offered.ensures.page) (offered.ensures.lines known))
+    c.lose-2.ensures.same c.lose-2.ensures.more c.lose-2.ensures.none (rw url at c.keep.ensures.kept)
+
+pub returns-clause-met : goal.returns-clause-met
+returns-clause-met g c = λ known.
+    let offered = c.offer_page-page in
+    subst (Knows g.K.Name.workers offered.new.busy.worker.book.log) (sym (c.keep.ensures.met ∙ c.lose-2.ensures.met)) (offered.ensures.met known)

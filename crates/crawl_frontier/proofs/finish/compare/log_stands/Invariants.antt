@@ -1,11 +1,11 @@
-use Rattle.std.proofs.Common.{◌≤◌, ◌<◌, ℕ}
-use Rattle.crawl_frontier.specs.declared.book.Logged.{Logged}
-use Rattle.crawl_frontier.specs.Books.{place_of}
-use Rattle.crawl_frontier.specs.Accounts.{At}
-use Rattle.crawl_frontier.specs.Finishing.{StandsAt}
+use Rattle.std.proofs.Common.{◌≡◌, ◌≤◌, ◌<◌, ℕ, take}
+use Rattle.crawl_frontier.specs.Logs.{accepted_in}
+use Rattle.crawl_frontier.specs.Books.{logged_by}
+use Rattle.crawl_frontier.specs.Finishing.{LineStands}
 use Rattle.crawl_frontier.proofs.finish.compare.log_stands.Given as goal
 
-abbrev pub invariant-loop-logged : goal.invariant-loop-logged
-invariant-loop-logged l =
+abbrev pub invariant-loop-at : goal.invariant-loop-at
+invariant-loop-at l =
     (l.least ≤ l.fn.least)
-    × ((k : ℕ) (x : Logged) → k < l.logged-index → At l.log k x → place_of x < l.least → StandsAt l.lists x)
+    × (l.accepted ≡ accepted_in (take l.at l.log.lines.items))
+    × ((k : ℕ) → k < l.at → LineStands l.least l.lists (logged_by l.id l.log) k)

@@ -1,9 +1,9 @@
-use Rattle.std.proofs.Common.{rules, ◌≡◌, ◌+◌, ◌<◌, ◌≤◌, ◌∙◌, ◌++◌, ◌∷◌, [], true, false, cond, eqb, ap, sym, subst, refl, length, arith}
+use Rattle.std.proofs.Common.{rules, ◌≡◌, ◌+◌, ◌<◌, ◌∙◌, ◌++◌, ◌∷◌, [], true, false, cond, eqb, ap, sym, subst, arith}
 use Rattle.std.specs.Prelude.{bytes_eq}
 use Rattle.crawl_frontier.specs.declared.entry.Entry.{Entry}
 use Rattle.crawl_frontier.specs.Entries.{MayFollow, KeepsRule, has_url, count_of, entry}
 use Rattle.crawl_frontier.proofs.Entries.{rule-snoc, count_of-le, has_url-snoc}
-use Rattle.crawl_frontier.specs.Tables.{count_in, has_in}
+use Rattle.crawl_frontier.specs.Tables.{has_in}
 use Rattle.crawl_frontier.proofs.Undo.{undone, raised}
 use Rattle.crawl_frontier.proofs.shard.Shard.send.Goals as goal
 

@@ -1,0 +1,13 @@
+-- What a table of slots keeps.
+use Rattle.std.proofs.Common.{◌≡◌, ◌<◌, ℕ, List, length, Option, Some, IfSome, sym, subst, ◌∙◌, slice_set, slice_index_or}
+use Rattle.std.proofs.lemmas.List.Elements.{All-set}
+use Rattle.crawl_frontier.specs.declared.book.Logged.{Logged}
+use Rattle.crawl_workers.specs.Logs.{HasLine}
+use Rattle.crawl_workers.specs.Met.{AllKnown}
+
+-- a URL with a line comes into a slot, and what was there into another
+pub moved_on : (workers : ℕ) (log : List Logged) (slots : List (Option (List ℕ))) (i j : ℕ) (first second d : Option (List ℕ)) (url : List ℕ) → AllKnown workers log slots → HasLine workers log url
+    → first ≡ Some url → second ≡ slice_index_or slots i d → i < length slots → AllKnown workers log (slice_set (slice_set slots i first) j second)
+moved_on workers log slots i j first second d url known line is was less =
+    let P : Option (List ℕ) → Type 0 = λ slot. IfSome slot (HasLine workers log) in
+    All-set P (slice_set slots i first) j second (subst P (sym was) (known i d less)) (All-set P slots i first (subst P (sym is) line) known)
