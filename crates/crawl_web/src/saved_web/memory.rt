@@ -14,7 +14,7 @@ const MEMORIES: usize = 8;
 const PLACES: usize = 1_024;
 
 /// A folder of which more texts are known is forgotten.
-const FOLDER_LIMIT: usize = 1_024;
+const FOLDER_LIMIT: usize = 512;
 
 /// A memory of more texts is emptied.
 const MEMORY_LIMIT: usize = 131_072;
