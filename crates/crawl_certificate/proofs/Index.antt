@@ -53,12 +53,6 @@ pub record Indexed (entries : List Entry) (places : Places) : Type 0 where
   pub known : (k : ℕ) (e : Entry) → slice_get entries k ≡ Some e → IsKnown places e.url k
   pub meant : (url : List ℕ) (k : ℕ) → kept_place places url ≡ Some k → (e : Entry) × (slice_get entries k ≡ Some e) × (e.url ≡ url)
 
-pub Indexed-none : (places : Places) → places.others.entries ≡ [] → Indexed [] places
-Indexed-none places none = record {
-  known = λ k e at. absurd (cc);
-  meant = λ url k at. let nothing : kept_place places url ≡ None = rw none refl in absurd (cc);
-}
-
 -- entries of one URL stand at one place
 same_place : (entries : List Entry) → DifferByUrl entries → (i k : ℕ) (x e : Entry) → slice_get entries i ≡ Some x → slice_get entries k ≡ Some e → x.url ≡ e.url → i ≡ k
 same_place entries apart i k x e at_i at_k same =

@@ -10,14 +10,14 @@ use Rattle.crawl_frontier.specs.declared.entry.Entry.{Entry}
 use Rattle.crawl_certificate.specs.Hints.{vacant, first_hint, second_hint, IsHinted}
 use Rattle.crawl_certificate.specs.declared.lookups.Places.{Places}
 
+-- what the references point to
+abbrev pub pointed : {X : Type 0} → List (Bor X) → List X
+pointed xs = map (λ x. x.now) xs
+
 -- there is an entry, and it has the URL
 abbrev pub at_this : Option Entry → List ℕ → Bool
 at_this None url = false
 at_this (Some e) url = bytes_eq e.url url
-
--- what the references point to
-abbrev pub pointed : {X : Type 0} → List (Bor X) → List X
-pointed xs = map (λ x. x.now) xs
 
 -- some entry stands at the place, and has the URL
 abbrev pub stands_at : List Entry → ℕ → List ℕ → Bool
@@ -52,6 +52,7 @@ pub record AddsPlace (old new : Places) (url : List ℕ) (k : ℕ) : Type 0 wher
   pub others : (other : List ℕ) (j : ℕ) → bytes_eq url other ≡ false → IsKnown old other j → IsKnown new other j
   pub kept : (other : List ℕ) (j : ℕ) → kept_place new other ≡ Some j → (kept_place old other ≡ Some j) ⊎ ((url ≡ other) × (k ≡ j))
 
+-- a set of URLs
 abbrev pub Urls : Type 0
 Urls = BTreeSet (List ℕ)
 

@@ -72,7 +72,7 @@ StandsAt lists l = (es : List Entry) → At lists (place_of l) es → Stands es 
 abbrev pub LineStands : ℕ → List (List Entry) → List Logged → ℕ → Type 0
 LineStands least lists log k = (l : Logged) → At log k l → place_of l < least → StandsAt lists l
 
--- and each line is
+-- below `least` each line of the log is
 abbrev pub LogStands : ℕ → List (List Entry) → List Logged → Type 0
 LogStands least lists log = (k : ℕ) → LineStands least lists log k
 

@@ -18,6 +18,8 @@ use url::Url;
 mod compared;
 mod lay_out;
 
+pub(crate) use lay_out::is_web;
+
 /// The canonical text of an `http` or `https` URL.
 ///
 /// Two are equal, ordered and hashed as the bytes of their texts. The text is kept once and

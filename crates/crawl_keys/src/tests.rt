@@ -196,6 +196,41 @@ fn crosses_threads(rt: HostRuntime) -> Result<(), Fail> {
     Ok(())
 }
 
+// A base of a text has the text's canonical URL, as have its copy and what it keeps.
+#[test]
+fn bases_of_texts(rt: HostRuntime) -> Result<(), Fail> {
+    let alloc = rt.alloc();
+    let rows = [
+        ("http://A.test:80/x/../y#f", Ok("http://a.test/y")),
+        ("http://a.test?q#f?g#h", Ok("http://a.test/?q")),
+        ("https://a.test/x#", Ok("https://a.test/x")),
+        (
+            "http://a.test/%20?%41' #f",
+            Ok("http://a.test/%20?%41%27%20"),
+        ),
+        ("http://u:p@[::1]:81/x", Ok("http://u:p@[::1]:81/x")),
+        ("ftp://a.test/#f", Err(KeyError::NotHttp)),
+        ("ftp://a.test/", Err(KeyError::NotHttp)),
+        ("/x", Err(KeyError::NotUrl)),
+    ];
+    for (input, expected) in rows {
+        let base = Base::canonical(alloc, input);
+        let text = base.as_ref().map(|base| base.as_str()).map_err(|e| *e);
+        assert_eq!(rt; text, expected, "{input}");
+        if let Ok(base) = base {
+            let copy = base.clone()?;
+            assert_eq!(rt; copy.as_str(), base.as_str(), "{input}");
+            assert_eq!(rt; copy.keep(alloc)?, canonical(alloc, input)?, "{input}");
+            assert_eq!(rt;
+                base.resolve(alloc, "#g")?,
+                canonical(alloc, input)?,
+                "{input}"
+            );
+        }
+    }
+    Ok(())
+}
+
 // Pairs of pages, and whether both lie in one folder; just then a name leads to one URL from both.
 #[test]
 fn pages_of_a_folder(rt: HostRuntime) -> Result<(), Fail> {

@@ -1,6 +1,7 @@
 //! Laying a URL out, and reading what was laid out.
 ghost use Rattle.std.specs.Prelude.{◌≡◌};
 ghost use Rattle.hash_order.specs.HashOrder as spec_hash;
+ghost use Rattle.url.specs.Parts.{IsValid};
 ghost use Rattle.crawl_keys.specs.CanonicalText.{IsCanonical, text_of};
 ghost use Rattle.crawl_keys.specs.CanonicalText as spec;
 ghost use Rattle.crawl_keys.specs.HostKey as spec_host;
@@ -64,8 +65,9 @@ impl Laid {
 }
 
 /// Whether the scheme is `http` or `https`.
-fn is_web(url: &Url) -> bool
-    ensures { result ≡ spec.is_web url.now }
+pub(crate) fn is_web(url: &Url) -> bool
+    ensures value { result ≡ spec.is_web url.now }
+    ensures valid { IsValid url.now }
 {
     url.scheme() == "http" || url.scheme() == "https"
 }
