@@ -19,7 +19,7 @@ fn meet_unknown(alloc: Global, met: &mut Met) -> Option<u32> {
     for number in 0..URLS {
         let mut url = numbered(alloc, number)?;
         if !met.has(&mut url) {
-            unknown += 1;
+            unknown = unknown.saturating_add(1);
             met.meet(alloc, &url);
         }
     }
