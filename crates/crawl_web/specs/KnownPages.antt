@@ -7,7 +7,7 @@ use Rattle.std.specs.Option.{option_map}
 use Rattle.std.specs.Str.{bytes_eq}
 use Rattle.std.specs.Str.Lines.{lines}
 use Rattle.hash_order.specs.HashOrder.{by_hash}
-use Rattle.crawl_web.specs.SavedWeb.{link_url, page_behind}
+use Rattle.crawl_web.specs.SavedWeb.{page_behind}
 use Rattle.crawl_web.specs.WebChecks.{Before}
 use Rattle.crawl_web.specs.WebLines.{is_page, is_link, is_moved_line}
 use Rattle.crawl_web.specs.declared.page.Page.{Page}
@@ -53,10 +53,6 @@ pub record Follows (number : ℕ) (line : List ℕ) (old new : Above) : Type 0 w
   pub second : new.second ≡ (if number == 1 then bytes_eq line (codes "savedweb 2") else old.second)
   pub link : new.link ≡ (if is_page line then false else old.link || is_link line)
   pub moved : new.moved ≡ (if is_page line then false else old.moved || is_moved_line line)
-
--- each text in the map has the URL, or none, that a link with that text has on the page at `base`
-abbrev pub AreLinks : List ℕ → BTreeMap (List ℕ) (Option (List ℕ)) → Type 0
-AreLinks base known = (text : List ℕ) (link : Option (List ℕ)) → get by_hash known text ≡ Some link → link ≡ link_url base text
 
 -- the page that is known at a URL
 abbrev pub known_page : KnownPages → List ℕ → Page

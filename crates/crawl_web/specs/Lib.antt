@@ -1,3 +1,4 @@
+pub mod KnownLinks
 pub mod KnownPages
 pub mod LeastFault
 pub mod Limits

@@ -8,8 +8,11 @@ ghost use Rattle.crawl_web.specs.WebFaults.{IsSound, IsWebFault, IsWebRefusal};
 
 mod add;
 mod error;
+mod folder;
+mod known_link;
 mod line;
 mod links;
+mod memory;
 
 use crate::fetch::{Fetch, FetchError};
 use crate::lines::first_line;
@@ -18,14 +21,18 @@ use add::{Above, add_line};
 use crawl_keys::{CanonUrl, UrlKey};
 pub use error::WebError;
 use links::page_behind;
+use memory::{Memory, memories};
 use std::alloc::Global;
 use std::collections::BTreeMap;
+use std::sync::Mutex;
 
 /// The pages of a saved web, each with its links. It borrows the bytes that it was read from.
 #[derive(Debug, Drop)]
 pub struct SavedWeb<'a> {
     /// From each page's canonical URL to the bytes behind its line.
     pages: BTreeMap<UrlKey, &'a [u8]>,
+    /// What fetches remember of the folders of pages. A fetch takes one that no other has.
+    memories: Vec<Mutex<Memory<'a>>>,
 }
 
 impl<'a> SavedWeb<'a> {
@@ -46,6 +53,7 @@ impl<'a> SavedWeb<'a> {
     {
         Ok(SavedWeb {
             pages: known_pages(alloc, bytes)?,
+            memories: memories(alloc)?,
         })
     }
 }
@@ -87,7 +95,7 @@ impl Fetch for SavedWeb<'_> {
     {
         let key = UrlKey::from(url.clone()?);
         match self.pages.get(&key) {
-            Some(behind) => page_behind(alloc, url, behind),
+            Some(behind) => page_behind(alloc, &self.memories, url, behind),
             None => Ok(Page::Missing),
         }
     }

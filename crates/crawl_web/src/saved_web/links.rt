@@ -1,22 +1,31 @@
 //! What stands under a page of a saved web, read from the lines behind the page's own.
-ghost use Rattle.std.specs.Prelude.{◌≡◌, ◌<◌, ℕ, List, ◌∷◌, [], Some, length, IfOk, IfErr, IfSome, OnOk, MatchOption};
+ghost use Rattle.std.specs.Prelude.{◌≡◌, ◌<◌, ℕ, List, ◌∷◌, [], Some, length, IfOk, IfErr, IfSome, MatchOption};
 ghost use Rattle.std.specs.Option.{option_map};
 ghost use Rattle.std.specs.Str.Lines.{lines};
-ghost use Rattle.crawl_web.specs.KnownPages.{AreLinks};
+ghost use Rattle.crawl_web.specs.KnownLinks.{AreLinks};
 ghost use Rattle.crawl_web.specs.SavedWeb.{link_texts, link_url, moved_text, found_page, page_behind};
 ghost use Rattle.crawl_web.specs.declared.page.Page.TheVariants.{Moved};
 
 use crate::fetch::FetchError;
 use crate::lines::first_line;
 use crate::page::{Links, Page};
+use crate::saved_web::folder::Folder;
+use crate::saved_web::known_link::{known_link, link_of};
 use crate::saved_web::line::{Line, line_of};
-use crawl_keys::{Base, CanonUrl, KeyError};
+use crate::saved_web::memory::{Memory, free_memory, place_of};
+use crawl_keys::{Base, CanonUrl, is_of_folder};
 use hash_order::HashedText;
-use std::alloc::{AllocError, Global};
+use std::alloc::Global;
 use std::collections::BTreeMap;
+use std::sync::Mutex;
 
 /// The page with this URL whose line these bytes follow, up to the next page or to the end.
-pub fn page_behind(alloc: Global, url: &CanonUrl, bytes: &[u8]) -> Result<Page, FetchError>
+pub fn page_behind<'a>(
+    alloc: Global,
+    memories: &[Mutex<Memory<'a>>],
+    url: &CanonUrl,
+    bytes: &'a [u8],
+) -> Result<Page, FetchError>
     ensures page { IfOk result (λ page. page ≡ page_behind url.now (Some (lines bytes.now))) }
     ensures refused { IfErr result (λ e. e ≡ FetchError.NoMemory) }
 {
@@ -25,7 +34,12 @@ pub fn page_behind(alloc: Global, url: &CanonUrl, bytes: &[u8]) -> Result<Page, 
     };
     match moved_text(bytes) {
         Some(text) => moved_page(alloc, &base, text),
-        None => found_page(alloc, &base, bytes),
+        None => match free_memory(memories) {
+            Some(mut memory) => {
+                remembering(alloc, &mut memory, place_of(url.as_str()), base, bytes)
+            }
+            None => found_page(alloc, &mut Folder::new(alloc, base), bytes),
+        },
     }
 }
 
@@ -38,9 +52,30 @@ fn moved_page(alloc: Global, base: &Base, text: &str) -> Result<Page, FetchError
     Ok(Page::Moved { to })
 }
 
+/// The page with the links among these lines, by what a memory has of its folder.
+fn remembering<'a>(
+    alloc: Global,
+    memory: &mut Memory<'a>,
+    place: usize,
+    base: Base,
+    bytes: &'a [u8],
+) -> Result<Page, FetchError>
+    ensures page { IfOk result (λ page. page ≡ found_page base (link_texts (lines bytes.now))) }
+    ensures refused { IfErr result (λ e. e ≡ FetchError.NoMemory) }
+{
+    let mut folder = memory.take(alloc, place, base);
+    let page = found_page(alloc, &mut folder, bytes)?;
+    memory.put(alloc, place, folder)?;
+    Ok(page)
+}
+
 /// The page with the links among these lines, up to the next page.
-fn found_page(alloc: Global, base: &Base, bytes: &[u8]) -> Result<Page, FetchError>
-    ensures page { IfOk result (λ page. page ≡ found_page base.now (link_texts (lines bytes.now))) }
+fn found_page<'a>(
+    alloc: Global,
+    folder: &mut Folder<'a>,
+    bytes: &'a [u8],
+) -> Result<Page, FetchError>
+    ensures page { IfOk result (λ page. page ≡ found_page folder.old (link_texts (lines bytes.now))) }
     ensures refused { IfErr result (λ e. e ≡ FetchError.NoMemory) }
 {
     let mut known = BTreeMap::new(alloc);
@@ -49,7 +84,7 @@ fn found_page(alloc: Global, base: &Base, bytes: &[u8]) -> Result<Page, FetchErr
     let mut rest = bytes;
     while let Some((text, more)) = next_link(rest) {
         rest = more;
-        match known_link(alloc, base, &mut known, text)? {
+        match link_on(alloc, folder, &mut known, text)? {
             Some(link) => links.push(link)?,
             None => skipped += 1,
         }
@@ -60,59 +95,23 @@ fn found_page(alloc: Global, base: &Base, bytes: &[u8]) -> Result<Page, FetchErr
     })
 }
 
-/// Where a link with this text leads, which is known from now on: each text of a page is resolved once, and its links share
-/// one text. A refused growth of what is known is `NoMemory`, as any other.
-fn known_link<'a>(
+/// Where a link with this text leads: what is of the folder is known to it from now on, and what is not to this page.
+fn link_on<'a>(
     alloc: Global,
-    base: &Base,
+    folder: &mut Folder<'a>,
     known: &mut BTreeMap<HashedText<'a>, Option<CanonUrl>>,
     text: &'a str,
 ) -> Result<Option<CanonUrl>, FetchError>
-    requires { AreLinks base.now known.old }
-    ensures link { IfOk result (λ link. link ≡ link_url base.now text.now) }
-    ensures known { OnOk result (AreLinks base.now known.new) }
+    requires { AreLinks folder.old known.old }
+    ensures link { IfOk result (λ link. link ≡ link_url folder.old text.now) }
+    ensures page { folder.new ≡ folder.old }
+    ensures known { AreLinks folder.new known.new }
     ensures refused { IfErr result (λ e. e ≡ FetchError.NoMemory) }
 {
-    let key = HashedText::from(text);
-    if let Some(link) = known.get(&key) {
-        return Ok(copy_of(link)?);
-    }
-    let link = link_of(alloc, base, text)?;
-    remember(known, key, copy_of(&link)?)?;
-    Ok(link)
-}
-
-/// The same link once more, sharing its text.
-fn copy_of(link: &Option<CanonUrl>) -> Result<Option<CanonUrl>, AllocError>
-    ensures { IfOk result (λ copy. copy ≡ link.now) }
-{
-    match link {
-        Some(url) => Ok(Some(url.clone()?)),
-        None => Ok(None),
-    }
-}
-
-/// Remembers where a link with this text leads.
-fn remember<'a>(
-    known: &mut BTreeMap<HashedText<'a>, Option<CanonUrl>>,
-    text: HashedText<'a>,
-    link: Option<CanonUrl>,
-) -> Result<(), AllocError>
-    ensures { OnOk result ((base : List ℕ) → link ≡ link_url base text.entry → AreLinks base known.old → AreLinks base known.new) }
-{
-    known.insert(text, link)?;
-    Ok(())
-}
-
-/// The URL that the text of a link leads to, if it leads to one.
-fn link_of(alloc: Global, base: &Base, text: &str) -> Result<Option<CanonUrl>, FetchError>
-    ensures link { IfOk result (λ link. link ≡ link_url base.now text.now) }
-    ensures refused { IfErr result (λ e. e ≡ FetchError.NoMemory) }
-{
-    match base.resolve(alloc, text) {
-        Ok(url) => Ok(Some(url)),
-        Err(KeyError::NoMemory) => Err(FetchError::NoMemory),
-        Err(KeyError::NotUrl | KeyError::NotHttp) => Ok(None),
+    if is_of_folder(text) {
+        folder.link(alloc, text)
+    } else {
+        known_link(alloc, folder.page(), known, text)
     }
 }
 

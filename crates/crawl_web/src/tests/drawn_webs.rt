@@ -9,6 +9,11 @@ use std::test::Fail;
 /// How many of each kind are drawn.
 const DRAWN: u32 = 10_000;
 
+/// How many webs of folders are drawn, and how many lines of each, whose pages are fetched.
+const FOLDERS: u32 = 100;
+
+const FETCHES: u32 = 100;
+
 /// Each fault, and none, is to come at least so often among them.
 const LEAST: u32 = 5;
 
@@ -261,11 +266,24 @@ fn have_pages(
     lines: &[Vec<u8>],
     urls: &[Option<CanonUrl>],
 ) -> Result<(), Fail> {
-    for (place, url) in urls.iter().enumerate() {
-        if let Some(url) = url {
-            let page = page_under(alloc, lines, place, url)?;
-            assert_eq!(rt; web.fetch(alloc, url)?, page, "{url}");
-        }
+    for place in 0..urls.len() {
+        has_page_at(rt, alloc, web, lines, urls, place)?;
+    }
+    Ok(())
+}
+
+// The web has the page of the line at this place, if it is a page line.
+fn has_page_at(
+    rt: &impl Abort,
+    alloc: Global,
+    web: &SavedWeb,
+    lines: &[Vec<u8>],
+    urls: &[Option<CanonUrl>],
+    place: usize,
+) -> Result<(), Fail> {
+    if let Some(Some(url)) = urls.get(place) {
+        let page = page_under(alloc, lines, place, url)?;
+        assert_eq!(rt; web.fetch(alloc, url)?, page, "{url}");
     }
     Ok(())
 }
@@ -303,6 +321,79 @@ fn drawn_webs(rt: HostRuntime) -> Result<(), Fail> {
         }
         for count in times {
             assert!(rt; count >= LEAST, "{kind}: {times:?}");
+        }
+    }
+    Ok(())
+}
+
+// Pages of a few folders, which differ in one part of their URLs.
+fn folder_page(page: usize) -> &'static [u8] {
+    match page {
+        0 => b"page http://a.test/d/1\n",
+        1 => b"page http://a.test/d/2\n",
+        2 => b"page http://a.test/d/\n",
+        3 => b"page http://a.test/d/1?q=/e/\n",
+        4 => b"page http://a.test/d/e/1\n",
+        5 => b"page http://a.test/d\n",
+        6 => b"page http://a.test\n",
+        7 => b"page https://a.test/d/1\n",
+        8 => b"page http://b.test/d/1\n",
+        9 => b"page http://a.test:81/d/1\n",
+        10 => b"page http://u@a.test/d/1\n",
+        _ => b"page http://u:p@a.test/d/2\n",
+    }
+}
+
+// Links that lead to one URL from each page of a folder, and links that do not.
+fn folder_link(link: usize) -> &'static [u8] {
+    match link {
+        0 => b"link \n",
+        1 => b"link ?q\n",
+        2 => b"link #f\n",
+        3 => b"link .\n",
+        4 => b"link ..\n",
+        5 => b"link x\n",
+        6 => b"link /x\n",
+        7 => b"link //h.test/x\n",
+        8 => b"link http:x\n",
+        9 => b"link https:x\n",
+        10 => b"link a:b\n",
+        11 => b"link x?y:z\n",
+        12 => b"link /y:z\n",
+        13 => b"link  ?q\n",
+        14 => b"link  x\n",
+        15 => b"link \t#f\n",
+        16 => b"link \\\\h.test\n",
+        17 => b"link ../1?q\n",
+        _ => b"link //[\n",
+    }
+}
+
+// Pages of folders, each with links that most of the others have too.
+fn folders(alloc: Global, draw: &mut Draw) -> Result<Vec<u8>, Fail> {
+    let mut bytes = Vec::new(alloc);
+    bytes.extend_from_slice(b"savedweb 1\n")?;
+    for page in 0..12usize {
+        bytes.extend_from_slice(folder_page(page))?;
+        for _ in 0..draw.below(12) {
+            bytes.extend_from_slice(folder_link(draw.below(19)))?;
+        }
+    }
+    Ok(bytes)
+}
+
+// What one page teaches is never another's: each page is fetched some times, in a drawn order.
+#[test]
+fn drawn_folders(rt: HostRuntime) -> Result<(), Fail> {
+    let alloc = rt.alloc();
+    let mut draw = Draw { state: 1_123 };
+    for _ in 0..FOLDERS {
+        let bytes = folders(alloc, &mut draw)?;
+        let lines = cut(alloc, &bytes)?;
+        let urls = page_urls(alloc, &lines)?;
+        let web = SavedWeb::read(alloc, &bytes)?;
+        for _ in 0..FETCHES {
+            has_page_at(&rt, alloc, &web, &lines, &urls, draw.below(lines.len()))?;
         }
     }
     Ok(())

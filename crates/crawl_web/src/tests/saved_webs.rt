@@ -413,3 +413,110 @@ link gone
         Some("http://a.test/d/g"),
     )
 }
+
+// Links with one text, on two pages of a folder and on one of another folder: all but a query, a fragment, no text and a
+// scheme alone lead to the same URL from both.
+#[test]
+fn texts_on_pages_of_a_folder(rt: HostRuntime) -> Result<(), Fail> {
+    let alloc = rt.alloc();
+    for (text, first, second, other) in [
+        (
+            "",
+            "http://a.test/d/1?p",
+            "http://a.test/d/2",
+            "http://a.test/e/1",
+        ),
+        (
+            "?q",
+            "http://a.test/d/1?q",
+            "http://a.test/d/2?q",
+            "http://a.test/e/1?q",
+        ),
+        (
+            "#f",
+            "http://a.test/d/1?p",
+            "http://a.test/d/2",
+            "http://a.test/e/1",
+        ),
+        (
+            " ?q",
+            "http://a.test/d/1?q",
+            "http://a.test/d/2?q",
+            "http://a.test/e/1?q",
+        ),
+        (
+            "http:#f",
+            "http://a.test/d/1?p",
+            "http://a.test/d/2",
+            "http://a.test/e/1",
+        ),
+        (
+            ".",
+            "http://a.test/d/",
+            "http://a.test/d/",
+            "http://a.test/e/",
+        ),
+        ("..", "http://a.test/", "http://a.test/", "http://a.test/"),
+        (
+            "x?y:z",
+            "http://a.test/d/x?y:z",
+            "http://a.test/d/x?y:z",
+            "http://a.test/e/x?y:z",
+        ),
+        (
+            "x?#f",
+            "http://a.test/d/x?",
+            "http://a.test/d/x?",
+            "http://a.test/e/x?",
+        ),
+        (
+            "/x",
+            "http://a.test/x",
+            "http://a.test/x",
+            "http://a.test/x",
+        ),
+        (
+            "//h.test/x",
+            "http://h.test/x",
+            "http://h.test/x",
+            "http://h.test/x",
+        ),
+        (
+            "http:x",
+            "http://a.test/d/x",
+            "http://a.test/d/x",
+            "http://a.test/e/x",
+        ),
+        (
+            "https://h.test",
+            "https://h.test/",
+            "https://h.test/",
+            "https://h.test/",
+        ),
+    ] {
+        let bytes = pages_with(alloc, text)?;
+        let web = SavedWeb::read(alloc, &bytes)?;
+        for _ in 0..3 {
+            has_page(&rt, alloc, &web, "http://a.test/d/1?p", &[first, first], 0)?;
+            has_page(&rt, alloc, &web, "http://a.test/d/2", &[second, second], 0)?;
+            has_page(&rt, alloc, &web, "http://a.test/e/1", &[other, other], 0)?;
+        }
+    }
+    Ok(())
+}
+
+// Two pages of a folder and one of another, each with two links of this text.
+fn pages_with(alloc: Global, text: &str) -> Result<Vec<u8>, Fail> {
+    let mut bytes = Vec::new(alloc);
+    bytes.extend_from_slice(b"savedweb 1")?;
+    for page in [
+        "http://a.test/d/1?p",
+        "http://a.test/d/2",
+        "http://a.test/e/1",
+    ] {
+        for part in ["\npage ", page, "\nlink ", text, "\nlink ", text] {
+            bytes.extend_from_slice(part.as_bytes())?;
+        }
+    }
+    Ok(bytes)
+}

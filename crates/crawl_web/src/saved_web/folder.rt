@@ -1,0 +1,77 @@
+//! What is known of the links on the pages of a folder.
+ghost use Rattle.std.specs.Prelude.{◌≡◌, true, IfOk, IfErr};
+ghost use Rattle.crawl_keys.specs.Folders as spec;
+ghost use Rattle.crawl_web.specs.SavedWeb.{link_url};
+
+use crate::fetch::FetchError;
+use crate::saved_web::known_link::known_link;
+use crawl_keys::{Base, CanonUrl};
+use hash_order::HashedText;
+use std::alloc::Global;
+use std::collections::BTreeMap;
+use std::marker::Model;
+
+/// A page, and where links with some texts lead from each page of its folder.
+#[derive(Debug, Drop)]
+pub struct Folder<'a> {
+    page: Base,
+    known: BTreeMap<HashedText<'a>, Option<CanonUrl>>,
+}
+
+// Contracts see the URL of the page.
+impl<'a> Model for Folder<'a> {
+    ghost use Rattle.std.specs.Prelude.{◌≡◌, ℕ, List};
+    ghost use Rattle.crawl_web.specs.KnownLinks.{AreLinks, AreOfFolder};
+
+    ghost Value = { List ℕ };
+
+    ghost view = { λ folder. folder.page };
+
+    ghost invariant = { λ folder. AreLinks folder.page folder.known × AreOfFolder folder.known };
+}
+
+impl<'a> Folder<'a> {
+    /// The folder of this page, of which nothing is known.
+    pub fn new(alloc: Global, page: Base) -> Folder<'a>
+        ensures { result ≡ page }
+    {
+        Folder {
+            page,
+            known: BTreeMap::new(alloc),
+        }
+    }
+
+    /// The folder of the next page. What is known stays known where the page is in the same folder.
+    pub fn turn_to(self, alloc: Global, page: Base) -> Folder<'a>
+        ensures { result ≡ page }
+    {
+        let Folder { page: last, known } = self;
+        if last.is_beside(&page) {
+            Folder { page, known }
+        } else {
+            Folder::new(alloc, page)
+        }
+    }
+
+    /// The page.
+    pub fn page(&self) -> &Base
+        ensures { result.now ≡ self.now }
+    {
+        &self.page
+    }
+
+    /// How many texts are known.
+    pub fn len(&self) -> usize {
+        self.known.len()
+    }
+
+    /// Where a link with this text leads, which is known from now on.
+    pub fn link(&mut self, alloc: Global, text: &'a str) -> Result<Option<CanonUrl>, FetchError>
+        requires { spec.is_of_folder text.now ≡ true }
+        ensures link { IfOk result (λ link. link ≡ link_url self.old text.now) }
+        ensures page { self.new ≡ self.old }
+        ensures refused { IfErr result (λ e. e ≡ FetchError.NoMemory) }
+    {
+        known_link(alloc, &self.page, &mut self.known, text)
+    }
+}

@@ -1,0 +1,119 @@
+//! Folders that are remembered from page to page.
+ghost use Rattle.std.specs.Prelude.{◌≡◌};
+
+use crate::saved_web::folder::Folder;
+use crawl_keys::Base;
+use hash_order::hash_of;
+use std::alloc::{AllocError, Global};
+use std::sync::{Mutex, MutexGuard};
+
+/// How many memories a saved web has, so that as many threads remember at a time.
+const MEMORIES: usize = 8;
+
+/// How many folders a memory has places for.
+const PLACES: usize = 1_024;
+
+/// A folder of which more texts are known is forgotten.
+const FOLDER_LIMIT: usize = 1_024;
+
+/// A memory of more texts is emptied.
+const MEMORY_LIMIT: usize = 131_072;
+
+/// Folders, each at the place that its text picks. A folder keeps of itself that what it knows is right, so a place may hold
+/// any.
+#[derive(Debug, Drop)]
+pub struct Memory<'a> {
+    // There are none before a folder is put here.
+    places: Vec<Option<Folder<'a>>>,
+    // How many texts the folders here know.
+    texts: usize,
+}
+
+impl<'a> Memory<'a> {
+    /// A memory of no folder.
+    pub fn new(alloc: Global) -> Memory<'a> {
+        Memory {
+            places: Vec::new(alloc),
+            texts: 0,
+        }
+    }
+
+    /// The folder of this page, with what the folder at its place knew, if that is the same.
+    pub fn take(&mut self, alloc: Global, place: usize, page: Base) -> Folder<'a>
+        ensures { result ≡ page }
+    {
+        if place < self.places.len() {
+            if let Some(folder) = self.places[place].take() {
+                self.texts = self.texts.saturating_sub(folder.len());
+                return folder.turn_to(alloc, page);
+            }
+        }
+        Folder::new(alloc, page)
+    }
+
+    /// Puts the folder back to its place, unless it knows too many texts.
+    pub fn put(
+        &mut self,
+        alloc: Global,
+        place: usize,
+        folder: Folder<'a>,
+    ) -> Result<(), AllocError> {
+        if folder.len() > FOLDER_LIMIT {
+            return Ok(());
+        }
+        let texts = self.texts.saturating_add(folder.len());
+        if self.places.is_empty() || texts > MEMORY_LIMIT {
+            self.places = places(alloc)?;
+            self.texts = folder.len();
+        } else {
+            self.texts = texts;
+        }
+        if place < self.places.len() {
+            self.places[place] = Some(folder);
+        }
+        Ok(())
+    }
+}
+
+/// As many places as a memory has, all free.
+fn places<'a>(alloc: Global) -> Result<Vec<Option<Folder<'a>>>, AllocError> {
+    let mut places = Vec::with_capacity(alloc, PLACES)?;
+    for _ in 0..PLACES {
+        places.push(None)?;
+    }
+    Ok(places)
+}
+
+/// The memories of a saved web, all empty.
+pub fn memories<'a>(alloc: Global) -> Result<Vec<Mutex<Memory<'a>>>, AllocError> {
+    let mut memories = Vec::with_capacity(alloc, MEMORIES)?;
+    for _ in 0..MEMORIES {
+        memories.push(Mutex::new(Memory::new(alloc)))?;
+    }
+    Ok(memories)
+}
+
+/// A memory that no other thread has now.
+pub fn free_memory<'m, 'a>(
+    memories: &'m [Mutex<Memory<'a>>],
+) -> Option<MutexGuard<'m, Memory<'a>>> {
+    for memory in memories {
+        if let Some(guard) = memory.try_lock() {
+            return Some(guard);
+        }
+    }
+    None
+}
+
+/// The place of the folder of a page, by the text before the last slash of its path.
+pub fn place_of(url: &str) -> usize {
+    let path = match url.split_once('?') {
+        Some((path, _)) => path,
+        None => url,
+    };
+    let folder = match path.rsplit_once('/') {
+        Some((folder, _)) => folder,
+        None => path,
+    };
+    hash_of(folder) as usize % PLACES
+}
