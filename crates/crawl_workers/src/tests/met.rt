@@ -15,7 +15,7 @@ fn numbered(alloc: Global, number: u32) -> Option<CanonUrl> {
 
 // Meets each of the URLs that is not known, and answers how many those were.
 fn meet_unknown(alloc: Global, met: &mut Met) -> Option<u32> {
-    let mut unknown = 0;
+    let mut unknown = 0u32;
     for number in 0..URLS {
         let mut url = numbered(alloc, number)?;
         if !met.has(&mut url) {
