@@ -1,6 +1,7 @@
 pub mod CutLines
 pub mod FirstVersion
 pub mod LeastLine
+pub mod PageKeys
 pub mod PageLinks
 pub mod PassedLines
 pub mod ReadWeb

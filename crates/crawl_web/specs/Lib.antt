@@ -3,6 +3,7 @@ pub mod KnownPages
 pub mod LeastFault
 pub mod Limits
 pub mod Lines
+pub mod PageKeys
 pub mod Pages
 pub mod Parts
 pub mod ReportText

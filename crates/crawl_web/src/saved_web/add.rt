@@ -11,7 +11,8 @@ ghost use Rattle.crawl_web.specs.KnownPages.{kept_before, has, Adds, Follows};
 use crate::lines::text_of;
 use crate::saved_web::error::WebError;
 use crate::saved_web::line::{Line, line_of_text};
-use crawl_keys::{KeyError, UrlKey, canonical};
+use crate::saved_web::page_key::PageKey;
+use crawl_keys::{Base, KeyError};
 use std::alloc::Global;
 use std::collections::BTreeMap;
 
@@ -72,7 +73,7 @@ impl Above {
 /// one, with the bytes behind it.
 pub fn add_line<'a>(
     alloc: Global,
-    pages: &mut BTreeMap<UrlKey, &'a [u8]>,
+    pages: &mut BTreeMap<PageKey, &'a [u8]>,
     number: u64,
     above: Above,
     line: &[u8],
@@ -120,7 +121,7 @@ fn header(text: &str) -> Result<bool, WebError>
 
 fn add_page<'a>(
     alloc: Global,
-    pages: &mut BTreeMap<UrlKey, &'a [u8]>,
+    pages: &mut BTreeMap<PageKey, &'a [u8]>,
     number: u64,
     text: &str,
     behind: &'a [u8],
@@ -128,12 +129,13 @@ fn add_page<'a>(
     ensures tells { Tells result (page_fault number (has pages.old) (canonical text.now)) }
     ensures adds { OnOk result (Adds pages.old pages.new (result_ok (canonical text.now)) behind.entry) }
 {
-    let url = match canonical(alloc, text) {
-        Ok(url) => url,
+    let page = match Base::canonical(alloc, text) {
+        Ok(page) => page,
         Err(KeyError::NoMemory) => return Err(WebError::NoMemory),
         Err(KeyError::NotUrl | KeyError::NotHttp) => return Err(WebError::BadPageUrl(number)),
     };
-    match pages.insert(UrlKey::from(url), behind)? {
+    let kept = PageKey::of_page(alloc, page)?;
+    match pages.insert(kept, behind)? {
         None => Ok(()),
         Some(_) => Err(WebError::PageTwice(number)),
     }

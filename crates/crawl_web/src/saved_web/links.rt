@@ -19,24 +19,22 @@ use std::alloc::Global;
 use std::collections::BTreeMap;
 use std::sync::Mutex;
 
-/// The page with this URL whose line these bytes follow, up to the next page or to the end.
+/// The page with this base whose line these bytes follow, up to the next page or to the end.
 pub fn page_behind<'a>(
     alloc: Global,
     memories: &[Mutex<Memory<'a>>],
-    url: &CanonUrl,
+    base: Base,
     bytes: &'a [u8],
 ) -> Result<Page, FetchError>
-    ensures page { IfOk result (λ page. page ≡ page_behind url.now (Some (lines bytes.now))) }
+    ensures page { IfOk result (λ page. page ≡ page_behind base (Some (lines bytes.now))) }
     ensures refused { IfErr result (λ e. e ≡ FetchError.NoMemory) }
 {
-    let Ok(base) = Base::new(alloc, url) else {
-        return Err(FetchError::NoMemory);
-    };
     match moved_text(bytes) {
         Some(text) => moved_page(alloc, &base, text),
         None => match free_memory(memories) {
             Some(mut memory) => {
-                remembering(alloc, &mut memory, place_of(url.as_str()), base, bytes)
+                let place = place_of(base.as_str());
+                remembering(alloc, &mut memory, place, base, bytes)
             }
             None => found_page(alloc, &mut Folder::new(alloc, base), bytes),
         },
