@@ -1,5 +1,5 @@
 -- A link without its fragment leads where the link leads.
-use Rattle.std.proofs.Common.{◌≡◌, ◌⊎◌, ℕ, suc, ◌+◌, ◌<◌, ◌≤◌, ◌-◌, ◌==◌, ◌&&◌, ◌||◌, Bool, true, false, not, List, [], ◌∷◌, ◌++◌, length, get_or, take, drop, refl, ap, sym, subst, ◌∙◌, ⊎_elim, inl, inr, All, Some, None, Ok, Err, arith, one-add}
+use Rattle.std.proofs.Common.{◌≡◌, ◌⊎◌, ℕ, suc, ◌+◌, ◌<◌, ◌-◌, ◌==◌, ◌&&◌, ◌||◌, Bool, true, false, not, List, [], ◌∷◌, ◌++◌, length, get_or, take, drop, refl, ap, sym, subst, ◌∙◌, ⊎_elim, inl, inr, All, Some, None, Ok, Err, arith, one-add}
 use Rattle.std.specs.Prelude.{Option, bytes_eq, codes, filter, is_some, if◌then◌else◌}
 use Rattle.std.specs.List.{suffix_len, position_or_len, before_first, after_first}
 use Rattle.std.specs.Option.{option_or}
