@@ -1,7 +1,8 @@
 -- Where a link of a folder leads depends on the page's folder alone.
-use Rattle.std.proofs.Common.{◌≡◌, ◌≢◌, ◌⊎◌, ℕ, zero, suc, ◌<◌, ◌≤◌, ◌-◌, ◌==◌, ◌&&◌, Bool, true, false, not, List, [], ◌∷◌, ◌++◌, length, get_or, take, drop, reverse, refl, ap, sym, subst, ◌∙◌, ⊎_elim, inl, inr, All, Some, None, Ok, arith, append-nil, rules}
-use Rattle.std.specs.Prelude.{Option, slice_index, unwrap_or, filter, if◌then◌else◌}
+use Rattle.std.proofs.Common.{◌≡◌, ◌≢◌, ◌⊎◌, ℕ, zero, suc, ◌<◌, ◌≤◌, ◌-◌, ◌==◌, Bool, true, false, not, List, [], ◌∷◌, ◌++◌, length, get_or, take, drop, reverse, refl, ap, sym, subst, ◌∙◌, ⊎_elim, inl, inr, All, Some, None, Ok, arith, append-nil}
+use Rattle.std.specs.Prelude.{Option, unwrap_or, filter, if◌then◌else◌}
 use Rattle.std.specs.List.{prefix_len, suffix_len, position_or_len, list_any}
+use Rattle.std.proofs.Math.Seq.{get_or-append_seam}
 use Rattle.std.proofs.lemmas.Bool.{and_left, and_right, and_parts, or_from, or_parts, not-true, eq-eqb, ltb-true, true≢false, cases_eq, cases_lt, cases_Bool, cond_both, cond-true, cond-false, eqb-true, lt-leb, ne_eqb, or_cases}
 use Rattle.std.proofs.lemmas.Bool.Decides.{nat_tests}
 use Rattle.std.proofs.lemmas.List.{append_assoc, get_or-reverse, get_or_past, length-append, length-reverse}
@@ -9,9 +10,9 @@ use Rattle.std.proofs.lemmas.List.Elements.{All-nil, All-cons, All-filter, All-h
 use Rattle.url.specs.declared.scheme.SchemeType.TheVariants.{SpecialNotFile}
 use Rattle.url.specs.declared.slicing.Position.TheVariants.{BeforeScheme, AfterPort, AfterPath}
 use Rattle.url.specs.Head.{head_only}
-use Rattle.url.specs.Input.{is_c0_control_or_space, is_empty, is_tab_or_new_line, rsplit_once, rsplit_step, split_once, strip_tabs_and_new_lines, trim_c0_control_and_space}
+use Rattle.url.specs.Input.{is_c0_control_or_space, is_tab_or_new_line, rsplit_once, rsplit_step, split_once, strip_tabs_and_new_lines, trim_c0_control_and_space}
 use Rattle.url.specs.Parser.{Parsed, and_then, after_double_slash, after_slashes, before_tail, leading_slashes, parse_all, parse_body, parse_by_scheme, parse_parts, parse_relative, parse_url, parse_without_scheme, split_scheme, with_path, with_tail}
-use Rattle.url.specs.Parts.{Parts, IsValid, cannot_be_a_base, has_authority, kind_of, serialize, text_between}
+use Rattle.url.specs.Parts.{Parts, IsValid, has_authority, kind_of, serialize, text_between}
 use Rattle.url.specs.Path.{IsSegmentList, parse_path, shorten_path, without_last_segment}
 use Rattle.url.specs.Scheme.{is_file, is_special, scheme_len}
 use Rattle.url.proofs.InputLemmas.{is_empty_nonempty, rsplit_once_at}
@@ -38,13 +39,15 @@ prefix_len-stops p (x ∷ xs) (suc i) inside fails =
     let later = prefix_len-stops p xs i (omega arith) fails in
     ⊎_elim (λ passes. rw passes (omega arith)) (λ stops. rw stops (omega arith)) (cases_Bool (p x))
 
--- nor does one at the front end the end that does
-suffix_len-stops : (p : ℕ → Bool) (b : ℕ) (rest : List ℕ) → p b ≡ false → suffix_len p (b ∷ rest) ≤ length rest
-suffix_len-stops p b rest fails =
-    let len = length-reverse (b ∷ rest) in
-    let place : length (b ∷ rest) - 1 - length rest ≡ 0 = omega arith in
-    let last = get_or-reverse (b ∷ rest) (length rest) 0 (omega arith) ∙ ap (λ k. get_or (b ∷ rest) k 0) place in
-    prefix_len-stops p (reverse (b ∷ rest)) (length rest) (omega (arith, len)) (ap p last ∙ fails)
+-- nor does the end that does reach back over it
+pub suffix_len-stops : (p : ℕ → Bool) (front : List ℕ) (b : ℕ) (rest : List ℕ) → p b ≡ false → suffix_len p (front ++ b ∷ rest) ≤ length rest
+suffix_len-stops p front b rest fails =
+    let all = front ++ b ∷ rest in
+    let len = length-append front (b ∷ rest) in
+    let turned = length-reverse all in
+    let place : length all - 1 - length rest ≡ length front = omega (arith, len) in
+    let last = get_or-reverse all (length rest) 0 (omega (arith, len)) ∙ ap (λ k. get_or all k 0) place ∙ get_or-append_seam front b rest 0 in
+    prefix_len-stops p (reverse all) (length rest) (omega (arith, len, turned)) (ap p last ∙ fails)
 
 -- some of the front of a list that is not empty
 begins-take : (b : ℕ) (P : ℕ → Type 0) (rest : List ℕ) (n : ℕ) → 0 < n → All P (b ∷ rest) → Begins b P (take n (b ∷ rest))
@@ -55,7 +58,7 @@ begins-trim : (b : ℕ) (P : ℕ → Type 0) (rest : List ℕ) → 32 < b → Al
 unfolding trim_c0_control_and_space
 begins-trim b P rest above all =
     let fails : is_c0_control_or_space b ≡ false = lt-leb b 32 above in
-    let end = suffix_len-stops is_c0_control_or_space b rest fails in
+    let end = suffix_len-stops is_c0_control_or_space [] b rest fails in
     rw fails (begins-take b P rest (length (b ∷ rest) - suffix_len is_c0_control_or_space (b ∷ rest)) (omega (arith, end)) all)
 
 begins-strip : (b : ℕ) (P : ℕ → Type 0) (l : List ℕ) → 32 < b → Begins b P l → Begins b P (strip_tabs_and_new_lines l)

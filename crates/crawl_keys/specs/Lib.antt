@@ -1,5 +1,6 @@
 pub mod CanonicalText
 pub mod Folders
+pub mod Fragments
 pub mod HostKey
 pub mod Layout
 pub mod Assignment

@@ -7,6 +7,7 @@ mod canon_url;
 mod error;
 mod filter;
 mod folder;
+mod fragment;
 mod read;
 mod url_key;
 
@@ -16,6 +17,7 @@ pub use canon_url::CanonUrl;
 pub use error::KeyError;
 pub use filter::{Filter, FilterError};
 pub use folder::is_of_folder;
+pub use fragment::before_fragment;
 pub use read::{canonical, resolve};
 pub use url_key::UrlKey;
 

@@ -318,3 +318,53 @@ fn links_of_a_folder(rt: HostRuntime) -> Result<(), Fail> {
     }
     Ok(())
 }
+
+// A link, its text before the fragment, and where both lead from two pages; nowhere, where the last
+// two are empty.
+#[test]
+fn links_before_their_fragments(rt: HostRuntime) -> Result<(), Fail> {
+    let alloc = rt.alloc();
+    let one = Base::new(alloc, &canonical(alloc, "http://a.test/d/e")?)?;
+    let other = Base::new(alloc, &canonical(alloc, "https://b.test/f?q")?)?;
+    let rows = [
+        ("x#y", "x", "http://a.test/d/x", "https://b.test/x"),
+        ("x?r#y", "x?r", "http://a.test/d/x?r", "https://b.test/x?r"),
+        ("x#", "x", "http://a.test/d/x", "https://b.test/x"),
+        ("x#y#z", "x", "http://a.test/d/x", "https://b.test/x"),
+        ("x#y?r", "x", "http://a.test/d/x", "https://b.test/x"),
+        ("x#y:z", "x", "http://a.test/d/x", "https://b.test/x"),
+        (" x#y ", " x", "http://a.test/d/x", "https://b.test/x"),
+        ("?#y", "?", "http://a.test/d/e?", "https://b.test/f?"),
+        (
+            "x #y",
+            "x #y",
+            "http://a.test/d/x%20",
+            "https://b.test/x%20",
+        ),
+        ("#y", "#y", "http://a.test/d/e", "https://b.test/f?q"),
+        (" #y", " #y", "http://a.test/d/e", "https://b.test/f?q"),
+        ("x", "x", "http://a.test/d/x", "https://b.test/x"),
+        ("", "", "http://a.test/d/e", "https://b.test/f?q"),
+        ("http:x#y", "http:x", "http://a.test/d/x", "http://x/"),
+        ("mailto:x#y", "mailto:x", "", ""),
+        ("http://[#y", "http://[", "", ""),
+    ];
+    for (link, front, from_one, from_other) in rows {
+        assert_eq!(rt; before_fragment(link), front, "{link}");
+        for text in [link, front] {
+            let target = one.resolve(alloc, text);
+            assert_eq!(rt;
+                target.as_ref().map_or("", |url| url.as_str()),
+                from_one,
+                "{text}"
+            );
+            let target = other.resolve(alloc, text);
+            assert_eq!(rt;
+                target.as_ref().map_or("", |url| url.as_str()),
+                from_other,
+                "{text}"
+            );
+        }
+    }
+    Ok(())
+}

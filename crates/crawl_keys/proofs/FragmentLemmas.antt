@@ -1,0 +1,249 @@
+-- A link without its fragment leads where the link leads.
+use Rattle.std.proofs.Common.{◌≡◌, ◌⊎◌, ℕ, suc, ◌+◌, ◌<◌, ◌-◌, ◌==◌, ◌&&◌, ◌||◌, Bool, true, false, not, List, [], ◌∷◌, ◌++◌, length, get_or, take, drop, refl, ap, sym, subst, ◌∙◌, ⊎_elim, inl, inr, All, Some, None, Ok, Err, arith, one-add}
+use Rattle.std.specs.Prelude.{Option, bytes_eq, codes, filter, is_some, if◌then◌else◌}
+use Rattle.std.specs.List.{suffix_len, position_or_len, before_first, after_first}
+use Rattle.std.specs.Option.{option_or}
+use Rattle.std.proofs.Math.Seq.{take-append-add, take-nil}
+use Rattle.std.proofs.lemmas.Bool.{and_left, and_from, and_parts, or_parts, not-true, eq-eqb, eqb-true, ltb-true, true≢false, cases_lt, cases_Bool, cond-true, cond-false, lt-leb, or_left, or_right, or_cases}
+use Rattle.std.proofs.lemmas.Bool.Decides.{nat_tests}
+use Rattle.std.proofs.lemmas.List.{append_assoc, drop_all, get_or_past, length-append, take_all}
+use Rattle.std.proofs.lemmas.List.Elements.{All-filter, All-tail, filter-append}
+use Rattle.std.proofs.lemmas.List.Folds.{list_any-append}
+use Rattle.std.proofs.lemmas.List.Sums.{fails_before_first, passes_at_first, split_at_first}
+use Rattle.url.specs.declared.error.ParseError.TheVariants.{RelativeUrlWithCannotBeABaseBase}
+use Rattle.url.specs.Input.{is_c0_control_or_space, is_empty, is_tab_or_new_line, lowercase, split_once, strip_tabs_and_new_lines, trim_c0_control_and_space, trim_end, trim_start}
+use Rattle.url.specs.Parser.{Parsed, and_then, base_for_scheme, before_tail, parse_all, parse_body, parse_by_scheme, parse_parts, parse_url, parse_without_scheme, split_scheme, with_tail}
+use Rattle.url.specs.Parts.{Parts, cannot_be_a_base, kind_of}
+use Rattle.url.specs.Scheme.{is_special}
+use Rattle.url.proofs.InputLemmas.{All-take_from_reads, IsNot, is_empty_nonempty, split_around, split_once_at, split_once_none}
+use Rattle.crawl_keys.specs.declared.error.KeyError.TheVariants.{NotHttp}
+use Rattle.crawl_keys.specs.CanonicalText.{is_web, resolve, resolve_from, text_of, text_of_parse}
+use Rattle.crawl_keys.specs.Folders.{is_colon, is_of_folder}
+use Rattle.crawl_keys.specs.Fragments.{before_fragment, ends_visibly, is_number_sign}
+use Rattle.crawl_keys.proofs.CanonicalLemmas.{web_kind}
+use Rattle.crawl_keys.proofs.FolderLemmas.{suffix_len-stops}
+
+-- ---- the parser's first steps
+
+-- a text that the parser cuts nothing off at the end
+record EndsVisibly (l : List ℕ) : Type 0 where
+  front : List ℕ
+  last : ℕ
+  is : l ≡ front ++ last ∷ []
+  above : 32 < last
+
+visible_end : (l : List ℕ) → ends_visibly l ≡ true → EndsVisibly l
+visible_end l visible =
+    let i = length l - 1 in
+    let above = ltb-true 32 (get_or l i 0) visible in
+    let inside : i < length l = ⊎_elim (λ inside. inside) (λ past. absurd (let none = get_or_past l i 0 past in omega (arith, none, above))) (cases_lt i (length l)) in
+    record {
+      front = take i l;
+      last = get_or l i 0;
+      is = split_around l i (get_or l i 0) inside refl ∙ ap (λ r. take i l ++ get_or l i 0 ∷ r) (drop_all (i + 1) l (omega (arith, inside)));
+      above = above;
+    }
+
+-- what trimming leaves of the front of such a text, whatever follows
+record Kept (trims : ℕ → Bool) (P : ℕ → Type 0) (front : List ℕ) (c : ℕ) : Type 0 where
+  kept : List ℕ
+  is : (rest : List ℕ) → trim_start trims (front ++ c ∷ rest) ≡ kept ++ c ∷ rest
+  all : All P (kept ++ c ∷ [])
+
+kept_front : (trims : ℕ → Bool) (P : ℕ → Type 0) (front : List ℕ) (c : ℕ) → trims c ≡ false → All P (front ++ c ∷ []) → Kept trims P front c
+kept_front trims P [] c stops all = record { kept = []; is = λ rest. rw stops refl; all = all }
+kept_front trims P (x ∷ front) c stops all =
+    let later = kept_front trims P front c stops (All-tail P x (front ++ c ∷ []) all) in
+    ⊎_elim
+    (λ passes. record { kept = later.kept; is = λ rest. ap (λ n. drop n (x ∷ (front ++ c ∷ rest))) (cond-true _ _ _ passes ∙ one-add _) ∙ later.is rest; all = later.all })
+    (λ fails. record { kept = x ∷ front; is = λ rest. rw fails refl; all = all })
+    (cases_Bool (trims x))
+
+trim_end-stops : (front : List ℕ) (b : ℕ) (rest : List ℕ) → is_c0_control_or_space b ≡ false → trim_end is_c0_control_or_space (front ++ b ∷ rest) ≡ front ++ b ∷ take (length rest - suffix_len is_c0_control_or_space (front ++ b ∷ rest)) rest
+trim_end-stops front b rest stops =
+    let all = front ++ b ∷ rest in
+    let end = suffix_len-stops is_c0_control_or_space front b rest stops in
+    let len = length-append front (b ∷ rest) in
+    let more : length all - suffix_len is_c0_control_or_space all ≡ length front + suc (length rest - suffix_len is_c0_control_or_space all) = omega (arith, end, len) in
+    ap (λ n. take n all) more ∙ take-append-add front (b ∷ rest) (suc (length rest - suffix_len is_c0_control_or_space all))
+
+-- what the parser splits the text and its front into
+record IsCut (text front : List ℕ) : Type 0 where
+  body : List ℕ
+  fragment : List ℕ
+  whole : split_once 35 (strip_tabs_and_new_lines (trim_c0_control_and_space text)) ≡ (body, Some fragment)
+  alone : split_once 35 (strip_tabs_and_new_lines (trim_c0_control_and_space front)) ≡ (body, None)
+  some : 0 < length body
+
+cut_parts : (front : List ℕ) (c : ℕ) (fragment : List ℕ) → 32 < c → All (IsNot 35) (front ++ c ∷ []) → IsCut (front ++ c ∷ 35 ∷ fragment) (front ++ c ∷ [])
+unfolding trim_c0_control_and_space strip_tabs_and_new_lines
+cut_parts front c fragment above plain =
+    let trims = is_c0_control_or_space in
+    let stays = λ (b : ℕ). not (is_tab_or_new_line b) in
+    let stops : trims c ≡ false = lt-leb c 32 above in
+    let here : stays c ≡ true = grind (arith, nat_tests) in
+    let start = kept_front trims (IsNot 35) front c stops plain in
+    let visible = start.kept ++ c ∷ [] in
+    let alone = ap (trim_end trims) (start.is []) ∙ trim_end-stops start.kept c [] stops ∙ ap (λ l. start.kept ++ c ∷ l) (take-nil _) in
+    let regroup = sym (append_assoc start.kept (c ∷ []) (35 ∷ fragment)) in
+    let whole = ap (trim_end trims) (start.is (35 ∷ fragment) ∙ regroup) ∙ trim_end-stops visible 35 fragment refl in
+    let back = take (length fragment - suffix_len trims (visible ++ 35 ∷ fragment)) fragment in
+    let none = All-filter stays (IsNot 35) visible start.all in
+    let split = filter-append stays start.kept (c ∷ []) ∙ ap (λ l. filter stays start.kept ++ l) (cond-true _ _ _ here) in
+    record {
+      body = filter stays visible;
+      fragment = filter stays back;
+      whole = ap (split_once 35) (ap (filter stays) whole ∙ filter-append stays visible (35 ∷ back)) ∙ split_once_at 35 (filter stays visible) (filter stays back) none;
+      alone = ap (split_once 35) (ap (filter stays) alone) ∙ split_once_none 35 (filter stays visible) none;
+      some = omega (arith, ap length split, length-append (filter stays start.kept) (c ∷ []));
+    }
+
+-- ---- the parser's last step
+
+-- whether a URL with this scheme is of the web
+abbrev is_web_scheme : List ℕ → Bool
+is_web_scheme scheme = bytes_eq scheme (codes "http") || bytes_eq scheme (codes "https")
+
+end_path-scheme : (b : Bool) (url other : Parts) → other.scheme ≡ url.scheme → (if b then other else url).scheme ≡ url.scheme
+end_path-scheme true url other same = same
+end_path-scheme false url other same = refl
+
+-- the URL with a tail, of which its text keeps the query alone
+text_of-web : (url : Parts) (query : Option (List ℕ)) (fragment : Option (List ℕ)) → is_web url ≡ true → text_of (with_tail (before_tail url query fragment) query fragment) ≡ text_of (with_tail url query None)
+unfolding text_of
+text_of-web url query fragment web =
+    let special : not (is_special (kind_of url)) ≡ false = ap (λ k. not (is_special k)) (web_kind url web) in
+    let same : before_tail url query fragment ≡ url = cond-false _ _ _ (and_left _ _ special) in
+    ap (λ u. text_of (with_tail u query fragment)) same
+
+text_of-other : (url : Parts) (query : Option (List ℕ)) (fragment : Option (List ℕ)) → is_web url ≡ false → text_of (with_tail (before_tail url query fragment) query fragment) ≡ Err NotHttp
+unfolding text_of
+text_of-other url query fragment other =
+    let scheme = end_path-scheme (not (is_special (kind_of url)) && (is_some query || is_some fragment)) url _ refl in
+    cond-false _ _ _ (ap is_web_scheme scheme ∙ other)
+
+text_of-tail : (url : Parts) (query : Option (List ℕ)) (one other : Option (List ℕ)) → text_of (with_tail (before_tail url query one) query one) ≡ text_of (with_tail (before_tail url query other) query other)
+text_of-tail url query one other =
+    ⊎_elim
+    (λ web. text_of-web url query one web ∙ sym (text_of-web url query other web))
+    (λ not_web. text_of-other url query one not_web ∙ sym (text_of-other url query other not_web))
+    (cases_Bool (is_web url))
+
+text_of_parse-tail : (made : Parsed Parts) (query : Option (List ℕ)) (one other : Option (List ℕ)) → text_of_parse (and_then made (λ url. Ok (with_tail (before_tail url query one) query one))) ≡ text_of_parse (and_then made (λ url. Ok (with_tail (before_tail url query other) query other)))
+text_of_parse-tail (Ok url) query one other = text_of-tail url query one other
+text_of_parse-tail (Err e) query one other = refl
+
+text_of-fragment : (url : Parts) (query : Option (List ℕ)) (one other : Option (List ℕ)) → text_of (with_tail url query one) ≡ text_of (with_tail url query other)
+unfolding text_of
+text_of-fragment url query one other = refl
+
+parse_parts-fragment : (scheme : List ℕ) (base : Option Parts) (body : List ℕ) (query : Option (List ℕ)) (one other : Option (List ℕ)) → text_of_parse (parse_parts scheme base body query one) ≡ text_of_parse (parse_parts scheme base body query other)
+unfolding parse_parts
+parse_parts-fragment scheme None body query one other = text_of_parse-tail (parse_body scheme None body) query one other
+parse_parts-fragment scheme (Some base) body query one other =
+    elim (is_empty body) as (λ v. text_of_parse (if v then Ok (with_tail base (option_or query base.query) one) else parse_all scheme (Some base) body query one) ≡ text_of_parse (if v then Ok (with_tail base (option_or query base.query) other) else parse_all scheme (Some base) body query other))
+    [ true ↦ text_of-fragment base (option_or query base.query) one other | false ↦ text_of_parse-tail (parse_body scheme (Some base) body) query one other ]
+
+-- more than a fragment
+abbrev IsMore : List ℕ → Option (List ℕ) → Type 0
+IsMore body query = (is_empty body && not (is_some query)) ≡ false
+
+parse_without_scheme-fragment : (base : Option Parts) (body : List ℕ) (query : Option (List ℕ)) (one other : Option (List ℕ)) → IsMore body query → text_of_parse (parse_without_scheme base body query one) ≡ text_of_parse (parse_without_scheme base body query other)
+parse_without_scheme-fragment None body query one other more = refl
+parse_without_scheme-fragment (Some base) body query one other more =
+    let parts = parse_parts-fragment base.scheme (Some base) body query in
+    let refused = Err RelativeUrlWithCannotBeABaseBase in
+    ap (λ m. text_of_parse (if cannot_be_a_base base && not (m && is_some one) then refused else parse_parts base.scheme (Some base) body query one)) more
+    ∙ (elim (cannot_be_a_base base && true) as (λ v. text_of_parse (if v then refused else parse_parts base.scheme (Some base) body query one) ≡ text_of_parse (if v then refused else parse_parts base.scheme (Some base) body query other)) [ true ↦ refl | false ↦ parts one other ])
+    ∙ sym (ap (λ m. text_of_parse (if cannot_be_a_base base && not (m && is_some other) then refused else parse_parts base.scheme (Some base) body query other)) more)
+
+parse_by_scheme-fragment : (split : Option (List ℕ × List ℕ)) (base : Option Parts) (body : List ℕ) (query : Option (List ℕ)) (one other : Option (List ℕ)) → IsMore body query → text_of_parse (parse_by_scheme split base body query one) ≡ text_of_parse (parse_by_scheme split base body query other)
+parse_by_scheme-fragment None base body query one other more = parse_without_scheme-fragment base body query one other more
+parse_by_scheme-fragment (Some split) base body query one other more = parse_parts-fragment (lowercase split.0) (base_for_scheme base (lowercase split.0)) split.1 query one other
+
+more_than_fragment : (text : List ℕ) → 0 < length text → IsMore (split_once 63 text).0 (split_once 63 text).1
+unfolding split_once
+more_than_fragment [] some = absurd (omega arith)
+more_than_fragment (x ∷ text) some =
+    elim (x == 63) as (λ v. let r : List ℕ × Option (List ℕ) = if v then ([], Some text) else (x ∷ (split_once 63 text).0, (split_once 63 text).1) in IsMore r.0 r.1)
+    [ true ↦ refl | false ↦ and_left _ _ (is_empty_nonempty (x ∷ (split_once 63 text).0) (omega arith)) ]
+
+parse_url-cut : (base : Option Parts) (text front : List ℕ) → IsCut text front → text_of_parse (parse_url base front) ≡ text_of_parse (parse_url base text)
+unfolding parse_url
+parse_url-cut base text front cut =
+    let question = split_once 63 cut.body in
+    let parsed = λ (hash : List ℕ × Option (List ℕ)). let question = split_once 63 hash.0 in text_of_parse (parse_by_scheme (split_scheme question.0) base question.0 question.1 hash.1) in
+    ap parsed cut.alone
+    ∙ parse_by_scheme-fragment (split_scheme question.0) base question.0 question.1 None (Some cut.fragment) (more_than_fragment cut.body cut.some)
+    ∙ sym (ap parsed cut.whole)
+
+-- ---- the whole
+
+-- the text has a fragment, and ends visibly before it
+record IsLong (text : List ℕ) : Type 0 where
+  front : List ℕ
+  last : ℕ
+  fragment : List ℕ
+  cut : before_fragment text ≡ front ++ last ∷ []
+  whole : text ≡ front ++ last ∷ 35 ∷ fragment
+  above : 32 < last
+  plain : All (IsNot 35) (front ++ last ∷ [])
+
+long_text : (text : List ℕ) → ends_visibly (before_first is_number_sign text) ≡ true → position_or_len is_number_sign text < length text → IsLong text
+long_text text visible inside =
+    let place = position_or_len is_number_sign text in
+    let k = visible_end (before_first is_number_sign text) visible in
+    let sign : get_or text place 0 ≡ 35 = eqb-true _ 35 (passes_at_first is_number_sign text 0 inside) in
+    let plain = All-take_from_reads (IsNot 35) text place (omega (arith, inside)) (λ n below same. true≢false (sym (eq-eqb _ 35 same) ∙ fails_before_first is_number_sign text n 0 below)) in
+    record {
+      front = k.front;
+      last = k.last;
+      fragment = after_first is_number_sign text;
+      cut = cond-true _ _ _ visible ∙ k.is;
+      whole = split_at_first is_number_sign text 0 inside ∙ ap (λ s. before_first is_number_sign text ++ s ∷ after_first is_number_sign text) sign ∙ ap (λ l. l ++ 35 ∷ after_first is_number_sign text) k.is ∙ append_assoc k.front (k.last ∷ []) _;
+      above = k.above;
+      plain = subst (All (IsNot 35)) k.is plain;
+    }
+
+-- the text stays, or is cut
+long_or_whole : (text : List ℕ) → (before_fragment text ≡ text) ⊎ IsLong text
+long_or_whole text =
+    let front = before_first is_number_sign text in
+    ⊎_elim
+    (λ visible. ⊎_elim
+    (λ inside. inr (long_text text visible inside))
+    (λ past. inl (cond-true _ _ _ visible ∙ take_all (position_or_len is_number_sign text) text past))
+    (cases_lt (position_or_len is_number_sign text) (length text)))
+    (λ other. inl (cond-false _ _ _ other))
+    (cases_Bool (ends_visibly front))
+
+resolve_from-cut : (base : Parsed Parts) (text front : List ℕ) → IsCut text front → resolve_from base front ≡ resolve_from base text
+resolve_from-cut (Ok base) text front cut = parse_url-cut (Some base) text front cut
+resolve_from-cut (Err e) text front cut = refl
+
+pub resolve-before_fragment : (text base : List ℕ) → resolve base (before_fragment text) ≡ resolve base text
+resolve-before_fragment text base =
+    ⊎_elim
+    (λ same. ap (resolve base) same)
+    (λ k. ap (resolve base) k.cut ∙ resolve_from-cut (parse_url None base) (k.front ++ k.last ∷ 35 ∷ k.fragment) (k.front ++ k.last ∷ []) (cut_parts k.front k.last k.fragment k.above k.plain) ∙ sym (ap (resolve base) k.whole))
+    (long_or_whole text)
+
+front_of_folder : (front rest : List ℕ) → 0 < length front → is_of_folder (front ++ rest) ≡ true → is_of_folder front ≡ true
+front_of_folder [] rest some folder = absurd (omega arith)
+front_of_folder (b ∷ front) rest some folder =
+    let parts = and_parts _ _ folder in
+    and_from _ _ parts.0
+    (⊎_elim
+    (λ slash. or_left _ _ slash)
+    (λ none. or_right _ _ (ap not ((or_parts _ _ (sym (list_any-append is_colon (b ∷ front) rest) ∙ not-true _ none)).0)))
+    (or_cases _ _ parts.1))
+
+pub is_of_folder-before_fragment : (text : List ℕ) → is_of_folder text ≡ true → is_of_folder (before_fragment text) ≡ true
+is_of_folder-before_fragment text folder =
+    ⊎_elim
+    (λ same. ap is_of_folder same ∙ folder)
+    (λ k.
+    let len = length-append k.front (k.last ∷ []) in
+    let whole = k.whole ∙ sym (append_assoc k.front (k.last ∷ []) (35 ∷ k.fragment)) in
+    ap is_of_folder k.cut ∙ front_of_folder (k.front ++ k.last ∷ []) (35 ∷ k.fragment) (omega (arith, len)) (sym (ap is_of_folder whole) ∙ folder))
+    (long_or_whole text)

@@ -1,0 +1,19 @@
+-- The front of a link's text that leads where the whole text leads.
+use Rattle.std.specs.Prelude.{ℕ, Bool, ◌-◌, ◌==◌, nat_lt, List, length, slice_index, if◌then◌else◌}
+use Rattle.std.specs.List.{before_first}
+use Rattle.url.specs.Ascii.{number_sign, space}
+
+-- the byte that begins a fragment
+abbrev pub is_number_sign : ℕ → Bool
+is_number_sign b = b == number_sign
+
+-- the parser trims nothing from the text's end
+abbrev pub ends_visibly : List ℕ → Bool
+ends_visibly text = nat_lt space (slice_index text (length text - 1))
+
+-- The text before its fragment. Where what stands there would be trimmed once it is the end, or is nothing, the text stays
+-- whole: `a #f` leads to `a%20`, and `a ` to `a`.
+abbrev pub before_fragment : List ℕ → List ℕ
+before_fragment text =
+    let front = before_first is_number_sign text in
+    if ends_visibly front then front else text

@@ -1,0 +1,30 @@
+//! Links that differ in their fragments alone.
+ghost use Rattle.std.specs.Prelude.{◌≡◌, ◌≤◌, ℕ, List, length, true};
+ghost use Rattle.crawl_keys.specs.CanonicalText.{resolve};
+ghost use Rattle.crawl_keys.specs.Folders.{is_of_folder};
+ghost use Rattle.crawl_keys.specs.Fragments as spec;
+
+/// The text of a link before its fragment, which leads to the same canonical URL on each page, so
+/// that links to the parts of one page are one text.
+///
+/// A text with a space or a control right before the `#`, or nothing, stays whole.
+pub fn before_fragment(text: &str) -> &str
+    ensures value { result.now ≡ spec.before_fragment text.now }
+    ensures target { (base : List ℕ) → resolve base result.now ≡ resolve base text.now }
+    ensures folder { is_of_folder text.now ≡ true → is_of_folder result.now ≡ true }
+    ensures within { length result.now ≤ length text.now }
+{
+    match text.split_once('#') {
+        Some((front, _)) if ends_visibly(front) => front,
+        _ => text,
+    }
+}
+
+fn ends_visibly(text: &str) -> bool
+    ensures { result ≡ spec.ends_visibly text.now }
+{
+    match text.as_bytes() {
+        [.., last] => *last > b' ',
+        [] => false,
+    }
+}
