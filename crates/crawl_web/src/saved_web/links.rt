@@ -13,7 +13,7 @@ use crate::saved_web::folder::Folder;
 use crate::saved_web::known_link::{known_link, link_of};
 use crate::saved_web::line::{Line, line_of};
 use crate::saved_web::memory::{Memory, free_memory, place_of};
-use crawl_keys::{Base, CanonUrl, is_of_folder};
+use crawl_keys::{Base, CanonUrl, before_fragment, is_of_folder};
 use hash_order::HashedText;
 use std::alloc::Global;
 use std::collections::BTreeMap;
@@ -106,6 +106,7 @@ fn link_on<'a>(
     ensures known { AreLinks folder.new known.new }
     ensures refused { IfErr result (λ e. e ≡ FetchError.NoMemory) }
 {
+    let text = before_fragment(text);
     if is_of_folder(text) {
         folder.link(alloc, text)
     } else {
