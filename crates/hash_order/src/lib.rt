@@ -2,5 +2,7 @@
 #![tactic(auto)]
 
 mod hashed_text;
+mod hints;
 
 pub use hashed_text::{HashedText, hash_of};
+pub use hints::{HINTS, Hints};
