@@ -1,7 +1,6 @@
 pub mod AccountEntries
 pub mod CertFaults
 pub mod Certificate
-pub mod Hints
 pub mod Places
 pub mod Queues
 pub mod Reachable

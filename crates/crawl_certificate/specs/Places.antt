@@ -1,13 +1,15 @@
 -- Look-ups by URL: where an entry stands, and which URLs are in a set.
-use Rattle.std.specs.Prelude.{◌≡◌, ◌<◌, ◌⊎◌, ℕ, Bool, false, List, map, slice_get, Option, Some, None, is_some}
+use Rattle.std.specs.Prelude.{◌≡◌, ◌⊎◌, ℕ, zero, suc, Bool, false, List, map, slice_get, Option, Some, None, is_some}
 use Rattle.std.specs.Str.{bytes_eq}
 use Rattle.std.specs.Bool.{if◌then◌else◌}
 use Rattle.std.specs.Borrow.{Bor}
+use Rattle.std.specs.Option.{option_or}
 use Rattle.std.specs.BTreeMap.{get}
 use Rattle.std.specs.BTreeSet.{BTreeSet, contains}
+use Rattle.hash_order.specs.declared.hints.Slot.{Slot}
 use Rattle.hash_order.specs.HashOrder.{hash_of, by_hash}
+use Rattle.hash_order.specs.Hints.{hint_at, IsHinted}
 use Rattle.crawl_frontier.specs.declared.entry.Entry.{Entry}
-use Rattle.crawl_certificate.specs.Hints.{vacant, first_hint, second_hint, IsHinted}
 use Rattle.crawl_certificate.specs.declared.lookups.Places.{Places}
 
 -- what the references point to
@@ -27,12 +29,19 @@ stands_at entries place url = at_this (slice_get entries place) url
 abbrev pub kept_place : Places → List ℕ → Option ℕ
 kept_place places url = get by_hash places.others url
 
+-- the place that is hinted at, where the entry there has the URL
+abbrev pub place_there : List Entry → List ℕ → Option ℕ → Option ℕ
+place_there entries url None = None
+place_there entries url (Some place) = if stands_at entries place url then Some place else None
+
+-- the first such place among so many hints of the URL's hash
+abbrev pub hinted_place : List Entry → List Slot → List ℕ → ℕ → Option ℕ
+hinted_place entries hints url zero = None
+hinted_place entries hints url (suc number) = option_or (hinted_place entries hints url number) (place_there entries url (hint_at hints (hash_of url) number))
+
 -- where the URL stands among the entries: at a place that is hinted at, or else at the one that the map keeps
 abbrev pub place_of : List Entry → Places → List ℕ → Option ℕ
-place_of entries places url =
-    if stands_at entries (first_hint places.hints (hash_of url)) url then Some (first_hint places.hints (hash_of url))
-    else if stands_at entries (second_hint places.hints (hash_of url)) url then Some (second_hint places.hints (hash_of url))
-    else kept_place places url
+place_of entries places url = option_or (hinted_place entries places.hints url 4) (kept_place places url)
 
 abbrev pub has_place : List Entry → Places → List ℕ → Bool
 has_place entries places url = is_some (place_of entries places url)
@@ -44,7 +53,7 @@ pub record ArePlaces (entries : List Entry) (places : Places) : Type 0 where
 
 -- the place is hinted at by the URL's hash, or kept for the URL
 abbrev pub IsKnown : Places → List ℕ → ℕ → Type 0
-IsKnown places url k = ((k < vacant) × IsHinted places.hints (hash_of url) k) ⊎ (kept_place places url ≡ Some k)
+IsKnown places url k = IsHinted places.hints (hash_of url) k ⊎ (kept_place places url ≡ Some k)
 
 -- the place of one more URL is known
 pub record AddsPlace (old new : Places) (url : List ℕ) (k : ℕ) : Type 0 where

@@ -7,7 +7,6 @@
 mod certificate;
 mod error;
 mod founded;
-mod hints;
 /// What holds of certificates.
 pub mod laws;
 mod lookups;

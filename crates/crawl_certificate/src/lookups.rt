@@ -3,17 +3,16 @@ ghost use Rattle.std.specs.Prelude.{◌≡◌, ◌<◌, ℕ, List, take, length,
 ghost use Rattle.crawl_keys.specs.Assignment.{subqueue_of};
 ghost use Rattle.crawl_certificate.specs.Queues.{AreQueues};
 ghost use Rattle.crawl_certificate.specs.AccountEntries.{entries_of, DifferByUrl};
-ghost use Rattle.crawl_certificate.specs.Places.{pointed, place_of, stands_at, ArePlaces, AddsPlace, is_in};
+ghost use Rattle.crawl_certificate.specs.Places.{pointed, place_of, hinted_place, stands_at, ArePlaces, AddsPlace, is_in};
 ghost use Rattle.crawl_certificate.specs.CertFaults.{stands_in};
 
-use crate::hints::Hints;
 use crawl_frontier::{Account, Entry};
 use crawl_keys::CanonUrl;
-use hash_order::HashedText;
+use hash_order::{HINTS, HashedText, Hints};
 use std::alloc::{AllocError, Global};
 use std::collections::{BTreeMap, BTreeSet};
 
-/// The place of each entry, by its URL: in a table by the URL's hash, or where the table is taken in a map.
+/// The place of each entry, by its URL: in a table of hints, or where the slots of the URL's hash are taken in a map.
 #[derive(Drop)]
 pub struct Places<'a> {
     pub hints: Hints,
@@ -72,16 +71,27 @@ pub fn place_at<'a>(accepted: &Places<'a>, entries: &[&Entry], url: &'a CanonUrl
     ensures value { result ≡ place_of (pointed entries.now) accepted.now url.now }
     ensures within { IfSome result (λ place. place < length entries.now) }
 {
-    let hash = url.text_hash();
-    let first = accepted.hints.first(hash);
-    if is_at(entries, first, url) {
-        return Some(first);
+    if let Some(place) = hinted_place(&accepted.hints, entries, url) {
+        return Some(place);
     }
-    let second = accepted.hints.second(hash);
-    if is_at(entries, second, url) {
-        return Some(second);
+    if accepted.others.is_empty() {
+        return None;
     }
     accepted.others.get(&url.hashed()).copied()
+}
+
+/// The place at the first hint by which the entry there has the URL.
+fn hinted_place(hints: &Hints, entries: &[&Entry], url: &CanonUrl) -> Option<usize>
+    ensures { result ≡ hinted_place (pointed entries.now) hints.now url.now HINTS }
+{
+    let hash = url.text_hash();
+    for number in 0..HINTS {
+        match hints.hint(hash, number) {
+            Some(place) if is_at(entries, place, url) => return Some(place),
+            _ => {}
+        }
+    }
+    None
 }
 
 /// Whether the entry at the place has the URL.
