@@ -1,6 +1,6 @@
 -- A canonical text whose host stands where the URL's own text has it.
 use Rattle.std.proofs.Common.{◌≡◌, refl, ap, sym, ◌∙◌, true, arith, append-nil}
-use Rattle.std.specs.Prelude.{slice_range, string_bytes, IsAscii}
+use Rattle.std.specs.Prelude.{slice_range, IsAscii}
 use Rattle.url.specs.declared.slicing.Position.TheVariants.{BeforeHost, AfterHost}
 use Rattle.url.specs.Parts.{Parts, IsValid, offset, pieces, serialize}
 use Rattle.url.proofs.PiecesLemmas.{slice_at, upto-le, upto_ordered}
@@ -18,7 +18,7 @@ slice_range-host url valid web =
     ∙ sym (ap host_of_parse (parse_url-without_fragment url valid web))
 
 -- the fields that are read off a web URL are laid out
-pub laid_out : (u : Inside) (url : Parts) → IsValid url → is_web url ≡ true → string_bytes u.text ≡ serialize (without_fragment url) → IsAscii (string_bytes u.text) → u.host_start ≡ offset url BeforeHost → u.host_end ≡ offset url AfterHost → u.hash ≡ hash_of (string_bytes u.text) → IsLaidOut u
+pub laid_out : (u : Inside) (url : Parts) → IsValid url → is_web url ≡ true → u.text ≡ serialize (without_fragment url) → IsAscii u.text → u.host_start ≡ offset url BeforeHost → u.host_end ≡ offset url AfterHost → u.hash ≡ hash_of u.text → IsLaidOut u
 laid_out u url valid web spelled ascii start end hashed = record {
   canonical = rw spelled (canonical_text url valid web);
   ascii = ascii;

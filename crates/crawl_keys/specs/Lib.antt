@@ -3,6 +3,7 @@ pub mod Folders
 pub mod Fragments
 pub mod HostKey
 pub mod Layout
+pub mod Texts
 pub mod Assignment
 pub mod Outcome
 pub mod Limits

@@ -17,8 +17,10 @@ use url::Url;
 
 mod compared;
 mod lay_out;
+mod text;
 
 pub(crate) use lay_out::is_web;
+use text::Text;
 
 /// The canonical text of an `http` or `https` URL.
 ///
@@ -39,22 +41,23 @@ impl Model for CanonUrl {
     ghost view = { λ url. arc_value url.shared };
 }
 
-// What the copies share: the text, where its host begins and ends, and the text's hash.
+// What the copies share: the text's hash, where the host begins and ends in the text, and the text. The hash is first, as
+// it is what a comparison looks at first.
 #[derive(Drop)]
 struct Laid {
-    text: String,
+    hash: u64,
     host_start: u32,
     host_end: u32,
-    hash: u64,
+    text: Text,
 }
 
 // Contracts see the text alone.
 impl Model for Laid {
-    ghost use Rattle.std.specs.Prelude.{ℕ, List, string_bytes};
+    ghost use Rattle.std.specs.Prelude.{ℕ, List};
 
     ghost Value = { List ℕ };
 
-    ghost view = { λ laid. string_bytes laid.text };
+    ghost view = { λ laid. laid.text };
 
     ghost use Rattle.crawl_keys.specs.Layout.{IsLaidOut};
 

@@ -73,7 +73,7 @@ impl PartialEq for UrlKey {
     ghost laws = { partial_equiv_from_equiv nat_list_eq_equiv };
 
     fn eq(&self, other: &UrlKey) -> bool {
-        self.url == other.url
+        self.hash == other.hash && self.url.as_str() == other.url.as_str()
     }
 }
 

@@ -31,8 +31,9 @@ impl PartialEq for CanonUrl {
 
     ghost laws = { partial_equiv_from_equiv nat_list_eq_equiv };
 
+    // Most texts that differ have other hashes, which are nearer than the texts.
     fn eq(&self, other: &CanonUrl) -> bool {
-        self.as_str() == other.as_str()
+        self.text_hash() == other.text_hash() && self.as_str() == other.as_str()
     }
 }
 

@@ -8,13 +8,14 @@ ghost use Rattle.crawl_keys.specs.HostKey as spec_host;
 ghost use Rattle.crawl_keys.specs.Outcome.{Gives};
 
 use super::Laid;
+use super::text::Text;
 use crate::KeyError;
 use hash_order::hash_of;
 use std::alloc::Global;
 use url::{Position, Url};
 
 impl Laid {
-    /// Lays out the text of a web URL without its fragment, by one exact allocation.
+    /// Lays out the text of a web URL without its fragment.
     pub(super) fn keep(alloc: Global, url: &Url) -> Result<Laid, KeyError>
         ensures { Gives KeyError.NoMemory (λ laid. laid) result (text_of url.now) }
     {
@@ -28,16 +29,16 @@ impl Laid {
         let Ok(host_end) = u32::try_from(url.index(Position::AfterHost)) else {
             return Err(KeyError::NoMemory);
         };
-        let text = String::from_str(
+        let text = Text::keep(
             alloc,
             url.slice(Position::BeforeScheme, Position::AfterQuery),
         )?;
         let hash = hash_of(text.as_str());
         Ok(Laid {
-            text,
+            hash,
             host_start,
             host_end,
-            hash,
+            text,
         })
     }
 

@@ -1,0 +1,55 @@
+//! A text that lies in its owner where it is short.
+ghost use Rattle.std.specs.Prelude.{◌≡◌, IfOk};
+
+use arrayvec::ArrayString;
+use std::alloc::{AllocError, Global};
+use std::marker::Model;
+
+/// The longest text that lies in its owner, in bytes.
+const SHORT: usize = 64;
+
+/// A text of any length.
+#[derive(Drop)]
+pub(super) struct Text {
+    kept: Kept,
+}
+
+#[derive(Drop)]
+enum Kept {
+    Short(ArrayString<SHORT>),
+    Long(String),
+}
+
+// Contracts see the bytes alone.
+impl Model for Text {
+    ghost use Rattle.std.specs.Prelude.{ℕ, List};
+    ghost use Rattle.crawl_keys.specs.Texts.{bytes_of};
+
+    ghost Value = { List ℕ };
+
+    ghost view = { λ text. bytes_of text.kept };
+}
+
+impl Text {
+    /// A copy of a text. Only a long one wants memory.
+    pub(super) fn keep(alloc: Global, text: &str) -> Result<Text, AllocError>
+        ensures { IfOk result (λ copy. copy ≡ text.now) }
+    {
+        let kept = match ArrayString::from(text) {
+            Ok(short) => Kept::Short(short),
+            Err(_) => Kept::Long(String::from_str(alloc, text)?),
+        };
+        Ok(Text { kept })
+    }
+
+    /// The text.
+    #[inline]
+    pub(super) fn as_str(&self) -> &str
+        ensures { result.now ≡ self.now }
+    {
+        match &self.kept {
+            Kept::Short(text) => text.as_str(),
+            Kept::Long(text) => text.as_str(),
+        }
+    }
+}
