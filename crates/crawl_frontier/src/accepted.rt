@@ -1,10 +1,11 @@
 //! What one subqueue accepted, once its shard is out of its lock.
-ghost use Rattle.std.specs.Prelude.{◌≡◌, ℕ, true, is_some};
+ghost use Rattle.std.specs.Prelude.{◌≡◌, ℕ, true};
 ghost use Rattle.crawl_frontier.specs.Entries.{has_url, count_of};
 ghost use Rattle.crawl_frontier.specs.Accounts.{At};
 
 use crate::entry::Entry;
-use crate::tables::{Counts, Places, count, kept};
+use crate::places::Places;
+use crate::tables::{Counts, count};
 use crawl_keys::UrlKey;
 use std::marker::Model;
 
@@ -19,15 +20,15 @@ pub struct AcceptedList {
 impl Model for AcceptedList {
     ghost use Rattle.std.specs.Prelude.{◌≡◌, ℕ, List};
     ghost use Rattle.crawl_frontier.specs.declared.entry.Entry.{Entry};
-    ghost use Rattle.crawl_frontier.specs.Entries.{has_url, count_of};
-    ghost use Rattle.crawl_frontier.specs.Tables.{count_in, has_in};
+    ghost use Rattle.crawl_frontier.specs.Entries.{count_of};
+    ghost use Rattle.crawl_frontier.specs.Tables.{count_in, KnowsEach};
 
     ghost Value = { List Entry };
 
     ghost view = { λ s. s.sent.items };
 
     ghost invariant = { λ s.
-        ((bs : List ℕ) → has_in s.places bs ≡ has_url bs s.sent.items)
+        KnowsEach s.places s.sent.items
         × ((id : ℕ) → count_in s.counts id ≡ count_of id s.sent.items) };
 }
 
@@ -43,11 +44,8 @@ impl AcceptedList {
     pub fn has_entry(&self, entry: &Entry, url: &UrlKey) -> bool
         ensures { result ≡ true → (k : ℕ) × At self.now k entry.now }
     {
-        match self.places.get(url) {
-            Some(place) => match self.sent.get(*place) {
-                Some(found) => found.is_same(entry),
-                None => false,
-            },
+        match self.places.find(self.sent.as_slice(), url) {
+            Some(found) => found.is_same(entry),
             None => false,
         }
     }
@@ -56,7 +54,7 @@ impl AcceptedList {
     pub fn has_url(&self, url: &UrlKey) -> bool
         ensures { result ≡ has_url url.now self.now }
     {
-        kept(&self.places, url).is_some()
+        self.places.find(self.sent.as_slice(), url).is_some()
     }
 
     /// How many entries are of this sender.

@@ -18,6 +18,7 @@ pub mod laws;
 mod log;
 mod name;
 mod offer;
+mod places;
 mod rights;
 mod rule;
 mod seeder;

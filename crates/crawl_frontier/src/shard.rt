@@ -10,9 +10,10 @@ ghost use Rattle.crawl_frontier.specs.Rule.{pushing, home};
 use crate::accepted::AcceptedList;
 use crate::entry::{Entry, Message};
 use crate::name::Name;
+use crate::places::Places;
 use crate::rights::PushRight;
 use crate::subqueue::Subqueue;
-use crate::tables::{Counts, Places, count, enter_sender, forget, kept, note, raise};
+use crate::tables::{Counts, count, enter_sender, raise};
 use crawl_gate::Unit;
 use crawl_keys::{CanonUrl, KeyError, UrlKey};
 use std::alloc::Global;
@@ -36,8 +37,8 @@ impl<K: Name> Model for Shard<K> {
     ghost use Rattle.std.specs.Prelude.{◌≡◌, ℕ, List, [], Some, slice_get};
     ghost use Rattle.crawl_frontier.specs.Parts.{ShardId};
     ghost use Rattle.crawl_frontier.specs.Rule.{pushing, home};
-    ghost use Rattle.crawl_frontier.specs.Entries.{KeepsRule, has_url, count_of};
-    ghost use Rattle.crawl_frontier.specs.Tables.{count_in, has_in};
+    ghost use Rattle.crawl_frontier.specs.Entries.{KeepsRule, count_of};
+    ghost use Rattle.crawl_frontier.specs.Tables.{count_in, KnowsEach};
 
     ghost Value = { ShardId };
 
@@ -47,7 +48,7 @@ impl<K: Name> Model for Shard<K> {
         (s.right.view ≡ pushing (home K.gate K.workers s.place) s.sent.items)
         × (slice_get K.queues s.place ≡ Some s.right.queue)
         × KeepsRule K.workers s.place [] s.sent.items
-        × ((bs : List ℕ) → has_in s.places bs ≡ has_url bs s.sent.items)
+        × KnowsEach s.places s.sent.items
         × ((id : ℕ) → count_in s.counts id ≡ count_of id s.sent.items) };
 }
 
@@ -69,19 +70,13 @@ pub enum Admit {
     NoMemory(Unit),
 }
 
-// What a push needs: the message's entry, the list's, and the table's key.
-fn copies(
-    url: &UrlKey,
-    sender: u64,
-    number: u64,
-    hops: u32,
-) -> Result<(Entry, Entry, UrlKey), KeyError>
-    ensures { IfOk result (λ r. (r.0 ≡ entry url.now sender number hops) × (r.1 ≡ entry url.now sender number hops) × (r.2 ≡ url.now)) }
+// What a push needs: the message's entry, and the list's.
+fn copies(url: &UrlKey, sender: u64, number: u64, hops: u32) -> Result<(Entry, Entry), KeyError>
+    ensures { IfOk result (λ r. (r.0 ≡ entry url.now sender number hops) × (r.1 ≡ entry url.now sender number hops)) }
 {
     let sent = Entry::of_copy(url.url(), sender, number, hops)?;
     let listed = Entry::of_copy(url.url(), sender, number, hops)?;
-    let key = url.copy()?;
-    Ok((sent, listed, key))
+    Ok((sent, listed))
 }
 
 impl<K: Name> Shard<K> {
@@ -149,8 +144,8 @@ impl<K: Name> Shard<K> {
         if found != own {
             return Admit::Crossed(found, unit);
         }
-        if let Some(there) = kept(&self.places, url) {
-            return match there.copy() {
+        if let Some(there) = self.places.find(self.sent.as_slice(), url) {
+            return match there.url.copy() {
                 Ok(there) => Admit::Seen(there, unit),
                 Err(_) => Admit::NoMemory(unit),
             };
@@ -161,8 +156,8 @@ impl<K: Name> Shard<K> {
         self.send(rt, queue, url, sender, own, hops as u32, unit)
     }
 
-    // Sends a URL that is not there. All that grows comes before the push; if the push itself is refused, the tables are
-    // as before.
+    // Sends a URL that is not there. All that grows comes before the push. Where the push itself is refused, the noted place
+    // is one at which no entry stands.
     fn send<R: Wait>(
         &mut self,
         rt: &R,
@@ -180,7 +175,7 @@ impl<K: Name> Shard<K> {
         requires new { has_url url.now self.old.sent ≡ false }
         ensures { Admits self.old self.new url.now sender own hops unit result }
     {
-        let Ok((sent, listed, key)) = copies(url, sender, own, hops) else {
+        let Ok((sent, listed)) = copies(url, sender, own, hops) else {
             return Admit::NoMemory(unit);
         };
         let Ok(()) = self.sent.reserve(1) else {
@@ -189,7 +184,8 @@ impl<K: Name> Shard<K> {
         let Ok(()) = enter_sender(&mut self.counts, sender, own) else {
             return Admit::NoMemory(unit);
         };
-        let Ok(()) = note(&mut self.places, key, self.sent.len()) else {
+        let alloc = *self.sent.allocator();
+        let Ok(()) = self.places.note(alloc, self.sent.as_slice(), url.url()) else {
             return Admit::NoMemory(unit);
         };
         let message = Message { entry: sent, unit };
@@ -199,11 +195,7 @@ impl<K: Name> Shard<K> {
                 self.sent.push_reserved(listed);
                 Admit::Admitted(own)
             }
-            Err(message) => {
-                let Message { entry: _, unit } = message;
-                forget(&mut self.places, url);
-                Admit::NoMemory(unit)
-            }
+            Err(message) => Admit::NoMemory(message.unit),
         }
     }
 }

@@ -1,0 +1,87 @@
+-- Which URLs of a list are known at a place, as places are kept and the list grows.
+use Rattle.std.proofs.Common.{◌≡◌, ◌⊎◌, inl, inr, ℕ, zero, suc, ◌<◌, Bool, true, false, cond, List, [], ◌∷◌, ◌++◌, length, Option, Some, None, slice_get, refl, sym, ap, subst, ◌∙◌}
+use Rattle.std.specs.Prelude.{◌||◌, bytes_eq}
+use Rattle.std.specs.BTreeMap.{BTreeMap, get, Updates, is_at}
+use Rattle.std.proofs.lemmas.Bool.{cases_Bool, both_ways, false_from_ne_true, cond-false, cond-true, or_left, or_right}
+use Rattle.std.proofs.lemmas.Slice.Eq.{bytes_eq-Decides}
+use Rattle.hash_order.specs.HashOrder.{hash_of, by_hash, by_hash_ties}
+use Rattle.hash_order.specs.Hints.{hint_at, IsHinted}
+use Rattle.crawl_frontier.specs.declared.entry.Entry.{Entry}
+use Rattle.crawl_frontier.specs.declared.places.Places.{Places}
+use Rattle.crawl_frontier.specs.Entries.{has_url}
+use Rattle.crawl_frontier.specs.Tables.{has_that, leads_to, IsKnown, KnowsEach}
+use Rattle.crawl_frontier.proofs.Entries.{has_url-snoc}
+use Rattle.crawl_frontier.proofs.Gets.{get_last}
+
+-- ---- what is found
+
+stands : (es : List Entry) (k : ℕ) (url : List ℕ) → leads_to es (Some k) url ≡ true → has_url url es ≡ true
+stands [] k url leads = absurd (cc (leads))
+stands (x ∷ xs) zero url leads = or_left (bytes_eq x.url url) (has_url url xs) leads
+stands (x ∷ xs) (suc k) url leads = or_right (bytes_eq x.url url) (has_url url xs) (stands xs k url leads)
+
+-- a guess that is right
+pub right : (es : List Entry) (guess : Option ℕ) (url : List ℕ) → leads_to es guess url ≡ true → has_url url es ≡ true
+right es None url leads = absurd (cc (leads))
+right es (Some k) url leads = stands es k url leads
+
+-- where no guess is, the list does not have the URL
+none_right : (places : Places) (es : List Entry) (url : List ℕ) → KnowsEach places es
+    → ((i : ℕ) → i < 4 → leads_to es (hint_at places.hints (hash_of url) i) url ≡ false) → leads_to es (get by_hash places.others url) url ≡ false → has_url url es ≡ false
+none_right places es url knows no_hint no_other =
+    false_from_ne_true _ (λ has.
+    let at = knows url has in
+    both_ways _ (wrong at.0 at.1) at.2)
+  where
+    wrong : (k : ℕ) → IsKnown places url k → leads_to es (Some k) url ≡ false
+    wrong k (inl hint) = subst (λ (guess : Option ℕ). leads_to es guess url ≡ false) hint.1.2 (no_hint hint.1.0 hint.1.1)
+    wrong k (inr kept) = subst (λ (guess : Option ℕ). leads_to es guess url ≡ false) kept no_other
+
+-- where none of the hints is right, the map tells whether the list has the URL
+pub by_last : (places : Places) (es : List Entry) (url : List ℕ) → KnowsEach places es
+    → ((i : ℕ) → i < 4 → leads_to es (hint_at places.hints (hash_of url) i) url ≡ false)
+    → (told : Bool) → told ≡ leads_to es (get by_hash places.others url) url → told ≡ has_url url es
+by_last places es url knows no_hint true is = sym (right es (get by_hash places.others url) url (sym is))
+by_last places es url knows no_hint false is = sym (none_right places es url knows no_hint (sym is))
+
+-- ---- what is kept
+
+-- a place that was known is known still, but for those of the one URL that is written in the map
+pub known_still : (p q : Places) (url : List ℕ) → ((hash k : ℕ) → IsHinted p.hints hash k → IsHinted q.hints hash k)
+    → ((other : List ℕ) → bytes_eq url other ≡ false → get by_hash q.others other ≡ get by_hash p.others other)
+    → (other : List ℕ) (k : ℕ) → bytes_eq url other ≡ false → IsKnown p other k → IsKnown q other k
+known_still p q url hinted kept other k differs (inl hint) = inl (hinted (hash_of other) k hint)
+known_still p q url hinted kept other k differs (inr at) = inr (kept other differs ∙ at)
+
+-- what the map has for other URLs once one was written
+pub others_stay : (m n : BTreeMap (List ℕ) ℕ) (key url : List ℕ) (k : ℕ) → key ≡ url → Updates by_hash m n key (Some k)
+    → (other : List ℕ) → bytes_eq url other ≡ false → get by_hash n other ≡ get by_hash m other
+others_stay m n key url k same updates other differs =
+    updates.0 other
+    ∙ ap (λ b. cond b (Some k) (get by_hash m other)) (sym (by_hash_ties key other))
+    ∙ cond-false _ _ _ (ap (λ u. bytes_eq u other) same ∙ differs)
+
+-- ---- as the list grows
+
+stands_still : (es : List Entry) (e : Entry) (k : ℕ) (url : List ℕ) → leads_to es (Some k) url ≡ true → leads_to (es ++ e ∷ []) (Some k) url ≡ true
+stands_still [] e k url leads = absurd (cc (leads))
+stands_still (x ∷ xs) e zero url leads = leads
+stands_still (x ∷ xs) e (suc k) url leads = stands_still xs e k url leads
+
+-- one entry more, whose place was kept
+pub knows_next : (p q : Places) (es : List Entry) (e : Entry) → KnowsEach p es → IsKnown q e.url (length es)
+    → ((other : List ℕ) (k : ℕ) → bytes_eq e.url other ≡ false → IsKnown p other k → IsKnown q other k) → KnowsEach q (es ++ e ∷ [])
+knows_next p q es e knows own others url has = elim (cases_Bool (bytes_eq e.url url)) [
+  | inl same ↦ (length es, subst (λ u. IsKnown q u (length es)) ((bytes_eq-Decides e.url url).0 same) own, ap (λ o. has_that o url) (get_last es e) ∙ same)
+  | inr differs ↦
+      let at = knows url (sym (cond-false _ _ _ differs) ∙ sym (has_url-snoc url es e) ∙ has) in
+      (at.0, others url at.0 differs at.1, stands_still es e at.0 url at.2)
+]
+
+-- the place of a URL was kept that the list does not have
+pub knows_still : (p q : Places) (es : List Entry) (url : List ℕ) → KnowsEach p es → has_url url es ≡ false
+    → ((other : List ℕ) (k : ℕ) → bytes_eq url other ≡ false → IsKnown p other k → IsKnown q other k) → KnowsEach q es
+knows_still p q es url knows none others other has =
+    let at = knows other has in
+    let differs : bytes_eq url other ≡ false = false_from_ne_true _ (λ same. both_ways _ (subst (λ u. has_url u es ≡ false) ((bytes_eq-Decides url other).0 same) none) has) in
+    (at.0, others other at.0 differs at.1, at.2)
