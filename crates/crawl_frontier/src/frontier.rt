@@ -152,6 +152,13 @@ impl<K: Name> Frontier<K> {
         &self.queues[place as usize]
     }
 
+    /// Wakes each worker that rests.
+    pub(crate) fn ring_all(&self) {
+        for queue in &self.queues {
+            queue.ring();
+        }
+    }
+
     /// The lock at a place, taken.
     pub(crate) fn lock<R: Wait>(&self, rt: &R, place: u32) -> MutexGuard<'_, Shard<K>>
         requires { place < K.workers }

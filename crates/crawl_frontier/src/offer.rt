@@ -24,13 +24,17 @@ pub enum Offer {
     Seen,
 }
 
-/// Gives a unit back. The pass is what was the unit's seat.
+/// Gives a unit back. The pass is what was the unit's seat. Where it was the last one the gate may close, so all that
+/// rest are woken: one closes it, and the others are told.
 pub(crate) fn give_back<K: Name>(frontier: &Frontier<K>, unit: Unit) -> Pass
     requires { IsSeatOf K.gate unit }
     ensures gave { GaveBack unit result }
     ensures gate { IsSeatOf K.gate result }
 {
-    let (pass, _left) = frontier.gate().leave(unit);
+    let (pass, left) = frontier.gate().leave(unit);
+    if left == 0 {
+        frontier.ring_all();
+    }
     pass
 }
 
@@ -86,6 +90,7 @@ pub(crate) fn deliver<K: Name, R: Wait>(
     let own = book.counts[place as usize];
     match admit_at(rt, frontier, &url, place, book.id, own, hops, unit) {
         Admit::Admitted(number) => {
+            frontier.subqueue(place).ring();
             book.accept(url.into_url(), place, number, hops as u32);
             Ok(Offer::Accepted(place, number))
         }

@@ -15,12 +15,22 @@ use crossbeam_queue::RuledSegQueue;
 use std::alloc::{AllocError, Global};
 use std::marker::{Brand, Model};
 use std::sync::Wait;
+use std::sync::atomic::AtomicU64;
+use std::sync::atomic::Ordering::SeqCst;
+use std::time::Duration;
 
 type Line = RuledSegQueue<Message, PassView, SubqueueRule>;
 
-/// The URLs that wait for one worker, first in, first out. Contracts see which subqueue it is.
+// What a bell is from when its worker awaits it until it rings, and else.
+const AWAITED: u64 = 1;
+
+const QUIET: u64 = 0;
+
+/// The URLs that wait for one worker, first in, first out, and the bell by which that worker is woken. Contracts see
+/// which subqueue it is; no promise hangs on the bell.
 pub struct Subqueue {
     line: Line,
+    bell: AtomicU64,
 }
 
 impl Model for Subqueue {
@@ -33,7 +43,7 @@ impl Model for Subqueue {
 
 impl Drop for Subqueue {
     fn drop(self) {
-        let Self { line } = self;
+        let Self { line, bell: _ } = self;
         line.destroy();
     }
 }
@@ -65,7 +75,10 @@ impl Subqueue {
         settle::<Brand>(&line, &mut pass, gate, workers, place);
         let other = line.another::<Divide>(&mut pass);
         Ok((
-            Subqueue { line },
+            Subqueue {
+                line,
+                bell: AtomicU64::new(QUIET),
+            },
             PushRight { pass },
             PopRight { pass: other },
         ))
@@ -105,6 +118,27 @@ impl Subqueue {
                 let _spent = self.line.another::<CountEmptyPop>(&mut right.pass);
                 None
             }
+        }
+    }
+
+    /// Awaits the bell. The first call returns at once, so that the worker looks once more; then a call sleeps until the
+    /// bell rings, for at most this long.
+    ///
+    /// So a worker sleeps only where it found nothing after it began to await, and each push after that look finds the
+    /// bell awaited. Every step is `SeqCst`.
+    pub(crate) fn rest<R: Wait>(&self, rt: &R, limit: Duration) {
+        if self.bell.load(SeqCst) == AWAITED {
+            self.bell.park_timeout(rt, AWAITED as u32, limit);
+        } else {
+            self.bell.store(AWAITED, SeqCst);
+        }
+    }
+
+    /// Rings the bell if it is awaited: after a push, and once the gate may close. Of several at once one wakes.
+    pub(crate) fn ring(&self) {
+        let is_awaited = self.bell.load(SeqCst) == AWAITED;
+        if is_awaited && self.bell.swap(QUIET, SeqCst) == AWAITED {
+            self.bell.wake_one();
         }
     }
 

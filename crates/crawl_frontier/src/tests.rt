@@ -3,5 +3,6 @@ mod closing;
 mod crawler;
 mod leaving;
 mod parts;
+mod resting;
 mod rows;
 mod threads;

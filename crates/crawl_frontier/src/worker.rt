@@ -15,6 +15,12 @@ use crate::rights::PopRight;
 use crawl_gate::{Close, Pass};
 use std::marker::{Model, PhantomData};
 use std::sync::Wait;
+use std::time::Duration;
+
+// A sleep ends by a ring wherever there is something to do: after a push, and once the gate may close. The limit is for
+// what nobody foresaw. With 512 workers that rest there are some 10,000 such ends a second, a few hundredths of one
+// processor.
+const REST_MILLISECONDS: u64 = 50;
 
 /// The one worker of a subqueue, with no URL in hand. [`Frontier::new`] makes one for each subqueue, and
 /// [`BusyWorker::done`] gives it back.
@@ -81,6 +87,14 @@ impl<K: Name> Worker<K> {
         ensures { result ≡ self.now.place }
     {
         self.place
+    }
+
+    /// Rests after a turn that found nothing. The first call returns at once, so that the worker looks once more by
+    /// [`Worker::next`]; where that finds nothing either, the next call sleeps until a URL is accepted for this worker, or
+    /// the last unit of the gate is given back, or 50 ms are over. It may return for no reason.
+    pub fn rest<R: Wait>(&self, rt: &R, frontier: &Frontier<K>) {
+        let limit = Duration::from_millis(REST_MILLISECONDS);
+        frontier.subqueue(self.place).rest(rt, limit);
     }
 
     /// Takes the oldest URL that waits in its subqueue, or tries to close the gate. It takes no lock and no memory; a

@@ -15,9 +15,9 @@ use std::sync::Wait;
 /// Runs a worker until it meets the gate closed.
 ///
 /// It fetches each URL that it takes, offers the page's links in order but for those that it remembers to have offered, keeps the
-/// result, and is done with the URL. After a
-/// turn that found none it pauses, the longer the more such turns there were. While another worker is busy, or whoever
-/// seeds has not ended, it does not end; so the frontier's other workers have to run too, on other threads.
+/// result, and is done with the URL. After a turn that found none it pauses, the longer the more such turns there were, and
+/// after some of them it sleeps until there may be something to do ([`Worker::rest`]). While another worker is busy, or
+/// whoever seeds has not ended, it does not end; so the frontier's other workers have to run too, on other threads.
 pub fn run_worker<K: Name, F: Fetch, R: Wait>(
     rt: &R,
     alloc: Global,
@@ -37,8 +37,12 @@ pub fn run_worker<K: Name, F: Fetch, R: Wait>(
                 backoff.reset();
             }
             Step::Waits(next) => {
+                if backoff.is_completed() {
+                    next.rest(rt, frontier);
+                } else {
+                    backoff.snooze();
+                }
                 worker = next;
-                backoff.snooze();
             }
             Step::Closes(closed) => return harvest.end(closed),
         }

@@ -45,7 +45,10 @@ fn crawl<K: Name, R: Wait>(
                 offer_links(rt, alloc, frontier, &mut busy);
                 worker = busy.done(frontier);
             }
-            Turn::Idle(idle, _) => worker = idle,
+            Turn::Idle(idle, _) => {
+                idle.rest(rt, frontier);
+                worker = idle;
+            }
             Turn::Closed(closed) => return closed,
         }
     }
