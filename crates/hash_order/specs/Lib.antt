@@ -1,1 +1,2 @@
 pub mod HashOrder
+pub mod Hints
