@@ -1,14 +1,20 @@
 -- What is known of links by their texts.
-use Rattle.std.specs.Prelude.{◌≡◌, ℕ, true, List, Option, Some}
-use Rattle.std.specs.BTreeMap.{BTreeMap, get}
-use Rattle.hash_order.specs.HashOrder.{by_hash}
+use Rattle.std.specs.Prelude.{◌≡◌, ◌⊎◌, ◌++◌, ℕ, true, List, [], ◌∷◌, All, Option}
 use Rattle.crawl_keys.specs.Folders.{is_of_folder}
 use Rattle.crawl_web.specs.SavedWeb.{link_url}
 
--- each text in the map has the URL, or none, that a link with that text has on the page at `base`
-abbrev pub AreLinks : List ℕ → BTreeMap (List ℕ) (Option (List ℕ)) → Type 0
-AreLinks base known = (text : List ℕ) (link : Option (List ℕ)) → get by_hash known text ≡ Some link → link ≡ link_url base text
+-- a link's text, and the URL that it leads to, or none
+abbrev pub TextLink : Type 0
+TextLink = List ℕ × Option (List ℕ)
 
--- links with the texts in the map lead to the same URLs from all pages of a folder
-abbrev pub AreOfFolder : BTreeMap (List ℕ) (Option (List ℕ)) → Type 0
-AreOfFolder known = (text : List ℕ) (link : Option (List ℕ)) → get by_hash known text ≡ Some link → is_of_folder text ≡ true
+-- each text of the list has the URL, or none, that a link with that text has on the page at `base`
+abbrev pub AreLinks : List ℕ → List TextLink → Type 0
+AreLinks base known = All (λ x. x.1 ≡ link_url base x.0) known
+
+-- links with the texts of the list lead to the same URLs from all pages of a folder
+abbrev pub AreOfFolder : List TextLink → Type 0
+AreOfFolder known = All (λ x. is_of_folder x.0 ≡ true) known
+
+-- the list is as it was, or has one text more
+abbrev pub MayAdd : List TextLink → List TextLink → List ℕ → Option (List ℕ) → Type 0
+MayAdd old new text link = (new ≡ old) ⊎ (new ≡ old ++ (text, link) ∷ [])

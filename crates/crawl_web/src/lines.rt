@@ -3,6 +3,8 @@ ghost use Rattle.std.specs.Prelude.{◌≡◌, ◌==◌, ◌∷◌, ◌<◌, [],
 ghost use Rattle.std.specs.Str.Lines.{lines, strip_carriage_return};
 ghost use Rattle.crawl_web.specs.Lines.{text_of, bytes_at};
 
+use memchr::memchr;
+
 /// The most bytes of a line, without its LF and a CR directly before that.
 pub const LINE_LIMIT: usize = 4096;
 
@@ -32,7 +34,7 @@ pub fn first_line(bytes: &[u8]) -> Option<(&[u8], &[u8])>
 fn newline_in(bytes: &[u8]) -> Option<usize>
     ensures { result ≡ position (λ b. b == 10) bytes.now }
 {
-    bytes.iter().position(|b| *b == b'\n')
+    memchr(b'\n', bytes)
 }
 
 fn without_return(line: &[u8]) -> &[u8]

@@ -13,6 +13,7 @@ mod add;
 mod error;
 mod folder;
 mod known_link;
+mod known_links;
 mod line;
 mod links;
 mod memory;

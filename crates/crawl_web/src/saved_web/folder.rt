@@ -1,21 +1,20 @@
 //! What is known of the links on the pages of a folder.
-ghost use Rattle.std.specs.Prelude.{◌≡◌, true, IfOk, IfErr};
+ghost use Rattle.std.specs.Prelude.{◌≡◌, true, IfOk, IfErr, IfSome};
 ghost use Rattle.crawl_keys.specs.Folders as spec;
 ghost use Rattle.crawl_web.specs.SavedWeb.{link_url};
 
 use crate::fetch::FetchError;
 use crate::saved_web::known_link::known_link;
+use crate::saved_web::known_links::KnownLinks;
 use crawl_keys::{Base, CanonUrl};
-use hash_order::HashedText;
 use std::alloc::Global;
-use std::collections::BTreeMap;
 use std::marker::Model;
 
 /// A page, and where links with some texts lead from each page of its folder.
 #[derive(Debug, Drop)]
 pub struct Folder<'a> {
     page: Base,
-    known: BTreeMap<HashedText<'a>, Option<CanonUrl>>,
+    known: KnownLinks<'a>,
 }
 
 // Contracts see the URL of the page.
@@ -37,7 +36,7 @@ impl<'a> Folder<'a> {
     {
         Folder {
             page,
-            known: BTreeMap::new(alloc),
+            known: KnownLinks::new(alloc),
         }
     }
 
@@ -65,13 +64,25 @@ impl<'a> Folder<'a> {
         self.known.len()
     }
 
-    /// Where a link with this text leads, which is known from now on.
-    pub fn link(&mut self, alloc: Global, text: &'a str) -> Result<Option<CanonUrl>, FetchError>
+    /// Where a link with this text, which has this hash, leads, if that is known.
+    pub fn find(&self, text: &'a str, hash: u64) -> Option<&Option<CanonUrl>>
+        ensures { IfSome result (λ link. link.now ≡ link_url self.now text.now) }
+    {
+        self.known.find(text, hash)
+    }
+
+    /// Where a link with this text, which has this hash, leads, which is known from now on.
+    pub fn link(
+        &mut self,
+        alloc: Global,
+        text: &'a str,
+        hash: u64,
+    ) -> Result<Option<CanonUrl>, FetchError>
         requires { spec.is_of_folder text.now ≡ true }
         ensures link { IfOk result (λ link. link ≡ link_url self.old text.now) }
         ensures page { self.new ≡ self.old }
         ensures refused { IfErr result (λ e. e ≡ FetchError.NoMemory) }
     {
-        known_link(alloc, &self.page, &mut self.known, text)
+        known_link(alloc, &self.page, &mut self.known, text, hash)
     }
 }

@@ -23,6 +23,17 @@ pub enum Line<T> {
 pub fn line_of_text(text: &str) -> Line<&str>
     ensures { pointed result ≡ line_of_text text.now }
 {
+    // Most lines are links, so nothing is searched for in them.
+    match text.strip_prefix("link ") {
+        Some(link) => Line::Link(link),
+        None => by_first_word(text),
+    }
+}
+
+/// What a line says that has this text, by what stands before its first space.
+fn by_first_word(text: &str) -> Line<&str>
+    ensures { pointed result ≡ line_of_text text.now }
+{
     match split_space(text) {
         Some(("page", url)) => Line::Page(url),
         Some(("link", link)) => Line::Link(link),

@@ -10,13 +10,13 @@ use crate::fetch::FetchError;
 use crate::lines::first_line;
 use crate::page::{Links, Page};
 use crate::saved_web::folder::Folder;
-use crate::saved_web::known_link::{known_link, link_of};
+use crate::saved_web::known_link::{copy_of, known_link, link_of};
+use crate::saved_web::known_links::KnownLinks;
 use crate::saved_web::line::{Line, line_of};
 use crate::saved_web::memory::{Memory, free_memory, place_of};
 use crawl_keys::{Base, CanonUrl, before_fragment, is_of_folder};
-use hash_order::HashedText;
+use hash_order::hash_of;
 use std::alloc::Global;
-use std::collections::BTreeMap;
 use std::sync::Mutex;
 
 /// The page with this base whose line these bytes follow, up to the next page or to the end.
@@ -76,7 +76,7 @@ fn found_page<'a>(
     ensures page { IfOk result (λ page. page ≡ found_page folder.old (link_texts (lines bytes.now))) }
     ensures refused { IfErr result (λ e. e ≡ FetchError.NoMemory) }
 {
-    let mut known = BTreeMap::new(alloc);
+    let mut known = KnownLinks::new(alloc);
     let mut links = Vec::new(alloc);
     let mut skipped: u64 = 0;
     let mut rest = bytes;
@@ -97,7 +97,7 @@ fn found_page<'a>(
 fn link_on<'a>(
     alloc: Global,
     folder: &mut Folder<'a>,
-    known: &mut BTreeMap<HashedText<'a>, Option<CanonUrl>>,
+    known: &mut KnownLinks<'a>,
     text: &'a str,
 ) -> Result<Option<CanonUrl>, FetchError>
     requires { AreLinks folder.old known.old }
@@ -106,11 +106,21 @@ fn link_on<'a>(
     ensures known { AreLinks folder.new known.new }
     ensures refused { IfErr result (λ e. e ≡ FetchError.NoMemory) }
 {
-    let text = before_fragment(text);
-    if is_of_folder(text) {
-        folder.link(alloc, text)
+    // Most texts are known as they stand, so nothing is searched for in them.
+    let hash = hash_of(text);
+    if let Some(link) = folder.find(text, hash) {
+        return Ok(copy_of(link)?);
+    }
+    let front = before_fragment(text);
+    let hash = if front.len() == text.len() {
+        hash
     } else {
-        known_link(alloc, folder.page(), known, text)
+        hash_of(front)
+    };
+    if is_of_folder(front) {
+        folder.link(alloc, front, hash)
+    } else {
+        known_link(alloc, folder.page(), known, front, hash)
     }
 }
 
