@@ -1,7 +1,7 @@
 pub mod CutLines
 pub mod FirstVersion
+pub mod KeptPlaces
 pub mod LeastLine
-pub mod PageKeys
 pub mod PageLinks
 pub mod PassedLines
 pub mod ReadWeb

@@ -1,12 +1,7 @@
 -- What is known of a saved web while its lines are read one by one.
-use Rattle.std.proofs.Common.{◌≡◌, inl, inr, ℕ, ◌+◌, ◌==◌, Bool, true, false, ◌||◌, not, cond, List, [], ◌∷◌, ◌++◌, length, Option, Some, None, Ok, Err, codes, is_some, refl, sym, ap, subst, ◌∙◌, arith, append_assoc, append-nil, length-append, ne_eqb}
+use Rattle.std.proofs.Common.{◌≡◌, inl, inr, ℕ, ◌+◌, ◌==◌, Bool, true, false, ◌||◌, not, List, [], ◌∷◌, ◌++◌, length, Option, Some, None, Ok, Err, codes, is_some, refl, sym, ap, subst, ◌∙◌, arith, append_assoc, append-nil, length-append, ne_eqb}
 use Rattle.std.specs.Bool.{if◌then◌else◌}
-use Rattle.std.specs.Borrow.{Bor}
-use Rattle.std.specs.BTreeMap.{btree_map_len, get, is_at}
-use Rattle.hash_order.specs.HashOrder.{by_hash, by_hash_ties}
 use Rattle.std.specs.List.{list_any}
-use Rattle.std.specs.Map.{lookup}
-use Rattle.std.proofs.lemmas.Slice.Eq.{bytes_eq-Decides}
 use Rattle.std.specs.Option.{option_map, option_or, option_map_or}
 use Rattle.std.specs.Str.{bytes_eq}
 use Rattle.std.specs.Str.Lines.{lines}
@@ -16,7 +11,8 @@ use Rattle.crawl_web.specs.LeastFault.{SoundAfter, IsLeastFault}
 use Rattle.crawl_web.specs.SavedWeb.{lines_behind}
 use Rattle.crawl_web.specs.WebLines.{is_page, is_link, is_moved_line, is_page_at, page_url}
 use Rattle.crawl_web.specs.WebChecks.{is_second, under_last_page, line_fault, fault_after}
-use Rattle.crawl_web.specs.KnownPages.{KnownPages, has_some, has, known_behind, kept_before, Adds, Follows}
+use Rattle.crawl_web.specs.KnownPages.{KnownPages, has_some, known_behind, kept_before, Adds, Follows}
+use Rattle.crawl_web.specs.PageLists.{PageRead, page_with, has}
 use Rattle.crawl_web.specs.WebFaults.{IsWebFault, IsWebRefusal, checked}
 use Rattle.crawl_web.specs.declared.saved_web.add.Above.{Above}
 use Rattle.crawl_web.specs.declared.saved_web.error.WebError.{WebError}
@@ -49,38 +45,47 @@ or_true false = refl
 abbrev at : Option (List ℕ) → List ℕ → Bool
 at own url = option_map_or (λ u. bytes_eq u url) own false
 
-abbrev value : KnownPages → List ℕ → Option (Bor (List ℕ))
-value pages url = get by_hash pages url
+abbrev told : Option PageRead → Option (List (List ℕ))
+told o = option_map (λ page. lines page.behind) o
 
-abbrev told : Option (Bor (List ℕ)) → Option (List (List ℕ))
-told o = option_map (λ bytes. lines bytes.now) o
+-- the page that is found where one was put at the end
+pub page_with-push : (old : KnownPages) (page : PageRead) (q : List ℕ) → page_with (old ++ page ∷ []) q ≡ option_or (page_with old q) (if bytes_eq page.url q then Some page else None)
+page_with-push [] page q = refl
+page_with-push (x ∷ xs) page q = behind_first (bytes_eq x.url q) _ _ _ (page_with-push xs page q)
+  where
+    behind_first : (b : Bool) (more found put : Option PageRead) → more ≡ option_or found put → (if b then Some x else more) ≡ option_or (if b then Some x else found) put
+    behind_first true more found put e = refl
+    behind_first false more found put e = e
 
-adds_some : (old new : KnownPages) (own : Option (List ℕ)) (bytes : Bor (List ℕ)) → Adds old new own bytes → has_some new ≡ (has_some old || is_some own)
-adds_some old new None bytes same = ap (λ es. not (length es == 0)) same ∙ or_false (has_some old)
+adds_some : (old new : KnownPages) (own : Option (List ℕ)) (bytes : List ℕ) → Adds old new own bytes → has_some new ≡ (has_some old || is_some own)
+adds_some old new None bytes same = ap has_some same ∙ or_false (has_some old)
 adds_some old new (Some url) bytes adds =
-    ap (λ n. not (n == 0)) adds.2 ∙ ap not (ne_eqb (btree_map_len old + 1) 0 (λ none. omega arith)) ∙ or_true (has_some old)
+    ap has_some adds.1
+    ∙ ap (λ n. not (n == 0)) (length-append old (record { url = url; behind = bytes } ∷ []))
+    ∙ ap not (ne_eqb (length old + 1) 0 (λ none. omega arith)) ∙ or_true (has_some old)
 
--- the value at a key after one was put in
-put : (old new : KnownPages) (url : List ℕ) (bytes : Bor (List ℕ)) → Adds old new (Some url) bytes → (q : List ℕ) → value new q ≡ cond (bytes_eq url q) (Some bytes) (value old q)
-put old new url bytes adds q = adds.1.0 q ∙ ap (λ b. cond b (Some bytes) (value old q)) (sym (by_hash_ties url q))
+has_put : (b : Bool) (o : Option PageRead) (page : PageRead) → is_some (option_or o (if b then Some page else None)) ≡ (is_some o || b)
+has_put b (Some old) page = refl
+has_put true None page = refl
+has_put false None page = refl
 
-has_put : (b : Bool) (o : Option (Bor (List ℕ))) (bytes : Bor (List ℕ)) → is_some (cond b (Some bytes) o) ≡ (is_some o || b)
-has_put true o bytes = or_true (is_some o)
-has_put false o bytes = or_false (is_some o)
+adds_has : (old new : KnownPages) (own : Option (List ℕ)) (bytes : List ℕ) → Adds old new own bytes → (q : List ℕ) → has new q ≡ (has old q || at own q)
+adds_has old new None bytes same q = ap (λ ps. has ps q) same ∙ or_false (has old q)
+adds_has old new (Some url) bytes adds q =
+    let page : PageRead = record { url = url; behind = bytes } in
+    ap (λ ps. has ps q) adds.1 ∙ ap is_some (page_with-push old page q) ∙ has_put (bytes_eq url q) (page_with old q) page
 
-adds_has : (old new : KnownPages) (own : Option (List ℕ)) (bytes : Bor (List ℕ)) → Adds old new own bytes → (q : List ℕ) → has new q ≡ (has old q || at own q)
-adds_has old new None bytes same q = ap (λ es. is_some (lookup (is_at (by_hash q)) es)) same ∙ or_false (has old q)
-adds_has old new (Some url) bytes adds q = ap is_some (put old new url bytes adds q) ∙ has_put (bytes_eq url q) (value old q) bytes
+behind_put : (b : Bool) (o : Option PageRead) (page : PageRead) (more : Option (List (List ℕ))) → option_or (told o) (if b then Some (lines page.behind) else more) ≡ option_or (told (option_or o (if b then Some page else None))) more
+behind_put b (Some old) page more = refl
+behind_put true None page more = refl
+behind_put false None page more = refl
 
-behind_put : (b : Bool) (o : Option (Bor (List ℕ))) (bytes : Bor (List ℕ)) (more : Option (List (List ℕ))) → (b ≡ true → o ≡ None) → option_or (told o) (if b then Some (lines bytes.now) else more) ≡ option_or (told (cond b (Some bytes) o)) more
-behind_put true o bytes more first = ap (λ x. option_or (told x) (Some (lines bytes.now))) (first refl)
-behind_put false o bytes more first = refl
-
-adds_behind : (old new : KnownPages) (own : Option (List ℕ)) (bytes : Bor (List ℕ)) (more : Option (List (List ℕ))) → Adds old new own bytes → (q : List ℕ) → option_or (known_behind old q) (if at own q then Some (lines bytes.now) else more) ≡ option_or (known_behind new q) more
-adds_behind old new None bytes more same q = ap (λ es. option_or (told (lookup (is_at (by_hash q)) es)) more) (sym same)
+adds_behind : (old new : KnownPages) (own : Option (List ℕ)) (bytes : List ℕ) (more : Option (List (List ℕ))) → Adds old new own bytes → (q : List ℕ) → option_or (known_behind old q) (if at own q then Some (lines bytes) else more) ≡ option_or (known_behind new q) more
+adds_behind old new None bytes more same q = ap (λ ps. option_or (known_behind ps q) more) (sym same)
 adds_behind old new (Some url) bytes more adds q =
-    behind_put (bytes_eq url q) (value old q) bytes more (λ e. ap (value old) (sym ((bytes_eq-Decides url q).0 e)) ∙ adds.0)
-    ∙ ap (λ o. option_or (told o) more) (sym (put old new url bytes adds q))
+    let page : PageRead = record { url = url; behind = bytes } in
+    behind_put (bytes_eq url q) (page_with old q) page more
+    ∙ ap (λ o. option_or (told o) more) (sym (ap (λ ps. page_with ps q) adds.1 ∙ page_with-push old page q))
 
 -- ---- one more line
 
@@ -146,10 +151,10 @@ some_expected : (expected : Option WebError) (fault : WebError) → checked expe
 some_expected None fault e = absurd (cc)
 some_expected (Some other) fault e = cc
 
-pub read_more : (bytes rest : List ℕ) (number : ℕ) (above : Above) (pages : KnownPages) (line : List ℕ) (more : Bor (List ℕ)) (after : Above) (new : KnownPages) → lines rest ≡ line ∷ lines more.now → checked (line_fault (kept_before (number + 1) pages above) line) ≡ Ok tt → Adds pages new (page_url line) more → is_page line ≡ is_some (page_url line) → Follows (number + 1) line above after → ReadTo bytes rest number above pages → ReadTo bytes more.now (number + 1) after new
+pub read_more : (bytes rest : List ℕ) (number : ℕ) (above : Above) (pages : KnownPages) (line more : List ℕ) (after : Above) (new : KnownPages) → lines rest ≡ line ∷ lines more → checked (line_fault (kept_before (number + 1) pages above) line) ≡ Ok tt → Adds pages new (page_url line) more → is_page line ≡ is_some (page_url line) → Follows (number + 1) line above after → ReadTo bytes rest number above pages → ReadTo bytes more (number + 1) after new
 read_more bytes rest number above pages line more after new first passes adds page follows k = record {
   earlier = k.earlier ++ line ∷ [];
-  cut = k.cut ∙ ap (λ ls. k.earlier ++ ls) first ∙ sym (append_assoc k.earlier (line ∷ []) (lines more.now));
+  cut = k.cut ∙ ap (λ ls. k.earlier ++ ls) first ∙ sym (append_assoc k.earlier (line ∷ []) (lines more));
   numbered = ap (λ n. n + 1) k.numbered ∙ sym (length-append k.earlier (line ∷ []));
   sound = sound_more [] k.earlier line k.sound (sym (fault_known bytes rest number above pages line k) ∙ none_expected _ passes);
   second = follows.second ∙ second_more number above.second k.earlier line k.numbered k.second;
@@ -163,7 +168,7 @@ read_more bytes rest number above pages line more after new first passes adds pa
       ∙ any_more (is_page_at url) (is_page_at url line) k.earlier line refl;
   found = λ url.
       k.found url ∙ ap (λ ls. option_or (known_behind pages url) (lines_behind ls url)) first
-      ∙ adds_behind pages new (page_url line) more (lines_behind (lines more.now) url) adds url;
+      ∙ adds_behind pages new (page_url line) more (lines_behind (lines more) url) adds url;
 }
 
 -- ---- a line that fails

@@ -1,12 +1,10 @@
--- What a reader keeps of the lines that it has read: their pages, from each canonical URL to the bytes behind the page's line,
--- and what it remembers besides.
-use Rattle.std.specs.Prelude.{◌≡◌, ℕ, ◌+◌, ◌==◌, Bool, false, ◌||◌, not, List, codes, if◌then◌else◌, Option, Some, None, is_some}
-use Rattle.std.specs.Borrow.{Bor}
-use Rattle.std.specs.BTreeMap.{BTreeMap, btree_map_len, get, IsUnchanged, Updates}
+-- What a reader keeps of the lines that it has read: their pages, each with its canonical URL and the bytes behind its line, and
+-- what it remembers besides.
+use Rattle.std.specs.Prelude.{◌≡◌, ℕ, ◌==◌, Bool, false, ◌||◌, not, List, [], ◌∷◌, ◌++◌, length, codes, if◌then◌else◌, Option, Some, None}
 use Rattle.std.specs.Option.{option_map}
 use Rattle.std.specs.Str.{bytes_eq}
 use Rattle.std.specs.Str.Lines.{lines}
-use Rattle.hash_order.specs.HashOrder.{by_hash}
+use Rattle.crawl_web.specs.PageLists.{PageRead, page_with, has}
 use Rattle.crawl_web.specs.SavedWeb.{page_behind}
 use Rattle.crawl_web.specs.WebChecks.{Before}
 use Rattle.crawl_web.specs.WebLines.{is_page, is_link, is_moved_line}
@@ -14,28 +12,21 @@ use Rattle.crawl_web.specs.declared.page.Page.{Page}
 use Rattle.crawl_web.specs.declared.saved_web.SavedWeb.{SavedWeb}
 use Rattle.crawl_web.specs.declared.saved_web.add.Above.{Above}
 
--- a map from texts to bytes that are pointed to, in the order of the texts' hashes
 abbrev pub KnownPages : Type 0
-KnownPages = BTreeMap (List ℕ) (Bor (List ℕ))
+KnownPages = List PageRead
 
 -- some page is known
 abbrev pub has_some : KnownPages → Bool
-has_some pages = not (btree_map_len pages == 0)
-
--- the page with this URL is known
-abbrev pub has : KnownPages → List ℕ → Bool
-has pages url = is_some (get by_hash pages url)
+has_some pages = not (length pages == 0)
 
 -- the lines behind the page with this URL
 abbrev pub known_behind : KnownPages → List ℕ → Option (List (List ℕ))
-known_behind pages url = option_map (λ bytes. lines bytes.now) (get by_hash pages url)
+known_behind pages url = option_map (λ page. lines page.behind) (page_with pages url)
 
--- the new pages have one more, with these bytes behind it; without a URL they are the old ones
-abbrev pub Adds : KnownPages → KnownPages → Option (List ℕ) → Bor (List ℕ) → Type 0
-Adds old new None bytes = IsUnchanged old new
-Adds old new (Some url) bytes =
-    (get by_hash old url ≡ None) × Updates by_hash old new url (Some bytes)
-    × (btree_map_len new ≡ btree_map_len old + 1)
+-- the new pages have one more, which none had the URL of, with these bytes behind it; without a URL they are the old ones
+abbrev pub Adds : KnownPages → KnownPages → Option (List ℕ) → List ℕ → Type 0
+Adds old new None bytes = new ≡ old
+Adds old new (Some url) bytes = (has old url ≡ false) × (new ≡ old ++ record { url = url; behind = bytes } ∷ [])
 
 -- what the checks of the line with this number ask, as far as it is kept
 abbrev pub kept_before : ℕ → KnownPages → Above → Before

@@ -3,7 +3,8 @@ pub mod KnownPages
 pub mod LeastFault
 pub mod Limits
 pub mod Lines
-pub mod PageKeys
+pub mod PageLists
+pub mod PagePlaces
 pub mod Pages
 pub mod Parts
 pub mod ReportText

@@ -1,8 +1,5 @@
 //! Saved webs: pages and their links, written down in lines.
-ghost use Rattle.std.specs.Prelude.{◌≡◌, ℕ, List, Ok, Err, IfOk, IfErr, IfSome};
-ghost use Rattle.std.specs.BTreeMap.{get};
-ghost use Rattle.std.specs.Option.{option_map};
-ghost use Rattle.hash_order.specs.HashOrder.{by_hash};
+ghost use Rattle.std.specs.Prelude.{◌≡◌, ℕ, List, Ok, Err, IfOk, IfErr};
 ghost use Rattle.crawl_keys.specs.Outcome.{Gives};
 ghost use Rattle.std.specs.Str.Lines.{lines};
 ghost use Rattle.crawl_web.specs.SavedWeb.{page_of};
@@ -14,10 +11,12 @@ mod error;
 mod folder;
 mod known_link;
 mod known_links;
+mod known_page;
 mod line;
 mod links;
 mod memory;
-mod page_key;
+mod pages;
+mod places;
 
 use crate::fetch::{Fetch, FetchError};
 use crate::lines::first_line;
@@ -27,16 +26,15 @@ use crawl_keys::CanonUrl;
 pub use error::WebError;
 use links::page_behind;
 use memory::{Memory, memories};
-use page_key::PageKey;
+use pages::Pages;
 use std::alloc::Global;
-use std::collections::BTreeMap;
 use std::sync::Mutex;
 
 /// The pages of a saved web, each with its links. It borrows the bytes that it was read from.
 #[derive(Debug, Drop)]
 pub struct SavedWeb<'a> {
-    /// From each page's canonical URL to the bytes behind its line.
-    pages: BTreeMap<PageKey, &'a [u8]>,
+    /// Each page with the bytes behind its line.
+    pages: Pages<'a>,
     /// What fetches remember of the folders of pages. A fetch takes one that no other has.
     memories: Vec<Mutex<Memory<'a>>>,
 }
@@ -65,12 +63,12 @@ impl<'a> SavedWeb<'a> {
 }
 
 /// The pages that the lines are, each with the bytes behind its line.
-fn known_pages(alloc: Global, bytes: &[u8]) -> Result<BTreeMap<PageKey, &[u8]>, WebError>
+fn known_pages(alloc: Global, bytes: &[u8]) -> Result<Pages<'_>, WebError>
     ensures sound { IfOk result (λ _. IsSound (lines bytes.now)) }
     ensures pages { IfOk result (λ pages. (url : List ℕ) → known_page pages url ≡ page_of (lines bytes.now) url) }
     ensures fault { IfErr result (λ told. IsWebRefusal (lines bytes.now) told) }
 {
-    let mut pages = BTreeMap::new(alloc);
+    let mut pages = Pages::new(alloc);
     let mut rest = bytes;
     let mut number: u64 = 0;
     let mut above = Above {
@@ -99,25 +97,9 @@ impl Fetch for SavedWeb<'_> {
         // It never fails of itself.
         ensures refused { IfErr result (λ e. e ≡ FetchError.NoMemory) }
     {
-        let asked = PageKey::from(url.clone()?);
-        match kept(&self.pages, &asked) {
-            Some((page, behind)) => page_behind(alloc, &self.memories, page.base(alloc)?, behind),
+        match self.pages.get(url) {
+            Some(page) => page_behind(alloc, &self.memories, page.base()?, page.behind()),
             None => Ok(Page::Missing),
         }
-    }
-}
-
-/// The page that is asked for as it is kept, and the bytes behind its line, if it is there.
-#[tactic(auto, using(crate::proofs::PageKeys::same_text))]
-fn kept<'w, 'a>(
-    pages: &'w BTreeMap<PageKey, &'a [u8]>,
-    asked: &PageKey,
-) -> Option<(&'w PageKey, &'a [u8])>
-    ensures same { IfSome result (λ p. p.0.now ≡ asked.now) }
-    ensures behind { option_map (λ p. p.1) result ≡ get by_hash pages.now asked.now }
-{
-    match pages.get_key_value(asked) {
-        Some((page, behind)) => Some((page, *behind)),
-        None => None,
     }
 }

@@ -6,15 +6,15 @@ ghost use Rattle.std.specs.Result.{result_ok};
 ghost use Rattle.crawl_web.specs.WebChecks.{header_of, page_fault, under_fault, line_fault};
 ghost use Rattle.crawl_web.specs.WebLines.{page_url, is_page};
 ghost use Rattle.crawl_web.specs.WebFaults.{Tells};
-ghost use Rattle.crawl_web.specs.KnownPages.{kept_before, has, Adds, Follows};
+ghost use Rattle.crawl_web.specs.KnownPages.{kept_before, Adds, Follows};
+ghost use Rattle.crawl_web.specs.PageLists.{has};
 
 use crate::lines::text_of;
 use crate::saved_web::error::WebError;
 use crate::saved_web::line::{Line, line_of_text};
-use crate::saved_web::page_key::PageKey;
+use crate::saved_web::pages::Pages;
 use crawl_keys::{Base, KeyError};
 use std::alloc::Global;
-use std::collections::BTreeMap;
 
 /// What the checks of a line ask of the lines above it, besides their pages and how many they are.
 #[derive(Clone, Copy)]
@@ -73,14 +73,14 @@ impl Above {
 /// one, with the bytes behind it.
 pub fn add_line<'a>(
     alloc: Global,
-    pages: &mut BTreeMap<PageKey, &'a [u8]>,
+    pages: &mut Pages<'a>,
     number: u64,
     above: Above,
     line: &[u8],
     behind: &'a [u8],
 ) -> Result<Above, WebError>
     ensures tells { Tells result (line_fault (kept_before number pages.old above) line.now) }
-    ensures adds { OnOk result (Adds pages.old pages.new (page_url line.now) behind.entry) }
+    ensures adds { OnOk result (Adds pages.old pages.new (page_url line.now) behind.now) }
     // A page that passes the checks has a URL.
     ensures page { OnOk result (is_page line.now ≡ is_some (page_url line.now)) }
     ensures follows { IfOk result (λ new. Follows number line.now above new) }
@@ -121,23 +121,23 @@ fn header(text: &str) -> Result<bool, WebError>
 
 fn add_page<'a>(
     alloc: Global,
-    pages: &mut BTreeMap<PageKey, &'a [u8]>,
+    pages: &mut Pages<'a>,
     number: u64,
     text: &str,
     behind: &'a [u8],
 ) -> Result<(), WebError>
     ensures tells { Tells result (page_fault number (has pages.old) (canonical text.now)) }
-    ensures adds { OnOk result (Adds pages.old pages.new (result_ok (canonical text.now)) behind.entry) }
+    ensures adds { OnOk result (Adds pages.old pages.new (result_ok (canonical text.now)) behind.now) }
 {
     let page = match Base::canonical(alloc, text) {
         Ok(page) => page,
         Err(KeyError::NoMemory) => return Err(WebError::NoMemory),
         Err(KeyError::NotUrl | KeyError::NotHttp) => return Err(WebError::BadPageUrl(number)),
     };
-    let kept = PageKey::of_page(alloc, page)?;
-    match pages.insert(kept, behind)? {
-        None => Ok(()),
-        Some(_) => Err(WebError::PageTwice(number)),
+    if pages.add(alloc, page, behind)? {
+        Ok(())
+    } else {
+        Err(WebError::PageTwice(number))
     }
 }
 

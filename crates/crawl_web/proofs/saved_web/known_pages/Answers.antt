@@ -7,7 +7,7 @@ pub loop-line-preserved : goal.loop-line-preserved
 loop-line-preserved c = record {
   few = omega (arith, c.in-Some.ensures.shorter);
   read =
-      read_more c.args.bytes.now c.loop-line.rest.now c.loop-line.number c.loop-line.above c.loop-line.pages c.in-Some.line.now c.in-Some.more c.in_ok-above.above c.add_line.new.pages c.in-Some.ensures.cut c.in_ok-above.ensures.tells c.in_ok-above.ensures.adds c.in_ok-above.ensures.page c.in_ok-above.ensures.follows c.loop-line.invariant.read;
+      read_more c.args.bytes.now c.loop-line.rest.now c.loop-line.number c.loop-line.above c.loop-line.pages c.in-Some.line.now c.in-Some.more.now c.in_ok-above.above c.add_line.new.pages c.in-Some.ensures.cut c.in_ok-above.ensures.tells c.in_ok-above.ensures.adds c.in_ok-above.ensures.page c.in_ok-above.ensures.follows c.loop-line.invariant.read;
 }
 
 pub returns-in_err-above-clause-fault : goal.returns-in_err-above-clause-fault

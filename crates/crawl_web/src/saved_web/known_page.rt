@@ -1,0 +1,73 @@
+//! A page of a saved web, as it is kept.
+ghost use Rattle.std.specs.Prelude.{◌≡◌, IfOk};
+ghost use Rattle.hash_order.specs.HashOrder as spec;
+
+use crawl_keys::Base;
+use hash_order::hash_of;
+use std::alloc::AllocError;
+use std::marker::Model;
+
+/// A page of a saved web: its URL, parsed once, when the web is read, and the bytes behind its line.
+#[derive(Debug, Drop)]
+pub struct KnownPage<'a> {
+    /// The hash of the URL's text, since its place is kept anew where the table of places grows.
+    hash: u64,
+    base: Base,
+    behind: &'a [u8],
+}
+
+// Contracts see the text of the URL and the bytes.
+impl<'a> Model for KnownPage<'a> {
+    ghost use Rattle.std.specs.Prelude.{◌≡◌};
+    ghost use Rattle.hash_order.specs.HashOrder.{hash_of};
+    ghost use Rattle.crawl_web.specs.PageLists.{PageRead, page_read_code};
+
+    ghost Value = { PageRead };
+
+    ghost coded = { page_read_code };
+
+    ghost view = { λ page. record { url = page.base; behind = page.behind.now } };
+
+    ghost invariant = { λ page. page.hash ≡ hash_of page.base };
+}
+
+impl<'a> KnownPage<'a> {
+    /// The page with this URL.
+    pub fn new(base: Base, behind: &'a [u8]) -> KnownPage<'a>
+        ensures { result ≡ record { url = base; behind = behind.now } }
+    {
+        KnownPage {
+            hash: hash_of(base.as_str()),
+            base,
+            behind,
+        }
+    }
+
+    /// The text of its URL.
+    pub fn url(&self) -> &str
+        ensures { result.now ≡ self.now.url }
+    {
+        self.base.as_str()
+    }
+
+    /// The hash of that text.
+    pub fn hash(&self) -> u64
+        ensures { result ≡ spec.hash_of self.now.url }
+    {
+        self.hash
+    }
+
+    /// The base for its links: a copy, so nothing is parsed.
+    pub fn base(&self) -> Result<Base, AllocError>
+        ensures { IfOk result (λ base. base ≡ self.now.url) }
+    {
+        self.base.clone()
+    }
+
+    /// The bytes behind its line.
+    pub fn behind(&self) -> &'a [u8]
+        ensures { result.now ≡ self.now.behind }
+    {
+        self.behind
+    }
+}

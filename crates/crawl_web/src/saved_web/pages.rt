@@ -1,0 +1,189 @@
+//! The pages of a saved web, found by their URLs.
+ghost use Rattle.std.specs.Prelude.{◌≡◌, ◌==◌, ◌++◌, ◌∷◌, ℕ, [], Some, true, false, not, length, slice_get, None, is_some, IfOk, IfSome, OnOk, if◌then◌else◌};
+ghost use Rattle.std.specs.BTreeMap.{get, get_by_text};
+ghost use Rattle.std.specs.Option.{option_map};
+ghost use Rattle.std.specs.Ordering.{nat_cmp};
+ghost use Rattle.hash_order.specs.HashOrder.{hash_of};
+ghost use Rattle.hash_order.specs.Hints.{IsHinted};
+ghost use Rattle.crawl_web.specs.PageLists.{page_with, has, AreApart};
+ghost use Rattle.crawl_web.specs.PagePlaces.{stands_at, IsKept, AreKept};
+
+use crate::saved_web::known_page::KnownPage;
+use crate::saved_web::places::Places;
+use crawl_keys::{Base, CanonUrl};
+use hash_order::{HINTS, Hints};
+use std::alloc::{AllocError, Global};
+use std::marker::Model;
+
+/// For how many pages there is room at the first.
+const FIRST_PAGES: usize = 16;
+
+/// Pages in the order in which they were read, no two with one URL, and where each stands.
+///
+/// To add or to find one looks at a slot or two and at the page: three places of memory, however many pages there are.
+#[derive(Debug, Drop)]
+pub struct Pages<'a> {
+    list: Vec<KnownPage<'a>>,
+    places: Places,
+}
+
+// Contracts see the list.
+impl<'a> Model for Pages<'a> {
+    ghost use Rattle.std.specs.Prelude.{List};
+    ghost use Rattle.std.specs.Coded.{coded_list};
+    ghost use Rattle.crawl_web.specs.PageLists.{PageRead, page_read_code, AreApart};
+
+    ghost Value = { List PageRead };
+
+    ghost coded = { coded_list page_read_code };
+
+    ghost use Rattle.crawl_web.specs.PagePlaces.{AreKept};
+
+    ghost view = { λ pages. pages.list.items };
+
+    ghost invariant = { λ pages. AreApart pages.list.items × AreKept pages.list.items pages.places };
+}
+
+impl<'a> Pages<'a> {
+    /// No pages.
+    pub fn new(alloc: Global) -> Pages<'a>
+        ensures { result ≡ [] }
+    {
+        Pages {
+            list: Vec::new(alloc),
+            places: Places::none(alloc),
+        }
+    }
+
+    /// Whether there is no page.
+    pub fn is_empty(&self) -> bool
+        ensures { result ≡ (length self.now == 0) }
+    {
+        self.list.is_empty()
+    }
+
+    /// Adds a page, unless there is one with its URL, and tells whether it did.
+    pub fn add(&mut self, alloc: Global, page: Base, behind: &'a [u8]) -> Result<bool, AllocError>
+        ensures added { IfOk result (λ added. added ≡ not (has self.old page)) }
+        ensures pages { IfOk result (λ added. self.new ≡ (if added then self.old ++ record { url = page; behind = behind.now } ∷ [] else self.old)) }
+    {
+        let page = KnownPage::new(page, behind);
+        if self.find(page.hash(), page.url()).is_some() {
+            return Ok(false);
+        }
+        self.make_room(alloc)?;
+        self.push(alloc, page)?;
+        Ok(true)
+    }
+
+    /// Adds a page whose URL no other has.
+    fn push(&mut self, alloc: Global, page: KnownPage<'a>) -> Result<(), AllocError>
+        requires { has self.old page.url ≡ false }
+        ensures { OnOk result (self.new ≡ self.old ++ page.entry ∷ []) }
+    {
+        self.places
+            .keep(alloc, page.hash(), page.url(), self.list.len())?;
+        self.list.push(page)?;
+        Ok(())
+    }
+
+    /// Makes room for one more place, by a table for twice as many where there is none.
+    fn make_room(&mut self, alloc: Global) -> Result<(), AllocError>
+        ensures { self.new ≡ self.old }
+    {
+        let count = self.list.len();
+        if self.places.capacity() <= count {
+            let more = count.saturating_mul(2).max(FIRST_PAGES);
+            self.places = places_of(alloc, &self.list, more)?;
+        }
+        Ok(())
+    }
+
+    /// The page with the URL.
+    pub fn get(&self, url: &CanonUrl) -> Option<&KnownPage<'a>>
+        ensures page { option_map (λ page. page.now) result ≡ page_with self.now url.now }
+        ensures same { IfSome result (λ page. page.now.url ≡ url.now) }
+    {
+        match self.find(url.text_hash(), url.as_str()) {
+            Some(place) => self.list.get(place),
+            None => None,
+        }
+    }
+
+    /// The place of the page with the URL, whose text has the hash.
+    fn find(&self, hash: u64, url: &str) -> Option<usize>
+        requires { hash ≡ hash_of url.now }
+        ensures found { IfSome result (λ place. page_with self.now url.now ≡ slice_get self.now place) }
+        ensures has { is_some result ≡ has self.now url.now }
+    {
+        place_of(&self.list, &self.places, hash, url)
+    }
+}
+
+/// The places of these pages, with room for so many.
+fn places_of(alloc: Global, list: &[KnownPage<'_>], count: usize) -> Result<Places, AllocError>
+    requires { AreApart list.now }
+    ensures { IfOk result (λ places. AreKept list.now places) }
+{
+    let mut places = Places::with_capacity(alloc, count)?;
+    for (place, page) in list.iter().enumerate() {
+        places.keep(alloc, page.hash(), page.url(), place)?;
+    }
+    Ok(places)
+}
+
+/// The place of a page with the URL, whose text has the hash.
+fn place_of(list: &[KnownPage<'_>], places: &Places, hash: u64, url: &str) -> Option<usize>
+    requires { hash ≡ hash_of url.now }
+    ensures found { IfSome result (λ place. stands_at list.now place url.now ≡ true) }
+    ensures none { result ≡ None → (k : ℕ) → IsKept places.now url.now k → stands_at list.now k url.now ≡ false }
+{
+    match hinted_place(list, &places.hints, hash, url) {
+        Some(place) => Some(place),
+        None => other_place(list, places, hash, url),
+    }
+}
+
+/// The place of a page with the URL that is hinted at under the hash.
+fn hinted_place(list: &[KnownPage<'_>], hints: &Hints, hash: u64, url: &str) -> Option<usize>
+    ensures found { IfSome result (λ place. stands_at list.now place url.now ≡ true) }
+    ensures none { result ≡ None → (k : ℕ) → IsHinted hints.now hash k → stands_at list.now k url.now ≡ false }
+{
+    for number in 0..HINTS {
+        if let Some(place) = hints.hint(hash, number) {
+            if is_at(list, place, url) {
+                return Some(place);
+            }
+        }
+    }
+    None
+}
+
+/// The place of a page with the URL that found no slot.
+fn other_place(list: &[KnownPage<'_>], places: &Places, hash: u64, url: &str) -> Option<usize>
+    ensures found { IfSome result (λ place. stands_at list.now place url.now ≡ true) }
+    ensures others { result ≡ None → (k : ℕ) → get nat_cmp places.now.others hash ≡ Some k → stands_at list.now k url.now ≡ false }
+    ensures twins { result ≡ None → (k : ℕ) → get_by_text places.now.twins url.now ≡ Some k → stands_at list.now k url.now ≡ false }
+{
+    if let Some(place) = places.others.get(&hash) {
+        if is_at(list, *place, url) {
+            return Some(*place);
+        }
+    }
+    if let Some(place) = places.twins.get(url) {
+        if is_at(list, *place, url) {
+            return Some(*place);
+        }
+    }
+    None
+}
+
+/// Whether the page at the place has the URL.
+fn is_at(list: &[KnownPage<'_>], place: usize, url: &str) -> bool
+    ensures { result ≡ stands_at list.now place url.now }
+{
+    match list.get(place) {
+        Some(page) => page.url() == url,
+        None => false,
+    }
+}

@@ -1,0 +1,97 @@
+//! Places of pages in a list, by their URLs.
+ghost use Rattle.std.specs.Prelude.{◌≡◌, ℕ, List, true, false, Some, IfOk};
+ghost use Rattle.std.specs.BTreeMap.{get, get_by_text};
+ghost use Rattle.std.specs.Ordering.{nat_cmp};
+ghost use Rattle.std.specs.Str.{bytes_eq};
+ghost use Rattle.hash_order.specs.HashOrder.{hash_of};
+ghost use Rattle.crawl_web.specs.PagePlaces.{IsKept};
+
+use hash_order::Hints;
+use std::alloc::{AllocError, Global};
+use std::collections::BTreeMap;
+
+/// Where pages may stand, by their URLs: whoever asks looks whether the page at the place has the URL.
+///
+/// Nearly every place is a hint. Whoever picks the URLs can make them want the same slots, and even have one hash. Those that
+/// find no slot are in a map of their hashes, and those whose hash is there for another in a map of their texts: so n of them are
+/// kept and found in n log n steps, whatever they are.
+#[derive(Debug, Drop)]
+pub struct Places {
+    pub hints: Hints,
+    pub others: BTreeMap<u64, usize>,
+    pub twins: BTreeMap<String, usize>,
+}
+
+impl Places {
+    /// No place, and room for none. It takes no memory.
+    pub fn none(alloc: Global) -> Places {
+        Places {
+            hints: Hints::none(alloc),
+            others: BTreeMap::new(alloc),
+            twins: BTreeMap::new(alloc),
+        }
+    }
+
+    /// No place, and room for so many.
+    pub fn with_capacity(alloc: Global, count: usize) -> Result<Places, AllocError> {
+        Ok(Places {
+            hints: Hints::new(alloc, count)?,
+            others: BTreeMap::new(alloc),
+            twins: BTreeMap::new(alloc),
+        })
+    }
+
+    /// For how many places there is room. With more, fewer and fewer find a slot.
+    pub fn capacity(&self) -> usize {
+        self.hints.capacity()
+    }
+
+    /// Keeps the place of the page with this URL, whose text has the hash.
+    pub fn keep(
+        &mut self,
+        alloc: Global,
+        hash: u64,
+        url: &str,
+        place: usize,
+    ) -> Result<(), AllocError>
+        requires { hash ≡ hash_of url.now }
+        ensures own { IfOk result (λ _. IsKept self.new url.now place) }
+        // The places of other URLs stay kept, whatever comes of it.
+        ensures others { (other : List ℕ) (k : ℕ) → bytes_eq url.now other ≡ false → IsKept self.old other k → IsKept self.new other k }
+    {
+        if self.hints.keep(hash, place) {
+            return Ok(());
+        }
+        if keep_hash(&mut self.others, hash, place)? {
+            return Ok(());
+        }
+        keep_text(alloc, &mut self.twins, url, place)
+    }
+}
+
+/// Keeps the place under the hash, unless another is there, and tells whether it did.
+fn keep_hash(others: &mut BTreeMap<u64, usize>, hash: u64, place: usize) -> Result<bool, AllocError>
+    ensures own { IfOk result (λ kept. kept ≡ true → get nat_cmp others.new hash ≡ Some place) }
+    ensures others { (other k : ℕ) → get nat_cmp others.old other ≡ Some k → get nat_cmp others.new other ≡ Some k }
+{
+    if others.contains_key(&hash) {
+        return Ok(false);
+    }
+    others.insert(hash, place)?;
+    Ok(true)
+}
+
+/// Keeps the place under the text.
+fn keep_text(
+    alloc: Global,
+    twins: &mut BTreeMap<String, usize>,
+    text: &str,
+    place: usize,
+) -> Result<(), AllocError>
+    ensures own { IfOk result (λ _. get_by_text twins.new text.now ≡ Some place) }
+    ensures others { (other : List ℕ) (k : ℕ) → bytes_eq text.now other ≡ false → get_by_text twins.old other ≡ Some k → get_by_text twins.new other ≡ Some k }
+{
+    let key = String::from_str(alloc, text)?;
+    twins.insert(key, place)?;
+    Ok(())
+}
