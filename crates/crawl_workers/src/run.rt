@@ -12,11 +12,16 @@ use crossbeam_utils::Backoff;
 use std::alloc::Global;
 use std::sync::Wait;
 
+// After so many turns in a row that find nothing, each with a longer spin behind it, a worker sleeps: these spins last some
+// microseconds, about as long as it takes to be woken. It never yields its processor, for beside other load that lasts until
+// the others have had theirs, which may be a thousand times as long.
+const SPINS: u32 = 7;
+
 /// Runs a worker until it meets the gate closed.
 ///
 /// It fetches each URL that it takes, offers the page's links in order but for those that it remembers to have offered, keeps the
 /// result, and is done with the URL. After a turn that found none it pauses, the longer the more such turns there were, and
-/// after some of them it sleeps until there may be something to do ([`Worker::rest`]). While another worker is busy, or
+/// after seven of them it sleeps until there may be something to do ([`Worker::rest`]). While another worker is busy, or
 /// whoever seeds has not ended, it does not end; so the frontier's other workers have to run too, on other threads.
 pub fn run_worker<K: Name, F: Fetch, R: Wait>(
     rt: &R,
@@ -30,17 +35,20 @@ pub fn run_worker<K: Name, F: Fetch, R: Wait>(
     let mut harvest = Harvest::new(alloc);
     let mut worker = worker;
     let backoff = Backoff::new();
+    let mut spins = 0;
     for _ in rt.forever() {
         match turn(rt, alloc, frontier, worker, fetcher, &mut harvest) {
             Step::Worked(next) => {
                 worker = next;
                 backoff.reset();
+                spins = 0;
             }
             Step::Waits(next) => {
-                if backoff.is_completed() {
-                    next.rest(rt, frontier);
+                if spins < SPINS {
+                    backoff.spin();
+                    spins += 1;
                 } else {
-                    backoff.snooze();
+                    next.rest(rt, frontier);
                 }
                 worker = next;
             }
