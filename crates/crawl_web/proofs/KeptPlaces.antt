@@ -40,11 +40,6 @@ push_cases (z ∷ zs) y (suc k) x at = elim (push_cases zs y k x at) [
   | inr last ↦ inr (ap suc last.0, last.1)
 ]
 
--- a page with another URL than the first
-later : (b : Bool) (x : PageRead) (o : Option PageRead) → b ≡ false → (if b then Some x else o) ≡ o
-later true x o e = absurd (cc)
-later false x o e = refl
-
 -- where no page has the URL, none at a place has it
 absent_at : (pages : List PageRead) (url : List ℕ) → page_with pages url ≡ None → (k : ℕ) (x : PageRead) → slice_get pages k ≡ Some x → bytes_eq x.url url ≡ false
 absent_at [] url none k x at = absurd (cc)

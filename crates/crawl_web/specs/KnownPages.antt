@@ -12,6 +12,7 @@ use Rattle.crawl_web.specs.declared.page.Page.{Page}
 use Rattle.crawl_web.specs.declared.saved_web.SavedWeb.{SavedWeb}
 use Rattle.crawl_web.specs.declared.saved_web.add.Above.{Above}
 
+-- the pages that are known, in the order of their lines
 abbrev pub KnownPages : Type 0
 KnownPages = List PageRead
 

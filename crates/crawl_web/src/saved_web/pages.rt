@@ -20,7 +20,8 @@ const FIRST_PAGES: usize = 16;
 
 /// Pages in the order in which they were read, no two with one URL, and where each stands.
 ///
-/// To add or to find one looks at a slot or two and at the page: three places of memory, however many pages there are.
+/// To add or to find one looks at the slots of its hash, which lie side by side, and at the page: in as many steps for ten pages
+/// as for a million.
 #[derive(Debug, Drop)]
 pub struct Pages<'a> {
     list: Vec<KnownPage<'a>>,

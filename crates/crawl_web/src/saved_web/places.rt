@@ -12,13 +12,16 @@ use std::collections::BTreeMap;
 
 /// Where pages may stand, by their URLs: whoever asks looks whether the page at the place has the URL.
 ///
-/// Nearly every place is a hint. Whoever picks the URLs can make them want the same slots, and even have one hash. Those that
+/// Nearly every place is in a slot. Whoever picks the URLs can make them want the same slots, and even have one hash. Those that
 /// find no slot are in a map of their hashes, and those whose hash is there for another in a map of their texts: so n of them are
 /// kept and found in n log n steps, whatever they are.
 #[derive(Debug, Drop)]
 pub struct Places {
+    /// In slots, by the hash.
     pub hints: Hints,
+    /// By the hash: those that found no slot.
     pub others: BTreeMap<u64, usize>,
+    /// By the text: those whose hash is among the others.
     pub twins: BTreeMap<String, usize>,
 }
 
