@@ -398,3 +398,49 @@ fn drawn_folders(rt: HostRuntime) -> Result<(), Fail> {
     }
     Ok(())
 }
+
+// More texts on the pages of a folder than are looked at one by one, each with a fragment and without, and as many texts of
+// one hash, which find no room in a table of hints.
+fn many_texts(alloc: Global) -> Result<Vec<u8>, Fail> {
+    let mut bytes = Vec::new(alloc);
+    bytes.extend_from_slice(b"savedweb 1\n")?;
+    for page in 0..4usize {
+        bytes.extend_from_slice(folder_page(page))?;
+        for number in 0..200usize {
+            push_numbered(&mut bytes, b"link x", number, b"\n")?;
+            push_numbered(&mut bytes, b"link x", number, b"#f\n")?;
+            push_numbered(&mut bytes, OF_ONE_HASH, number, b"\n")?;
+        }
+    }
+    Ok(bytes)
+}
+
+// Whatever eight bytes follow in a line, the text of the link has the hash 0.
+const OF_ONE_HASH: &[u8] = b"link http://a.test/000000000000010355el8CGH)V00000";
+
+fn push_numbered(
+    bytes: &mut Vec<u8>,
+    front: &[u8],
+    number: usize,
+    back: &[u8],
+) -> Result<(), Fail> {
+    bytes.extend_from_slice(front)?;
+    for digit in [number / 100 % 10, number / 10 % 10, number % 10] {
+        bytes.push(b'0'.wrapping_add(digit as u8))?;
+    }
+    bytes.extend_from_slice(back)?;
+    Ok(())
+}
+
+#[test]
+fn many_texts_on_pages_of_a_folder(rt: HostRuntime) -> Result<(), Fail> {
+    let alloc = rt.alloc();
+    let bytes = many_texts(alloc)?;
+    let lines = cut(alloc, &bytes)?;
+    let urls = page_urls(alloc, &lines)?;
+    let web = SavedWeb::read(alloc, &bytes)?;
+    for _ in 0..2 {
+        have_pages(&rt, alloc, &web, &lines, &urls)?;
+    }
+    Ok(())
+}
