@@ -53,7 +53,8 @@ impl Places {
         entry_at(list, self.others.get(url).copied(), url.url())
     }
 
-    /// Notes that the URL, which the list does not have, is to be its next. The list is known as before, after an error too.
+    /// Notes that the URL, which the list does not have, is to be its next. After an error each URL of the list is found as
+    /// before. The only one is want of memory.
     pub fn note(&mut self, alloc: Global, list: &[Entry], url: &CanonUrl) -> Result<(), AllocError>
         requires known { KnowsEach self.old list.now }
         requires new { has_url url.now list.now ≡ false }
@@ -64,8 +65,8 @@ impl Places {
         self.keep(url, list.len())
     }
 
-    // Makes a table of twice as many slots where the list is as long as the one that there is was made for. Each place is
-    // kept anew then, two for each entry on the average.
+    // Makes a table of twice as many slots, with each place kept anew, where the list is as long as the table is for. All
+    // such growths together keep at most two places for each entry. Where one is refused, the table is as before.
     fn grow(&mut self, alloc: Global, list: &[Entry]) -> Result<(), AllocError>
         requires { KnowsEach self.old list.now }
         ensures { KnowsEach self.new list.now }

@@ -1,4 +1,4 @@
-use Rattle.std.proofs.Common.{rules, ◌≡◌, List, ℕ, refl, ap}
+use Rattle.std.proofs.Common.{rules, ◌≡◌, refl, ap}
 use Rattle.std.specs.BTreeMap.{is_at}
 use Rattle.std.specs.Map.{lookup}
 use Rattle.hash_order.specs.HashOrder.{by_hash}
