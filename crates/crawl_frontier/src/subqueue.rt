@@ -21,7 +21,7 @@ use std::time::Duration;
 
 type Line = RuledSegQueue<Message, PassView, SubqueueRule>;
 
-// What a bell is from when its worker awaits it until it rings, and else.
+// What a bell holds: its worker awaits it, or does not.
 const AWAITED: u64 = 1;
 
 const QUIET: u64 = 0;
@@ -121,11 +121,11 @@ impl Subqueue {
         }
     }
 
-    /// Awaits the bell. The first call returns at once, so that the worker looks once more; then a call sleeps until the
-    /// bell rings, for at most this long.
+    /// Awaits the bell. The first call returns at once, so that the worker looks once more; a call after that sleeps until
+    /// the bell rings, for at most this long. It may return for no reason.
     ///
-    /// So a worker sleeps only where it found nothing after it began to await, and each push after that look finds the
-    /// bell awaited. Every step is `SeqCst`.
+    /// So a worker sleeps only where a look that came after it began to await found nothing, and a push after that look
+    /// finds the bell awaited. Every step is `SeqCst`.
     pub(crate) fn rest<R: Wait>(&self, rt: &R, limit: Duration) {
         if self.bell.load(SeqCst) == AWAITED {
             self.bell.park_timeout(rt, AWAITED as u32, limit);
