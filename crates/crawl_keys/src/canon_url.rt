@@ -12,6 +12,7 @@ use crate::{KeyError, assign};
 use hash_order::HashedText;
 use std::alloc::{AllocError, Global};
 use std::marker::Model;
+use std::mem::size_of;
 use std::sync::Arc;
 use url::Url;
 
@@ -50,6 +51,9 @@ struct Laid {
     host_end: u32,
     text: Text,
 }
+
+// With the count of the copies it fills a block of 112 bytes.
+const _: () = prove!(size_of::<Laid>() == 96);
 
 // Contracts see the text alone.
 impl Model for Laid {

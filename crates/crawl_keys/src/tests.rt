@@ -55,6 +55,24 @@ fn hostile_urls(rt: HostRuntime) -> Result<(), Fail> {
     Ok(())
 }
 
+// The longest text that lies in what its copies share, and one that does not.
+#[test]
+fn texts_of_64_and_65_bytes(rt: HostRuntime) -> Result<(), Fail> {
+    let rows = [
+        (
+            "http://a.test/12345678901234567890123456789012345678901234567890",
+            "http://a.test/12345678901234567890123456789012345678901234567890",
+            "a.test",
+        ),
+        (
+            "http://a.test/123456789012345678901234567890123456789012345678901",
+            "http://a.test/123456789012345678901234567890123456789012345678901",
+            "a.test",
+        ),
+    ];
+    reads(&rt, rt.alloc(), &rows)
+}
+
 #[test]
 fn not_urls_and_not_http(rt: HostRuntime) {
     let rows = [

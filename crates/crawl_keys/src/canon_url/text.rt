@@ -6,6 +6,10 @@ use std::alloc::{AllocError, Global};
 use std::marker::Model;
 
 /// The longest text that lies in its owner, in bytes.
+///
+/// URLs are mostly 40 to 80 bytes long. With 64 here the block that the copies of one share has 104 bytes, for which an
+/// allocator takes 112: steps of 16, less 8 of its own. With 80 fewer texts would want a block beside it, but each URL would
+/// take 128, and what is read of it would lie in more lines of the caches.
 const SHORT: usize = 64;
 
 /// A text of any length.
