@@ -25,7 +25,7 @@ use add::{Above, add_line};
 use crawl_keys::CanonUrl;
 pub use error::WebError;
 use links::page_behind;
-use memory::{MEMORIES, Memory, memories};
+use memory::{Memory, memories};
 use pages::Pages;
 use std::alloc::Global;
 use std::sync::Mutex;
@@ -98,12 +98,7 @@ impl Fetch for SavedWeb<'_> {
         ensures refused { IfErr result (λ e. e ≡ FetchError.NoMemory) }
     {
         match self.pages.get(url) {
-            Some(page) => {
-                // Pages of one host have one choice, so a worker of their subqueue mostly uses a memory alone, and no other
-                // thread's blocks of the heap.
-                let choice = url.subqueue(MEMORIES);
-                page_behind(alloc, &self.memories, choice, page.base()?, page.behind())
-            }
+            Some(page) => page_behind(alloc, &self.memories, page.base()?, page.behind()),
             None => Ok(Page::Missing),
         }
     }

@@ -19,12 +19,10 @@ use hash_order::hash_of;
 use std::alloc::Global;
 use std::sync::Mutex;
 
-/// The page with this base whose line these bytes follow, up to the next page or to the end. The memory of this choice is asked
-/// first.
+/// The page with this base whose line these bytes follow, up to the next page or to the end.
 pub fn page_behind<'a>(
     alloc: Global,
     memories: &[Mutex<Memory<'a>>],
-    choice: u32,
     base: Base,
     bytes: &'a [u8],
 ) -> Result<Page, FetchError>
@@ -33,7 +31,7 @@ pub fn page_behind<'a>(
 {
     match moved_text(bytes) {
         Some(text) => moved_page(alloc, &base, text),
-        None => match free_memory(memories, choice) {
+        None => match free_memory(memories) {
             Some(mut memory) => {
                 let place = place_of(base.as_str());
                 remembering(alloc, &mut memory, place, base, bytes)

@@ -8,7 +8,7 @@ use std::alloc::{AllocError, Global};
 use std::sync::{Mutex, MutexGuard};
 
 /// How many memories a saved web has, so that as many threads remember at a time.
-pub const MEMORIES: u32 = 8;
+const MEMORIES: usize = 8;
 
 /// How many folders a memory has places for.
 const PLACES: usize = 1_024;
@@ -86,23 +86,17 @@ fn places<'a>(alloc: Global) -> Result<Vec<Option<Folder<'a>>>, AllocError> {
 
 /// The memories of a saved web, all empty.
 pub fn memories<'a>(alloc: Global) -> Result<Vec<Mutex<Memory<'a>>>, AllocError> {
-    let mut memories = Vec::with_capacity(alloc, MEMORIES as usize)?;
+    let mut memories = Vec::with_capacity(alloc, MEMORIES)?;
     for _ in 0..MEMORIES {
         memories.push(Mutex::new(Memory::new(alloc)))?;
     }
     Ok(memories)
 }
 
-/// A memory that no other thread has now: the first choice, or another.
+/// A memory that no other thread has now.
 pub fn free_memory<'m, 'a>(
     memories: &'m [Mutex<Memory<'a>>],
-    choice: u32,
 ) -> Option<MutexGuard<'m, Memory<'a>>> {
-    if let Some(memory) = memories.get(choice as usize) {
-        if let Some(guard) = memory.try_lock() {
-            return Some(guard);
-        }
-    }
     for memory in memories {
         if let Some(guard) = memory.try_lock() {
             return Some(guard);
