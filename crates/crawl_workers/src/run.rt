@@ -15,22 +15,13 @@ use std::sync::Wait;
 // After so many turns in a row that find nothing, each with a longer spin behind it, a worker sleeps: these spins last some
 // microseconds, about as long as it takes to be woken. It never yields its processor, for beside other load that lasts until
 // the others have had theirs, which may be a thousand times as long.
-const FEWEST_SPINS: u32 = 7;
-
-// So many turns more are shared out among the workers: few of them spin for a tenth of a millisecond or two, since to wake
-// a processor costs whoever does it more than a page; many of them would take the processors from those at work.
-const SHARED_SPINS: u32 = 200;
-
-// After how many turns in a row that find nothing a worker sleeps, where it is one of so many.
-fn spins_before_rest(workers: u32) -> u32 {
-    FEWEST_SPINS + SHARED_SPINS / workers.max(1)
-}
+const SPINS: u32 = 7;
 
 /// Runs a worker until it meets the gate closed.
 ///
 /// It fetches each URL that it takes, offers the page's links in order but for those that it remembers to have offered, keeps the
 /// result, and is done with the URL. After a turn that found none it pauses, the longer the more such turns there were, and
-/// after some of them it sleeps until there may be something to do ([`Worker::rest`]). While another worker is busy, or
+/// after seven of them it sleeps until there may be something to do ([`Worker::rest`]). While another worker is busy, or
 /// whoever seeds has not ended, it does not end; so the frontier's other workers have to run too, on other threads.
 pub fn run_worker<K: Name, F: Fetch, R: Wait>(
     rt: &R,
@@ -44,7 +35,6 @@ pub fn run_worker<K: Name, F: Fetch, R: Wait>(
     let mut harvest = Harvest::new(alloc);
     let mut worker = worker;
     let backoff = Backoff::new();
-    let most = spins_before_rest(frontier.workers());
     let mut spins = 0;
     for _ in rt.forever() {
         match turn(rt, alloc, frontier, worker, fetcher, &mut harvest) {
@@ -54,7 +44,7 @@ pub fn run_worker<K: Name, F: Fetch, R: Wait>(
                 spins = 0;
             }
             Step::Waits(next) => {
-                if spins < most {
+                if spins < SPINS {
                     backoff.spin();
                     spins += 1;
                 } else {
