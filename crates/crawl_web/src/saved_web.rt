@@ -25,10 +25,9 @@ use add::{Above, add_line};
 use crawl_keys::CanonUrl;
 pub use error::WebError;
 use links::page_behind;
-use memory::{Memory, memories};
+use memory::Memories;
 use pages::Pages;
 use std::alloc::Global;
-use std::sync::Mutex;
 
 /// The pages of a saved web, each with its links. It borrows the bytes that it was read from.
 #[derive(Debug, Drop)]
@@ -36,7 +35,7 @@ pub struct SavedWeb<'a> {
     /// Each page with the bytes behind its line.
     pages: Pages<'a>,
     /// What fetches remember of the folders of pages. A fetch takes one that no other has.
-    memories: Vec<Mutex<Memory<'a>>>,
+    memories: Memories<'a>,
 }
 
 impl<'a> SavedWeb<'a> {
@@ -57,7 +56,7 @@ impl<'a> SavedWeb<'a> {
     {
         Ok(SavedWeb {
             pages: known_pages(alloc, bytes)?,
-            memories: memories(alloc)?,
+            memories: Memories::new(alloc)?,
         })
     }
 }
@@ -98,7 +97,7 @@ impl Fetch for SavedWeb<'_> {
         ensures refused { IfErr result (λ e. e ≡ FetchError.NoMemory) }
     {
         match self.pages.get(url) {
-            Some(page) => page_behind(alloc, &self.memories, page.base()?, page.behind()),
+            Some(page) => page_behind(alloc, &self.memories, url, page.base()?, page.behind()),
             None => Ok(Page::Missing),
         }
     }

@@ -13,16 +13,16 @@ use crate::saved_web::folder::Folder;
 use crate::saved_web::known_link::{copy_of, known_link, link_of};
 use crate::saved_web::known_links::KnownLinks;
 use crate::saved_web::line::{Line, line_of};
-use crate::saved_web::memory::{Memory, free_memory, place_of};
+use crate::saved_web::memory::{Memories, Memory, place_of};
 use crawl_keys::{Base, CanonUrl, before_fragment, is_of_folder};
 use hash_order::hash_of;
 use std::alloc::Global;
-use std::sync::Mutex;
 
-/// The page with this base whose line these bytes follow, up to the next page or to the end.
+/// The page of this URL, with its base, whose line these bytes follow, up to the next page or to the end.
 pub fn page_behind<'a>(
     alloc: Global,
-    memories: &[Mutex<Memory<'a>>],
+    memories: &Memories<'a>,
+    url: &CanonUrl,
     base: Base,
     bytes: &'a [u8],
 ) -> Result<Page, FetchError>
@@ -31,7 +31,7 @@ pub fn page_behind<'a>(
 {
     match moved_text(bytes) {
         Some(text) => moved_page(alloc, &base, text),
-        None => match free_memory(memories) {
+        None => match memories.free(url) {
             Some(mut memory) => {
                 let place = place_of(base.as_str());
                 remembering(alloc, &mut memory, place, base, bytes)

@@ -1,14 +1,19 @@
 //! Folders that are remembered from page to page.
-ghost use Rattle.std.specs.Prelude.{◌≡◌};
+ghost use Rattle.std.specs.Prelude.{◌≡◌, ◌≤◌};
 
 use crate::saved_web::folder::Folder;
-use crawl_keys::Base;
+use crawl_keys::{Base, CanonUrl};
 use hash_order::hash_of;
 use std::alloc::{AllocError, Global};
+use std::sync::atomic::AtomicU64;
+use std::sync::atomic::Ordering::Relaxed;
 use std::sync::{Mutex, MutexGuard};
 
-/// How many memories a saved web has, so that as many threads remember at a time.
-const MEMORIES: usize = 8;
+/// How many memories a saved web has at the most in use, so that as many threads remember at a time.
+const MEMORIES: u32 = 8;
+
+/// After so many fetches that found their memory with another thread one memory more is used.
+const MEETINGS: u64 = 16;
 
 /// How many folders a memory has places for.
 const PLACES: usize = 1_024;
@@ -84,25 +89,62 @@ fn places<'a>(alloc: Global) -> Result<Vec<Option<Folder<'a>>>, AllocError> {
     Ok(places)
 }
 
-/// The memories of a saved web, all empty.
-pub fn memories<'a>(alloc: Global) -> Result<Vec<Mutex<Memory<'a>>>, AllocError> {
-    let mut memories = Vec::with_capacity(alloc, MEMORIES)?;
-    for _ in 0..MEMORIES {
-        memories.push(Mutex::new(Memory::new(alloc)))?;
-    }
-    Ok(memories)
+/// The memories of a saved web. Pages of one host are remembered in one of them.
+///
+/// One is used at first, and one more each time threads have met often enough. A crawl in threads has each host with one
+/// thread, so with as many memories as threads each mostly has one alone: then no thread's lists grow in the heap of another,
+/// for whose lock it would wait.
+#[derive(Debug, Drop)]
+pub struct Memories<'a> {
+    all: Vec<Mutex<Memory<'a>>>,
+    // How many fetches found their memory with another thread.
+    meetings: AtomicU64,
 }
 
-/// A memory that no other thread has now.
-pub fn free_memory<'m, 'a>(
-    memories: &'m [Mutex<Memory<'a>>],
-) -> Option<MutexGuard<'m, Memory<'a>>> {
-    for memory in memories {
-        if let Some(guard) = memory.try_lock() {
-            return Some(guard);
+impl<'a> Memories<'a> {
+    /// Memories of no folder.
+    pub fn new(alloc: Global) -> Result<Memories<'a>, AllocError> {
+        let mut all = Vec::with_capacity(alloc, MEMORIES as usize)?;
+        for _ in 0..MEMORIES {
+            all.push(Mutex::new(Memory::new(alloc)))?;
         }
+        Ok(Memories {
+            all,
+            meetings: AtomicU64::new(0),
+        })
     }
-    None
+
+    /// The memory of the page's host, or another where a thread has that. It waits for none.
+    pub fn free(&self, url: &CanonUrl) -> Option<MutexGuard<'_, Memory<'a>>> {
+        let used = used_after(self.meetings.load(Relaxed));
+        if let Some(memory) = self.all.get(url.subqueue(used) as usize) {
+            if let Some(guard) = memory.try_lock() {
+                return Some(guard);
+            }
+        }
+        if used < MEMORIES {
+            self.meetings.fetch_add(1, Relaxed);
+        }
+        self.any()
+    }
+
+    // A memory that no other thread has now.
+    fn any(&self) -> Option<MutexGuard<'_, Memory<'a>>> {
+        for memory in &self.all {
+            if let Some(guard) = memory.try_lock() {
+                return Some(guard);
+            }
+        }
+        None
+    }
+}
+
+/// How many memories are used after so many meetings.
+fn used_after(meetings: u64) -> u32
+    ensures some { 1 ≤ result }
+    ensures few { result ≤ 8 }
+{
+    1 + (meetings / MEETINGS).min(u64::from(MEMORIES - 1)) as u32
 }
 
 /// The place of the folder of a page, by the text before the last slash of its path.
