@@ -1,7 +1,6 @@
 -- That each entry is found once the place of each was added.
 use Rattle.std.proofs.Common.{◌≡◌, ◌≢◌, ◌⊎◌, inl, inr, ℕ, zero, suc, ◌<◌, ◌≤◌, true, false, cond, List, [], ◌∷◌, ◌++◌, length, get_or, slice_get, Option, Some, None, refl, sym, ap, subst, ◌∙◌, arith}
 use Rattle.std.specs.BTreeMap as tree
-use Rattle.hash_order.specs.declared.hints.Slot.{Slot}
 use Rattle.hash_order.specs.HashOrder.{hash_of, by_hash, by_hash_ties}
 use Rattle.hash_order.specs.Hints.{hint_at, IsHinted}
 use Rattle.std.specs.Option.{option_or}
@@ -114,7 +113,7 @@ or_none : (a b : Option ℕ) → option_or a b ≡ None → (a ≡ None) × (b �
 or_none None b none = (refl, none)
 or_none (Some j) b none = absurd (cc)
 
-module _ (entries : List Entry) (hints : List Slot) (url : List ℕ) where
+module _ (entries : List Entry) (hints : List ℕ) (url : List ℕ) where
   -- what the hint with this number leads to
   abbrev hinted_by : ℕ → Option ℕ
   hinted_by number = place_there entries url (hint_at hints (hash_of url) number)
@@ -178,8 +177,7 @@ all_found entries places apart indexed = record {
         let x = stands entries i e.url (found_stands entries places.hints e.url 4 i is) in
         ap (λ o. option_or o (kept_place places e.url)) is ∙ ap Some (same_place entries apart i k x.0 e x.1 at x.2)
     place_kept k e at None is = ap (λ o. option_or o (kept_place places e.url)) is ∙ elim (indexed.known k e at) [
-      | inl hinted ↦
-          let hint = hinted.1 in
+      | inl hint ↦
           let found : place_there entries e.url (hint_at places.hints (hash_of e.url) hint.0) ≡ Some k = ap (place_there entries e.url) hint.2 ∙ cond-true _ _ _ (stands_here entries k e at) in
           let clash : None ≡ Some k = sym (none_stands entries places.hints e.url 4 hint.0 is hint.1) ∙ found in
           absurd (cc)

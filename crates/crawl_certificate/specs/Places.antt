@@ -6,7 +6,6 @@ use Rattle.std.specs.Borrow.{Bor}
 use Rattle.std.specs.Option.{option_or}
 use Rattle.std.specs.BTreeMap.{get}
 use Rattle.std.specs.BTreeSet.{BTreeSet, contains}
-use Rattle.hash_order.specs.declared.hints.Slot.{Slot}
 use Rattle.hash_order.specs.HashOrder.{hash_of, by_hash}
 use Rattle.hash_order.specs.Hints.{hint_at, IsHinted}
 use Rattle.crawl_frontier.specs.declared.entry.Entry.{Entry}
@@ -35,7 +34,7 @@ place_there entries url None = None
 place_there entries url (Some place) = if stands_at entries place url then Some place else None
 
 -- the first such place among so many hints of the URL's hash
-abbrev pub hinted_place : List Entry → List Slot → List ℕ → ℕ → Option ℕ
+abbrev pub hinted_place : List Entry → List ℕ → List ℕ → ℕ → Option ℕ
 hinted_place entries hints url zero = None
 hinted_place entries hints url (suc number) = option_or (hinted_place entries hints url number) (place_there entries url (hint_at hints (hash_of url) number))
 

@@ -34,7 +34,7 @@ none_right places es url knows no_hint no_other =
     both_ways _ (wrong at.0 at.1) at.2)
   where
     wrong : (k : ℕ) → IsKnown places url k → leads_to es (Some k) url ≡ false
-    wrong k (inl hint) = subst (λ (guess : Option ℕ). leads_to es guess url ≡ false) hint.1.2 (no_hint hint.1.0 hint.1.1)
+    wrong k (inl hint) = subst (λ (guess : Option ℕ). leads_to es guess url ≡ false) hint.2 (no_hint hint.0 hint.1)
     wrong k (inr kept) = subst (λ (guess : Option ℕ). leads_to es guess url ≡ false) kept no_other
 
 -- where none of the hints is right, the map tells whether the list has the URL

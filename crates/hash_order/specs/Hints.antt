@@ -1,8 +1,7 @@
--- A table of hints: a hash has four slots in it, and each slot may hold a place with the mark of its text's hash.
-use Rattle.std.specs.Prelude.{◌≡◌, ◌<◌, ◌-◌, ◌/◌, ◌==◌, ℕ, Bool, true, false, List, Option, Some, None, length, slice_get, bit_and, bit_xor, if◌then◌else◌}
-use Rattle.hash_order.specs.declared.hints.Slot.{Slot}
+-- A table of hints: a hash has four slots in it, and each slot may hold a place, mixed with the mark of its text's hash.
+use Rattle.std.specs.Prelude.{◌≡◌, ◌<◌, ◌-◌, ◌/◌, ◌==◌, ℕ, nat_lt, List, Option, Some, None, length, slice_get, bit_and, bit_xor, if◌then◌else◌}
 
--- what a slot holds for a place where it is not taken
+-- what is in a slot that is not taken
 abbrev pub vacant : ℕ
 vacant = 4294967295
 
@@ -14,20 +13,23 @@ slot_of slots hash = bit_and hash (slots - 1)
 abbrev pub mark_of : ℕ → ℕ
 mark_of hash = hash / 4294967296
 
--- there is a slot, and no place is in it
-abbrev pub is_vacant : Option Slot → Bool
-is_vacant None = false
-is_vacant (Some slot) = slot.place == vacant
+-- what a slot holds for a place, and so also the place for what a slot holds
+abbrev pub mixed : ℕ → ℕ → ℕ
+mixed hash number = bit_xor (mark_of hash) number
 
--- the place in a slot, where it has this mark
-abbrev pub place_with : ℕ → Option Slot → Option ℕ
-place_with mark None = None
-place_with mark (Some slot) = if slot.mark == mark then Some slot.place else None
+-- the number, where it may be a place of a table with so many slots
+abbrev pub place_below : ℕ → ℕ → Option ℕ
+place_below slots number = if nat_lt number slots then Some number else None
+
+-- what a slot of a table with so many slots says to a hash
+abbrev pub said_by : ℕ → ℕ → Option ℕ → Option ℕ
+said_by slots hash None = None
+said_by slots hash (Some slot) = if slot == vacant then None else place_below slots (mixed hash slot)
 
 -- what the slots of a hash say, number by number
-abbrev pub hint_at : List Slot → ℕ → ℕ → Option ℕ
-hint_at slots hash number = place_with (mark_of hash) (slice_get slots (bit_xor (slot_of (length slots) hash) number))
+abbrev pub hint_at : List ℕ → ℕ → ℕ → Option ℕ
+hint_at slots hash number = said_by (length slots) hash (slice_get slots (bit_xor (slot_of (length slots) hash) number))
 
 -- one of the four says the place
-abbrev pub IsHinted : List Slot → ℕ → ℕ → Type 0
-IsHinted slots hash place = (place < vacant) × ((number : ℕ) × (number < 4) × (hint_at slots hash number ≡ Some place))
+abbrev pub IsHinted : List ℕ → ℕ → ℕ → Type 0
+IsHinted slots hash place = (number : ℕ) × (number < 4) × (hint_at slots hash number ≡ Some place)

@@ -1,7 +1,7 @@
 //! Guesses where texts stand in a list, by their hashes. Whoever asks compares the text where a hint points.
 ghost use Rattle.std.specs.Prelude.{◌≡◌, ◌<◌, ℕ, true, false, length, slice_get, set, Some, bit_xor};
 ghost use Rattle.hash_order.specs.Hints as spec;
-ghost use Rattle.hash_order.specs.Hints.{slot_of, mark_of, is_vacant, hint_at, IsHinted};
+ghost use Rattle.hash_order.specs.Hints.{vacant, slot_of, mark_of, hint_at, IsHinted};
 
 use std::alloc::{AllocError, Global};
 use std::marker::Model;
@@ -9,31 +9,26 @@ use std::marker::Model;
 /// How many slots a hash has, side by side, so that few places find all of theirs taken.
 pub const HINTS: usize = 4;
 
-/// The place in a slot that is not taken.
+/// What a slot has that is not taken.
 const VACANT: u32 = u32::MAX;
 
-/// The upper half of a hash, and the place of a text with it.
-#[derive(Clone, Copy, Debug, Drop)]
-pub struct Slot {
-    mark: u32,
-    place: u32,
-}
-
 /// A table of places in a list of texts, by the hashes of the texts. A place that it keeps is hinted at for good.
+///
+/// A slot is four bytes, the exclusive or of the place and the upper half of the hash. Read by another hash it says a number
+/// that is mostly no place of the table: of n slots n in 2^32 such readings go wrong.
 ///
 /// Whoever picks the texts can make them want the same slots, so not every place finds a vacant one: the others are to be
 /// kept in another way, such as a map in the order of hashes.
 #[derive(Debug, Drop)]
 pub struct Hints {
-    slots: Vec<Slot>,
+    slots: Vec<u32>,
 }
 
 // Contracts see the slots.
 impl Model for Hints {
-    ghost use Rattle.std.specs.Prelude.{List};
-    ghost use Rattle.hash_order.specs.declared.hints.Slot.{Slot};
+    ghost use Rattle.std.specs.Prelude.{List, ℕ};
 
-    ghost Value = { List Slot };
+    ghost Value = { List ℕ };
 
     ghost view = { λ hints. hints.slots.items };
 }
@@ -52,12 +47,8 @@ impl Hints {
         let Some(length) = wanted.checked_next_power_of_two() else {
             return Err(AllocError);
         };
-        let vacant = Slot {
-            mark: 0,
-            place: VACANT,
-        };
         Ok(Hints {
-            slots: vec![in alloc; vacant; length]?,
+            slots: vec![in alloc; VACANT; length]?,
         })
     }
 
@@ -66,21 +57,19 @@ impl Hints {
         self.slots.len() / 3 * 2
     }
 
-    /// Keeps the place at a vacant slot of the hash, and tells whether there was one.
+    /// Keeps the place at a vacant slot of the hash, and tells whether there was one. A place past the number of slots is not
+    /// kept.
     pub fn keep(&mut self, hash: u64, place: usize) -> bool
         ensures own { result ≡ true → IsHinted self.new hash place }
         ensures others { (other k : ℕ) → IsHinted self.old other k → IsHinted self.new other k }
     {
-        if VACANT as usize <= place {
+        let slot = mark_of(hash) ^ place;
+        if self.slots.len() <= place || VACANT as usize <= slot {
             return false;
         }
         let first = self.first_slot(hash);
-        let slot = Slot {
-            mark: mark_of(hash),
-            place: place as u32,
-        };
         for number in 0..HINTS {
-            if self.take(first ^ number, slot) {
+            if self.take(first ^ number, slot as u32) {
                 return true;
             }
         }
@@ -91,9 +80,13 @@ impl Hints {
     pub fn hint(&self, hash: u64, number: usize) -> Option<usize>
         ensures { result ≡ hint_at self.now hash number }
     {
-        match self.slots.get(self.first_slot(hash) ^ number) {
-            Some(slot) if slot.mark == mark_of(hash) => Some(slot.place as usize),
-            _ => None,
+        let slot = *self.slots.get(self.first_slot(hash) ^ number)?;
+        // Nearly all slots of other hashes fail the first test, so it comes before the one that half of all slots fail.
+        let place = mark_of(hash) ^ slot as usize;
+        if place < self.slots.len() && slot != VACANT {
+            Some(place)
+        } else {
+            None
         }
     }
 
@@ -104,11 +97,11 @@ impl Hints {
     }
 
     /// Takes the slot at this index, and tells whether it was vacant.
-    fn take(&mut self, index: usize, slot: Slot) -> bool
-        ensures taken { result ≡ true → is_vacant (slice_get self.old index) ≡ true × (self.new ≡ set self.old index slot) }
+    fn take(&mut self, index: usize, slot: u32) -> bool
+        ensures taken { result ≡ true → (slice_get self.old index ≡ Some vacant) × (self.new ≡ set self.old index slot) }
         ensures left { result ≡ false → self.new ≡ self.old }
     {
-        if index < self.slots.len() && self.slots[index].place == VACANT {
+        if index < self.slots.len() && self.slots[index] == VACANT {
             self.slots[index] = slot;
             return true;
         }
@@ -117,8 +110,8 @@ impl Hints {
 }
 
 /// The upper half of a hash. The slot is by the lower one.
-fn mark_of(hash: u64) -> u32
+fn mark_of(hash: u64) -> usize
     ensures { result ≡ spec.mark_of hash }
 {
-    (hash >> 32) as u32
+    (hash >> 32) as usize
 }
