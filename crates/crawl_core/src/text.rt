@@ -1,5 +1,5 @@
 //! Texts are equal and print as their bytes. Their order is by hash.
-ghost use Rattle.std.specs.Prelude.{◌≡◌, Some, refl, string_bytes, IfOk};
+ghost use Rattle.std.specs.Prelude.{◌≡◌, Some, refl, IfOk};
 ghost use Rattle.std.specs.Str.{bytes_eq};
 ghost use Rattle.std.specs.Cmp.{partial_equiv_from_equiv};
 ghost use Rattle.std.specs.Cmp.Lexicographic.{nat_list_eq_equiv};
@@ -11,26 +11,30 @@ use std::alloc::Global;
 use std::cmp::Ordering;
 use std::fmt;
 use std::marker::Model;
+use std::sync::ArcStr;
 
 /// A URL as the machine keeps it: any text, which contracts see as its bytes.
 ///
 /// Texts are equal and print as their bytes. Their order is by hash, and by bytes where hashes are equal: a search in a set of
-/// them reads another text only there, and texts that were picked to collide are found as fast as in byte order.
+/// them reads another text only there, and texts that were picked to collide are found as fast as in byte order. The bytes are
+/// kept once and shared by all copies, in any threads. So a copy takes no memory, and fails only where the count of copies is
+/// at its limit.
 #[derive(Drop)]
 pub struct Text {
     hash: u64,
-    text: String,
+    text: ArcStr,
 }
 
 impl Model for Text {
-    ghost use Rattle.std.specs.Prelude.{◌≡◌, List, ℕ, string_bytes};
+    ghost use Rattle.std.specs.Prelude.{◌≡◌, List, ℕ};
+    ghost use Rattle.std.specs.Arc.{arc_str_bytes};
     ghost use Rattle.hash_order.specs.HashOrder.{hash_of};
 
     ghost Value = { List ℕ };
 
-    ghost view = { λ t. string_bytes t.text };
+    ghost view = { λ t. arc_str_bytes t.text };
 
-    ghost invariant = { λ t. t.hash ≡ hash_of (string_bytes t.text) };
+    ghost invariant = { λ t. t.hash ≡ hash_of (arc_str_bytes t.text) };
 }
 
 impl Text {
@@ -40,7 +44,7 @@ impl Text {
     {
         Ok(Text {
             hash: hash_of(text),
-            text: String::from_str(alloc, text)?,
+            text: ArcStr::from_str(alloc, text)?,
         })
     }
 
@@ -49,26 +53,6 @@ impl Text {
         ensures { result.now ≡ self.now }
     {
         self.text.as_str()
-    }
-}
-
-impl From<String> for Text {
-    ghost from_gives = { λ string text. text ≡ string_bytes string };
-
-    fn from(text: String) -> Text {
-        Text {
-            hash: hash_of(text.as_str()),
-            text,
-        }
-    }
-}
-
-impl From<Text> for String {
-    ghost from_gives = { λ text string. string_bytes string ≡ text };
-
-    fn from(text: Text) -> String {
-        let Text { text, .. } = text;
-        text
     }
 }
 
