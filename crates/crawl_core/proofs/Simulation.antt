@@ -6,13 +6,13 @@ use Rattle.std.specs.Ordering.{nat_cmp}
 use Rattle.std.specs.Str.{bytes_eq}
 use Rattle.std.specs.BTreeMap.{is_at}
 use Rattle.std.specs.Map.{lookup}
-use Rattle.std.proofs.lemmas.Cmp.{nat_list_cmp_total, nat_list_eq_equiv, nat_cmp_total}
+use Rattle.std.proofs.lemmas.Cmp.{nat_list_eq_equiv, nat_cmp_total}
 use Rattle.std.proofs.lemmas.List.{length-map, length-drop, map-append, drop-append-le, length_push}
 use Rattle.std.proofs.Math.ListN.{drop_of_length-le}
 use Rattle.std.proofs.lemmas.List.Folds.{list_any-append}
 use Rattle.std.proofs.lemmas.List.Sums.{sum_by-cons, sum_by_push}
 use Rattle.std.proofs.lemmas.Bool.Decides.{nat_tests}
-use Rattle.std.proofs.lemmas.Map.Text.{is_eq-slice_cmp}
+use Rattle.hash_order.specs.HashOrder.{by_hash_total, by_hash_ties}
 use Rattle.std.proofs.lemmas.Option.{slice_get_within}
 use Rattle.crawl_core.specs.declared.event.Event.{Event}
 use Rattle.crawl_core.specs.declared.event.Event.TheVariants.{Look, Enter, Admit, Back, EndSeeds, Take, Done, Close}
@@ -98,7 +98,7 @@ accepted_shows kept queue url sender shown =
       waits =
           let past : drop queue.taken (queue.accepted ++ message ∷ []) ≡ drop queue.taken queue.accepted ++ message ∷ [] = drop-append-le queue.taken queue.accepted (message ∷ []) shown.within in
           rw (past, map-append, shown.waits) refl;
-      seen = λ u. rw (list_any-insert_key nat_list_cmp_total u url kept.seen, shown.seen u, is_eq-slice_cmp u url, list_any-append, nat_list_eq_equiv.symm u url) (or_none (bytes_eq url u) (has_url queue.accepted u));
+      seen = λ u. rw (list_any-insert_key by_hash_total u url kept.seen, shown.seen u, sym (by_hash_ties u url), list_any-append, nat_list_eq_equiv.symm u url) (or_none (bytes_eq url u) (has_url queue.accepted u));
       numbers = λ s.
           rw (lookup-insert_entry nat_cmp_total s sender (suc (number_at kept.numbers sender)) kept.numbers, sum_by_push (λ (m : Message). cond (nat_eq m.sender s) 1 0) queue.accepted message, is_at_number s sender)
           (numbered (nat_eq sender s) (lookup (is_at (nat_cmp s)) kept.numbers) (number_at kept.numbers sender) (count_from queue.accepted s) (shown.numbers s) (λ same. shown.numbers sender ∙ ap (count_from queue.accepted) (eqb-true sender s same)));

@@ -3,16 +3,16 @@
 use Rattle.std.specs.Prelude.{◌≡◌, ℕ, ◌+◌, ◌≤◌, Bool, false, List, [], length, unwrap_or}
 use Rattle.std.specs.List.{sum_by, list_any}
 use Rattle.std.specs.Ordering.{nat_cmp}
-use Rattle.std.specs.Cmp.Lexicographic.{slice_cmp}
 use Rattle.std.specs.BTreeMap.{is_at}
 use Rattle.std.specs.Map.{lookup}
+use Rattle.hash_order.specs.HashOrder.{by_hash}
 use Rattle.crawl_core.specs.declared.word.Word.{Word}
 use Rattle.crawl_core.specs.Flags.{one_if}
 use Rattle.crawl_core.specs.Limits.{pending_limit}
 use Rattle.crawl_core.specs.GateSide.{GateSide, units_out, shown_word}
 
--- of a subqueue: the URLs that wait, oldest first; those that it ever accepted, in ascending order; how many of each
--- sender it accepted, by ascending sender; whether the one taken last is not done yet
+-- of a subqueue: the URLs that wait, oldest first; those that it ever accepted, in the order of their hashes; how many of
+-- each sender it accepted, by ascending sender; whether the one taken last is not done yet
 pub record KeptQueue : Type 0 where
   pub waiting : List (List ℕ)
   pub seen : List (List ℕ)
@@ -44,7 +44,7 @@ kept_word kept = shown_word kept.gate (outstanding_in kept)
 
 -- whether the subqueue accepted the URL
 abbrev pub has_seen : KeptQueue → List ℕ → Bool
-has_seen queue url = list_any (is_at (slice_cmp nat_cmp url)) queue.seen
+has_seen queue url = list_any (is_at (by_hash url)) queue.seen
 
 -- how many of the sender it accepted
 abbrev pub number_at : List (ℕ × ℕ) → ℕ → ℕ

@@ -82,7 +82,7 @@ fn closes_when_drained(rt: HostRuntime) -> Result<(), Fail> {
 fn steps_one_by_one(rt: HostRuntime) -> Result<(), Fail> {
     let alloc = rt.alloc();
     let mut core = Core::new(alloc, 1, 4)?;
-    let url = Text::from(String::from_str(alloc, "http://a.test/")?);
+    let url = Text::from_str(alloc, "http://a.test/")?;
     assert_eq!(rt; url.as_str(), "http://a.test/");
     assert_eq!(rt; url.clone()?, url);
     for (event, want) in [

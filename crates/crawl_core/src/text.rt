@@ -1,28 +1,40 @@
-//! Texts compare and print as their bytes.
-ghost use Rattle.std.specs.Prelude.{◌≡◌, Some, refl, string_bytes, IfOk};
+//! Texts are equal and print as their bytes. Their order is by hash.
+ghost use Rattle.std.specs.Prelude.{◌≡◌, Some, refl, IfOk};
 ghost use Rattle.std.specs.Str.{bytes_eq};
-ghost use Rattle.std.specs.Ordering.{nat_cmp};
 ghost use Rattle.std.specs.Cmp.{partial_equiv_from_equiv};
-ghost use Rattle.std.specs.Cmp.Lexicographic.{slice_cmp, nat_list_eq_equiv, nat_list_cmp_total, texts_ties, texts_po};
+ghost use Rattle.std.specs.Cmp.Lexicographic.{nat_list_eq_equiv};
+ghost use Rattle.hash_order.specs.HashOrder.{by_hash, by_hash_total, by_hash_ties, by_hash_po};
 
 use crate::error::NoMemory;
+use hash_order::hash_of;
 use std::alloc::Global;
 use std::cmp::Ordering;
 use std::fmt;
 use std::marker::Model;
+use std::sync::ArcStr;
 
 /// A URL as the machine keeps it: any text, which contracts see as its bytes.
+///
+/// Texts are equal and print as their bytes. Their order is by hash, and by bytes where hashes are equal: a search in a set of
+/// them reads another text only there, and texts that were picked to collide are found as fast as in byte order. The bytes are
+/// kept once and shared by all copies, in any threads. So a copy takes no memory, and fails only where the count of copies is
+/// at its limit.
 #[derive(Drop)]
 pub struct Text {
-    text: String,
+    hash: u64,
+    text: ArcStr,
 }
 
 impl Model for Text {
-    ghost use Rattle.std.specs.Prelude.{List, ℕ, string_bytes};
+    ghost use Rattle.std.specs.Prelude.{◌≡◌, List, ℕ};
+    ghost use Rattle.std.specs.Arc.{arc_str_bytes};
+    ghost use Rattle.hash_order.specs.HashOrder.{hash_of};
 
     ghost Value = { List ℕ };
 
-    ghost view = { λ t. string_bytes t.text };
+    ghost view = { λ t. arc_str_bytes t.text };
+
+    ghost invariant = { λ t. t.hash ≡ hash_of (arc_str_bytes t.text) };
 }
 
 impl Text {
@@ -31,7 +43,8 @@ impl Text {
         ensures { IfOk result (λ copy. copy ≡ text.now) }
     {
         Ok(Text {
-            text: String::from_str(alloc, text)?,
+            hash: hash_of(text),
+            text: ArcStr::from_str(alloc, text)?,
         })
     }
 
@@ -43,28 +56,12 @@ impl Text {
     }
 }
 
-impl From<String> for Text {
-    ghost from_gives = { λ string text. text ≡ string_bytes string };
-
-    fn from(text: String) -> Text {
-        Text { text }
-    }
-}
-
-impl From<Text> for String {
-    ghost from_gives = { λ text string. string_bytes string ≡ text };
-
-    fn from(text: Text) -> String {
-        let Text { text } = text;
-        text
-    }
-}
-
 impl Clone for Text {
     ghost is_clone = { λ text copy. copy ≡ text };
 
     fn clone(&self) -> Result<Text, NoMemory> {
         Ok(Text {
+            hash: self.hash,
             text: self.text.clone()?,
         })
     }
@@ -99,9 +96,9 @@ impl Eq for Text {
 }
 
 impl PartialOrd for Text {
-    ghost partial_cmp = { λ a b. Some (slice_cmp nat_cmp a b) };
+    ghost partial_cmp = { λ a b. Some (by_hash a b) };
 
-    ghost laws = { texts_po };
+    ghost laws = { by_hash_po };
 
     fn partial_cmp(&self, other: &Text) -> Option<Ordering> {
         Some(self.cmp(other))
@@ -109,15 +106,18 @@ impl PartialOrd for Text {
 }
 
 impl Ord for Text {
-    ghost cmp = { slice_cmp nat_cmp };
+    ghost cmp = { by_hash };
 
-    ghost total = { nat_list_cmp_total };
+    ghost total = { by_hash_total };
 
     ghost matches_partial_cmp = { λ a b. refl };
 
-    ghost matches_eq = { texts_ties };
+    ghost matches_eq = { by_hash_ties };
 
     fn cmp(&self, other: &Text) -> Ordering {
-        self.as_str().cmp(other.as_str())
+        match self.hash.cmp(&other.hash) {
+            Ordering::Equal => self.as_str().cmp(other.as_str()),
+            order => order,
+        }
     }
 }

@@ -59,7 +59,7 @@ impl UrlQueue {
     }
 
     /// Puts a URL that was never accepted here to the end, and answers how many of the sender came before it.
-    #[tactic(auto, using(crate::proofs::Sets::take_out))]
+    #[tactic(auto, using(crate::proofs::Sets::take_out_text))]
     pub fn accept(&mut self, url: &Text, sender: u64) -> Result<u64, NoMemory>
         requires { has_seen self.old url.now ≡ false }
         ensures number { IfOk result (λ number. number ≡ number_at self.old.numbers sender) }

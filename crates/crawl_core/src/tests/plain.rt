@@ -90,7 +90,7 @@ impl Draw {
 }
 
 fn text(alloc: Global, url: u64) -> Result<Text, NoMemory> {
-    Ok(Text::from(format!(in alloc; "http://{url}.test/")?))
+    Text::from_str(alloc, format!(in alloc; "http://{url}.test/")?.as_str())
 }
 
 impl Drawn {
