@@ -249,10 +249,39 @@ fn bases_of_texts(rt: HostRuntime) -> Result<(), Fail> {
     Ok(())
 }
 
-// Pairs of pages, and whether both lie in one folder; just then a name leads to one URL from both.
+fn base_at(alloc: Global, text: &str) -> Result<Base, KeyError> {
+    Base::new(alloc, &canonical(alloc, text)?)
+}
+
+// Whether the page lies in the folder of the other; just then a name leads to one URL from both.
+fn lies_beside(
+    rt: &impl Abort,
+    alloc: Global,
+    page: &Base,
+    other: &Base,
+    expected: bool,
+) -> Result<(), KeyError> {
+    let (one, its) = (page.as_str(), other.as_str());
+    assert_eq!(rt; page.is_beside(other), expected, "{one} {its}");
+    let from_page = page.resolve(alloc, "x")?;
+    let from_other = other.resolve(alloc, "x")?;
+    assert_eq!(rt; from_page == from_other, expected, "{one} {its}");
+    Ok(())
+}
+
+// Pairs of pages, and whether both lie in one folder, asked of either.
+fn lie_in_folders(rt: &impl Abort, alloc: Global, rows: &[(&str, &str, bool)]) -> Result<(), Fail> {
+    for &(one, other, expected) in rows {
+        let base = base_at(alloc, one)?;
+        let beside = base_at(alloc, other)?;
+        lies_beside(rt, alloc, &base, &beside, expected)?;
+        lies_beside(rt, alloc, &beside, &base, expected)?;
+    }
+    Ok(())
+}
+
 #[test]
 fn pages_of_a_folder(rt: HostRuntime) -> Result<(), Fail> {
-    let alloc = rt.alloc();
     let rows = [
         ("http://a.test/a/b", "http://a.test/a/c?q", true),
         ("http://a.test/a/", "http://a.test/a/x", true),
@@ -275,24 +304,35 @@ fn pages_of_a_folder(rt: HostRuntime) -> Result<(), Fail> {
         ("http://a.test/a/b", "http://u@a.test/a/b", false),
         ("http://u@a.test/a/b", "http://u:p@a.test/a/b", false),
     ];
-    for (one, other, expected) in rows {
-        let base = Base::new(alloc, &canonical(alloc, one)?)?;
-        let beside = Base::new(alloc, &canonical(alloc, other)?)?;
-        assert_eq!(rt; base.is_beside(&beside), expected, "{one} {other}");
-        assert_eq!(rt; beside.is_beside(&base), expected, "{other} {one}");
-        let (from_one, from_other) = (base.resolve(alloc, "x")?, beside.resolve(alloc, "x")?);
-        assert_eq!(rt; from_one == from_other, expected, "{one} {other}");
-    }
-    Ok(())
+    lie_in_folders(&rt, rt.alloc(), &rows)
+}
+
+// A link with this text leads to this URL from the page; nowhere, where that is empty.
+fn leads(rt: &impl Abort, alloc: Global, page: &Base, text: &str, expected: &str) {
+    let target = page.resolve(alloc, text);
+    let found = target.as_ref().map_or("", |url| url.as_str());
+    assert_eq!(rt; found, expected, "{text}");
 }
 
 // A link, whether it is of a folder, and where it leads from two pages of one folder, the second of
 // which has a query.
+fn lead_from_a_folder(
+    rt: &impl Abort,
+    alloc: Global,
+    rows: &[(&str, bool, &str, &str)],
+) -> Result<(), Fail> {
+    let one = base_at(alloc, "http://a.test/d/e")?;
+    let other = base_at(alloc, "http://a.test/d/f?q")?;
+    for &(link, expected, from_one, from_other) in rows {
+        assert_eq!(rt; is_of_folder(link), expected, "{link}");
+        leads(rt, alloc, &one, link, from_one);
+        leads(rt, alloc, &other, link, from_other);
+    }
+    Ok(())
+}
+
 #[test]
 fn links_of_a_folder(rt: HostRuntime) -> Result<(), Fail> {
-    let alloc = rt.alloc();
-    let one = Base::new(alloc, &canonical(alloc, "http://a.test/d/e")?)?;
-    let other = Base::new(alloc, &canonical(alloc, "http://a.test/d/f?q")?)?;
     let rows = [
         ("x", true, "http://a.test/d/x", "http://a.test/d/x"),
         ("../x?y#z", true, "http://a.test/x?y", "http://a.test/x?y"),
@@ -319,31 +359,30 @@ fn links_of_a_folder(rt: HostRuntime) -> Result<(), Fail> {
         ),
         ("x:y", false, "", ""),
     ];
-    for (link, expected, from_one, from_other) in rows {
-        assert_eq!(rt; is_of_folder(link), expected, "{link}");
-        let target = one.resolve(alloc, link);
-        assert_eq!(rt;
-            target.as_ref().map_or("", |url| url.as_str()),
-            from_one,
-            "{link}"
-        );
-        let target = other.resolve(alloc, link);
-        assert_eq!(rt;
-            target.as_ref().map_or("", |url| url.as_str()),
-            from_other,
-            "{link}"
-        );
-    }
-    Ok(())
+    lead_from_a_folder(&rt, rt.alloc(), &rows)
 }
 
 // A link, its text before the fragment, and where both lead from two pages; nowhere, where the last
 // two are empty.
+fn lead_as_their_fronts(
+    rt: &impl Abort,
+    alloc: Global,
+    rows: &[(&str, &str, &str, &str)],
+) -> Result<(), Fail> {
+    let one = base_at(alloc, "http://a.test/d/e")?;
+    let other = base_at(alloc, "https://b.test/f?q")?;
+    for &(link, front, from_one, from_other) in rows {
+        assert_eq!(rt; before_fragment(link), front, "{link}");
+        leads(rt, alloc, &one, link, from_one);
+        leads(rt, alloc, &one, front, from_one);
+        leads(rt, alloc, &other, link, from_other);
+        leads(rt, alloc, &other, front, from_other);
+    }
+    Ok(())
+}
+
 #[test]
 fn links_before_their_fragments(rt: HostRuntime) -> Result<(), Fail> {
-    let alloc = rt.alloc();
-    let one = Base::new(alloc, &canonical(alloc, "http://a.test/d/e")?)?;
-    let other = Base::new(alloc, &canonical(alloc, "https://b.test/f?q")?)?;
     let rows = [
         ("x#y", "x", "http://a.test/d/x", "https://b.test/x"),
         ("x?r#y", "x?r", "http://a.test/d/x?r", "https://b.test/x?r"),
@@ -367,22 +406,5 @@ fn links_before_their_fragments(rt: HostRuntime) -> Result<(), Fail> {
         ("mailto:x#y", "mailto:x", "", ""),
         ("http://[#y", "http://[", "", ""),
     ];
-    for (link, front, from_one, from_other) in rows {
-        assert_eq!(rt; before_fragment(link), front, "{link}");
-        for text in [link, front] {
-            let target = one.resolve(alloc, text);
-            assert_eq!(rt;
-                target.as_ref().map_or("", |url| url.as_str()),
-                from_one,
-                "{text}"
-            );
-            let target = other.resolve(alloc, text);
-            assert_eq!(rt;
-                target.as_ref().map_or("", |url| url.as_str()),
-                from_other,
-                "{text}"
-            );
-        }
-    }
-    Ok(())
+    lead_as_their_fronts(&rt, rt.alloc(), &rows)
 }
