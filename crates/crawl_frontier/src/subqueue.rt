@@ -13,6 +13,7 @@ use crate::rule::{
 use crawl_gate::Gate;
 use crossbeam_queue::RuledSegQueue;
 use std::alloc::{AllocError, Global};
+use std::hint;
 use std::marker::{Brand, Model};
 use std::sync::Wait;
 use std::sync::atomic::AtomicU64;
@@ -21,16 +22,28 @@ use std::time::Duration;
 
 type Line = RuledSegQueue<Message, PassView, SubqueueRule>;
 
-// What a bell holds: its worker awaits it, or does not.
+// What a bell holds: its worker does not await it, or does, or may be asleep until it rings.
+const QUIET: u64 = 0;
+
 const AWAITED: u64 = 1;
 
-const QUIET: u64 = 0;
+const ASLEEP: u64 = 2;
+
+// So often a worker looks at its bell before it sleeps: for some 30 microseconds, a few times as long as it takes to be
+// woken. Nobody else writes there until it rings, so these looks slow nobody down where each worker has a processor.
+const LOOKS: u32 = 2_500;
+
+// Where it has none, the looks keep the processor from whoever would ring. So the more waits were in vain one after another
+// the fewer begin with looks, but at least one in so many does.
+const WAITS: u64 = 64;
 
 /// The URLs that wait for one worker, first in, first out, and the bell by which that worker is woken. Contracts see
 /// which subqueue it is; no promise hangs on the bell.
 pub struct Subqueue {
     line: Line,
     bell: AtomicU64,
+    // how many waits there were since the bell last rang while its worker looked at it; nobody else asks
+    waits: AtomicU64,
 }
 
 impl Model for Subqueue {
@@ -43,7 +56,11 @@ impl Model for Subqueue {
 
 impl Drop for Subqueue {
     fn drop(self) {
-        let Self { line, bell: _ } = self;
+        let Self {
+            line,
+            bell: _,
+            waits: _,
+        } = self;
         line.destroy();
     }
 }
@@ -78,6 +95,7 @@ impl Subqueue {
             Subqueue {
                 line,
                 bell: AtomicU64::new(QUIET),
+                waits: AtomicU64::new(0),
             },
             PushRight { pass },
             PopRight { pass: other },
@@ -121,23 +139,49 @@ impl Subqueue {
         }
     }
 
-    /// Awaits the bell. The first call returns at once, so that the worker looks once more; a call after that sleeps until
-    /// the bell rings, for at most this long. It may return for no reason.
+    /// Awaits the bell. The first call returns at once, so that the worker looks for work once more; the second may look at
+    /// the bell for a while; each call after that sleeps until the bell rings, for at most this long. It may return for no
+    /// reason.
     ///
-    /// So a worker sleeps only where a look that came after it began to await found nothing, and a push after that look
-    /// finds the bell awaited. Every step is `SeqCst`.
+    /// From the first call on the bell is not quiet until it rings. So a worker sleeps only where a look that came after it
+    /// began to await found nothing, and a push after that look finds the bell awaited, or rung since. A ring is not
+    /// overwritten: a worker that looks at the bell sees it, and one that is about to sleep does not, since the bell no longer
+    /// says that it may. Every step is `SeqCst`.
     pub(crate) fn rest<R: Wait>(&self, rt: &R, limit: Duration) {
-        if self.bell.load(SeqCst) == AWAITED {
-            self.bell.park_timeout(rt, AWAITED as u32, limit);
-        } else {
-            self.bell.store(AWAITED, SeqCst);
+        match self.bell.load(SeqCst) {
+            QUIET => self.bell.store(AWAITED, SeqCst),
+            AWAITED => self.await_ring(),
+            _ => self.bell.park_timeout(rt, ASLEEP as u32, limit),
         }
     }
 
-    /// Rings the bell if it is awaited: after a push, and once the gate may close. Of several at once one wakes.
+    // Looks at the bell for a while, if that is likely to help. Where the bell does not ring meanwhile, whoever rings it from
+    // now on has to wake its worker.
+    fn await_ring(&self) {
+        let waits = self.waits.fetch_add(1, SeqCst);
+        let may_help = waits.is_power_of_two() || waits % WAITS == 0;
+        if may_help && self.rings_soon() {
+            self.waits.store(0, SeqCst);
+        } else {
+            let _ = self.bell.compare_exchange(AWAITED, ASLEEP, SeqCst, SeqCst);
+        }
+    }
+
+    fn rings_soon(&self) -> bool {
+        for _ in 0..LOOKS {
+            if self.bell.load(SeqCst) != AWAITED {
+                return true;
+            }
+            hint::spin_loop();
+        }
+        false
+    }
+
+    /// Rings the bell if it is awaited: after a push, and once the gate may close. It wakes the worker only where that may be
+    /// asleep; of several at once one wakes.
     pub(crate) fn ring(&self) {
-        let is_awaited = self.bell.load(SeqCst) == AWAITED;
-        if is_awaited && self.bell.swap(QUIET, SeqCst) == AWAITED {
+        let is_awaited = self.bell.load(SeqCst) != QUIET;
+        if is_awaited && self.bell.swap(QUIET, SeqCst) == ASLEEP {
             self.bell.wake_one();
         }
     }

@@ -89,9 +89,10 @@ impl<K: Name> Worker<K> {
         self.place
     }
 
-    /// Rests after a turn that found nothing. The first call returns at once, so that the worker looks once more by
-    /// [`Worker::next`]; where that finds nothing either, the next call sleeps until a URL is accepted for this worker, or
-    /// the last unit of the gate is given back, or 50 ms are over. It may return for no reason.
+    /// Rests after a turn that found nothing, until a URL is accepted for this worker, or the last unit of the gate is given
+    /// back. The first call returns at once, so that the worker looks once more by [`Worker::next`]; where that finds nothing
+    /// either, the next call may wait for some microseconds, and each one after it sleeps, for at most 50 ms. It may return
+    /// for no reason.
     pub fn rest<R: Wait>(&self, rt: &R, frontier: &Frontier<K>) {
         let limit = Duration::from_millis(REST_MILLISECONDS);
         frontier.subqueue(self.place).rest(rt, limit);
