@@ -10,3 +10,4 @@ pub mod Places
 pub mod Faults
 pub mod Index
 pub mod Verdicts
+pub mod Certificates

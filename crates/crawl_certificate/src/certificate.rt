@@ -20,8 +20,10 @@ use crate::missing::{some_missing, some_unmarked};
 use crawl_frontier::{Account, Entry};
 use crawl_keys::{CanonUrl, Filter};
 use crawl_web::PageResult;
+use rayon::slice::par_sort_by;
 use std::alloc::{AllocError, Global};
 use std::marker::Model;
+use std::thread::Threads;
 
 /// What a certified crawl found.
 #[derive(Debug, Drop)]
@@ -106,6 +108,36 @@ pub fn certify_moved(
     Ok(CrawlResult { pages })
 }
 
+/// As [`certify_moved`], by as many threads as there are processors.
+///
+/// # Errors
+/// Those of [`certify`]. A thread that cannot be started is none: its part is done by the thread that wanted it.
+pub fn certify_in_threads<R: Threads + Sync>(
+    rt: &R,
+    alloc: Global,
+    filter: &Filter,
+    seeds: &[CanonUrl],
+    account: &Account,
+    results: Vec<PageResult>,
+) -> Result<CrawlResult, CertError>
+    // Ok exactly where no fault holds, else the first that holds, unless a growth was refused.
+    ensures fault { Tells result (first_fault (allows filter.now) seeds.now (entries_of account.now) results.items) }
+    // The pages are the given results in ascending order of URL, one for each entry of each subqueue.
+    ensures same { IfOk result (λ pages. IsPermutation results.items pages) }
+    ensures ascends { IfOk result (λ pages. IsAscending (result_urls pages)) }
+    ensures one_each { IfOk result (λ pages. IsPermutation (entry_urls (entries_of account.now)) (result_urls pages)) }
+    ensures counts { IfOk result (λ pages. CountsOf account.now (result_urls pages)) }
+    // Their URLs are exactly those that can be reached over the results' own pages.
+    ensures reached { IfOk result (λ pages. AreReachable (page_in results.items) (allows filter.now) seeds.now (result_urls pages)) }
+    // A walk leads to each entry's URL in as many hops as the entry has.
+    ensures hops { OnOk result (All (λ e. WalkOf (page_in results.items) (allows filter.now) seeds.now e.hops e.url) (entries_of account.now)) }
+{
+    let entries = entries_of(alloc, account)?;
+    find_fault(alloc, filter, seeds, &entries, &results)?;
+    let pages = in_order_by_threads(rt, alloc, results)?;
+    Ok(CrawlResult { pages })
+}
+
 /// Ok where no fault holds.
 fn find_fault<'a>(
     alloc: Global,
@@ -172,6 +204,20 @@ fn in_order(results: Vec<PageResult>) -> Result<Vec<PageResult>, AllocError>
 {
     let mut pages = results;
     pages.sort_by(|a, b| a.url.cmp(&b.url))?;
+    Ok(pages)
+}
+
+/// As [`in_order`], each half of a half by a thread of its own.
+fn in_order_by_threads<R: Threads + Sync>(
+    rt: &R,
+    alloc: Global,
+    results: Vec<PageResult>,
+) -> Result<Vec<PageResult>, AllocError>
+    ensures same { IfOk result (λ pages. IsPermutation results.items pages.items) }
+    ensures sorted { IfOk result (λ pages. IsSortedByKey (λ r. r.url) (slice_cmp nat_cmp) pages.items) }
+{
+    let mut pages = results;
+    par_sort_by(rt, alloc, pages.as_mut_slice(), |a, b| a.url.cmp(&b.url))?;
     Ok(pages)
 }
 

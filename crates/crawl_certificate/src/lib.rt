@@ -15,5 +15,5 @@ mod missing;
 #[cfg(test)]
 mod tests;
 
-pub use certificate::{CrawlResult, certify, certify_moved};
+pub use certificate::{CrawlResult, certify, certify_in_threads, certify_moved};
 pub use error::CertError;
