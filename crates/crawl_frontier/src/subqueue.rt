@@ -29,9 +29,9 @@ const AWAITED: u64 = 1;
 
 const ASLEEP: u64 = 2;
 
-// So often a worker looks at its bell before it sleeps: for some 30 microseconds, a few times as long as it takes to be
+// So often a worker looks at its bell before it sleeps: for some 60 microseconds, a few times as long as it takes to be
 // woken. Nobody else writes there until it rings, so these looks slow nobody down where each worker has a processor.
-const LOOKS: u32 = 2_500;
+const LOOKS: u32 = 5_000;
 
 // Where it has none, the looks keep the processor from whoever would ring. So the more waits were in vain one after another
 // the fewer begin with looks, but at least one in so many does.

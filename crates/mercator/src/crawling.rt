@@ -6,6 +6,7 @@ ghost use Rattle.crawl_gate.specs.GateError.{IsMaximum};
 ghost use Rattle.crawl_keys.specs.HostFilter.{allows};
 ghost use Rattle.mercator.specs.Crawls.{AreCounts, ComesIn, CrawlFails, IsJudged};
 
+mod certified;
 mod error;
 mod gather;
 mod named;

@@ -7,9 +7,9 @@ ghost use Rattle.crawl_workers.specs.declared.error.RunError.TheVariants as unru
 ghost use Rattle.mercator.specs.Crawls.{AreCounts, ComesIn, IsJudged, IsOfRun};
 ghost use Rattle.mercator.specs.declared.crawling.Mode.TheVariants as modes;
 
+use crate::crawling::certified::certified;
 use crate::crawling::gather::{counts_of, gathered};
 use crate::crawling::{CrawlError, Crawled, Mode};
-use crawl_certificate::certify_moved;
 use crawl_frontier::{Frontier, Name, Seeder, Setup, Worker};
 use crawl_keys::{CanonUrl, Filter};
 use crawl_web::Fetch;
@@ -46,7 +46,7 @@ pub fn crawl_named<K: Name + Send + Sync, F: Fetch + Sync, R: Threads + Wait + S
     let mut senders = Vec::new(alloc);
     senders.push(sender)?;
     let account = frontier.finish(closed, senders)?;
-    let result = certify_moved(alloc, filter, seeds, &account, results)?;
+    let result = certified(rt, alloc, filter, seeds, &account, results, mode)?;
     let counts = counts_of(alloc, &account)?;
     Ok(Crawled { result, counts })
 }
