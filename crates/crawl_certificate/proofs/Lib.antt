@@ -11,3 +11,4 @@ pub mod Faults
 pub mod Index
 pub mod Verdicts
 pub mod Certificates
+pub mod Together

@@ -1,6 +1,7 @@
 pub mod AccountEntries
 pub mod CertFaults
 pub mod Certificate
+pub mod Marks
 pub mod Places
 pub mod Queues
 pub mod Reachable

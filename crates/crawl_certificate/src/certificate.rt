@@ -1,5 +1,5 @@
 //! What is certified, and when.
-ghost use Rattle.std.specs.Prelude.{◌≡◌, IfOk, OnOk};
+ghost use Rattle.std.specs.Prelude.{◌≡◌, List, length, vec_len, IfOk, OnOk};
 ghost use Rattle.std.specs.List.{All};
 ghost use Rattle.std.specs.List.Sorted.{IsPermutation, IsSortedByKey};
 ghost use Rattle.std.specs.Cmp.Lexicographic.{slice_cmp};
@@ -9,14 +9,17 @@ ghost use Rattle.crawl_certificate.specs.AccountEntries.{entries_of, DifferByUrl
 ghost use Rattle.crawl_certificate.specs.ResultPages.{page_in};
 ghost use Rattle.crawl_certificate.specs.Reachable.{WalkOf};
 ghost use Rattle.crawl_certificate.specs.Certificate.{Tells, IsAscending, AreReachable, CountsOf, entry_urls, result_urls};
-ghost use Rattle.crawl_certificate.specs.Places.{pointed};
+ghost use Rattle.crawl_web.specs.declared.page.PageResult.{PageResult};
+ghost use Rattle.crawl_certificate.specs.Places.{pointed, ArePlaces};
+ghost use Rattle.crawl_certificate.specs.Marks.{AreMarks};
 ghost use Rattle.crawl_certificate.specs.CertFaults.{first_of, first_fault};
 
 use crate::error::CertError;
 use crate::founded::some_unfounded;
-use crate::lookups::{entries_of, places_of, url_set};
-use crate::marks::{Told, marks_of};
+use crate::lookups::{Places, entries_of, places_of, url_set};
+use crate::marks::{Marks, Told, marks_of};
 use crate::missing::{some_missing, some_unmarked};
+use crate::threads::marks_in_threads;
 use crawl_frontier::{Account, Entry};
 use crawl_keys::{CanonUrl, Filter};
 use crawl_web::PageResult;
@@ -108,7 +111,7 @@ pub fn certify_moved(
     Ok(CrawlResult { pages })
 }
 
-/// As [`certify_moved`], by as many threads as there are processors.
+/// As [`certify_moved`], where four threads look up the links, and as many as there are processors sort the pages.
 ///
 /// # Errors
 /// Those of [`certify`]. A thread that cannot be started is none: its part is done by the thread that wanted it.
@@ -133,7 +136,7 @@ pub fn certify_in_threads<R: Threads + Sync>(
     ensures hops { OnOk result (All (λ e. WalkOf (page_in results.items) (allows filter.now) seeds.now e.hops e.url) (entries_of account.now)) }
 {
     let entries = entries_of(alloc, account)?;
-    find_fault(alloc, filter, seeds, &entries, &results)?;
+    find_fault_in_threads(rt, alloc, filter, seeds, &entries, &results)?;
     let pages = in_order_by_threads(rt, alloc, results)?;
     Ok(CrawlResult { pages })
 }
@@ -150,8 +153,41 @@ fn find_fault<'a>(
     ensures { Tells result (first_fault (allows filter.now) seeds.now (pointed entries.now) results.now) }
 {
     let accepted = places_of(alloc, entries)?;
-    let seed_missing = some_missing(filter, &accepted, entries, seeds);
     let marks = marks_of(alloc, filter, &accepted, entries, results)?;
+    fault_by_marks(alloc, filter, seeds, entries, &accepted, marks)
+}
+
+/// As [`find_fault`], by threads.
+fn find_fault_in_threads<'a, R: Threads + Sync>(
+    rt: &R,
+    alloc: Global,
+    filter: &Filter,
+    seeds: &'a [CanonUrl],
+    entries: &[&'a Entry],
+    results: &'a [PageResult],
+) -> Result<(), CertError>
+    requires { DifferByUrl (pointed entries.now) }
+    ensures { Tells result (first_fault (allows filter.now) seeds.now (pointed entries.now) results.now) }
+{
+    let accepted = places_of(alloc, entries)?;
+    let marks = marks_in_threads(rt, alloc, filter, &accepted, entries, results)?;
+    fault_by_marks(alloc, filter, seeds, entries, &accepted, marks)
+}
+
+/// Ok where no fault holds, by what a pass over the results found.
+fn fault_by_marks<'a>(
+    alloc: Global,
+    filter: &Filter,
+    seeds: &'a [CanonUrl],
+    entries: &[&'a Entry],
+    accepted: &Places<'a>,
+    marks: Marks,
+) -> Result<(), CertError>
+    requires places { ArePlaces (pointed entries.now) accepted.now }
+    requires long { vec_len marks.linked ≡ length entries.now }
+    ensures { (results : List PageResult) → AreMarks (allows filter.now) (pointed entries.now) accepted.now results marks → Tells result (first_fault (allows filter.now) seeds.now (pointed entries.now) results) }
+{
+    let seed_missing = some_missing(filter, accepted, entries, seeds);
     let not_fetched = some_unmarked(&marks.fetched);
     let seed_set = url_set(alloc, seeds)?;
     let groundless = some_unfounded(filter, &seed_set, entries, &marks.linked);
@@ -207,7 +243,7 @@ fn in_order(results: Vec<PageResult>) -> Result<Vec<PageResult>, AllocError>
     Ok(pages)
 }
 
-/// As [`in_order`], each half of a half by a thread of its own.
+/// As [`in_order`], by threads.
 fn in_order_by_threads<R: Threads + Sync>(
     rt: &R,
     alloc: Global,

@@ -14,6 +14,7 @@ mod marks;
 mod missing;
 #[cfg(test)]
 mod tests;
+mod threads;
 
 pub use certificate::{CrawlResult, certify, certify_in_threads, certify_moved};
 pub use error::CertError;

@@ -38,7 +38,7 @@ pub struct Marks {
 }
 
 impl Told {
-    fn and(self, more: Told) -> Told
+    pub fn and(self, more: Told) -> Told
         ensures { result ≡ record { missing = self.missing || more.missing; stray = self.stray || more.stray; twice = self.twice || more.twice } }
     {
         Told {

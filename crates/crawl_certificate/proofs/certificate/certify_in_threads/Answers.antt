@@ -10,16 +10,16 @@ use Rattle.crawl_certificate.specs.Certificate.{unless_fault}
 use Rattle.crawl_certificate.proofs.Certificates.{certified}
 use Rattle.crawl_certificate.proofs.certificate.certify_in_threads.Goals as goal
 
-pub returns-in_err-find_fault-clause-fault : goal.returns-in_err-find_fault-clause-fault
-returns-in_err-find_fault-clause-fault g c =
-    let r = c.from_residual-in_err-find_fault in
+pub returns-in_err-find_fault_in_threads-clause-fault : goal.returns-in_err-find_fault_in_threads-clause-fault
+returns-in_err-find_fault_in_threads-clause-fault g c =
+    let r = c.from_residual-in_err-find_fault_in_threads in
     let p = err_from_is_err_and r.result r.ensures.1 in
-    let told = c.in_err-find_fault.field-0.0 in
-    rw (p.1, p.2) (subst (λ es. IsRefusal fault.NoMemory (unless_fault (first_fault (allows c.args.filter.now) c.args.seeds.now es c.args.results.items)) told) (ap pointed c.deref.ensures.value ∙ c.in_ok-entries.ensures.all) (rw c.deref-2.ensures.value at c.in_err-find_fault.ensures))
+    let told = c.in_err-find_fault_in_threads.field-0.0 in
+    rw (p.1, p.2) (subst (λ es. IsRefusal fault.NoMemory (unless_fault (first_fault (allows c.args.filter.now) c.args.seeds.now es c.args.results.items)) told) (ap pointed c.deref.ensures.value ∙ c.in_ok-entries.ensures.all) (rw c.deref-2.ensures.value at c.in_err-find_fault_in_threads.ensures))
 
 pub returns : goal.returns
 returns g c =
-    let verdict = rw c.deref-2.ensures.value at c.in_ok-find_fault.ensures in
+    let verdict = rw c.deref-2.ensures.value at c.in_ok-find_fault_in_threads.ensures in
     let pages = c.in_ok-pages in
     let all =
     certified c.args.account.now (allows c.args.filter.now) c.args.seeds.now (pointed c.deref.result.now) c.args.results.items pages.pages.items
