@@ -1,10 +1,10 @@
 //! Senders in threads of their own, which offer while the gate closes.
 ghost use Rattle.std.specs.Prelude.{◌≡◌};
 
-use crate::tests::threads::{entries_once, pages};
+use crate::tests::threads::{entries_once, pages, two_of};
 use crate::{
-    Account, ClosedWorker, FinishError, Frontier, Name, Offer, OfferError, Sender, Setup, Turn,
-    Worker,
+    Account, ClosedWorker, FinishError, Frontier, Name, Offer, OfferError, Seeder, Sender, Setup,
+    Turn, Worker,
 };
 use crawl_keys::{CanonUrl, Filter};
 use std::alloc::Global;
@@ -126,34 +126,89 @@ fn two_send<K: Name + Send + Sync, R: Threads + Wait + Sync>(
     )
 }
 
-// Each sender offers once more when all workers are closed; then the account.
+fn two_senders<K: Name>(
+    alloc: Global,
+    frontier: &Frontier<K>,
+    seeder: &mut Seeder<K>,
+) -> Option<(Sender<K>, Sender<K>)> {
+    let one = seeder.another(alloc, frontier, 77).ok()?;
+    Some((one, seeder.another(alloc, frontier, 78).ok()?))
+}
+
+// Two workers and two senders in four threads, to their ends.
+fn four_end<K: Name + Send + Sync, R: Threads + Wait + Sync>(
+    rt: &R,
+    frontier: &Frontier<K>,
+    urls: &[CanonUrl],
+    mut workers: Vec<Worker<K>>,
+    senders: (Sender<K>, Sender<K>),
+    flags: &Flags,
+) -> Option<((ClosedWorker<K>, ClosedWorker<K>), (Sent<K>, Sent<K>))> {
+    let workers = two_of(&mut workers)?;
+    Some(join(
+        rt,
+        move || two_work(rt, frontier, workers, flags),
+        move || two_send(rt, frontier, urls, senders, flags),
+    ))
+}
+
+// The sender offers once more, when all workers are closed.
+fn once_more<K: Name, R: Wait>(
+    rt: &R,
+    frontier: &Frontier<K>,
+    urls: &[CanonUrl],
+    sent: Sent<K>,
+    flags: &Flags,
+) -> Sent<K> {
+    let last = send(rt, frontier, urls, sent.sender, flags);
+    Sent {
+        sender: last.sender,
+        accepted: sent.accepted,
+        late: sent.late.saturating_add(last.late),
+    }
+}
+
+fn both_closed<K: Name>(
+    alloc: Global,
+    one: ClosedWorker<K>,
+    other: ClosedWorker<K>,
+) -> Option<Vec<ClosedWorker<K>>> {
+    let mut closed = Vec::new(alloc);
+    closed.push(one).ok()?;
+    closed.push(other).ok()?;
+    Some(closed)
+}
+
+fn all_senders<K: Name>(alloc: Global, all: [Sender<K>; 3]) -> Option<Vec<Sender<K>>> {
+    let mut senders = Vec::new(alloc);
+    for sender in all {
+        senders.push(sender).ok()?;
+    }
+    Some(senders)
+}
+
+// Each sender offers once more; then the account.
 fn settle<K: Name, R: Wait>(
     rt: &R,
     alloc: Global,
     frontier: Frontier<K>,
     urls: &[CanonUrl],
     closed: Vec<ClosedWorker<K>>,
-    sent: [Sent<K>; 2],
+    sent: (Sent<K>, Sent<K>),
     seeds: Sender<K>,
     flags: &Flags,
 ) -> Option<Raced> {
-    let mut senders = Vec::new(alloc);
-    let (mut accepted, mut late) = (0usize, 0usize);
-    for sent in sent {
-        let last = send(rt, &frontier, urls.get(..1)?, sent.sender, flags);
-        accepted = accepted.saturating_add(sent.accepted);
-        late = late.saturating_add(sent.late).saturating_add(last.late);
-        senders.push(last.sender).ok()?;
-    }
-    senders.push(seeds).ok()?;
+    let one = once_more(rt, &frontier, urls, sent.0, flags);
+    let other = once_more(rt, &frontier, urls, sent.1, flags);
+    let senders = all_senders(alloc, [one.sender, other.sender, seeds])?;
     Some(Raced {
-        accepted,
-        late,
+        accepted: one.accepted.saturating_add(other.accepted),
+        late: one.late.saturating_add(other.late),
         end: frontier.finish(closed, senders),
     })
 }
 
-// Two workers and two senders in four threads.
+// A run of two workers and two senders.
 fn race<K: Name + Send + Sync, R: Threads + Wait + Sync>(
     rt: &R,
     alloc: Global,
@@ -166,34 +221,17 @@ fn race<K: Name + Send + Sync, R: Threads + Wait + Sync>(
     requires queues { setup.queues ≡ K.queues }
     requires filter { filter.now ≡ K.filter }
 {
-    let (frontier, mut workers, mut seeder) = Frontier::<K>::new(alloc, setup, filter).ok()?;
-    let workers = (workers.pop()?, workers.pop()?);
-    let one = seeder.another(alloc, &frontier, 77).ok()?;
-    let other = seeder.another(alloc, &frontier, 78).ok()?;
-    let seeds = seeder.end(&frontier);
+    let first = urls.get(..1)?;
     let flags = Flags {
         begin: OnceLock::new(),
         closed: OnceLock::new(),
     };
-    let (shared, told) = (&frontier, &flags);
-    let ((a, b), (one, other)) = join(
-        rt,
-        move || two_work(rt, shared, workers, told),
-        move || two_send(rt, shared, urls, (one, other), told),
-    );
-    let mut closed = Vec::new(alloc);
-    closed.push(a).ok()?;
-    closed.push(b).ok()?;
-    settle(
-        rt,
-        alloc,
-        frontier,
-        urls,
-        closed,
-        [one, other],
-        seeds,
-        &flags,
-    )
+    let (frontier, workers, mut seeder) = Frontier::<K>::new(alloc, setup, filter).ok()?;
+    let senders = two_senders(alloc, &frontier, &mut seeder)?;
+    let seeds = seeder.end(&frontier);
+    let ((a, b), sent) = four_end(rt, &frontier, urls, workers, senders, &flags)?;
+    let closed = both_closed(alloc, a, b)?;
+    settle(rt, alloc, frontier, first, closed, sent, seeds, &flags)
 }
 
 #[test]

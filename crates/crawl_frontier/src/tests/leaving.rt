@@ -1,7 +1,7 @@
 //! Workers in threads that are dropped on the way.
 ghost use Rattle.std.specs.Prelude.{◌≡◌};
 
-use crate::tests::threads::{entries_once, offer_links, pages};
+use crate::tests::threads::{offer_links, pages, seed, two_of};
 use crate::{Account, ClosedWorker, FinishError, Frontier, Name, Setup, Turn, Worker};
 use crawl_keys::{CanonUrl, Filter};
 use std::alloc::Global;
@@ -80,6 +80,39 @@ fn two_work<K: Name + Send + Sync, R: Threads + Wait + Sync>(
     )
 }
 
+// Four workers in four threads, to their ends.
+fn four_end<K: Name + Send + Sync, R: Threads + Wait + Sync>(
+    rt: &R,
+    frontier: &Frontier<K>,
+    urls: &[CanonUrl],
+    mut workers: Vec<Worker<K>>,
+    leaves: [Leaves; 4],
+) -> Option<[Option<ClosedWorker<K>>; 4]> {
+    let (d, c) = two_of(&mut workers)?;
+    let (b, a) = two_of(&mut workers)?;
+    let [of_a, of_b, of_c, of_d] = leaves;
+    let ((a, b), (c, d)) = join(
+        rt,
+        move || two_work(rt, frontier, urls, (a, b), (of_a, of_b)),
+        move || two_work(rt, frontier, urls, (c, d), (of_c, of_d)),
+    );
+    Some([a, b, c, d])
+}
+
+// Those that were told that all is done.
+fn those_told<K: Name>(
+    alloc: Global,
+    all: [Option<ClosedWorker<K>>; 4],
+) -> Option<Vec<ClosedWorker<K>>> {
+    let mut closed = Vec::new(alloc);
+    for worker in all {
+        if let Some(worker) = worker {
+            closed.push(worker).ok()?;
+        }
+    }
+    Some(closed)
+}
+
 // How many of four workers were told that all is done, and what `finish` says with these.
 fn four_work<K: Name + Send + Sync, R: Threads + Wait + Sync>(
     rt: &R,
@@ -94,28 +127,11 @@ fn four_work<K: Name + Send + Sync, R: Threads + Wait + Sync>(
     requires queues { setup.queues ≡ K.queues }
     requires filter { filter.now ≡ K.filter }
 {
-    let (frontier, mut workers, mut seeder) = Frontier::<K>::new(alloc, setup, filter).ok()?;
-    let (d, c) = (workers.pop()?, workers.pop()?);
-    let (b, a) = (workers.pop()?, workers.pop()?);
-    for url in urls.iter().take(SEEDS) {
-        seeder.offer(rt, &frontier, url).ok()?;
-    }
-    let sender = seeder.end(&frontier);
-    let shared = &frontier;
-    let [of_a, of_b, of_c, of_d] = leaves;
-    let ((a, b), (c, d)) = join(
-        rt,
-        move || two_work(rt, shared, urls, (a, b), (of_a, of_b)),
-        move || two_work(rt, shared, urls, (c, d), (of_c, of_d)),
-    );
-    let mut closed = Vec::new(alloc);
-    for worker in [a, b, c, d] {
-        if let Some(worker) = worker {
-            closed.push(worker).ok()?;
-        }
-    }
-    let mut senders = Vec::new(alloc);
-    senders.push(sender).ok()?;
+    let first = urls.get(..SEEDS)?;
+    let (frontier, workers, seeder) = Frontier::<K>::new(alloc, setup, filter).ok()?;
+    let senders = seed(rt, alloc, &frontier, first, seeder)?;
+    let all = four_end(rt, &frontier, urls, workers, leaves)?;
+    let closed = those_told(alloc, all)?;
     Some((closed.len(), frontier.finish(closed, senders)))
 }
 

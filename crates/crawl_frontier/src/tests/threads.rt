@@ -1,7 +1,10 @@
 //! Four workers in four threads, which offer what they find.
 ghost use Rattle.std.specs.Prelude.{◌≡◌};
 
-use crate::{Account, BusyWorker, ClosedWorker, FinishError, Frontier, Name, Setup, Turn, Worker};
+use crate::{
+    Account, BusyWorker, ClosedWorker, FinishError, Frontier, Name, Seeder, Sender, Setup, Turn,
+    Worker,
+};
 use crawl_keys::{CanonUrl, Filter, canonical};
 use std::alloc::{AllocError, Global};
 use std::marker::Brand;
@@ -90,6 +93,56 @@ fn two_work<K: Name + Send + Sync, R: Threads + Wait + Sync>(
     )
 }
 
+// The last two of the workers, the last one first.
+pub fn two_of<K: Name>(workers: &mut Vec<Worker<K>>) -> Option<(Worker<K>, Worker<K>)> {
+    let one = workers.pop()?;
+    Some((one, workers.pop()?))
+}
+
+// Runs the four workers to their ends.
+fn four_end<K: Name + Send + Sync, R: Threads + Wait + Sync>(
+    rt: &R,
+    frontier: &Frontier<K>,
+    urls: &[CanonUrl],
+    mut workers: Vec<Worker<K>>,
+) -> Option<[Ended<K>; 4]> {
+    let (a, b) = two_of(&mut workers)?;
+    let (c, d) = two_of(&mut workers)?;
+    let ((a, b), (c, d)) = join(
+        rt,
+        move || two_work(rt, frontier, urls, a, b),
+        move || two_work(rt, frontier, urls, c, d),
+    );
+    Some([a, b, c, d])
+}
+
+// The closed workers, and how many offers were refused.
+fn sum_up<K: Name>(alloc: Global, all: [Ended<K>; 4]) -> Option<(Vec<ClosedWorker<K>>, u64)> {
+    let mut closed = Vec::new(alloc);
+    let mut refused = 0u64;
+    for ended in all {
+        refused = refused.saturating_add(ended.refused);
+        closed.push(ended.worker).ok()?;
+    }
+    Some((closed, refused))
+}
+
+// Offers the URLs. The seeder is then the one sender.
+pub fn seed<K: Name, R: Wait>(
+    rt: &R,
+    alloc: Global,
+    frontier: &Frontier<K>,
+    urls: &[CanonUrl],
+    mut seeder: Seeder<K>,
+) -> Option<Vec<Sender<K>>> {
+    for url in urls {
+        seeder.offer(rt, frontier, url).ok()?;
+    }
+    let mut senders = Vec::new(alloc);
+    senders.push(seeder.end(frontier)).ok()?;
+    Some(senders)
+}
+
 // The account of the run, and how many offers were refused.
 fn four_work<K: Name + Send + Sync, R: Threads + Wait + Sync>(
     rt: &R,
@@ -103,29 +156,11 @@ fn four_work<K: Name + Send + Sync, R: Threads + Wait + Sync>(
     requires queues { setup.queues ≡ K.queues }
     requires filter { filter.now ≡ K.filter }
 {
-    let (frontier, mut workers, mut seeder) = Frontier::<K>::new(alloc, setup, filter).ok()?;
-    let (a, b, c, d) = (
-        workers.pop()?,
-        workers.pop()?,
-        workers.pop()?,
-        workers.pop()?,
-    );
-    seeder.offer(rt, &frontier, urls.first()?).ok()?;
-    let sender = seeder.end(&frontier);
-    let shared = &frontier;
-    let ((a, b), (c, d)) = join(
-        rt,
-        move || two_work(rt, shared, urls, a, b),
-        move || two_work(rt, shared, urls, c, d),
-    );
-    let mut closed = Vec::new(alloc);
-    let mut refused = 0u64;
-    for ended in [a, b, c, d] {
-        refused = refused.saturating_add(ended.refused);
-        closed.push(ended.worker).ok()?;
-    }
-    let mut senders = Vec::new(alloc);
-    senders.push(sender).ok()?;
+    let first = urls.get(..1)?;
+    let (frontier, workers, seeder) = Frontier::<K>::new(alloc, setup, filter).ok()?;
+    let senders = seed(rt, alloc, &frontier, first, seeder)?;
+    let all = four_end(rt, &frontier, urls, workers)?;
+    let (closed, refused) = sum_up(alloc, all)?;
     Some((frontier.finish(closed, senders), refused))
 }
 
