@@ -2,3 +2,4 @@
 mod faults;
 mod messages;
 mod run;
+mod threads;

@@ -5,6 +5,7 @@ use std::alloc::Global;
 use std::process::Abort;
 use std::sync::Wait;
 use std::test::Fail;
+use std::thread::Threads;
 
 const A: &str = "http://a.test/";
 
@@ -116,7 +117,7 @@ fn cycle_without_a_seed(rt: HostRuntime) -> Result<(), Fail> {
 const NONE: &[&str] = &[];
 
 // The ring, crawled under these suffixes from these seeds, is certified under the same with these pages.
-fn certifies<R: Abort + Wait>(
+fn certifies<R: Abort + Threads + Wait + Sync>(
     rt: &R,
     alloc: Global,
     within: &[&str],

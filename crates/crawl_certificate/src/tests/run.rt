@@ -1,7 +1,7 @@
 //! A crawl of a saved web on one thread, turn by turn, and what is changed in its results before they are certified.
 ghost use Rattle.std.specs.Prelude.{◌≡◌};
 
-use crate::{CertError, certify};
+use crate::{CertError, CrawlResult, certify, certify_in_threads};
 use crawl_frontier::{Account, BusyWorker, Frontier, Name, Setup, Turn};
 use crawl_keys::{CanonUrl, Filter, canonical};
 use crawl_web::{Fetch, Page, PageResult, SavedWeb, links_of};
@@ -11,9 +11,10 @@ use std::marker::Brand;
 use std::process::Abort;
 use std::sync::Wait;
 use std::test::Fail;
+use std::thread::Threads;
 
-// More turns than any of the runs takes.
-const TURNS: u32 = 200;
+// More turns than any of the runs takes, and more URLs than any has at once.
+const TURNS: u32 = 30_000;
 
 // What a run left.
 #[derive(Drop)]
@@ -122,7 +123,7 @@ pub fn run_of<R: Wait>(
     web: &str,
 ) -> Result<Run, Fail> {
     let filter = Filter::new(alloc, within)?;
-    let setup = Setup::new(alloc, workers, 100)?;
+    let setup = Setup::new(alloc, workers, u64::from(TURNS))?;
     let seeds = urls_of(alloc, seeds)?;
     let web = SavedWeb::read(alloc, web.as_bytes())?;
     crawl::<Brand, R>(rt, alloc, setup, &filter, &seeds, &web)
@@ -182,10 +183,11 @@ impl Run {
         Ok(results)
     }
 
-    // Under the filter with these suffixes and from these seeds, the changed results have these pages or this fault.
-    pub fn tells(
+    // Under the filter with these suffixes and from these seeds, the changed results have these pages or this fault, on one
+    // thread and by threads.
+    pub fn tells<R: Abort + Threads + Sync>(
         &self,
-        rt: &impl Abort,
+        rt: &R,
         alloc: Global,
         within: &[&str],
         seeds: &[&str],
@@ -193,29 +195,44 @@ impl Run {
         expected: Result<&[&str], CertError>,
     ) -> Result<(), Fail> {
         let filter = Filter::new(alloc, within)?;
-        let seed_urls = urls_of(alloc, seeds)?;
+        let urls = urls_of(alloc, seeds)?;
         let results = self.results(alloc, change)?;
-        match (
-            certify(alloc, &filter, &seed_urls, &self.account, &results),
-            expected,
-        ) {
-            (Ok(found), Ok(urls)) => {
-                assert_eq!(rt; found.pages().len(), urls.len(), "{seeds:?} {change:?}");
-                for (page, &url) in found.pages().iter().zip(urls) {
-                    assert_eq!(rt; page.url.as_str(), url, "{seeds:?} {change:?}");
-                }
-            }
-            (found, expected) => {
-                assert_eq!(rt; found.err(), expected.err(), "{seeds:?} {change:?}");
-            }
-        }
+        let found = certify(alloc, &filter, &urls, &self.account, &results);
+        is_found(rt, found, expected, change);
+        let found = certify_in_threads(rt, alloc, &filter, &urls, &self.account, results);
+        is_found(rt, found, expected, change);
         Ok(())
     }
 
-    pub fn holds(&self, rt: &impl Abort, alloc: Global, cases: &[Case<'_>]) -> Result<(), Fail> {
+    pub fn holds<R: Abort + Threads + Sync>(
+        &self,
+        rt: &R,
+        alloc: Global,
+        cases: &[Case<'_>],
+    ) -> Result<(), Fail> {
         for &(within, seeds, change, expected) in cases {
             self.tells(rt, alloc, within, seeds, change, expected)?;
         }
         Ok(())
+    }
+}
+
+// These pages were found, or this fault.
+fn is_found(
+    rt: &impl Abort,
+    found: Result<CrawlResult, CertError>,
+    expected: Result<&[&str], CertError>,
+    change: Change,
+) {
+    match (found, expected) {
+        (Ok(found), Ok(urls)) => {
+            assert_eq!(rt; found.pages().len(), urls.len(), "{change:?}");
+            for (page, &url) in found.pages().iter().zip(urls) {
+                assert_eq!(rt; page.url.as_str(), url, "{change:?}");
+            }
+        }
+        (found, expected) => {
+            assert_eq!(rt; found.err(), expected.err(), "{change:?}");
+        }
     }
 }
