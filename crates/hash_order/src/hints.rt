@@ -81,7 +81,7 @@ impl Hints {
         ensures { result ≡ hint_at self.now hash number }
     {
         let slot = *self.slots.get(self.first_slot(hash) ^ number)?;
-        // Nearly all slots of other hashes fail the first test, so it comes before the one that half of all slots fail.
+        // To most hashes a slot of another says a number that is no place of the table.
         let place = mark_of(hash) ^ slot as usize;
         if place < self.slots.len() && slot != VACANT {
             Some(place)
