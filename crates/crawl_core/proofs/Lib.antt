@@ -2,6 +2,7 @@ pub mod Counts
 pub mod Effects
 pub mod GateHistory
 pub mod Holders
+pub mod Knowing
 pub mod Leaving
 pub mod Places
 pub mod QueueHistory

@@ -1,5 +1,5 @@
 -- Lemmas on sets and maps as lists in the order of their keys.
-use Rattle.std.proofs.Common.{◌≡◌, ℕ, Bool, true, false, cond, ◌||◌, List, [], ◌∷◌, Option, Some, refl, sym, ap, ◌∙◌, Ordering}
+use Rattle.std.proofs.Common.{◌≡◌, Bool, true, false, cond, ◌||◌, List, [], ◌∷◌, Option, Some, refl, sym, ◌∙◌, Ordering}
 use Rattle.std.specs.declared.cmp.Ordering.TheVariants.{Less, Equal, Greater}
 use Rattle.std.specs.Ordering.{is_eq}
 use Rattle.std.specs.List.{list_any}
@@ -7,24 +7,6 @@ use Rattle.std.specs.Cmp.{IsTotalOrder, alike_right}
 use Rattle.std.specs.BTreeMap.{is_at, insert_entry}
 use Rattle.std.specs.BTreeSet.{insert_key}
 use Rattle.std.specs.Map.{lookup}
-use Rattle.std.specs.Set.{remove_key}
-use Rattle.std.proofs.lemmas.Cmp.{tied_itself}
-use Rattle.hash_order.specs.HashOrder.{by_hash, by_hash_total}
-
--- a key that is put in where it was not, and then taken out again, leaves the keys
-pub take_out : {K : Type 0} {R : K → K → Ordering} → IsTotalOrder R → (keys : List K) (k : K) → list_any (is_at (R k)) keys ≡ false → remove_key (is_at (R k)) (insert_key R keys k) ≡ keys
-take_out total [] k absent = rw (tied_itself total k) refl
-take_out {K} {R} total (x ∷ xs) k absent = at_first (R k x) refl absent (take_out total xs k)
-  where
-    -- by how the key stands to the first one
-    at_first : (o : Ordering) → R k x ≡ o → list_any (is_at (R k)) (x ∷ xs) ≡ false → (list_any (is_at (R k)) xs ≡ false → remove_key (is_at (R k)) (insert_key R xs k) ≡ xs) → remove_key (is_at (R k)) (insert_key R (x ∷ xs) k) ≡ x ∷ xs
-    at_first Less e absent more = rw (e, tied_itself total k) refl
-    at_first Equal e absent more = let h = rw e at absent in cc
-    at_first Greater e absent more = rw (e, e) (ap (λ ys. x ∷ ys) (more (rw e at absent)))
-
--- the same of texts in the order of their hashes
-pub take_out_text : (keys : List (List ℕ)) (k : List ℕ) → list_any (is_at (by_hash k)) keys ≡ false → remove_key (is_at (by_hash k)) (insert_key by_hash keys k) ≡ keys
-take_out_text = take_out by_hash_total
 
 or_same : (a b : Bool) → (a || b) ≡ (a || (a || b))
 or_same true b = refl

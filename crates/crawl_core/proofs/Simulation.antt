@@ -6,13 +6,11 @@ use Rattle.std.specs.Ordering.{nat_cmp}
 use Rattle.std.specs.Str.{bytes_eq}
 use Rattle.std.specs.BTreeMap.{is_at}
 use Rattle.std.specs.Map.{lookup}
-use Rattle.std.proofs.lemmas.Cmp.{nat_list_eq_equiv, nat_cmp_total}
+use Rattle.std.proofs.lemmas.Cmp.{nat_cmp_total}
 use Rattle.std.proofs.lemmas.List.{length-map, length-drop, map-append, drop-append-le, length_push}
 use Rattle.std.proofs.Math.ListN.{drop_of_length-le}
-use Rattle.std.proofs.lemmas.List.Folds.{list_any-append}
 use Rattle.std.proofs.lemmas.List.Sums.{sum_by-cons, sum_by_push}
 use Rattle.std.proofs.lemmas.Bool.Decides.{nat_tests}
-use Rattle.hash_order.specs.HashOrder.{by_hash_total, by_hash_ties}
 use Rattle.std.proofs.lemmas.Option.{slice_get_within}
 use Rattle.crawl_core.specs.declared.event.Event.{Event}
 use Rattle.crawl_core.specs.declared.event.Event.TheVariants.{Look, Enter, Admit, Back, EndSeeds, Take, Done, Close}
@@ -26,10 +24,10 @@ use Rattle.crawl_core.specs.GateSide.{GateTurn, new_gate, holds, look, enter, ba
 use Rattle.crawl_core.specs.State.{State, start}
 use Rattle.crawl_core.specs.Step as step
 use Rattle.crawl_core.specs.Step.{Step, Turn, turn}
-use Rattle.crawl_core.specs.Kept.{Kept, KeptQueue, empty_queue, outstanding, number_at}
+use Rattle.crawl_core.specs.Kept.{Kept, KeptQueue, empty_queue, outstanding, has_text, has_seen, number_at}
 use Rattle.crawl_core.specs.Moves.{Moves, Move, move, by_gate, counted, admit_to, take_from, take_oldest, done_with, accepting}
 use Rattle.crawl_core.specs.Shows.{Shows, ShowsQueue, Makes}
-use Rattle.crawl_core.proofs.Sets.{list_any-insert_key, lookup-insert_entry}
+use Rattle.crawl_core.proofs.Sets.{lookup-insert_entry}
 
 -- R of what two lists have at a place: both have an element there, or neither
 abbrev pub Both : {A B : Type 0} → (A → B → Type 0) → Option A → Option B → Type 0
@@ -85,11 +83,13 @@ numbered : (b : Bool) (o : Option ℕ) (n c : ℕ) → unwrap_or o 0 ≡ c → (
 numbered true o n c old same = let e = same refl in omega (arith, e)
 numbered false o n c old same = omega (arith, old)
 
-or_none : (a b : Bool) → (a || b) ≡ (b || (a || false))
-or_none true true = refl
-or_none true false = refl
-or_none false true = refl
-or_none false false = refl
+has_url-map : (messages : List Message) (url : List ℕ) → has_text (map (λ m. m.url) messages) url ≡ has_url messages url
+has_url-map [] url = refl
+has_url-map (m ∷ ms) url = ap (λ b. bytes_eq m.url url || b) (has_url-map ms url)
+
+-- a URL is seen if a message that was accepted has it
+seen_shows : (kept : KeptQueue) (queue : Subqueue) (url : List ℕ) → ShowsQueue kept queue → has_seen kept url ≡ has_url queue.accepted url
+seen_shows kept queue url shown = ap (λ texts. has_text texts url) shown.seen ∙ has_url-map queue.accepted url
 
 accepted_shows : (kept : KeptQueue) (queue : Subqueue) (url : List ℕ) (sender : ℕ) → ShowsQueue kept queue → ShowsQueue (accepting kept url sender) (after_accepting queue (next_message queue sender url))
 accepted_shows kept queue url sender shown =
@@ -98,7 +98,7 @@ accepted_shows kept queue url sender shown =
       waits =
           let past : drop queue.taken (queue.accepted ++ message ∷ []) ≡ drop queue.taken queue.accepted ++ message ∷ [] = drop-append-le queue.taken queue.accepted (message ∷ []) shown.within in
           rw (past, map-append, shown.waits) refl;
-      seen = λ u. rw (list_any-insert_key by_hash_total u url kept.seen, shown.seen u, sym (by_hash_ties u url), list_any-append, nat_list_eq_equiv.symm u url) (or_none (bytes_eq url u) (has_url queue.accepted u));
+      seen = rw (shown.seen, map-append) refl;
       numbers = λ s.
           rw (lookup-insert_entry nat_cmp_total s sender (suc (number_at kept.numbers sender)) kept.numbers, sum_by_push (λ (m : Message). cond (nat_eq m.sender s) 1 0) queue.accepted message, is_at_number s sender)
           (numbered (nat_eq sender s) (lookup (is_at (nat_cmp s)) kept.numbers) (number_at kept.numbers sender) (count_from queue.accepted s) (shown.numbers s) (λ same. shown.numbers sender ∙ ap (count_from queue.accepted) (eqb-true sender s same)));
@@ -160,7 +160,7 @@ admit_agrees queues state shown sender url place None None both = unchanged queu
 admit_agrees queues state shown sender url place None (Some queue) both = absurd both
 admit_agrees queues state shown sender url place (Some kept) None both = absurd both
 admit_agrees queues state shown sender url place (Some kept) (Some queue) both =
-    rw (both.seen url)
+    rw (seen_shows kept queue url both)
     (agrees_if (not (holds state.gate sender)) _ _ _ _ (unchanged queues state shown (told.Refused why.Nothing))
     (agrees_if (has_url queue.accepted url) _ _ _ _ (unchanged queues state shown told.Seen)
     (record {
@@ -233,5 +233,5 @@ IfOk-weaker (Err e) P Q weaker p = tt
 pub shows_start : (workers max : ℕ) → Shows (record { gate = new_gate max; queues = replicate workers empty_queue }) (start workers max)
 shows_start workers max = record {
   gate = refl;
-  queues = AllZip-replicate ShowsQueue workers empty_queue empty_subqueue (record { waits = refl; seen = λ url. refl; numbers = λ sender. refl; busy = refl; begun = omega arith; within = omega arith });
+  queues = AllZip-replicate ShowsQueue workers empty_queue empty_subqueue (record { waits = refl; seen = refl; numbers = λ sender. refl; busy = refl; begun = omega arith; within = omega arith });
 }

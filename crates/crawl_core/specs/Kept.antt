@@ -1,18 +1,17 @@
--- What the machine keeps of a state: the gate's half as it is, and of each subqueue queues, sets and maps in place of lists
--- that grow for good.
-use Rattle.std.specs.Prelude.{◌≡◌, ℕ, ◌+◌, ◌≤◌, Bool, false, List, [], length, unwrap_or}
+-- What the machine keeps of a state: the gate's half as it is, and of each subqueue what waits, what it ever accepted, and a
+-- map of numbers in place of messages.
+use Rattle.std.specs.Prelude.{◌≡◌, ℕ, ◌+◌, ◌≤◌, Bool, false, List, [], length, unwrap_or, bytes_eq}
 use Rattle.std.specs.List.{sum_by, list_any}
 use Rattle.std.specs.Ordering.{nat_cmp}
 use Rattle.std.specs.BTreeMap.{is_at}
 use Rattle.std.specs.Map.{lookup}
-use Rattle.hash_order.specs.HashOrder.{by_hash}
 use Rattle.crawl_core.specs.declared.word.Word.{Word}
 use Rattle.crawl_core.specs.Flags.{one_if}
 use Rattle.crawl_core.specs.Limits.{pending_limit}
 use Rattle.crawl_core.specs.GateSide.{GateSide, units_out, shown_word}
 
--- of a subqueue: the URLs that wait, oldest first; those that it ever accepted, in the order of their hashes; how many of
--- each sender it accepted, by ascending sender; whether the one taken last is not done yet
+-- of a subqueue: the URLs that wait, oldest first; those that it ever accepted, oldest first; how many of each sender it
+-- accepted, by ascending sender; whether the one taken last is not done yet
 pub record KeptQueue : Type 0 where
   pub waiting : List (List ℕ)
   pub seen : List (List ℕ)
@@ -42,9 +41,13 @@ kept_count kept = units_out kept.gate (outstanding_in kept)
 abbrev pub kept_word : Kept → Word
 kept_word kept = shown_word kept.gate (outstanding_in kept)
 
+-- whether the URL is one of the texts
+abbrev pub has_text : List (List ℕ) → List ℕ → Bool
+has_text texts url = list_any (λ text. bytes_eq text url) texts
+
 -- whether the subqueue accepted the URL
 abbrev pub has_seen : KeptQueue → List ℕ → Bool
-has_seen queue url = list_any (is_at (by_hash url)) queue.seen
+has_seen queue url = has_text queue.seen url
 
 -- how many of the sender it accepted
 abbrev pub number_at : List (ℕ × ℕ) → ℕ → ℕ

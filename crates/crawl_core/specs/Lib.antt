@@ -4,6 +4,7 @@ pub mod GateSide
 pub mod History
 pub mod Invariants
 pub mod Kept
+pub mod Known
 pub mod Limits
 pub mod Messages
 pub mod Moves

@@ -3,8 +3,6 @@
 use Rattle.std.specs.Prelude.{◌≡◌, ℕ, suc, true, false, not, List, [], ◌∷◌, ◌++◌, slice_get, slice_set, if◌then◌else◌, Option, Some, None}
 use Rattle.std.specs.Ordering.{nat_cmp}
 use Rattle.std.specs.BTreeMap.{insert_entry}
-use Rattle.std.specs.BTreeSet.{insert_key}
-use Rattle.hash_order.specs.HashOrder.{by_hash}
 use Rattle.crawl_core.specs.declared.event.Event.{Event}
 use Rattle.crawl_core.specs.declared.event.Event.TheVariants.{Look, Enter, Admit, Back, EndSeeds, Take, Done, Close}
 use Rattle.crawl_core.specs.declared.reply.Reply.{Reply}
@@ -35,7 +33,7 @@ with_queue kept place queue = record kept { queues = slice_set kept.queues place
 abbrev pub accepting : KeptQueue → List ℕ → ℕ → KeptQueue
 accepting queue url sender = record queue {
   waiting = queue.waiting ++ url ∷ [];
-  seen = insert_key by_hash queue.seen url;
+  seen = queue.seen ++ url ∷ [];
   numbers = insert_entry nat_cmp queue.numbers sender (suc (number_at queue.numbers sender));
 }
 

@@ -12,6 +12,7 @@ mod runs;
 #[cfg(test)]
 mod tests;
 mod text;
+mod url_places;
 mod url_queue;
 mod url_queues;
 mod word;

@@ -3,6 +3,7 @@ ghost use Rattle.std.specs.Prelude.{◌≡◌, Some, refl, IfOk};
 ghost use Rattle.std.specs.Str.{bytes_eq};
 ghost use Rattle.std.specs.Cmp.{partial_equiv_from_equiv};
 ghost use Rattle.std.specs.Cmp.Lexicographic.{nat_list_eq_equiv};
+ghost use Rattle.hash_order.specs.HashOrder as spec;
 ghost use Rattle.hash_order.specs.HashOrder.{by_hash, by_hash_total, by_hash_ties, by_hash_po};
 
 use crate::error::NoMemory;
@@ -46,6 +47,13 @@ impl Text {
             hash: hash_of(text),
             text: ArcStr::from_str(alloc, text)?,
         })
+    }
+
+    /// The hash of the text, which is kept beside it.
+    pub(crate) fn hash(&self) -> u64
+        ensures { result ≡ spec.hash_of self.now }
+    {
+        self.hash
     }
 
     /// The text itself.

@@ -5,8 +5,9 @@ ghost use Rattle.crawl_core.specs.Moves.{accepting};
 
 use crate::error::NoMemory;
 use crate::text::Text;
-use std::alloc::{AllocError, Global};
-use std::collections::{BTreeMap, BTreeSet, VecDeque};
+use crate::url_places::UrlPlaces;
+use std::alloc::Global;
+use std::collections::{BTreeMap, VecDeque};
 use std::marker::Model;
 
 /// A queue of URLs that wait, and what it has to remember of those that it accepted.
@@ -14,8 +15,10 @@ use std::marker::Model;
 pub struct UrlQueue {
     /// Oldest first.
     waiting: VecDeque<Text>,
-    /// All that were ever accepted.
-    seen: BTreeSet<Text>,
+    /// All that were ever accepted, oldest first.
+    seen: Vec<Text>,
+    /// Where each of these stands.
+    places: UrlPlaces,
     /// How many of each sender were accepted.
     numbers: BTreeMap<u64, u64>,
     /// The one taken last is not done yet.
@@ -24,12 +27,13 @@ pub struct UrlQueue {
 
 impl Model for UrlQueue {
     ghost use Rattle.crawl_core.specs.Kept.{KeptQueue, AreFew};
+    ghost use Rattle.crawl_core.specs.Known.{KnowsEach};
 
     ghost Value = { KeptQueue };
 
-    ghost view = { λ q. record { waiting = q.waiting.items; seen = q.seen.keys; numbers = q.numbers.entries; busy = q.busy } };
+    ghost view = { λ q. record { waiting = q.waiting.items; seen = q.seen.items; numbers = q.numbers.entries; busy = q.busy } };
 
-    ghost invariant = { λ q. AreFew (record { waiting = q.waiting.items; seen = q.seen.keys; numbers = q.numbers.entries; busy = q.busy }) };
+    ghost invariant = { λ q. AreFew (record { waiting = q.waiting.items; seen = q.seen.items; numbers = q.numbers.entries; busy = q.busy }) × KnowsEach q.places q.seen.items };
 }
 
 impl UrlQueue {
@@ -39,7 +43,8 @@ impl UrlQueue {
     {
         UrlQueue {
             waiting: VecDeque::new(alloc),
-            seen: BTreeSet::new(alloc),
+            seen: Vec::new(alloc),
+            places: UrlPlaces::new(alloc),
             numbers: BTreeMap::new(alloc),
             busy: false,
         }
@@ -55,27 +60,25 @@ impl UrlQueue {
     pub fn has_seen(&self, url: &Text) -> bool
         ensures { result ≡ has_seen self.now url.now }
     {
-        self.seen.contains(url)
+        self.places.has(&self.seen, url)
     }
 
     /// Puts a URL that was never accepted here to the end, and answers how many of the sender came before it.
-    #[tactic(auto, using(crate::proofs::Sets::take_out_text))]
     pub fn accept(&mut self, url: &Text, sender: u64) -> Result<u64, NoMemory>
         requires { has_seen self.old url.now ≡ false }
         ensures number { IfOk result (λ number. number ≡ number_at self.old.numbers sender) }
         ensures accepted { IfOk result (λ _. self.new ≡ accepting self.old url.now sender) }
         ensures err { OnErr result (self.new ≡ self.old) }
     {
-        let _few = self.seen.len();
         let waits = url.clone()?;
         let known = url.clone()?;
         self.waiting.reserve(1)?;
+        self.seen.reserve(1)?;
+        let alloc = *self.seen.allocator();
+        self.places.note(alloc, &self.seen, url)?;
         let number = self.numbers.get(&sender).copied().unwrap_or(0);
-        self.seen.insert(known)?;
-        if self.numbers.insert(sender, number + 1).is_err() {
-            self.seen.remove(url);
-            return Err(AllocError);
-        }
+        self.numbers.insert(sender, number + 1)?;
+        self.seen.push_reserved(known);
         self.waiting.push_back_reserved(waits);
         Ok(number)
     }

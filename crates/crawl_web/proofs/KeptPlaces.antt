@@ -1,17 +1,16 @@
 -- Places of pages that are kept, and what is found by them.
 use Rattle.std.proofs.Common.{◌≡◌, ◌⊎◌, inl, inr, ℕ, zero, suc, ◌+◌, ◌<◌, ◌≤◌, Bool, true, false, List, [], ◌∷◌, ◌++◌, length, take, get_or, slice_get, Option, Some, None, IfSome, is_some, refl, sym, ap, subst, ◌∙◌, arith, suc-le-suc, zero-le}
-use Rattle.std.specs.BTreeMap.{get, get_by_text}
 use Rattle.std.specs.Bool.{if◌then◌else◌}
 use Rattle.std.specs.Borrow.{Bor}
-use Rattle.std.specs.Ordering.{nat_cmp}
 use Rattle.std.specs.Str.{bytes_eq}
 use Rattle.std.proofs.lemmas.Bool.{both_ways, false_from_ne_true}
 use Rattle.std.proofs.lemmas.List.{take_more, length-take-le}
 use Rattle.std.proofs.lemmas.Option.{slice_get_read, get_or_from_slice_get}
 use Rattle.std.proofs.lemmas.Slice.Eq.{bytes_eq-Decides}
+use Rattle.hash_order.specs.HashOrder.{hash_of}
 use Rattle.hash_order.specs.Hints.{IsHinted}
 use Rattle.crawl_web.specs.PageLists.{PageRead, page_with, has, AreApart}
-use Rattle.crawl_web.specs.PagePlaces.{is_this, stands_at, IsKept, AreKept}
+use Rattle.crawl_web.specs.PagePlaces.{is_this, stands_at, IsInMaps, IsKept, AreKept}
 use Rattle.crawl_web.specs.declared.saved_web.places.Places.{Places}
 
 same_text : (u v : List ℕ) → bytes_eq u v ≡ true → u ≡ v
@@ -22,11 +21,14 @@ text_itself u = (bytes_eq-Decides u u).1 refl
 
 -- ---- what stays kept
 
--- no place of another URL is lost
-pub stays : (old new : Places) (url : List ℕ) (k : ℕ) → ((hash j : ℕ) → IsHinted old.hints hash j → IsHinted new.hints hash j) → ((hash j : ℕ) → get nat_cmp old.others hash ≡ Some j → get nat_cmp new.others hash ≡ Some j) → (get_by_text old.twins url ≡ Some k → get_by_text new.twins url ≡ Some k) → IsKept old url k → IsKept new url k
-stays old new url k hints others twins (inl hint) = inl (hints _ k hint)
-stays old new url k hints others twins (inr (inl at)) = inr (inl (others _ k at))
-stays old new url k hints others twins (inr (inr at)) = inr (inr (twins at))
+-- a place that is lost neither by the hints nor by the maps
+pub stays : (old new : Places) (url : List ℕ) (k : ℕ) → (IsHinted old.hints (hash_of url) k → IsHinted new.hints (hash_of url) k) → (IsInMaps old url k → IsInMaps new url k) → IsKept old url k → IsKept new url k
+stays old new url k hints maps (inl hint) = inl (hints hint)
+stays old new url k hints maps (inr at) = inr (maps at)
+
+-- the same, where the hints are the same
+pub stays_by_hints : (old new : Places) (url : List ℕ) (k : ℕ) → new.hints ≡ old.hints → (IsInMaps old url k → IsInMaps new url k) → IsKept old url k → IsKept new url k
+stays_by_hints old new url k same maps kept = stays old new url k (subst (λ hints. IsHinted hints (hash_of url) k) (sym same)) maps kept
 
 -- ---- pages by their places
 
@@ -169,13 +171,28 @@ slice_get_take (suc n) [] k x at = absurd (cc)
 slice_get_take (suc n) (y ∷ ys) zero x at = (suc-le-suc zero-le, at)
 slice_get_take (suc n) (y ∷ ys) (suc k) x at = let more = slice_get_take n ys k x at in (suc-le-suc more.0, more.1)
 
+-- a page that is read at a place
+pub at_place : (pages : List PageRead) (i : ℕ) (page : PageRead) → i < length pages → page ≡ get_or pages i page → slice_get pages i ≡ Some page
+at_place pages i page below is = slice_get_read pages (length pages) i page refl below is
+
 pub keeps_taken : (pages : List PageRead) (i : ℕ) (page : PageRead) (old new : Places) → i < length pages → page ≡ get_or pages i page → AreApart pages → IsKept new page.url i → ((other : List ℕ) (j : ℕ) → bytes_eq page.url other ≡ false → IsKept old other j → IsKept new other j) → AreKept (take i pages) old → AreKept (take (i + 1) pages) new
 keeps_taken pages i page old new below is apart own others kept =
     let more : take (i + 1) pages ≡ take i pages ++ page ∷ [] = take_more pages i page below ∙ ap (λ x. take i pages ++ x ∷ []) (sym is) in
     let within : i ≤ length pages = omega (arith, below) in
-    let here : slice_get pages i ≡ Some page = slice_get_read pages (length pages) i page refl below is in
+    let here : slice_get pages i ≡ Some page = at_place pages i page below is in
     let differs : (j : ℕ) (x : PageRead) → slice_get (take i pages) j ≡ Some x → bytes_eq page.url x.url ≡ false =
     λ j x at. let first = slice_get_take i pages j x at in false_from_ne_true _ (λ same.
     let place : i ≡ j = apart i j page x here first.1 (same_text page.url x.url same) in
     omega (arith, place, first.0)) in
     subst (λ ps. AreKept ps new) (sym more) (AreKept-push (take i pages) page old new i (sym (length-take-le i pages within)) differs own others kept)
+
+-- all pages keep their places, where one of them does and those of other URLs do
+pub keeps_each : (pages : List PageRead) (i : ℕ) (page : PageRead) (old new : Places) → slice_get pages i ≡ Some page → AreApart pages → (IsKept old page.url i → IsKept new page.url i) → ((other : List ℕ) (j : ℕ) → bytes_eq page.url other ≡ false → IsKept old other j → IsKept new other j) → AreKept pages old → AreKept pages new
+keeps_each pages i page old new here apart own others kept k x at = by_url (bytes_eq page.url x.url) refl
+  where
+    by_url : (b : Bool) → bytes_eq page.url x.url ≡ b → IsKept new x.url k
+    by_url false differs = others x.url k differs (kept k x at)
+    by_url true is =
+        let same : page.url ≡ x.url = same_text page.url x.url is in
+        let place : i ≡ k = apart i k page x here at same in
+        subst (λ j. IsKept new x.url j) place (subst (λ u. IsKept new u i) same (own (kept i page here)))

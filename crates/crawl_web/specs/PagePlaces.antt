@@ -17,11 +17,17 @@ is_this (Some page) url = bytes_eq page.url url
 abbrev pub stands_at : List PageRead → ℕ → List ℕ → Bool
 stands_at pages place url = is_this (slice_get pages place) url
 
--- the place is kept for the URL: in a slot of its hash, or in the map of hashes, or in that of texts
+-- the place is kept for the URL in the map of hashes, or in that of texts
+abbrev pub IsInMaps : Places → List ℕ → ℕ → Type 0
+IsInMaps places url place = (get nat_cmp places.others (hash_of url) ≡ Some place) ⊎ (get_by_text places.twins url ≡ Some place)
+
+-- the place is kept for the URL: in a slot of its hash, or in one of the maps
 abbrev pub IsKept : Places → List ℕ → ℕ → Type 0
-IsKept places url place =
-    IsHinted places.hints (hash_of url) place
-    ⊎ ((get nat_cmp places.others (hash_of url) ≡ Some place) ⊎ (get_by_text places.twins url ≡ Some place))
+IsKept places url place = IsHinted places.hints (hash_of url) place ⊎ IsInMaps places url place
+
+-- the maps of these places, beside other hints
+abbrev pub with_hints : Places → List ℕ → Places
+with_hints places hints = record { hints = hints; others = places.others; twins = places.twins }
 
 -- the place of each page is kept for its URL
 abbrev pub AreKept : List PageRead → Places → Type 0

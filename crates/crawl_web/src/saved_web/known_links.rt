@@ -3,6 +3,7 @@ ghost use Rattle.std.specs.Prelude.{◌≡◌, [], IfSome};
 ghost use Rattle.std.specs.List.{Contains};
 ghost use Rattle.crawl_web.specs.KnownLinks.{MayAdd};
 
+use crate::saved_web::places::is_hinted;
 use crawl_keys::CanonUrl;
 use hash_order::{HINTS, HashedText, Hints, hash_of};
 use std::alloc::{AllocError, Global};
@@ -140,7 +141,19 @@ impl<'a> KnownLinks<'a> {
         if place < self.places.hints.capacity() {
             return self.places.add(text, hash, place);
         }
-        self.places = places_of(alloc, &self.links)?;
+        self.grow(alloc)
+    }
+
+    /// Makes room for as many more. What is in the map stays there: texts that were picked to collide are nearly all in it, and
+    /// would else be sorted at each growth.
+    fn grow(&mut self, alloc: Global) -> Result<(), AllocError>
+        ensures { self.new ≡ self.old }
+    {
+        let mut hints = Hints::new(alloc, self.links.len().saturating_mul(2))?;
+        for (place, known) in self.links.iter().enumerate() {
+            self.places.keep_anew(&mut hints, known.text, place)?;
+        }
+        self.places.hints = hints;
         Ok(())
     }
 }
@@ -152,16 +165,22 @@ impl<'a> Places<'a> {
         }
         Ok(())
     }
-}
 
-/// The places of all texts, with room for as many more.
-fn places_of<'a>(alloc: Global, links: &[KnownLink<'a>]) -> Result<Places<'a>, AllocError> {
-    let mut places = Places {
-        hints: Hints::new(alloc, links.len().saturating_mul(2))?,
-        others: BTreeMap::new(alloc),
-    };
-    for (place, known) in links.iter().enumerate() {
-        places.add(known.text, hash_of(known.text), place)?;
+    /// Keeps a place in other hints, which are to take the place of these, or where they have no vacant slot, in the map. What is
+    /// neither hinted at nor past the capacity is in the map already.
+    fn keep_anew(
+        &mut self,
+        hints: &mut Hints,
+        text: &'a str,
+        place: usize,
+    ) -> Result<(), AllocError> {
+        let hash = hash_of(text);
+        if hints.keep(hash, place) {
+            return Ok(());
+        }
+        if self.hints.capacity() <= place || is_hinted(&self.hints, hash, place) {
+            self.others.insert(HashedText::from(text), place)?;
+        }
+        Ok(())
     }
-    Ok(places)
 }

@@ -95,7 +95,7 @@ impl<'a> Pages<'a> {
         let count = self.list.len();
         if self.places.capacity() <= count {
             let more = count.saturating_mul(2).max(FIRST_PAGES);
-            self.places = places_of(alloc, &self.list, more)?;
+            grow(alloc, &self.list, &mut self.places, more)?;
         }
         Ok(())
     }
@@ -121,16 +121,23 @@ impl<'a> Pages<'a> {
     }
 }
 
-/// The places of these pages, with room for so many.
-fn places_of(alloc: Global, list: &[KnownPage<'_>], count: usize) -> Result<Places, AllocError>
-    requires { AreApart list.now }
-    ensures { IfOk result (λ places. AreKept list.now places) }
+/// Makes room for so many places. After an error the places are kept as before.
+fn grow(
+    alloc: Global,
+    list: &[KnownPage<'_>],
+    places: &mut Places,
+    count: usize,
+) -> Result<(), AllocError>
+    requires apart { AreApart list.now }
+    requires kept { AreKept list.now places.old }
+    ensures { AreKept list.now places.new }
 {
-    let mut places = Places::with_capacity(alloc, count)?;
+    let mut hints = Hints::new(alloc, count)?;
     for (place, page) in list.iter().enumerate() {
-        places.keep(alloc, page.hash(), page.url(), place)?;
+        places.keep_anew(alloc, &mut hints, page.hash(), page.url(), place)?;
     }
-    Ok(places)
+    places.hints = hints;
+    Ok(())
 }
 
 /// The place of a page with the URL, whose text has the hash.

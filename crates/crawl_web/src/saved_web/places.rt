@@ -4,9 +4,10 @@ ghost use Rattle.std.specs.BTreeMap.{get, get_by_text};
 ghost use Rattle.std.specs.Ordering.{nat_cmp};
 ghost use Rattle.std.specs.Str.{bytes_eq};
 ghost use Rattle.hash_order.specs.HashOrder.{hash_of};
-ghost use Rattle.crawl_web.specs.PagePlaces.{IsKept};
+ghost use Rattle.hash_order.specs.Hints.{IsHinted};
+ghost use Rattle.crawl_web.specs.PagePlaces.{IsInMaps, IsKept, with_hints};
 
-use hash_order::Hints;
+use hash_order::{HINTS, Hints};
 use std::alloc::{AllocError, Global};
 use std::collections::BTreeMap;
 
@@ -35,15 +36,6 @@ impl Places {
         }
     }
 
-    /// No place, and room for so many.
-    pub fn with_capacity(alloc: Global, count: usize) -> Result<Places, AllocError> {
-        Ok(Places {
-            hints: Hints::new(alloc, count)?,
-            others: BTreeMap::new(alloc),
-            twins: BTreeMap::new(alloc),
-        })
-    }
-
     /// For how many places there is room. With more, fewer and fewer find a slot.
     pub fn capacity(&self) -> usize {
         self.hints.capacity()
@@ -65,11 +57,66 @@ impl Places {
         if self.hints.keep(hash, place) {
             return Ok(());
         }
+        self.keep_in_maps(alloc, hash, url, place)
+    }
+
+    /// Keeps the place in other hints, which are to take the place of these, or where they have no vacant slot, in the maps. What
+    /// is not hinted at is in the maps already, and stays there: URLs that were picked to collide are nearly all in them, and
+    /// would else be copied at each growth.
+    pub fn keep_anew(
+        &mut self,
+        alloc: Global,
+        hints: &mut Hints,
+        hash: u64,
+        url: &str,
+        place: usize,
+    ) -> Result<(), AllocError>
+        requires { hash ≡ hash_of url.now }
+        ensures own { IfOk result (λ _. IsKept self.old url.now place → IsKept (with_hints self.new hints.new) url.now place) }
+        ensures others { (other : List ℕ) (k : ℕ) → bytes_eq url.now other ≡ false → IsKept (with_hints self.old hints.old) other k → IsKept (with_hints self.new hints.new) other k }
+        // By the hints that are there too each place stays kept, whatever comes of it.
+        ensures own_before { IsKept self.old url.now place → IsKept self.new url.now place }
+        ensures others_before { (other : List ℕ) (k : ℕ) → bytes_eq url.now other ≡ false → IsKept self.old other k → IsKept self.new other k }
+    {
+        if hints.keep(hash, place) || !is_hinted(&self.hints, hash, place) {
+            return Ok(());
+        }
+        self.keep_in_maps(alloc, hash, url, place)
+    }
+
+    /// Keeps the place in the maps.
+    fn keep_in_maps(
+        &mut self,
+        alloc: Global,
+        hash: u64,
+        url: &str,
+        place: usize,
+    ) -> Result<(), AllocError>
+        requires { hash ≡ hash_of url.now }
+        ensures hints { self.new.hints ≡ self.old.hints }
+        ensures own { IfOk result (λ _. IsInMaps self.new url.now place) }
+        ensures others { (other : List ℕ) (k : ℕ) → bytes_eq url.now other ≡ false → IsInMaps self.old other k → IsInMaps self.new other k }
+    {
         if keep_hash(&mut self.others, hash, place)? {
             return Ok(());
         }
         keep_text(alloc, &mut self.twins, url, place)
     }
+}
+
+/// Whether a slot of the hash hints at the place.
+pub fn is_hinted(hints: &Hints, hash: u64, place: usize) -> bool
+    ensures hinted { result ≡ true → IsHinted hints.now hash place }
+    ensures not_hinted { result ≡ false → IsHinted hints.now hash place → ⊥ }
+{
+    for number in 0..HINTS {
+        if let Some(hinted) = hints.hint(hash, number) {
+            if hinted == place {
+                return true;
+            }
+        }
+    }
+    false
 }
 
 /// Keeps the place under the hash, unless another is there, and tells whether it did.

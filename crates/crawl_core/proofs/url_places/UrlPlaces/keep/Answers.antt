@@ -1,0 +1,10 @@
+use Rattle.std.proofs.Common.{sym, subst}
+use Rattle.hash_order.specs.Hints.{IsHinted}
+use Rattle.crawl_core.proofs.Knowing.{known_still}
+use Rattle.crawl_core.proofs.url_places.UrlPlaces.keep.Goals as goal
+
+pub returns-clause-others : goal.returns-clause-others
+returns-clause-others c =
+    known_still c.args.self.now c.keep_beside.new.self c.args.url.now
+    (λ hash k hint. subst (λ table. IsHinted table hash k) (sym c.keep_beside.ensures.hints) (c.keep.ensures.others hash k hint))
+    c.keep_beside.ensures.others
