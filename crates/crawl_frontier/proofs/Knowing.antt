@@ -1,5 +1,5 @@
 -- Which URLs of a list are known at a place, as places are kept and the list grows.
-use Rattle.std.proofs.Common.{◌≡◌, inl, inr, ℕ, zero, suc, ◌<◌, Bool, true, false, cond, List, [], ◌∷◌, ◌++◌, length, Option, Some, None, sym, ap, subst, ◌∙◌}
+use Rattle.std.proofs.Common.{◌≡◌, inl, inr, ℕ, zero, suc, ◌<◌, Bool, true, false, cond, List, [], ◌∷◌, ◌++◌, ◌+◌, length, take, Option, Some, None, refl, sym, ap, subst, ◌∙◌}
 use Rattle.std.specs.Prelude.{bytes_eq}
 use Rattle.std.specs.BTreeMap.{BTreeMap, get, Updates}
 use Rattle.std.proofs.lemmas.Bool.{cases_Bool, both_ways, false_from_ne_true, cond-false, or_left, or_right}
@@ -85,3 +85,55 @@ knows_still p q es url knows none others other has =
     let at = knows other has in
     let differs : bytes_eq url other ≡ false = false_from_ne_true _ (λ same. both_ways _ (subst (λ u. has_url u es ≡ false) ((bytes_eq-Decides url other).0 same) none) has) in
     (at.0, others other at.0 differs at.1, at.2)
+
+-- ---- as the table grows
+
+-- each URL among so many first entries is known at a place where it stands in the list
+abbrev pub KnowsFirst : Places → List Entry → ℕ → Type 0
+KnowsFirst places all count = (url : List ℕ) → has_url url (take count all) ≡ true → (k : ℕ) × IsKnown places url k × (leads_to all (Some k) url ≡ true)
+
+leads_on : (es : List Entry) (n k : ℕ) (url : List ℕ) → leads_to (take n es) (Some k) url ≡ true → leads_to es (Some k) url ≡ true
+leads_on [] zero k url leads = absurd (cc (leads))
+leads_on [] (suc n) k url leads = absurd (cc (leads))
+leads_on (x ∷ xs) zero k url leads = absurd (cc (leads))
+leads_on (x ∷ xs) (suc n) zero url leads = leads
+leads_on (x ∷ xs) (suc n) (suc k) url leads = leads_on xs n k url leads
+
+-- the entry that comes next stands at its place
+pub stands_here : (all : List Entry) (i : ℕ) (e : Entry) → i ≡ length (take i all) → take i all ++ e ∷ [] ≡ take (i + 1) all → leads_to all (Some i) e.url ≡ true
+stands_here all i e long more =
+    let last : leads_to (take i all ++ e ∷ []) (Some (length (take i all))) e.url ≡ true = ap (λ o. has_that o e.url) (get_last (take i all) e) ∙ (bytes_eq-Decides e.url e.url).1 refl in
+    leads_on all (i + 1) i e.url (subst (λ n. leads_to (take (i + 1) all) (Some n) e.url ≡ true) (sym long) (subst (λ es. leads_to es (Some (length (take i all))) e.url ≡ true) more last))
+
+-- a URL that no hint of the table leads to is in the map
+pub in_map : (places : Places) (all : List Entry) (url : List ℕ) → KnowsEach places all → has_url url all ≡ true
+    → ((i : ℕ) → i < 4 → leads_to all (hint_at places.hints (hash_of url) i) url ≡ false)
+    → (k : ℕ) × (get by_hash places.others url ≡ Some k) × (leads_to all (Some k) url ≡ true)
+in_map places all url knows has no_hint = let at = knows url has in by_place at.0 at.1 at.2
+  where
+    by_place : (k : ℕ) → IsKnown places url k → leads_to all (Some k) url ≡ true → (k : ℕ) × (get by_hash places.others url ≡ Some k) × (leads_to all (Some k) url ≡ true)
+    by_place k (inl hint) leads = absurd (both_ways _ (subst (λ (guess : Option ℕ). leads_to all guess url ≡ false) hint.2 (no_hint hint.0 hint.1)) leads)
+    by_place k (inr kept) leads = (k, kept, leads)
+
+-- one entry more is known
+pub knows_first : (p q : Places) (all : List Entry) (i : ℕ) (e : Entry) → take i all ++ e ∷ [] ≡ take (i + 1) all → KnowsFirst p all i
+    → (k : ℕ) × IsKnown q e.url k × (leads_to all (Some k) e.url ≡ true)
+    → ((other : List ℕ) (k : ℕ) → bytes_eq e.url other ≡ false → IsKnown p other k → IsKnown q other k) → KnowsFirst q all (i + 1)
+knows_first p q all i e more knows own others url has = elim (cases_Bool (bytes_eq e.url url)) [
+  | inl same ↦ subst (λ u. (k : ℕ) × IsKnown q u k × (leads_to all (Some k) u ≡ true)) ((bytes_eq-Decides e.url url).0 same) own
+  | inr differs ↦
+      let before : has_url url (take i all ++ e ∷ []) ≡ true = subst (λ es. has_url url es ≡ true) (sym more) has in
+      let at = knows url (sym (cond-false _ _ _ differs) ∙ sym (has_url-snoc url (take i all) e) ∙ before) in
+      (at.0, others url at.0 differs at.1, at.2)
+]
+
+-- a URL of the list is written in the map at a place where it stands
+pub knows_written : (p q : Places) (all : List Entry) (url : List ℕ) (place : ℕ) → KnowsEach p all → q.hints ≡ p.hints
+    → get by_hash q.others url ≡ Some place → leads_to all (Some place) url ≡ true
+    → ((other : List ℕ) → bytes_eq url other ≡ false → get by_hash q.others other ≡ get by_hash p.others other) → KnowsEach q all
+knows_written p q all url place knows hints written leads others other has = elim (cases_Bool (bytes_eq url other)) [
+  | inl same ↦ subst (λ u. (k : ℕ) × IsKnown q u k × (leads_to all (Some k) u ≡ true)) ((bytes_eq-Decides url other).0 same) (place, inr written, leads)
+  | inr differs ↦
+      let at = knows other has in
+      (at.0, known_still p q url (λ hash k hint. subst (λ h. IsHinted h hash k) (sym hints) hint) others other at.0 differs at.1, at.2)
+]

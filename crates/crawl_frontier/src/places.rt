@@ -1,7 +1,10 @@
 //! Where a shard's URLs stand in its list of entries.
-ghost use Rattle.std.specs.Prelude.{◌≡◌, ℕ, List, [], false, OnOk, IfOk, IfSome, is_some, length, slice_get, bytes_eq};
+ghost use Rattle.std.specs.Prelude.{◌≡◌, ◌<◌, ℕ, List, [], false, OnOk, OnErr, IfSome, is_some, length, Some, bytes_eq};
 ghost use Rattle.crawl_frontier.specs.Entries.{has_url};
 ghost use Rattle.crawl_frontier.specs.Accounts.{At};
+ghost use Rattle.std.specs.BTreeMap.{get};
+ghost use Rattle.hash_order.specs.HashOrder.{hash_of, by_hash};
+ghost use Rattle.hash_order.specs.Hints.{hint_at};
 ghost use Rattle.crawl_frontier.specs.Tables.{leads_to, IsKnown, KnowsEach};
 
 use crate::entry::Entry;
@@ -65,8 +68,9 @@ impl Places {
         self.keep(url, list.len())
     }
 
-    // Makes a table of twice as many slots, with each place kept anew, where the list is as long as the table is for. All
-    // such growths together keep at most two places for each entry. Where one is refused, the table is as before.
+    // Makes a table of twice as many slots, where the list is as long as the table is for. The map stays, since what it has
+    // would be dear to put in anew: only a place that was hinted at goes there, if the new table has no slot for it. Where
+    // memory is refused, the table is as before.
     fn grow(&mut self, alloc: Global, list: &[Entry]) -> Result<(), AllocError>
         requires { KnowsEach self.old list.now }
         ensures { KnowsEach self.new list.now }
@@ -74,8 +78,27 @@ impl Places {
         if list.len() < self.hints.capacity() {
             return Ok(());
         }
-        *self = places_of(alloc, list, list.len().saturating_mul(2))?;
+        let mut hints = Hints::new(alloc, list.len().saturating_mul(2))?;
+        for (place, entry) in list.iter().enumerate() {
+            let hinted = hints.keep(entry.url.text_hash(), place);
+            if !hinted && self.is_hinted(list, &entry.url) {
+                self.keep_beside(&entry.url, place)?;
+            }
+        }
+        self.hints = hints;
         Ok(())
+    }
+
+    // Whether a hint leads to the URL.
+    fn is_hinted(&self, list: &[Entry], url: &CanonUrl) -> bool
+        ensures { result ≡ false → (i : ℕ) → i < 4 → leads_to list.now (hint_at self.now.hints (hash_of url.now) i) url.now ≡ false }
+    {
+        for number in 0..HINTS {
+            if entry_at(list, self.hints.hint(url.text_hash(), number), url).is_some() {
+                return true;
+            }
+        }
+        false
     }
 
     // Keeps the place of a URL.
@@ -86,6 +109,16 @@ impl Places {
         if self.hints.keep(url.text_hash(), place) {
             return Ok(());
         }
+        self.keep_beside(url, place)
+    }
+
+    // Keeps the place of a URL in the map.
+    fn keep_beside(&mut self, url: &CanonUrl, place: usize) -> Result<(), AllocError>
+        ensures hints { self.new.hints ≡ self.old.hints }
+        ensures own { OnOk result (get by_hash self.new.others url.now ≡ Some place) }
+        ensures others { (other : List ℕ) → bytes_eq url.now other ≡ false → get by_hash self.new.others other ≡ get by_hash self.old.others other }
+        ensures err { OnErr result ((other : List ℕ) → get by_hash self.new.others other ≡ get by_hash self.old.others other) }
+    {
         let Ok(url) = url.copy() else {
             return Err(AllocError);
         };
@@ -94,20 +127,6 @@ impl Places {
         };
         Ok(())
     }
-}
-
-// The places of all entries, in a table for so many.
-fn places_of(alloc: Global, list: &[Entry], count: usize) -> Result<Places, AllocError>
-    ensures { IfOk result (λ places. KnowsEach places list.now) }
-{
-    let mut places = Places {
-        hints: Hints::new(alloc, count)?,
-        others: BTreeMap::new(alloc),
-    };
-    for (place, entry) in list.iter().enumerate() {
-        places.keep(&entry.url, place)?;
-    }
-    Ok(places)
 }
 
 // The entry where a guess points, if it has the URL.
