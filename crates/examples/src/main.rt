@@ -1,5 +1,8 @@
-//! Runs each example as the program does, and prints those that are not answered by the file that stands beside them.
+//! Runs each example as the program does, and prints those that are not answered by the file that stands beside them; then
+//! crawls long chains.
 #![tactic(auto)]
+
+mod chains;
 
 use mercator::run_words;
 use std::fs::{self, Files};
@@ -22,7 +25,8 @@ fn main(rt: HostRuntime) -> io::Result<()> {
         }
         asked = asked.saturating_add(1);
     }
-    println!(rt; "{asked} examples, {differing} differ")
+    println!(rt; "{asked} examples, {differing} differ")?;
+    chains::crawl_all(&rt)
 }
 
 /// Whether the example is done and writes what its file has.
