@@ -12,8 +12,6 @@ pub mod laws;
 mod lookups;
 mod marks;
 mod missing;
-#[cfg(test)]
-mod tests;
 mod threads;
 
 pub use certificate::{CrawlResult, certify, certify_in_threads, certify_moved};

@@ -9,8 +9,6 @@ mod limits;
 mod machine;
 mod reply;
 mod runs;
-#[cfg(test)]
-mod tests;
 mod text;
 mod url_places;
 mod url_queue;

@@ -1,8 +1,2 @@
+//! What no clause says and no other crate can call; all else is in `crawl_frontier_tests`.
 mod admission;
-mod closing;
-mod crawler;
-mod leaving;
-mod parts;
-mod resting;
-mod rows;
-mod threads;

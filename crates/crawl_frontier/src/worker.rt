@@ -94,7 +94,11 @@ impl<K: Name> Worker<K> {
     /// either, the next call may wait for some microseconds, and each one after it sleeps, for at most 50 ms. It may return
     /// for no reason.
     pub fn rest<R: Wait>(&self, rt: &R, frontier: &Frontier<K>) {
-        let limit = Duration::from_millis(REST_MILLISECONDS);
+        self.rest_for(rt, frontier, Duration::from_millis(REST_MILLISECONDS));
+    }
+
+    /// Rests as [`Worker::rest`] does, and sleeps for at most this long.
+    pub fn rest_for<R: Wait>(&self, rt: &R, frontier: &Frontier<K>, limit: Duration) {
         frontier.subqueue(self.place).rest(rt, limit);
     }
 

@@ -20,6 +20,3 @@ pub use folder::is_of_folder;
 pub use fragment::before_fragment;
 pub use read::{canonical, resolve};
 pub use url_key::UrlKey;
-
-#[cfg(test)]
-mod tests;

@@ -7,8 +7,6 @@ mod numbers;
 mod replay;
 mod replies;
 mod script;
-#[cfg(test)]
-mod tests;
 
 pub use replay::replay_text;
 pub use script::{Script, ScriptError, read_script};

@@ -6,8 +6,6 @@ pub mod laws;
 mod seeds;
 mod sources;
 mod tally;
-#[cfg(test)]
-mod tests;
 
 pub use seeds::{SeedsFault, read_seeds};
 pub use sources::sources_text;

@@ -9,8 +9,6 @@ mod page;
 mod parts;
 mod report;
 mod saved_web;
-#[cfg(test)]
-mod tests;
 
 pub use fetch::{Fetch, FetchError};
 pub use lines::{LINE_LIMIT, LineError, first_line, text_of};

@@ -10,14 +10,13 @@ mod harvest;
 pub mod laws;
 mod met;
 mod run;
-#[cfg(test)]
-mod tests;
 mod threads;
 mod turn;
 mod turns;
 mod worker_end;
 
 pub use error::RunError;
+pub use met::Met;
 pub use run::run_worker;
 pub use threads::run_threads;
 pub use turns::run_turns;

@@ -16,7 +16,7 @@ const MOST_SLOTS: usize = 1 << 22;
 /// A table with two slots for each remainder of a text's hash, for the last two URLs that came there. Others were put out and
 /// are forgotten: such a URL is offered once more. So who picks URLs of one hash makes a worker remember nothing, no more.
 #[derive(Drop)]
-pub(crate) struct Met {
+pub struct Met {
     slots: Vec<Option<CanonUrl>>,
     /// How many were put out since the table has its size.
     put_out: usize,

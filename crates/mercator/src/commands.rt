@@ -12,17 +12,17 @@ ghost use Rattle.mercator.specs.declared.commands.fault.Fault.TheVariants as wro
 mod command_line;
 mod fault;
 mod fault_text;
-pub(crate) mod input;
+mod input;
 mod planned;
 mod queues;
 mod source;
 mod tell;
-pub(crate) mod web_crawl;
+mod web_crawl;
 mod words;
-pub(crate) mod writing;
+mod writing;
 
 pub use fault::Fault;
-pub use input::{INPUT_LIMIT, READ_LIMIT};
+pub use input::{INPUT_LIMIT, InputLimits, READ_LIMIT, Unread, read_input};
 pub use planned::Plan;
 pub use queues::queue_text;
 use std::alloc::Global;
@@ -31,8 +31,9 @@ use std::io::{Read, Write};
 use std::sync::Wait;
 use std::thread::Threads;
 use tell::tell;
-pub use web_crawl::{Report, report_of_saved_web};
+pub use web_crawl::{Report, crawl_saved_web, report_of_saved_web};
 pub use words::{BAD_COMMAND_LINE, PlanError, plan};
+pub use writing::fault_line;
 use writing::{begin, end, tell_fault};
 
 /// Runs the program and answers its status: 0 done, 1 a fault, 2 an incomplete crawl, 3 a bad command line. The words are those

@@ -7,12 +7,11 @@ mod crawling;
 mod key;
 /// What holds of the definitions together.
 pub mod laws;
-#[cfg(test)]
-mod tests;
 
 pub use commands::{
-    BAD_COMMAND_LINE, Fault, INPUT_LIMIT, Plan, PlanError, READ_LIMIT, Report, plan, queue_text,
-    report_of_saved_web, run_plan, run_words,
+    BAD_COMMAND_LINE, Fault, INPUT_LIMIT, InputLimits, Plan, PlanError, READ_LIMIT, Report, Unread,
+    crawl_saved_web, fault_line, plan, queue_text, read_input, report_of_saved_web, run_plan,
+    run_words,
 };
 pub use crawl_replay::{Script, ScriptError, read_script, replay_text};
 pub use crawl_web::LINE_LIMIT;

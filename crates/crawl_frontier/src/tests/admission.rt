@@ -3,10 +3,9 @@ ghost use Rattle.std.specs.Prelude.{◌≡◌};
 ghost use Rattle.crawl_gate.specs.Seat.{IsSeatOf};
 
 use crate::laws::{Admit, UrlKey};
-use crate::tests::parts::urls_of;
 use crate::{Frontier, HOPS_LIMIT, Name, Setup};
 use crawl_gate::{Enter, Pass};
-use crawl_keys::{CanonUrl, Filter};
+use crawl_keys::{CanonUrl, Filter, canonical};
 use std::alloc::Global;
 use std::marker::Brand;
 use std::sync::Wait;
@@ -64,7 +63,12 @@ fn hop_bound_of_shard(rt: HostRuntime) {
     let (Ok(filter), Ok(setup)) = (Filter::new(alloc, &[]), Setup::new(alloc, 1, 9)) else {
         panic!(rt; "out of memory")
     };
-    let urls = urls_of(&rt, alloc, &["http://a.test/", "http://a.test/x"]);
-    let both = admit_both::<Brand, _>(&rt, alloc, setup, &filter, urls.as_slice());
+    let (Ok(one), Ok(other)) = (
+        canonical(alloc, "http://a.test/"),
+        canonical(alloc, "http://a.test/x"),
+    ) else {
+        panic!(rt; "no URL")
+    };
+    let both = admit_both::<Brand, _>(&rt, alloc, setup, &filter, &[one, other]);
     assert!(rt; matches!(both, Some((Admit::Admitted(0), Admit::TooFar(_)))));
 }

@@ -15,7 +15,7 @@ use crate::commands::fault::Fault;
 use crate::commands::planned::Plan;
 use crate::commands::queues::queue_text;
 use crate::commands::source::read_file;
-use crate::commands::web_crawl::crawl_web;
+use crate::commands::web_crawl::crawl_saved_web;
 use crate::crawling::{Crawled, Mode};
 use crate::key::key_line;
 use crawl_keys::{Filter, FilterError};
@@ -102,7 +102,7 @@ fn crawl_files<R: Files + Threads + Wait + Sync, I: Read>(
     let bytes = read_file(rt, alloc, file, input)?;
     let list = read_list(rt, alloc, listed, input)?;
     let mode = Mode::Threads;
-    crawl_web(rt, alloc, &bytes, &list, seeds, &filter, workers, max, mode)
+    crawl_saved_web(rt, alloc, &bytes, &list, seeds, &filter, workers, max, mode)
 }
 
 /// All bytes of the file of seeds; none where there is no such file.

@@ -51,7 +51,7 @@ pub fn report_of_saved_web<R: Threads + Wait + Sync>(
     ensures numbers { IfOk result (λ _. IsWorkers workers × IsMaximum max_pending) }
     ensures mode { IfErr result (ComesOf mode) }
 {
-    let found = crawl_web(
+    let found = crawl_saved_web(
         rt,
         alloc,
         bytes,
@@ -74,7 +74,7 @@ pub fn report_of_saved_web<R: Threads + Wait + Sync>(
 ///
 /// # Errors
 /// `Web`; `Seeds`; and then those of [`report_of_saved_web`].
-pub fn crawl_web<R: Threads + Wait + Sync>(
+pub fn crawl_saved_web<R: Threads + Wait + Sync>(
     rt: &R,
     alloc: Global,
     bytes: &[u8],

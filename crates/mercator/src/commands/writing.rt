@@ -24,13 +24,13 @@ pub fn end<O: Write>(out: &mut O, told: Result<Vec<u8>, Fault>) -> Result<(), Fa
 pub fn tell_fault<E: Write>(alloc: Global, err: &mut E, file: &str, fault: Fault)
     ensures { Begins (E.contents err.old) (E.contents err.new) (fault_line file.now fault) }
 {
-    if let Ok(line) = line_of(alloc, file, fault) {
+    if let Ok(line) = fault_line(alloc, file, fault) {
         begin(err, line.as_bytes());
     }
 }
 
 /// The line of a fault, whose command named this FILE.
-pub fn line_of(alloc: Global, file: &str, fault: Fault) -> Result<String, AllocError>
+pub fn fault_line(alloc: Global, file: &str, fault: Fault) -> Result<String, AllocError>
     ensures { IfOk result (λ line. string_bytes line ≡ fault_line file.now fault) }
 {
     let text = FaultText { file, fault };

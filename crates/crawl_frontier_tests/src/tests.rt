@@ -1,0 +1,7 @@
+mod closing;
+mod crawler;
+mod leaving;
+mod parts;
+mod resting;
+mod rows;
+mod threads;

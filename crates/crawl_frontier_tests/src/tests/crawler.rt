@@ -1,0 +1,106 @@
+//! A crawler: two threads, each of which fetches the pages of its hosts.
+ghost use Rattle.std.specs.Prelude.{◌≡◌};
+
+use crawl_frontier::{
+    Account, BusyWorker, ClosedWorker, FinishError, Frontier, Name, Setup, Turn, Worker,
+};
+use crawl_keys::{CanonUrl, Filter, canonical, resolve};
+use std::alloc::Global;
+use std::marker::Brand;
+use std::sync::Wait;
+use std::thread::{Threads, join};
+
+// The texts of the links of a page. A page of a host that isn't known has none.
+fn links_of(url: &CanonUrl) -> &'static [&'static str] {
+    match url.host_key() {
+        "a.test" => &["/x", "//b.test/", "//c.test/"],
+        "b.test" => &["//a.test/", "//a.test/y"],
+        "c.test" => &["//b.test/z#top"],
+        _ => &[],
+    }
+}
+
+// Offers the links of the page in hand. A link that is refused is lost: a crawler would count it.
+fn offer_links<K: Name, R: Wait>(
+    rt: &R,
+    alloc: Global,
+    frontier: &Frontier<K>,
+    busy: &mut BusyWorker<K>,
+) {
+    for text in links_of(busy.url()) {
+        if let Ok(link) = resolve(alloc, busy.url(), text) {
+            let _ = busy.offer(rt, frontier, &link);
+        }
+    }
+}
+
+// Fetches the pages of its hosts, and offers their links, until nothing is left anywhere.
+fn crawl<K: Name, R: Wait>(
+    rt: &R,
+    alloc: Global,
+    frontier: &Frontier<K>,
+    mut worker: Worker<K>,
+) -> ClosedWorker<K> {
+    for _ in rt.forever() {
+        match worker.next(rt, frontier) {
+            Turn::Busy(mut busy) => {
+                offer_links(rt, alloc, frontier, &mut busy);
+                worker = busy.done(frontier);
+            }
+            Turn::Idle(idle, _) => {
+                idle.rest(rt, frontier);
+                worker = idle;
+            }
+            Turn::Closed(closed) => return closed,
+        }
+    }
+    unreachable!()
+}
+
+// Crawls from a seed in two threads.
+fn crawl_from<K: Name + Send + Sync, R: Threads + Wait + Sync>(
+    rt: &R,
+    alloc: Global,
+    setup: Setup,
+    filter: &Filter,
+    seed: &CanonUrl,
+) -> Option<Result<Account, FinishError>>
+    requires gate { setup.gate ≡ K.gate }
+    requires workers { setup.workers ≡ K.workers }
+    requires queues { setup.queues ≡ K.queues }
+    requires filter { filter.now ≡ K.filter }
+{
+    let (frontier, mut workers, mut seeder) = Frontier::<K>::new(alloc, setup, filter).ok()?;
+    let (other, one) = (workers.pop()?, workers.pop()?);
+    seeder.offer(rt, &frontier, seed).ok()?;
+    let sender = seeder.end(&frontier);
+    let shared = &frontier;
+    let (one, other) = join(
+        rt,
+        move || crawl(rt, alloc, shared, one),
+        move || crawl(rt, alloc, shared, other),
+    );
+    let (mut closed, mut senders) = (Vec::new(alloc), Vec::new(alloc));
+    closed.push(one).ok()?;
+    closed.push(other).ok()?;
+    senders.push(sender).ok()?;
+    Some(frontier.finish(closed, senders))
+}
+
+#[test]
+fn crawls_in_two_threads(rt: HostRuntime) {
+    let alloc = rt.alloc();
+    let (Ok(filter), Ok(setup)) = (Filter::new(alloc, &[]), Setup::new(alloc, 2, 100)) else {
+        panic!(rt; "out of memory")
+    };
+    let Ok(seed) = canonical(alloc, "http://a.test") else {
+        panic!(rt; "no URL")
+    };
+    let Some(Ok(account)) = crawl_from::<Brand, _>(&rt, alloc, setup, &filter, &seed) else {
+        panic!(rt; "no account")
+    };
+    assert_eq!(rt; account.workers(), 2);
+    // b.test is of subqueue 0; a.test and c.test are of subqueue 1.
+    assert_eq!(rt; account.queue(0).len(), 2);
+    assert_eq!(rt; account.queue(1).len(), 4);
+}
