@@ -69,6 +69,16 @@ fn another<K: Name>(
     sender.context("no memory for a sender")
 }
 
+fn two<K: Name>(
+    alloc: Global,
+    frontier: &Frontier<K>,
+    seeder: &mut Seeder<K>,
+    ids: (u64, u64),
+) -> Result<(Sender<K>, Sender<K>)> {
+    let one = another(alloc, frontier, seeder, ids.0)?;
+    Ok((one, another(alloc, frontier, seeder, ids.1)?))
+}
+
 // Offers the URLs by senders of their own, one for each worker.
 fn offer<K: Name + Send + Sync, R: Threads + Wait + Sync>(
     rt: &R,
@@ -78,21 +88,27 @@ fn offer<K: Name + Send + Sync, R: Threads + Wait + Sync>(
     urls: &[CanonUrl],
     rounds: u32,
 ) -> Result<Offered> {
-    let a = another(alloc, frontier, seeder, 1000)?;
     match frontier.workers() {
-        1 => Ok(in_one(rt, frontier, a, urls, rounds)),
+        1 => {
+            let one = another(alloc, frontier, seeder, 1000)?;
+            Ok(in_one(rt, frontier, one, urls, rounds))
+        }
         2 => {
-            let b = another(alloc, frontier, seeder, 1001)?;
+            let (a, b) = two(alloc, frontier, seeder, (1000, 1001))?;
             Ok(in_two(rt, frontier, a, b, urls, rounds))
         }
         4 => {
-            let b = another(alloc, frontier, seeder, 1001)?;
-            let c = another(alloc, frontier, seeder, 1002)?;
-            let d = another(alloc, frontier, seeder, 1003)?;
-            Ok(in_four(rt, frontier, (a, b), (c, d), urls, rounds))
+            let ones = two(alloc, frontier, seeder, (1000, 1001))?;
+            let others = two(alloc, frontier, seeder, (1002, 1003))?;
+            Ok(in_four(rt, frontier, ones, others, urls, rounds))
         }
         _ => bail!("1, 2 or 4 threads"),
     }
+}
+
+fn two_of<K: Name>(workers: &mut Vec<Worker<K>>) -> Option<(Worker<K>, Worker<K>)> {
+    let one = workers.pop()?;
+    Some((one, workers.pop()?))
 }
 
 // Takes all URLs, each worker in a thread of its own.
@@ -100,16 +116,39 @@ fn take<K: Name + Send + Sync, R: Threads + Wait + Sync>(
     rt: &R,
     frontier: &Frontier<K>,
     mut workers: Vec<Worker<K>>,
-) -> Result<u64> {
-    let a = workers.pop().context("no worker")?;
-    let Some(b) = workers.pop() else {
-        return Ok(take_one(rt, frontier, a));
-    };
-    let Some(c) = workers.pop() else {
-        return Ok(take_two(rt, frontier, a, b));
-    };
-    let d = workers.pop().context("no fourth worker")?;
-    Ok(take_four(rt, frontier, (a, b), (c, d)))
+) -> Option<u64> {
+    if workers.len() == 1 {
+        return Some(take_one(rt, frontier, workers.pop()?));
+    }
+    let ones = two_of(&mut workers)?;
+    if workers.is_empty() {
+        return Some(take_two(rt, frontier, ones.0, ones.1));
+    }
+    Some(take_four(rt, frontier, ones, two_of(&mut workers)?))
+}
+
+// Offers, and takes if that is asked for.
+fn run_on<K: Name + Send + Sync, R: Threads + Wait + Sync>(
+    rt: &R,
+    alloc: Global,
+    frontier: &Frontier<K>,
+    workers: Vec<Worker<K>>,
+    mut seeder: Seeder<K>,
+    urls: &[CanonUrl],
+    work: Work,
+) -> Result<Done> {
+    let rounds = if work == Work::New { 1 } else { 1 + REPEATS };
+    let offered = offer(rt, alloc, frontier, &mut seeder, urls, rounds)?;
+    let mut taken = 0;
+    if work == Work::Taken {
+        let _sender = seeder.end(frontier);
+        taken = take(rt, frontier, workers).context("no worker")?;
+    }
+    Ok(Done {
+        accepted: offered.accepted,
+        seen: offered.seen,
+        taken,
+    })
 }
 
 /// Does the work, as far as it goes.
@@ -126,23 +165,14 @@ pub fn run<K: Name + Send + Sync, R: Threads + Wait + Sync>(
     requires queues { setup.queues ≡ K.queues }
     requires filter { filter.now ≡ K.filter }
 {
-    let mut done = Done {
-        accepted: 0,
-        seen: 0,
-        taken: 0,
-    };
     if work == Work::Urls {
-        return Ok(done);
+        return Ok(Done {
+            accepted: 0,
+            seen: 0,
+            taken: 0,
+        });
     }
     let made = Frontier::<K>::new(alloc, setup, filter).ok();
-    let (frontier, workers, mut seeder) = made.context("no frontier")?;
-    let rounds = if work == Work::New { 1 } else { 1 + REPEATS };
-    let offered = offer(rt, alloc, &frontier, &mut seeder, urls, rounds)?;
-    done.accepted = offered.accepted;
-    done.seen = offered.seen;
-    if work == Work::Taken {
-        let _sender = seeder.end(&frontier);
-        done.taken = take(rt, &frontier, workers)?;
-    }
-    Ok(done)
+    let (frontier, workers, seeder) = made.context("no frontier")?;
+    run_on(rt, alloc, &frontier, workers, seeder, urls, work)
 }
