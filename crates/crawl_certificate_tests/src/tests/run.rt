@@ -2,19 +2,19 @@
 ghost use Rattle.std.specs.Prelude.{◌≡◌};
 
 use crawl_certificate::{CertError, CrawlResult, certify, certify_in_threads};
-use crawl_frontier::{Account, BusyWorker, Frontier, Name, Setup, Turn};
+use crawl_frontier::{Account, ClosedWorker, Frontier, Name, Seeder, Sender, Setup};
 use crawl_keys::{CanonUrl, Filter, canonical};
-use crawl_web::{Fetch, Page, PageResult, SavedWeb, links_of};
+use crawl_web::{Page, PageResult, SavedWeb};
+use crawl_workers::{WorkerEnd, run_turns};
 use std::alloc::Global;
-use std::collections::VecDeque;
 use std::marker::Brand;
 use std::process::Abort;
 use std::sync::Wait;
 use std::test::Fail;
 use std::thread::Threads;
 
-// More turns than any of the runs takes, and more URLs than any has at once.
-const TURNS: u32 = 30_000;
+// More URLs than any of the runs has at once.
+const MAX_PENDING: u64 = 30_000;
 
 // What a run left.
 #[derive(Drop)]
@@ -55,23 +55,36 @@ pub fn urls_of(alloc: Global, texts: &[&str]) -> Result<Vec<CanonUrl>, Fail> {
     Ok(urls)
 }
 
-// Fetches the page in hand and offers its links. A link that is refused is passed over.
-fn fetch_page<K: Name, R: Wait>(
+// What the ends of all workers have.
+fn taken_apart<K: Name>(
+    alloc: Global,
+    ends: Vec<WorkerEnd<K>>,
+) -> Result<(Vec<ClosedWorker<K>>, Vec<PageResult>), Fail> {
+    let (mut closed, mut results) = (Vec::new(alloc), Vec::new(alloc));
+    for end in ends {
+        let mut found = end.results;
+        results.append(&mut found)?;
+        closed.push(end.closed)?;
+    }
+    Ok((closed, results))
+}
+
+// Offers the seeds. One that is refused is passed over.
+fn offer_seeds<K: Name, R: Wait>(
     rt: &R,
     alloc: Global,
     frontier: &Frontier<K>,
-    worker: &mut BusyWorker<K>,
-    web: &SavedWeb,
-) -> Result<PageResult, Fail> {
-    let url = worker.url().copy()?;
-    let page = web.fetch(alloc, &url)?;
-    for link in links_of(&page) {
-        let _ = worker.offer(rt, frontier, link);
+    mut seeder: Seeder<K>,
+    seeds: &[CanonUrl],
+) -> Result<Vec<Sender<K>>, Fail> {
+    for seed in seeds {
+        let _ = seeder.offer(rt, frontier, seed);
     }
-    Ok(PageResult { url, page })
+    let mut senders = Vec::new(alloc);
+    senders.push(seeder.end(frontier))?;
+    Ok(senders)
 }
 
-// The workers take their turns one after the other, until each is closed. A seed that is refused is passed over.
 fn crawl<K: Name, R: Wait>(
     rt: &R,
     alloc: Global,
@@ -85,30 +98,10 @@ fn crawl<K: Name, R: Wait>(
     requires queues { setup.queues ≡ K.queues }
     requires filter { filter.now ≡ K.filter }
 {
-    let (frontier, workers, mut seeder) = Frontier::<K>::new(alloc, setup, filter)?;
-    let mut waiting = VecDeque::new(alloc);
-    for worker in workers {
-        waiting.push_back(worker)?;
-    }
-    for seed in seeds {
-        let _ = seeder.offer(rt, &frontier, seed);
-    }
-    let (mut senders, mut closed) = (Vec::new(alloc), Vec::new(alloc));
-    senders.push(seeder.end(&frontier))?;
-    let mut results = Vec::new(alloc);
-    for _ in 0..TURNS {
-        let Some(worker) = waiting.pop_front() else {
-            break;
-        };
-        match worker.next(rt, &frontier) {
-            Turn::Busy(mut worker) => {
-                results.push(fetch_page(rt, alloc, &frontier, &mut worker, web)?)?;
-                waiting.push_back(worker.done(&frontier))?;
-            }
-            Turn::Idle(worker, _) => waiting.push_back(worker)?,
-            Turn::Closed(worker) => closed.push(worker)?,
-        }
-    }
+    let (frontier, workers, seeder) = Frontier::<K>::new(alloc, setup, filter)?;
+    let senders = offer_seeds(rt, alloc, &frontier, seeder, seeds)?;
+    let ends = run_turns(rt, alloc, &frontier, workers, web)?;
+    let (closed, results) = taken_apart(alloc, ends)?;
     let account = frontier.finish(closed, senders)?;
     Ok(Run { account, results })
 }
@@ -123,7 +116,7 @@ pub fn run_of<R: Wait>(
     web: &str,
 ) -> Result<Run, Fail> {
     let filter = Filter::new(alloc, within)?;
-    let setup = Setup::new(alloc, workers, u64::from(TURNS))?;
+    let setup = Setup::new(alloc, workers, MAX_PENDING)?;
     let seeds = urls_of(alloc, seeds)?;
     let web = SavedWeb::read(alloc, web.as_bytes())?;
     crawl::<Brand, R>(rt, alloc, setup, &filter, &seeds, &web)
