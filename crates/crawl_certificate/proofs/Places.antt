@@ -15,7 +15,7 @@ use Rattle.crawl_web.specs.declared.page.PageResult.{PageResult}
 use Rattle.crawl_certificate.specs.CertFaults.{is_accepted, has_result, stands_in, is_behind, is_linked, twice}
 use Rattle.crawl_web.specs.Pages.{links_of}
 use Rattle.crawl_certificate.specs.AccountEntries.{DifferByUrl}
-use Rattle.crawl_certificate.specs.Places.{place_of, has_place, ArePlaces, Urls, is_in, pointed}
+use Rattle.crawl_certificate.specs.Places.{place_of, has_place, at_this, stands_at, ArePlaces, Urls, is_in, pointed}
 use Rattle.crawl_certificate.specs.declared.lookups.Places.{Places}
 use Rattle.crawl_certificate.proofs.Lists.{no_element, first_or_later, some_has, any_from, same_text, text_itself}
 
@@ -168,6 +168,14 @@ place_within entries places are url None at = tt
 place_within entries places are url (Some k) at =
     let entry = are.meant url k (sym at) in
     omega (arith, slice_get_within (pointed entries) k entry.0 entry.1, length_pointed entries)
+
+-- the place of a URL is wherever its entry stands
+pub stands_there : (entries : List Entry) (places : Places) → ArePlaces entries places → (url : List ℕ) (k : ℕ) → stands_at entries k url ≡ true → place_of entries places url ≡ Some k
+stands_there entries places are url k = found (slice_get entries k) refl
+  where
+    found : (o : Option Entry) → slice_get entries k ≡ o → at_this o url ≡ true → place_of entries places url ≡ Some k
+    found None at same = absurd (cc)
+    found (Some e) at same = ap (place_of entries places) (sym (same_text e.url url same)) ∙ are.kept k e at
 
 -- an entry with the URL stands at the place that is kept for it
 pub only_place : (entries : List Entry) (places : Places) → ArePlaces entries places → (url : List ℕ) (k : ℕ) → place_of entries places url ≡ Some k → (i : ℕ) (e : Entry) → slice_get entries i ≡ Some e → bytes_eq url e.url ≡ true → i ≡ k

@@ -12,6 +12,9 @@ use hash_order::{HINTS, HashedText, Hints};
 use std::alloc::{AllocError, Global};
 use std::collections::{BTreeMap, BTreeSet};
 
+/// How many guesses are made side by side.
+pub const GUESSES: usize = 8;
+
 /// The place of each entry, by its URL: in a table of hints, or where the slots of the URL's hash are taken in a map.
 #[derive(Drop)]
 pub struct Places<'a> {
@@ -29,6 +32,17 @@ impl<'a> Places<'a> {
         }
         self.others.insert(url.hashed(), place)?;
         Ok(())
+    }
+
+    /// Where the first hints of the first of these URLs point. They wait for memory together, and look-ups one after another.
+    pub fn guesses(&self, urls: &[CanonUrl]) -> [usize; GUESSES] {
+        let mut guesses = [0; GUESSES];
+        for number in 0..GUESSES {
+            if let Some(url) = urls.get(number) {
+                guesses[number] = self.hints.hint(url.text_hash(), 0).unwrap_or(0);
+            }
+        }
+        guesses
     }
 }
 
@@ -78,6 +92,23 @@ pub fn place_at<'a>(accepted: &Places<'a>, entries: &[&Entry], url: &'a CanonUrl
         return None;
     }
     accepted.others.get(&url.hashed()).copied()
+}
+
+/// As [`place_at`], where the entry at the guess, which may be any, is looked at first.
+pub fn place_by<'a>(
+    accepted: &Places<'a>,
+    entries: &[&Entry],
+    guess: usize,
+    url: &'a CanonUrl,
+) -> Option<usize>
+    requires { ArePlaces (pointed entries.now) accepted.now }
+    ensures value { result ≡ place_of (pointed entries.now) accepted.now url.now }
+    ensures within { IfSome result (λ place. place < length entries.now) }
+{
+    if is_at(entries, guess, url) {
+        return Some(guess);
+    }
+    place_at(accepted, entries, url)
 }
 
 /// The place at the first hint by which the entry there has the URL.

@@ -9,7 +9,7 @@ ghost use Rattle.crawl_web.specs.Pages.{links_of};
 ghost use Rattle.crawl_certificate.specs.Places.{pointed, has_place, ArePlaces};
 ghost use Rattle.crawl_certificate.specs.CertFaults.{stands_in, has_result, is_behind, is_linked, some_missing, twice};
 
-use crate::lookups::{Places, place_at};
+use crate::lookups::{GUESSES, Places, place_at, place_by};
 use crate::missing::some_missing;
 use crawl_frontier::Entry;
 use crawl_keys::{CanonUrl, Filter};
@@ -172,8 +172,13 @@ fn mark_links<'a>(
     ensures missing { result ≡ some_missing (allows filter.now) (has_place (pointed entries.now) accepted.now) links.now }
 {
     let mut missing = false;
-    for link in links {
-        let is_missing = mark(filter, accepted, entries, linked, hops, link);
+    let mut guesses = [0; GUESSES];
+    for (number, link) in links.iter().enumerate() {
+        if number % GUESSES == 0 {
+            guesses = accepted.guesses(&links[number..]);
+        }
+        let guess = guesses[number % GUESSES];
+        let is_missing = mark(filter, accepted, entries, linked, hops, guess, link);
         missing = missing | is_missing;
     }
     missing
@@ -185,6 +190,7 @@ fn mark<'a>(
     entries: &[&Entry],
     linked: &mut [bool],
     hops: u32,
+    guess: usize,
     link: &'a CanonUrl,
 ) -> bool
     requires places { ArePlaces (pointed entries.now) accepted.now }
@@ -192,7 +198,7 @@ fn mark<'a>(
     ensures linked { (known : Entry → Bool) → linked.old ≡ map known (pointed entries.now) → linked.new ≡ map (λ e. known e || (bytes_eq link.now e.url && e.hops == hops + 1)) (pointed entries.now) }
     ensures missing { result ≡ (allows filter.now link.now && not (has_place (pointed entries.now) accepted.now link.now)) }
 {
-    match place_at(accepted, entries, link) {
+    match place_by(accepted, entries, guess, link) {
         Some(place) => {
             if is_next(hops, entries[place]) {
                 linked[place] = true;
