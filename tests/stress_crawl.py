@@ -99,6 +99,9 @@ class Web:
 
 def main():
     words = sys.argv[1:]
+    if words[:1] in (["-h"], ["--help"]):
+        print(__doc__)
+        return
     program = words[0] if words else PROGRAM
     webs, times = (int(word) for word in (words[1:] + ["50", "20"][len(words[1:]) :]))
     drawn = random.Random(SEED)

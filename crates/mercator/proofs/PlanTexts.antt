@@ -1,5 +1,5 @@
 -- What a crawl tells; and plans that ask for one text are told one.
-use Rattle.std.proofs.Common.{◌≡◌, ℕ, Bool, true, false, not, ◌&&◌, List, [], ◌∷◌, ◌++◌, Option, Some, None, Ok, String, Global, IfSome, IfOk, IfErr, Result, Err, ◌≤◌, length, map, string_bytes, refl, sym, ap, subst, ◌∙◌}
+use Rattle.std.proofs.Common.{◌≡◌, ℕ, Bool, true, false, not, ◌&&◌, List, [], ◌∷◌, ◌++◌, Option, Some, None, Ok, String, Global, IfSome, ◌≤◌, length, map, string_bytes, refl, sym, ap, subst, ◌∙◌}
 use Rattle.std.specs.Bool.{if◌then◌else◌}
 use Rattle.crawl_certificate.specs.Certificate.{result_urls}
 use Rattle.mercator.specs.Crawls.{AreCounts}
@@ -99,13 +99,8 @@ files_read file listed input after P bytes list given other one read few same se
   };
 }
 
--- what is found of them
-pub found_in_files : (result : Result Crawled Fault) (P : Crawled → Type 0) (Q : Crawled → Type 0) → ((found : Crawled) → P found → Q found) → IfOk result P → IfOk result Q
-found_in_files (Ok found) P Q step own = step found own
-found_in_files (Err fault) P Q step own = tt
-
--- why nothing is
-fails : (workers max : ℕ) (within : Option (String Global)) (file : List ℕ) (listed : Option (String Global)) (seeds : List (List ℕ)) (input : Option (List ℕ)) (fault : Fault) → is_bad_suffix within ≡ false
+-- why nothing is found of them
+pub fails : (workers max : ℕ) (within : Option (String Global)) (file : List ℕ) (listed : Option (String Global)) (seeds : List (List ℕ)) (input : Option (List ℕ)) (fault : Fault) → is_bad_suffix within ≡ false
     → OfFiles file listed input (λ bytes list. IsRefused workers max bytes list seeds fault) → FailsCrawl workers max within file listed seeds input fault
 fails workers max within file listed seeds input wrong.CannotRead good of = good
 fails workers max within file listed seeds input wrong.CannotReadSeeds good of = absurd of.holds.holds
@@ -118,8 +113,3 @@ fails workers max within file listed seeds input (wrong.Crawl error) good of = (
 fails workers max within file listed seeds input wrong.BadSuffix good of = absurd of.holds.holds
 fails workers max within file listed seeds input wrong.CannotWrite good of = (good, of)
 fails workers max within file listed seeds input wrong.NoMemory good of = tt
-
-pub refused_files : (workers max : ℕ) (within : Option (String Global)) (file : List ℕ) (listed : Option (String Global)) (seeds : List (List ℕ)) (input : Option (List ℕ)) (result : Result Crawled Fault) (P : Fault → Type 0) → is_bad_suffix within ≡ false
-    → ((fault : Fault) → P fault → OfFiles file listed input (λ bytes list. IsRefused workers max bytes list seeds fault)) → IfErr result P → IfErr result (FailsCrawl workers max within file listed seeds input)
-refused_files workers max within file listed seeds input (Ok found) P good step own = tt
-refused_files workers max within file listed seeds input (Err fault) P good step own = fails workers max within file listed seeds input fault good (step fault own)

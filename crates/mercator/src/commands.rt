@@ -38,7 +38,7 @@ use writing::{begin, end, tell_fault};
 
 /// Runs the program and answers its status: 0 done, 1 a fault, 2 an incomplete crawl, 3 a bad command line. The words are those
 /// after the program's name, and [`plan`] reads them; [`run_plan`] runs what they ask for. Help that is asked for is written to
-/// `out`, and what is wrong with the words to `err`.
+/// `out`, and what is wrong with the words to `err`. It is for a process that ends then, as [`run_plan`] is.
 pub fn run_words<R: Files + Threads + Wait + Sync, I: Read, O: Write, E: Write>(
     rt: &R,
     alloc: Global,
@@ -70,6 +70,9 @@ pub fn run_words<R: Files + Threads + Wait + Sync, I: Read, O: Write, E: Write>(
 
 /// Runs a plan and answers the status. What the command tells is whole before any of it is written to `out`; a fault is told to
 /// `err` in a line of its own, and then nothing is written to `out`, unless a write to it failed.
+///
+/// It is for a process that ends then: a crawl's web and pages are not dropped but left to its end, which gives their memory back
+/// at once. What crawls again and again in one process calls [`crawl_saved_web`], which leaves nothing.
 pub fn run_plan<R: Files + Threads + Wait + Sync, I: Read, O: Write, E: Write>(
     rt: &R,
     alloc: Global,

@@ -15,7 +15,7 @@ use crate::commands::fault::Fault;
 use crate::commands::planned::Plan;
 use crate::commands::queues::queue_text;
 use crate::commands::source::read_file;
-use crate::commands::web_crawl::crawl_saved_web;
+use crate::commands::web_crawl::crawl_with_web;
 use crate::crawling::{Crawled, Mode};
 use crate::key::key_line;
 use crawl_keys::{Filter, FilterError};
@@ -25,6 +25,7 @@ use crawl_web::report_text;
 use std::alloc::Global;
 use std::fs::Files;
 use std::io::Read;
+use std::mem::forget;
 use std::sync::Wait;
 use std::thread::Threads;
 
@@ -60,7 +61,9 @@ pub fn tell<R: Files + Threads + Wait + Sync, I: Read>(
             let found = crawl_files(
                 rt, alloc, *workers, *max, within, file, listed, seeds, input,
             )?;
-            text_of(alloc, &found, *queues, *sources)
+            let text = text_of(alloc, &found, *queues, *sources);
+            forget(found);
+            text
         }
         Plan::Key { url, workers } => tell_key(alloc, url, *workers),
     }
@@ -102,7 +105,11 @@ fn crawl_files<R: Files + Threads + Wait + Sync, I: Read>(
     let bytes = read_file(rt, alloc, file, input)?;
     let list = read_list(rt, alloc, listed, input)?;
     let mode = Mode::Threads;
-    crawl_saved_web(rt, alloc, &bytes, &list, seeds, &filter, workers, max, mode)
+    let (web, found) = crawl_with_web(
+        rt, alloc, &bytes, &list, seeds, &filter, workers, max, mode,
+    )?;
+    forget(web);
+    Ok(found)
 }
 
 /// All bytes of the file of seeds; none where there is no such file.

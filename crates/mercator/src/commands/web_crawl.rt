@@ -90,11 +90,43 @@ pub fn crawl_saved_web<R: Threads + Wait + Sync>(
     ensures numbers { IfOk result (λ _. IsWorkers workers × IsMaximum max_pending) }
     ensures mode { IfErr result (ComesOf mode) }
 {
+    let (_web, found) = crawl_with_web(
+        rt,
+        alloc,
+        bytes,
+        listed,
+        seeds,
+        filter,
+        workers,
+        max_pending,
+        mode,
+    )?;
+    Ok(found)
+}
+
+/// As [`crawl_saved_web`], and the web that was crawled.
+pub(in crate::commands) fn crawl_with_web<'a, R: Threads + Wait + Sync>(
+    rt: &R,
+    alloc: Global,
+    bytes: &'a [u8],
+    listed: &[u8],
+    seeds: &[String],
+    filter: &Filter,
+    workers: u32,
+    max_pending: u64,
+    mode: Mode,
+) -> Result<(SavedWeb<'a>, Crawled), Fault>
+    ensures found { IfOk result (λ r. IsFound workers bytes.now listed.now (map string_bytes seeds.now) filter.now r.1) }
+    ensures refused { IfErr result (λ fault. IsRefused workers max_pending bytes.now listed.now (map string_bytes seeds.now) fault) }
+    ensures numbers { IfOk result (λ _. IsWorkers workers × IsMaximum max_pending) }
+    ensures mode { IfErr result (ComesOf mode) }
+{
     let web = SavedWeb::read(alloc, bytes)?;
     let mut urls = read_seeds(alloc, listed)?;
     let mut others = seed_urls(alloc, seeds)?;
     urls.append(&mut others)?;
-    Ok(crawl(rt, alloc, &web, filter, &urls, workers, max_pending, mode)?)
+    let found = crawl(rt, alloc, &web, filter, &urls, workers, max_pending, mode)?;
+    Ok((web, found))
 }
 
 /// The seeds' canonical URLs.
