@@ -62,6 +62,7 @@ pub fn tell<R: Files + Threads + Wait + Sync, I: Read>(
                 rt, alloc, *workers, *max, within, file, listed, seeds, input,
             )?;
             let text = text_of(alloc, &found, *queues, *sources);
+            // The process ends soon, and gives it back at once.
             forget(found);
             text
         }
@@ -108,6 +109,7 @@ fn crawl_files<R: Files + Threads + Wait + Sync, I: Read>(
     let (web, found) = crawl_with_web(
         rt, alloc, &bytes, &list, seeds, &filter, workers, max, mode,
     )?;
+    // As the pages, by `tell`.
     forget(web);
     Ok(found)
 }
