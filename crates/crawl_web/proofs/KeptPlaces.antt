@@ -1,7 +1,9 @@
 -- Places of pages that are kept, and what is found by them.
-use Rattle.std.proofs.Common.{◌≡◌, ◌⊎◌, inl, inr, ℕ, zero, suc, ◌+◌, ◌<◌, ◌≤◌, Bool, true, false, List, [], ◌∷◌, ◌++◌, length, take, get_or, slice_get, Option, Some, None, IfSome, is_some, refl, sym, ap, subst, ◌∙◌, arith, suc-le-suc, zero-le}
+use Rattle.std.proofs.Common.{◌≡◌, ◌⊎◌, inl, inr, ℕ, zero, suc, ◌+◌, ◌<◌, ◌≤◌, Bool, true, false, not, List, [], ◌∷◌, ◌++◌, length, take, get_or, slice_get, Option, Some, None, IfSome, is_some, Result, Ok, Err, IfOk, refl, sym, ap, subst, ◌∙◌, arith, suc-le-suc, zero-le}
 use Rattle.std.specs.Bool.{if◌then◌else◌}
 use Rattle.std.specs.Borrow.{Bor}
+use Rattle.std.specs.BTreeMap.{get, get_by_text}
+use Rattle.std.specs.Ordering.{nat_cmp}
 use Rattle.std.specs.Str.{bytes_eq}
 use Rattle.std.proofs.lemmas.Bool.{both_ways, false_from_ne_true}
 use Rattle.std.proofs.lemmas.List.{take_more, length-take-le}
@@ -154,15 +156,55 @@ found_same (Some page) pages k url is found some = by_page (slice_get pages k) r
     by_page (Some y) there =
         ap (λ (p : PageRead). p.url) (is ∙ get_or_from_slice_get pages k y page.now there) ∙ (found_at pages url y (found ∙ there)).2
 
--- where no page was added
-pub keeps_on : (pages : List PageRead) (url : List ℕ) (old new : Places) → has pages url ≡ false → ((other : List ℕ) (j : ℕ) → bytes_eq url other ≡ false → IsKept old other j → IsKept new other j) → AreApart pages × AreKept pages old → AreApart pages × AreKept pages new
-keeps_on pages url old new absent others before = (before.0, AreKept-stays pages url old new (none_there _ absent) others before.1)
+-- where no place is kept that has the page, there is none
+pub never_kept : (pages : List PageRead) (places : Places) (url : List ℕ) → AreKept pages places
+    → ((k : ℕ) → IsHinted places.hints (hash_of url) k → stands_at pages k url ≡ false)
+    → (by_hash : Option ℕ) → get nat_cmp places.others (hash_of url) ≡ by_hash → IfSome by_hash (λ k. stands_at pages k url ≡ false)
+    → ((k : ℕ) → get_by_text places.twins url ≡ Some k → stands_at pages k url ≡ false) → page_with pages url ≡ None
+never_kept pages places url kept hinted by_hash is other twins = none_found pages places url kept wrong
+  where
+    wrong : (k : ℕ) → IsKept places url k → stands_at pages k url ≡ false
+    wrong k (inl hint) = hinted k hint
+    wrong k (inr (inl at)) = subst (λ o. IfSome o (λ j. stands_at pages j url ≡ false)) (sym is ∙ at) other
+    wrong k (inr (inr at)) = twins k at
 
--- where one was
-pub keeps_more : (pages : List PageRead) (page : PageRead) (old new : Places) (k : ℕ) → k ≡ length pages → has pages page.url ≡ false → IsKept new page.url k → ((other : List ℕ) (j : ℕ) → bytes_eq page.url other ≡ false → IsKept old other j → IsKept new other j) → AreApart pages × AreKept pages old → AreApart (pages ++ page ∷ []) × AreKept (pages ++ page ∷ []) new
-keeps_more pages page old new k count absent own others before =
-    let none = none_there _ absent in
-    (AreApart-push pages page none before.0, AreKept-push pages page old new k count (differs_from pages page.url none) own others before.1)
+pub absent : (b : Bool) → true ≡ not b → b ≡ false
+absent true e = absurd (cc)
+absent false e = refl
+
+-- what is told where a place was found, and where none was
+pub told_there : (o : Option ℕ) (pages : List PageRead) (url : List ℕ) → AreApart pages → is_some o ≡ true → IfSome o (λ k. stands_at pages k url ≡ true) → false ≡ not (has pages url)
+told_there None pages url apart some found = absurd (cc)
+told_there (Some k) pages url apart some found = ap not (stands_has pages url k apart found)
+
+pub told_new : (pages : List PageRead) (url : List ℕ) → page_with pages url ≡ None → true ≡ not (has pages url)
+told_new pages url none = sym (ap (λ (o : Option PageRead). not (is_some o)) none)
+
+-- the same by the search among the twins
+pub told_twin : {E : Type 0} (r : Result Bool E) (pages : List PageRead) (places : Places) (url : List ℕ) → AreApart pages → AreKept pages places
+    → ((k : ℕ) → IsHinted places.hints (hash_of url) k → stands_at pages k url ≡ false)
+    → (k : ℕ) → get nat_cmp places.others (hash_of url) ≡ Some k → stands_at pages k url ≡ false
+    → IfOk r (λ kept. kept ≡ false → (k : ℕ) × (stands_at pages k url ≡ true))
+    → IfOk r (λ kept. kept ≡ true → (k : ℕ) → get_by_text places.twins url ≡ Some k → stands_at pages k url ≡ false)
+    → IfOk r (λ kept. kept ≡ not (has pages url))
+told_twin (Ok true) pages places url apart kept hinted k is other there new = told_new pages url (never_kept pages places url kept hinted (Some k) is other (new refl))
+told_twin (Ok false) pages places url apart kept hinted k is other there new = let at = there refl in ap not (stands_has pages url at.0 apart at.1)
+told_twin (Err e) pages places url apart kept hinted k is other there new = tt
+
+-- the pages keep their places where each place stays kept at which a page with the URL stands
+pub AreKept-stand : (pages : List PageRead) (old new : Places) → ((url : List ℕ) (k : ℕ) → IsKept old url k → stands_at pages k url ≡ true → IsKept new url k) → AreKept pages old → AreKept pages new
+AreKept-stand pages old new stay kept j x at = stay x.url j (kept j x at) (ap (λ o. is_this o x.url) at ∙ text_itself x.url)
+
+-- one page more, whose place is kept
+pub keeps_more : (pages : List PageRead) (page : PageRead) (places : Places) (k : ℕ) → k ≡ length pages → has pages page.url ≡ false → IsKept places page.url k → AreApart pages → AreKept pages places → AreApart (pages ++ page ∷ []) × AreKept (pages ++ page ∷ []) places
+keeps_more pages page places k count new own apart kept = (AreApart-push pages page (none_there _ new) apart, each)
+  where
+    each : AreKept (pages ++ page ∷ []) places
+    each j x at =
+        elim (push_cases pages page j x at) [
+          | inl before ↦ kept j x before.1
+          | inr last ↦ subst (λ (z : PageRead). IsKept places z.url j) last.1 (subst (λ n. IsKept places page.url n) (count ∙ sym last.0) own)
+        ]
 
 -- the first so many pages, and one more
 slice_get_take : (n : ℕ) (pages : List PageRead) (k : ℕ) (x : PageRead) → slice_get (take n pages) k ≡ Some x → (k < n) × (slice_get pages k ≡ Some x)

@@ -24,8 +24,10 @@ pub fn known_link<'a>(
     ensures of_folder { is_of_folder text.now ≡ true → AreOfFolder known.old → AreOfFolder known.new }
     ensures refused { IfErr result (λ e. e ≡ FetchError.NoMemory) }
 {
-    if let Some(link) = known.find(text, hash) {
-        return Ok(copy_of(link)?);
+    if let Some(place) = known.place_or_note(text, hash) {
+        if let Some(link) = known.at(place, text) {
+            return Ok(copy_of(link)?);
+        }
     }
     let link = link_of(alloc, base, text)?;
     known.add(alloc, text, hash, copy_of(&link)?)?;

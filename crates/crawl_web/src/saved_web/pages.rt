@@ -1,5 +1,5 @@
 //! The pages of a saved web, found by their URLs.
-ghost use Rattle.std.specs.Prelude.{◌≡◌, ◌==◌, ◌++◌, ◌∷◌, ℕ, [], Some, true, false, not, length, slice_get, None, is_some, IfOk, IfSome, OnOk, if◌then◌else◌};
+ghost use Rattle.std.specs.Prelude.{◌≡◌, ◌==◌, ◌++◌, ◌∷◌, ℕ, List, [], Some, true, false, not, length, slice_get, None, is_some, unwrap_or, IfOk, IfSome, if◌then◌else◌};
 ghost use Rattle.std.specs.BTreeMap.{get, get_by_text};
 ghost use Rattle.std.specs.Option.{option_map};
 ghost use Rattle.std.specs.Ordering.{nat_cmp};
@@ -9,10 +9,11 @@ ghost use Rattle.crawl_web.specs.PageLists.{page_with, has, AreApart};
 ghost use Rattle.crawl_web.specs.PagePlaces.{stands_at, IsKept, AreKept};
 
 use crate::saved_web::known_page::KnownPage;
-use crate::saved_web::places::Places;
+use crate::saved_web::places::{Places, keep_text};
 use crawl_keys::{Base, CanonUrl};
 use hash_order::{HINTS, Hints};
 use std::alloc::{AllocError, Global};
+use std::collections::BTreeMap;
 use std::marker::Model;
 
 /// For how many pages there is room at the first.
@@ -69,23 +70,20 @@ impl<'a> Pages<'a> {
         ensures pages { IfOk result (λ added. self.new ≡ (if added then self.old ++ record { url = page; behind = behind.now } ∷ [] else self.old)) }
     {
         let page = KnownPage::new(page, behind);
-        if self.find(page.hash(), page.url()).is_some() {
+        self.make_room(alloc)?;
+        let place = self.list.len();
+        if !keep_if_new(
+            alloc,
+            &self.list,
+            &mut self.places,
+            page.hash(),
+            page.url(),
+            place,
+        )? {
             return Ok(false);
         }
-        self.make_room(alloc)?;
-        self.push(alloc, page)?;
-        Ok(true)
-    }
-
-    /// Adds a page whose URL no other has.
-    fn push(&mut self, alloc: Global, page: KnownPage<'a>) -> Result<(), AllocError>
-        requires { has self.old page.url ≡ false }
-        ensures { OnOk result (self.new ≡ self.old ++ page.entry ∷ []) }
-    {
-        self.places
-            .keep(alloc, page.hash(), page.url(), self.list.len())?;
         self.list.push(page)?;
-        Ok(())
+        Ok(true)
     }
 
     /// Makes room for one more place, by a table for twice as many where there is none.
@@ -140,6 +138,80 @@ fn grow(
     Ok(())
 }
 
+/// Keeps the place for the URL, whose text has the hash, unless a page of the list has the URL, and tells whether it did.
+///
+/// Nearly every URL is the only one of its hash. One that was picked to have the hash of others is looked for among them once,
+/// and kept where that search ends.
+fn keep_if_new(
+    alloc: Global,
+    list: &[KnownPage<'_>],
+    places: &mut Places,
+    hash: u64,
+    url: &str,
+    place: usize,
+) -> Result<bool, AllocError>
+    requires hash { hash ≡ hash_of url.now }
+    requires apart { AreApart list.now }
+    requires kept { AreKept list.now places.old }
+    ensures told { IfOk result (λ kept. kept ≡ not (has list.now url.now)) }
+    ensures own { IfOk result (λ kept. kept ≡ true → IsKept places.new url.now place) }
+    // The pages that are there stay where they are kept, whatever comes of it.
+    ensures kept { AreKept list.now places.new }
+{
+    if hinted_place(list, &places.hints, hash, url).is_some() {
+        return Ok(false);
+    }
+    match places.others.get(&hash).copied() {
+        Some(other) if is_at(list, other, url) => Ok(false),
+        Some(_) => keep_twin(alloc, list, &mut places.twins, url, place),
+        None if twin_place(list, &places.twins, url).is_some() => Ok(false),
+        None => {
+            places.keep(alloc, hash, url, place)?;
+            Ok(true)
+        }
+    }
+}
+
+/// Keeps the place for the URL among the twins, unless a page with the URL stands at the place that they have for it, and tells
+/// whether it did.
+fn keep_twin(
+    alloc: Global,
+    list: &[KnownPage<'_>],
+    twins: &mut BTreeMap<String, usize>,
+    url: &str,
+    place: usize,
+) -> Result<bool, AllocError>
+    ensures there { IfOk result (λ kept. kept ≡ false → (k : ℕ) × (stands_at list.now k url.now ≡ true)) }
+    ensures new { IfOk result (λ kept. kept ≡ true → (k : ℕ) → get_by_text twins.old url.now ≡ Some k → stands_at list.now k url.now ≡ false) }
+    ensures own { IfOk result (λ kept. kept ≡ true → get_by_text twins.new url.now ≡ Some place) }
+    ensures stay { (other : List ℕ) (k : ℕ) → get_by_text twins.old other ≡ Some k → stands_at list.now k other ≡ true → get_by_text twins.new other ≡ Some k }
+{
+    let kept = kept_or(alloc, twins, url, place)?;
+    if is_at(list, kept, url) {
+        return Ok(false);
+    }
+    if kept != place {
+        // It was kept for a page that did not come, since a growth was refused.
+        keep_text(alloc, twins, url, place)?;
+    }
+    Ok(true)
+}
+
+/// The place that the twins have for the URL, which is this one from now on where they had none.
+fn kept_or(
+    alloc: Global,
+    twins: &mut BTreeMap<String, usize>,
+    url: &str,
+    place: usize,
+) -> Result<usize, AllocError>
+    ensures kept { IfOk result (λ kept. kept ≡ unwrap_or (get_by_text twins.old url.now) place) }
+    ensures own { IfOk result (λ kept. get_by_text twins.new url.now ≡ Some kept) }
+    ensures others { (other : List ℕ) (k : ℕ) → get_by_text twins.old other ≡ Some k → get_by_text twins.new other ≡ Some k }
+{
+    let key = String::from_str(alloc, url)?;
+    Ok(*twins.entry(key)?.or_insert(place))
+}
+
 /// The place of a page with the URL, whose text has the hash.
 fn place_of(list: &[KnownPage<'_>], places: &Places, hash: u64, url: &str) -> Option<usize>
     requires { hash ≡ hash_of url.now }
@@ -178,12 +250,18 @@ fn other_place(list: &[KnownPage<'_>], places: &Places, hash: u64, url: &str) ->
             return Some(*place);
         }
     }
-    if let Some(place) = places.twins.get(url) {
-        if is_at(list, *place, url) {
-            return Some(*place);
-        }
+    twin_place(list, &places.twins, url)
+}
+
+/// The place of a page with the URL among the twins.
+fn twin_place(list: &[KnownPage<'_>], twins: &BTreeMap<String, usize>, url: &str) -> Option<usize>
+    ensures found { IfSome result (λ place. stands_at list.now place url.now ≡ true) }
+    ensures none { result ≡ None → (k : ℕ) → get_by_text twins.now url.now ≡ Some k → stands_at list.now k url.now ≡ false }
+{
+    match twins.get(url) {
+        Some(place) if is_at(list, *place, url) => Some(*place),
+        _ => None,
     }
-    None
 }
 
 /// Whether the page at the place has the URL.

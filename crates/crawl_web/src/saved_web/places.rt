@@ -132,7 +132,7 @@ fn keep_hash(others: &mut BTreeMap<u64, usize>, hash: u64, place: usize) -> Resu
 }
 
 /// Keeps the place under the text.
-fn keep_text(
+pub fn keep_text(
     alloc: Global,
     twins: &mut BTreeMap<String, usize>,
     text: &str,
