@@ -2,6 +2,7 @@
 use Rattle.std.proofs.Common.{◌≡◌, inl, inr, ℕ, zero, suc, ◌<◌, Bool, true, false, cond, List, [], ◌∷◌, ◌++◌, ◌+◌, length, take, Option, Some, None, refl, sym, ap, subst, ◌∙◌}
 use Rattle.std.specs.Prelude.{bytes_eq}
 use Rattle.std.specs.BTreeMap.{BTreeMap, get, Updates}
+use Rattle.std.specs.Ordering.{nat_cmp}
 use Rattle.std.proofs.lemmas.Bool.{cases_Bool, both_ways, false_from_ne_true, cond-false, or_left, or_right}
 use Rattle.std.proofs.lemmas.Slice.Eq.{bytes_eq-Decides}
 use Rattle.hash_order.specs.HashOrder.{hash_of, by_hash, by_hash_ties}
@@ -9,7 +10,7 @@ use Rattle.hash_order.specs.Hints.{hint_at, IsHinted}
 use Rattle.crawl_frontier.specs.declared.entry.Entry.{Entry}
 use Rattle.crawl_frontier.specs.declared.places.Places.{Places}
 use Rattle.crawl_frontier.specs.Entries.{has_url}
-use Rattle.crawl_frontier.specs.Tables.{has_that, leads_to, IsKnown, KnowsEach}
+use Rattle.crawl_frontier.specs.Tables.{has_that, leads_to, IsBeside, IsKnown, KnowsEach}
 use Rattle.crawl_frontier.proofs.Entries.{has_url-snoc}
 use Rattle.crawl_frontier.proofs.Gets.{get_last}
 
@@ -25,35 +26,47 @@ pub right : (es : List Entry) (guess : Option ℕ) (url : List ℕ) → leads_to
 right es None url leads = absurd (cc (leads))
 right es (Some k) url leads = stands es k url leads
 
--- where no guess is, the list does not have the URL
-none_right : (places : Places) (es : List Entry) (url : List ℕ) → KnowsEach places es
-    → ((i : ℕ) → i < 4 → leads_to es (hint_at places.hints (hash_of url) i) url ≡ false) → leads_to es (get by_hash places.others url) url ≡ false → has_url url es ≡ false
-none_right places es url knows no_hint no_other =
+-- where neither a hint nor a place in the maps leads to the URL, the list does not have it
+absent : (places : Places) (es : List Entry) (url : List ℕ) → KnowsEach places es
+    → ((i : ℕ) → i < 4 → leads_to es (hint_at places.hints (hash_of url) i) url ≡ false)
+    → ((k : ℕ) → IsBeside places url k → leads_to es (Some k) url ≡ false) → has_url url es ≡ false
+absent places es url knows no_hint not_beside =
     false_from_ne_true _ (λ has.
     let at = knows url has in
     both_ways _ (wrong at.0 at.1) at.2)
   where
     wrong : (k : ℕ) → IsKnown places url k → leads_to es (Some k) url ≡ false
     wrong k (inl hint) = subst (λ (guess : Option ℕ). leads_to es guess url ≡ false) hint.2 (no_hint hint.0 hint.1)
-    wrong k (inr kept) = subst (λ (guess : Option ℕ). leads_to es guess url ≡ false) kept no_other
+    wrong k (inr beside) = not_beside k beside
 
--- where none of the hints is right, the map tells whether the list has the URL
-pub by_last : (places : Places) (es : List Entry) (url : List ℕ) → KnowsEach places es
+-- where neither a hint nor the place of the hash leads to the URL, the twins tell whether the list has it
+pub twins_tell : (places : Places) (es : List Entry) (url : List ℕ) (first : ℕ) → KnowsEach places es
     → ((i : ℕ) → i < 4 → leads_to es (hint_at places.hints (hash_of url) i) url ≡ false)
-    → (told : Bool) → told ≡ leads_to es (get by_hash places.others url) url → told ≡ has_url url es
-by_last places es url knows no_hint true is = sym (right es (get by_hash places.others url) url (sym is))
-by_last places es url knows no_hint false is = sym (none_right places es url knows no_hint (sym is))
+    → get nat_cmp places.others (hash_of url) ≡ Some first → leads_to es (Some first) url ≡ false
+    → has_url url es ≡ leads_to es (get by_hash places.twins url) url
+twins_tell places es url first knows no_hint is not_first = told (leads_to es (get by_hash places.twins url) url) refl
+  where
+    not_beside : leads_to es (get by_hash places.twins url) url ≡ false → (k : ℕ) → IsBeside places url k → leads_to es (Some k) url ≡ false
+    not_beside no_twin k beside =
+        let there = beside.1 in
+        elim beside.2 [
+          | inl same ↦ let here : Some first ≡ Some k = cc in subst (λ (guess : Option ℕ). leads_to es guess url ≡ false) here not_first
+          | inr kept ↦ subst (λ (guess : Option ℕ). leads_to es guess url ≡ false) kept no_twin
+        ]
+
+    told : (b : Bool) → leads_to es (get by_hash places.twins url) url ≡ b → has_url url es ≡ leads_to es (get by_hash places.twins url) url
+    told true leads = right es (get by_hash places.twins url) url leads ∙ sym leads
+    told false leads = absent places es url knows no_hint (not_beside leads) ∙ sym leads
 
 -- ---- what is kept
 
--- a place that was known is known still, but for those of the one URL that is written in the map
-pub known_still : (p q : Places) (url : List ℕ) → ((hash k : ℕ) → IsHinted p.hints hash k → IsHinted q.hints hash k)
-    → ((other : List ℕ) → bytes_eq url other ≡ false → get by_hash q.others other ≡ get by_hash p.others other)
-    → (other : List ℕ) (k : ℕ) → bytes_eq url other ≡ false → IsKnown p other k → IsKnown q other k
-known_still p q url hinted kept other k differs (inl hint) = inl (hinted (hash_of other) k hint)
-known_still p q url hinted kept other k differs (inr at) = inr (kept other differs ∙ at)
+-- a place that was known, where neither the hints nor the maps lose it
+pub known_still : (p q : Places) (url : List ℕ) (k : ℕ) → ((hash j : ℕ) → IsHinted p.hints hash j → IsHinted q.hints hash j)
+    → (IsBeside p url k → IsBeside q url k) → IsKnown p url k → IsKnown q url k
+known_still p q url k hinted beside (inl hint) = inl (hinted (hash_of url) k hint)
+known_still p q url k hinted beside (inr at) = inr (beside at)
 
--- what the map has for other URLs once one was written
+-- what the twins have for other URLs once one was written
 pub others_stay : (m n : BTreeMap (List ℕ) ℕ) (key url : List ℕ) (k : ℕ) → key ≡ url → Updates by_hash m n key (Some k)
     → (other : List ℕ) → bytes_eq url other ≡ false → get by_hash n other ≡ get by_hash m other
 others_stay m n key url k same updates other differs =
@@ -105,13 +118,13 @@ stands_here all i e long more =
     let last : leads_to (take i all ++ e ∷ []) (Some (length (take i all))) e.url ≡ true = ap (λ o. has_that o e.url) (get_last (take i all) e) ∙ (bytes_eq-Decides e.url e.url).1 refl in
     leads_on all (i + 1) i e.url (subst (λ n. leads_to (take (i + 1) all) (Some n) e.url ≡ true) (sym long) (subst (λ es. leads_to es (Some (length (take i all))) e.url ≡ true) more last))
 
--- a URL that no hint of the table leads to is in the map
-pub in_map : (places : Places) (all : List Entry) (url : List ℕ) → KnowsEach places all → has_url url all ≡ true
+-- a URL that no hint of the table leads to is in the maps
+pub in_maps : (places : Places) (all : List Entry) (url : List ℕ) → KnowsEach places all → has_url url all ≡ true
     → ((i : ℕ) → i < 4 → leads_to all (hint_at places.hints (hash_of url) i) url ≡ false)
-    → (k : ℕ) × (get by_hash places.others url ≡ Some k) × (leads_to all (Some k) url ≡ true)
-in_map places all url knows has no_hint = let at = knows url has in by_place at.0 at.1 at.2
+    → (k : ℕ) × IsBeside places url k × (leads_to all (Some k) url ≡ true)
+in_maps places all url knows has no_hint = let at = knows url has in by_place at.0 at.1 at.2
   where
-    by_place : (k : ℕ) → IsKnown places url k → leads_to all (Some k) url ≡ true → (k : ℕ) × (get by_hash places.others url ≡ Some k) × (leads_to all (Some k) url ≡ true)
+    by_place : (k : ℕ) → IsKnown places url k → leads_to all (Some k) url ≡ true → (k : ℕ) × IsBeside places url k × (leads_to all (Some k) url ≡ true)
     by_place k (inl hint) leads = absurd (both_ways _ (subst (λ (guess : Option ℕ). leads_to all guess url ≡ false) hint.2 (no_hint hint.0 hint.1)) leads)
     by_place k (inr kept) leads = (k, kept, leads)
 
@@ -127,13 +140,13 @@ knows_first p q all i e more knows own others url has = elim (cases_Bool (bytes_
       (at.0, others url at.0 differs at.1, at.2)
 ]
 
--- a URL of the list is written in the map at a place where it stands
+-- a place where a URL of the list stands is kept in the maps
 pub knows_written : (p q : Places) (all : List Entry) (url : List ℕ) (place : ℕ) → KnowsEach p all → q.hints ≡ p.hints
-    → get by_hash q.others url ≡ Some place → leads_to all (Some place) url ≡ true
-    → ((other : List ℕ) → bytes_eq url other ≡ false → get by_hash q.others other ≡ get by_hash p.others other) → KnowsEach q all
+    → IsBeside q url place → leads_to all (Some place) url ≡ true
+    → ((other : List ℕ) (k : ℕ) → bytes_eq url other ≡ false → IsBeside p other k → IsBeside q other k) → KnowsEach q all
 knows_written p q all url place knows hints written leads others other has = elim (cases_Bool (bytes_eq url other)) [
   | inl same ↦ subst (λ u. (k : ℕ) × IsKnown q u k × (leads_to all (Some k) u ≡ true)) ((bytes_eq-Decides url other).0 same) (place, inr written, leads)
   | inr differs ↦
       let at = knows other has in
-      (at.0, known_still p q url (λ hash k hint. subst (λ h. IsHinted h hash k) (sym hints) hint) others other at.0 differs at.1, at.2)
+      (at.0, known_still p q other at.0 (λ hash k hint. subst (λ h. IsHinted h hash k) (sym hints) hint) (others other at.0 differs) at.1, at.2)
 ]

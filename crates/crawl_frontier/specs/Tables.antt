@@ -22,9 +22,13 @@ abbrev pub leads_to : List Entry → Option ℕ → List ℕ → Bool
 leads_to entries None url = false
 leads_to entries (Some place) url = has_that (slice_get entries place) url
 
--- the place is hinted at by the URL's hash, or kept for the URL
+-- a place is kept for the URL's hash, and it is this one, or this one is kept for the URL
+abbrev pub IsBeside : Places → List ℕ → ℕ → Type 0
+IsBeside places url k = (first : ℕ) × (get nat_cmp places.others (hash_of url) ≡ Some first) × ((first ≡ k) ⊎ (get by_hash places.twins url ≡ Some k))
+
+-- the place is hinted at by the URL's hash, or kept in the maps
 abbrev pub IsKnown : Places → List ℕ → ℕ → Type 0
-IsKnown places url k = IsHinted places.hints (hash_of url) k ⊎ (get by_hash places.others url ≡ Some k)
+IsKnown places url k = IsHinted places.hints (hash_of url) k ⊎ IsBeside places url k
 
 -- each URL of the list is known at a place where it stands
 abbrev pub KnowsEach : Places → List Entry → Type 0

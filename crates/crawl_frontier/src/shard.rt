@@ -1,8 +1,8 @@
 //! What lies behind a subqueue's lock.
-ghost use Rattle.std.specs.Prelude.{◌≡◌, [], false, IfOk, Some, slice_get};
+ghost use Rattle.std.specs.Prelude.{◌≡◌, ◌⊎◌, [], IfOk, Some, slice_get};
 ghost use Rattle.crawl_keys.specs.Assignment.{subqueue_of};
 ghost use Rattle.crawl_gate.specs.Seat.{IsSeatOf};
-ghost use Rattle.crawl_frontier.specs.Entries.{KeepsRule, count_of, entry, has_url};
+ghost use Rattle.crawl_frontier.specs.Entries.{KeepsRule, count_of, entry};
 ghost use Rattle.crawl_frontier.specs.Admits.{Admits};
 ghost use Rattle.crawl_frontier.specs.Parts.{shard};
 ghost use Rattle.crawl_frontier.specs.Rule.{pushing, home};
@@ -68,6 +68,16 @@ pub enum Admit {
     TooFar(Unit),
     /// A growth was refused.
     NoMemory(Unit),
+}
+
+// The answer where this entry has the URL.
+fn seen(there: &Entry, unit: Unit) -> Admit
+    ensures { (result ≡ Admit.Seen there.now.url unit) ⊎ (result ≡ Admit.NoMemory unit) }
+{
+    match there.url.copy() {
+        Ok(there) => Admit::Seen(there, unit),
+        Err(_) => Admit::NoMemory(unit),
+    }
 }
 
 // What a push needs: the message's entry, and the list's.
@@ -144,20 +154,17 @@ impl<K: Name> Shard<K> {
         if found != own {
             return Admit::Crossed(found, unit);
         }
-        if let Some(there) = self.places.find(self.sent.as_slice(), url) {
-            return match there.url.copy() {
-                Ok(there) => Admit::Seen(there, unit),
-                Err(_) => Admit::NoMemory(unit),
-            };
+        if hops <= HOPS_LIMIT {
+            return self.send(rt, queue, url, sender, own, hops as u32, unit);
         }
-        if hops > HOPS_LIMIT {
-            return Admit::TooFar(unit);
+        match self.places.find(self.sent.as_slice(), url) {
+            Some(there) => seen(there, unit),
+            None => Admit::TooFar(unit),
         }
-        self.send(rt, queue, url, sender, own, hops as u32, unit)
     }
 
-    // Sends a URL that is not there. All that grows comes before the push. Where the push itself is refused, the noted place
-    // is one at which no entry stands.
+    // Sends the URL, unless it is there: to look and to note its place is one search. All that grows comes before the push.
+    // Where something is refused after that search, the noted place is one at which no entry stands.
     fn send<R: Wait>(
         &mut self,
         rt: &R,
@@ -172,9 +179,15 @@ impl<K: Name> Shard<K> {
         requires queue { slice_get K.queues self.old.place ≡ Some queue.now }
         requires unit { IsSeatOf K.gate unit }
         requires own { count_of sender self.old.sent ≡ own }
-        requires new { has_url url.now self.old.sent ≡ false }
         ensures { Admits self.old self.new url.now sender own hops unit result }
     {
+        let alloc = *self.sent.allocator();
+        let Ok(found) = self.places.find_or_note(alloc, self.sent.as_slice(), url) else {
+            return Admit::NoMemory(unit);
+        };
+        if let Some(there) = found {
+            return seen(there, unit);
+        }
         let Ok((sent, listed)) = copies(url, sender, own, hops) else {
             return Admit::NoMemory(unit);
         };
@@ -182,10 +195,6 @@ impl<K: Name> Shard<K> {
             return Admit::NoMemory(unit);
         };
         let Ok(()) = enter_sender(&mut self.counts, sender, own) else {
-            return Admit::NoMemory(unit);
-        };
-        let alloc = *self.sent.allocator();
-        let Ok(()) = self.places.note(alloc, self.sent.as_slice(), url.url()) else {
             return Admit::NoMemory(unit);
         };
         let message = Message { entry: sent, unit };
