@@ -153,7 +153,7 @@ fn find_fault<'a>(
     ensures { Tells result (first_fault (allows filter.now) seeds.now (pointed entries.now) results.now) }
 {
     let accepted = places_of(alloc, entries)?;
-    let marks = marks_of(alloc, filter, &accepted, entries, results)?;
+    let marks = marks_of(alloc, filter, &accepted, entries, 0, results)?;
     fault_by_marks(alloc, filter, seeds, entries, &accepted, marks)
 }
 

@@ -9,7 +9,7 @@ ghost use Rattle.crawl_web.specs.Pages.{links_of};
 ghost use Rattle.crawl_certificate.specs.Places.{pointed, has_place, ArePlaces};
 ghost use Rattle.crawl_certificate.specs.CertFaults.{stands_in, has_result, is_behind, is_linked, some_missing, twice};
 
-use crate::lookups::{GUESSES, Places, place_at, place_by};
+use crate::lookups::{GUESSES, Places, place_by};
 use crate::missing::some_missing;
 use crawl_frontier::Entry;
 use crawl_keys::{CanonUrl, Filter};
@@ -50,11 +50,15 @@ impl Told {
 }
 
 /// What the results say of the entries, and what is wrong with them.
+///
+/// The entry of each result is looked for first at the place behind that of the result before it, and of the first one at
+/// `first`: a run's results come in the order of its entries.
 pub fn marks_of<'a>(
     alloc: Global,
     filter: &Filter,
     accepted: &Places<'a>,
     entries: &[&Entry],
+    first: usize,
     results: &'a [PageResult],
 ) -> Result<Marks, AllocError>
     requires { ArePlaces (pointed entries.now) accepted.now }
@@ -72,6 +76,7 @@ pub fn marks_of<'a>(
         entries,
         &mut fetched,
         &mut linked,
+        first,
         results,
     );
     Ok(Marks {
@@ -94,6 +99,7 @@ fn mark_results<'a>(
     entries: &[&Entry],
     fetched: &mut [bool],
     linked: &mut [bool],
+    first: usize,
     results: &'a [PageResult],
 ) -> Told
     requires places { ArePlaces (pointed entries.now) accepted.now }
@@ -110,9 +116,11 @@ fn mark_results<'a>(
         stray: false,
         twice: false,
     };
+    let mut guess = first;
     for one in results {
-        let of_one = mark_result(filter, accepted, entries, fetched, linked, one);
+        let of_one = mark_result(filter, accepted, entries, fetched, linked, guess, one);
         told = told.and(of_one);
+        guess = guess.saturating_add(1);
     }
     told
 }
@@ -125,6 +133,7 @@ fn mark_result<'a>(
     entries: &[&Entry],
     fetched: &mut [bool],
     linked: &mut [bool],
+    guess: usize,
     one: &'a PageResult,
 ) -> Told
     requires places { ArePlaces (pointed entries.now) accepted.now }
@@ -137,7 +146,7 @@ fn mark_result<'a>(
     ensures twice { (known : List ℕ → Bool) → fetched.old ≡ map (λ e. known e.url) (pointed entries.now) → result.stray ≡ false → result.twice ≡ known one.now.url }
 {
     let links = links_of(&one.page);
-    match place_at(accepted, entries, &one.url) {
+    match place_by(accepted, entries, guess, &one.url) {
         Some(place) => {
             let twice = fetched[place];
             fetched[place] = true;

@@ -22,6 +22,8 @@ const LEAST: usize = 4096;
 #[derive(Clone, Copy)]
 struct Part<'p, 'a> {
     accepted: &'p Places<'a>,
+    /// How many results come before this part.
+    first: usize,
     results: &'a [PageResult],
 }
 
@@ -35,10 +37,12 @@ impl<'p, 'a> Part<'p, 'a> {
         (
             Part {
                 accepted,
+                first: self.first,
                 results: front,
             },
             Part {
                 accepted,
+                first: self.first.saturating_add(front.len()),
                 results: back,
             },
         )
@@ -62,9 +66,13 @@ pub fn marks_in_threads<'a, R: Threads + Sync>(
     ensures twice { IfOk result (λ marks. marks.told.stray ≡ false → marks.told.twice ≡ twice results.now) }
 {
     if results.len() < LEAST {
-        return marks_of(alloc, filter, accepted, entries, results);
+        return marks_of(alloc, filter, accepted, entries, 0, results);
     }
-    let whole = Part { accepted, results };
+    let whole = Part {
+        accepted,
+        first: 0,
+        results,
+    };
     let marks = marks_by_four(rt, alloc, filter, entries, whole)?;
     Ok(marks)
 }
@@ -130,7 +138,14 @@ fn marks_of_part(
     requires { ArePlaces (pointed entries.now) part.accepted.now }
     ensures { IfOk result (AreMarks (allows filter.now) (pointed entries.now) part.entry.accepted.now part.entry.results.now) }
 {
-    marks_of(alloc, filter, part.accepted, entries, part.results)
+    marks_of(
+        alloc,
+        filter,
+        part.accepted,
+        entries,
+        part.first,
+        part.results,
+    )
 }
 
 /// What two passes over results found, put together.
