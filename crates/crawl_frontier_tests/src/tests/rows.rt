@@ -263,3 +263,41 @@ fn filtered_before_gate(rt: HostRuntime) {
     }
     .holds(&rt, rt.alloc());
 }
+
+// All have the hash 0: four find a slot, one is kept by that hash, and two by their texts.
+#[test]
+fn urls_of_one_hash(rt: HostRuntime) {
+    Row {
+        workers: 1,
+        max_pending: 9,
+        suffixes: &[],
+        senders: &[],
+        urls: &[
+            "http://a.test/000000000000010355el8CGH)V00000000",
+            "http://a.test/000000000000010355el8CGH)V00000001",
+            "http://a.test/000000000000010355el8CGH)V00000002",
+            "http://a.test/000000000000010355el8CGH)V00000003",
+            "http://a.test/000000000000010355el8CGH)V00000004",
+            "http://a.test/000000000000010355el8CGH)V00000005",
+            "http://a.test/000000000000010355el8CGH)V00000006",
+        ],
+        steps: &[
+            (Step::Seed(0), Answer::Accepted(0, 0)),
+            (Step::Seed(1), Answer::Accepted(0, 1)),
+            (Step::Seed(2), Answer::Accepted(0, 2)),
+            (Step::Seed(3), Answer::Accepted(0, 3)),
+            (Step::Seed(4), Answer::Accepted(0, 4)),
+            (Step::Seed(5), Answer::Accepted(0, 5)),
+            (Step::Seed(6), Answer::Accepted(0, 6)),
+            (Step::Seed(0), Answer::Seen),
+            (Step::Seed(1), Answer::Seen),
+            (Step::Seed(2), Answer::Seen),
+            (Step::Seed(3), Answer::Seen),
+            (Step::Seed(4), Answer::Seen),
+            (Step::Seed(5), Answer::Seen),
+            (Step::Seed(6), Answer::Seen),
+        ],
+        end: End::Fails(FinishError::MissingPart),
+    }
+    .holds(&rt, rt.alloc());
+}
