@@ -29,7 +29,7 @@ use std::marker::Model;
 use std::thread::Threads;
 
 /// What a certified crawl found.
-#[derive(Debug, Drop)]
+#[derive(Drop)]
 pub struct CrawlResult {
     pages: Vec<PageResult>,
 }

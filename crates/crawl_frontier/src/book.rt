@@ -9,7 +9,7 @@ use crawl_keys::CanonUrl;
 use std::alloc::{AllocError, Global};
 
 /// A line of a log: an entry that was accepted, or a URL that was seen; with its subqueue.
-#[derive(Debug, Drop)]
+#[derive(Drop)]
 pub enum Logged {
     Accepted(Entry, u32),
     Seen(CanonUrl, u32),

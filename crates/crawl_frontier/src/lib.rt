@@ -27,8 +27,7 @@ mod setup;
 mod shard;
 mod subqueue;
 mod tables;
-#[cfg(test)]
-mod tests;
+pub mod testing;
 mod worker;
 
 pub use account::Account;

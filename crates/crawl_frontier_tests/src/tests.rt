@@ -1,3 +1,4 @@
+mod admission;
 mod closing;
 mod crawler;
 mod leaving;

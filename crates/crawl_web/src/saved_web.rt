@@ -30,7 +30,7 @@ use pages::Pages;
 use std::alloc::Global;
 
 /// The pages of a saved web, each with its links. It borrows the bytes that it was read from.
-#[derive(Debug, Drop)]
+#[derive(Drop)]
 pub struct SavedWeb<'a> {
     /// Each page with the bytes behind its line.
     pages: Pages<'a>,

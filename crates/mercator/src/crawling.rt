@@ -32,7 +32,7 @@ pub enum Mode {
 }
 
 /// What a crawl found.
-#[derive(Debug, Drop)]
+#[derive(Drop)]
 pub struct Crawled {
     /// The pages of all URLs that can be reached, in ascending order of the bytes of their URLs, each URL once.
     pub result: CrawlResult,

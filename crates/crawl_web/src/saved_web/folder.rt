@@ -11,7 +11,7 @@ use std::alloc::Global;
 use std::marker::Model;
 
 /// A page, and where links with some texts lead from each page of its folder.
-#[derive(Debug, Drop)]
+#[derive(Drop)]
 pub struct Folder<'a> {
     page: Base,
     known: KnownLinks<'a>,

@@ -14,7 +14,7 @@ use std::marker::Model;
 const FEW: usize = 8;
 
 /// A text, and where a link with it leads.
-#[derive(Debug, Drop)]
+#[derive(Drop)]
 pub struct KnownLink<'a> {
     text: &'a str,
     link: Option<CanonUrl>,
@@ -30,7 +30,7 @@ impl<'a> Model for KnownLink<'a> {
 }
 
 /// Texts of links, and where links with them lead. Each call that takes a text takes its hash too, as `hash_of` gives it.
-#[derive(Debug, Drop)]
+#[derive(Drop)]
 pub struct KnownLinks<'a> {
     links: Vec<KnownLink<'a>>,
     // Of no use before there are more than a few.
@@ -48,7 +48,7 @@ impl<'a> Model for KnownLinks<'a> {
 
 /// The places of texts in a list: in slots; or by their hashes, of those that found no vacant slot; or by themselves, of those
 /// whose hash is there for another. So texts that were picked to collide are found too, nearly as fast.
-#[derive(Debug, Drop)]
+#[derive(Drop)]
 struct Places<'a> {
     hints: Hints,
     others: BTreeMap<u64, usize>,

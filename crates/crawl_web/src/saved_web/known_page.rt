@@ -8,7 +8,7 @@ use std::alloc::AllocError;
 use std::marker::Model;
 
 /// A page of a saved web: its URL, parsed once, when the web is read, and the bytes behind its line.
-#[derive(Debug, Drop)]
+#[derive(Drop)]
 pub struct KnownPage<'a> {
     /// The hash of the URL's text, since its place is kept anew where the table of places grows.
     hash: u64,

@@ -26,7 +26,7 @@ const MEMORY_LIMIT: usize = 131_072;
 
 /// Folders, each at the place that its text picks. A folder keeps of itself that what it knows is right, so a place may hold
 /// any.
-#[derive(Debug, Drop)]
+#[derive(Drop)]
 pub struct Memory<'a> {
     // There are none before a folder is put here.
     places: Vec<Option<Folder<'a>>>,
@@ -94,7 +94,7 @@ fn places<'a>(alloc: Global) -> Result<Vec<Option<Folder<'a>>>, AllocError> {
 /// One is used at first, and one more each time threads have met often enough. A crawl in threads has each host with one
 /// thread, so with as many memories as threads each mostly has one alone: then no thread's lists grow in the heap of another,
 /// for whose lock it would wait.
-#[derive(Debug, Drop)]
+#[derive(Drop)]
 pub struct Memories<'a> {
     all: Vec<Mutex<Memory<'a>>>,
     // How many fetches found their memory with another thread.

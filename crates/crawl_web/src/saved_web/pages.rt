@@ -23,7 +23,7 @@ const FIRST_PAGES: usize = 16;
 ///
 /// To add or to find one looks at the slots of its hash, which lie side by side, and at the page: in as many steps for ten pages
 /// as for a million.
-#[derive(Debug, Drop)]
+#[derive(Drop)]
 pub struct Pages<'a> {
     list: Vec<KnownPage<'a>>,
     places: Places,

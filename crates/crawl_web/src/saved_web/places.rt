@@ -16,7 +16,7 @@ use std::collections::BTreeMap;
 /// Nearly every place is in a slot. Whoever picks the URLs can make them want the same slots, and even have one hash. Those that
 /// find no slot are in a map of their hashes, and those whose hash is there for another in a map of their texts: so n of them are
 /// kept and found in n log n steps, whatever they are.
-#[derive(Debug, Drop)]
+#[derive(Drop)]
 pub struct Places {
     /// In slots, by the hash.
     pub hints: Hints,

@@ -17,7 +17,7 @@ use std::sync::Wait;
 use std::thread::Threads;
 
 /// What a crawl of a saved web tells.
-#[derive(Debug, Drop)]
+#[derive(Drop)]
 pub struct Report {
     /// The report, by the format of [`report_text`].
     pub text: Vec<u8>,

@@ -12,7 +12,7 @@ use crawl_core::{PENDING_LIMIT, WORKER_LIMIT};
 use std::alloc::{AllocError, AllocFailed, Global};
 
 /// Why words are no plan.
-#[derive(Debug, Drop)]
+#[derive(Drop)]
 pub enum PlanError {
     /// What is to be shown in place of a command: help that was asked for, with status 0, or what is wrong with the words, with
     /// status 3.
