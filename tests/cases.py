@@ -22,9 +22,10 @@ A document is Markdown: prose, inputs and commands.
 
 - A block whose tag has a second word is an input: a file of that name.
 - A block with the tag `console` has commands, `$ ` before each and `> `
-  before each further line of one. Bash runs them in order, with pipefail, in
-  a new folder with the document's inputs and the repository's `crates`,
-  `examples` and `tools`. `mercator` is the built program, or PROGRAM.
+  before each further line of one. Bash runs those of a document in order,
+  with pipefail, in a new folder with its inputs and the repository's
+  `crates`, `examples` and `tools`. `mercator` is the built program, or what
+  PROGRAM names. A command that takes more than a minute is ended.
 - Below a command stand its standard output, its standard error with `! `
   before each line, and `[status N]` where N is not 0. `[as FILE]` stands for
   the bytes of that file, and `[no line end]` follows an output without a last
@@ -70,28 +71,29 @@ class Case(NamedTuple):
     answer: str
 
 
-class Block(NamedTuple):
-    """The commands of one block, and its document's inputs."""
+class Document(NamedTuple):
+    """A document's inputs by their names, and its commands."""
 
     inputs: dict[str, str]
     cases: list[Case]
 
 
-def blocks_of(path: Path) -> Iterator[Block]:
-    """The blocks of commands of a document."""
+def read(path: Path) -> Document:
+    """What a document shows."""
     text = path.read_text("utf-8")
-    inputs: dict[str, str] = {}
+    document = Document({}, [])
     for block in BLOCK.finditer(text):
         tag, name, body = block.groups()
         above = text.count("\n", 0, block.start(3))
-        if name in inputs:
+        if name in document.inputs:
             sys.exit(f"{path}:{above}: a second input {name}")
         if name:
-            inputs[name] = body
+            document.inputs[name] = body
         elif tag == "console":
             if not BESIDE.fullmatch(CASE.sub("", body)):
                 sys.exit(f"{path}:{above}: an answer to no command")
-            yield Block(inputs, list(cases_of(path, above, body)))
+            document.cases.extend(cases_of(path, above, body))
+    return document
 
 
 def cases_of(path: Path, above: int, body: str) -> Iterator[Case]:
@@ -113,17 +115,17 @@ def shown(output: bytes, mark: str = "") -> str:
                    for line in lines)
 
 
-def run(block: Block, commands: str) -> list[str]:
-    """How the answer of each case of a block differs; empty where it fits."""
+def run(document: Document, commands: str) -> list[str]:
+    """How each case is answered otherwise; an empty text where it is not."""
     path = f"{commands}:{os.environ['PATH']}"
     environment = {"LC_ALL": "C", "PATH": path}
     told = []
     with tempfile.TemporaryDirectory() as folder:
-        for name, text in block.inputs.items():
+        for name, text in document.inputs.items():
             Path(folder, name).write_text(text, "utf-8")
         for name in LINKED:
             Path(folder, name).symlink_to(ROOT / name)
-        for case in block.cases:
+        for case in document.cases:
             done = subprocess.run(
                 [*SHELL, case.command], cwd=folder, env=environment,
                 stdin=subprocess.DEVNULL, capture_output=True, check=False,
@@ -158,11 +160,11 @@ def main() -> None:
     own = [*sorted(ROOT.glob("tests/cases/*.md")),
            *(ROOT / name for name in DOCUMENTS)]
     paths = [Path(name) for name in sys.argv[1:]] or own
-    blocks = [block for path in paths for block in blocks_of(path)]
+    documents = [read(path) for path in paths]
     with tempfile.TemporaryDirectory() as commands:
         Path(commands, "mercator").symlink_to(program)
         with ThreadPoolExecutor(os.cpu_count()) as pool:
-            told = pool.map(lambda block: run(block, commands), blocks)
+            told = pool.map(lambda it: run(it, commands), documents)
             differences = [text for texts in told for text in texts]
     failed = [text for text in differences if text]
     print(*failed, sep="\n\n", end="\n\n" if failed else "")
