@@ -1,5 +1,5 @@
-//! What no clause says: that calls succeed, that the definitions mean what the worked rows mean, and the messages.
+//! What no clause says: that certificates are given, and that each fault is the one that is meant.
 mod faults;
 mod messages;
 mod run;
-mod threads;
+mod tables;

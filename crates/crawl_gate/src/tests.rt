@@ -1,4 +1,5 @@
 //! What no clause says: that the calls succeed, and what many threads do to one gate.
+mod answers;
 mod own_steps;
 mod pool;
 mod rows;

@@ -1,8 +1,6 @@
 //! What no clause says: that there is room in a table of hints, and that few places are told to go elsewhere.
 use crate::{HINTS, Hints, hash_of};
 use std::alloc::Global;
-use std::process::Abort;
-use std::test::Fail;
 
 const TEXTS: usize = 10_000;
 
@@ -12,40 +10,41 @@ fn numbered(alloc: Global, number: usize) -> Option<u64> {
     Some(hash_of(text.as_str()))
 }
 
-// Whether one of the hints of the hash is this place.
-fn is_hinted(hints: &Hints, hash: u64, place: usize) -> bool {
-    (0..HINTS).any(|number| hints.hint(hash, number) == Some(place))
-}
-
-// Keeps the place of each text in a table for all of them, and answers how many it keeps and hints at.
-fn keep_all(alloc: Global) -> Option<usize> {
-    let mut hints = Hints::new(alloc, TEXTS).ok()?;
-    if hints.capacity() < TEXTS {
-        return None;
+// Whether the place is kept, and one of the hints of the hash is this place.
+fn keeps(hints: &mut Hints, hash: u64, place: usize) -> bool {
+    if !hints.keep(hash, place) {
+        return false;
     }
-    let mut kept = 0usize;
-    for place in 0..TEXTS {
-        let hash = numbered(alloc, place)?;
-        if hints.keep(hash, place) && is_hinted(&hints, hash, place) {
-            kept = kept.saturating_add(1);
+    for number in 0..HINTS {
+        if hints.hint(hash, number) == Some(place) {
+            return true;
         }
     }
-    Some(kept)
+    false
+}
+
+// Keeps the place of each text in a table, and answers how many it keeps and hints at.
+fn keep_all(alloc: Global, hints: &mut Hints) -> usize {
+    let mut kept = 0usize;
+    for place in 0..TEXTS {
+        if let Some(hash) = numbered(alloc, place) {
+            kept = kept.saturating_add(usize::from(keeps(hints, hash, place)));
+        }
+    }
+    kept
 }
 
 // A body of `keep` that refuses all meets its clauses too.
 #[test]
 fn keeps_all_but_few_places(rt: HostRuntime) {
-    let Some(kept) = keep_all(rt.alloc()) else {
+    let Ok(mut hints) = Hints::new(rt.alloc(), TEXTS) else {
         panic!(&rt; "no memory")
     };
-    assert!(&rt; kept > TEXTS / 10 * 9, "{kept}");
-}
-
-#[test]
-fn empty_table_keeps_nothing(rt: HostRuntime) {
-    let mut hints = Hints::none(rt.alloc());
-    assert_eq!(&rt; hints.capacity(), 0);
-    assert!(&rt; !hints.keep(7, 0));
-    assert_eq!(&rt; hints.hint(7, 0), None);
+    let kept = keep_all(rt.alloc(), &mut hints);
+    assert!(&rt;
+        hints.capacity() >= TEXTS && kept > TEXTS / 10 * 9,
+        "{kept}"
+    );
+    let mut empty = Hints::none(rt.alloc());
+    assert!(&rt; empty.capacity() == 0 && !keeps(&mut empty, 7, 0));
 }

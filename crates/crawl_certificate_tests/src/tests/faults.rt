@@ -1,179 +1,139 @@
-//! Runs that are certified, and changes of their results that are not.
-use crate::tests::run::{Change, run_of};
-use crawl_certificate::CertError::{LinkMissing, NotFetched, SeedMissing, Twice, Unfounded};
+//! What is changed in the results of a run before they are certified, on one thread and by threads.
+use crate::tests::run::{Run, run_of, urls_of};
+use crate::tests::tables::{
+    Case, Change, END, FAULTS_IN_EACH_PART, FIRST, GROUPS, Group, LONG_WEB, Told,
+};
+use crawl_certificate::{CertError, CrawlResult, certify, certify_in_threads};
+use crawl_keys::{CanonUrl, Filter, canonical};
+use crawl_web::{Page, PageResult};
 use std::alloc::Global;
-use std::process::Abort;
 use std::sync::Wait;
 use std::test::Fail;
 use std::thread::Threads;
 
-const A: &str = "http://a.test/";
-
-const B: &str = "http://b.test/";
-
-const C: &str = "http://c.test/";
-
-const D: &str = "http://d.test/";
-
-const GONE: &str = "http://c.test/gone";
-
-const RING: &str = "savedweb 1
-page http://a.test/
-link http://b.test/
-link //c.test/
-link mailto:x@a.test
-page http://b.test/
-link //c.test
-link //a.test/
-page http://c.test/
-link http://A.test:80
-link gone
-";
-
-#[test]
-fn certificate_faults(rt: HostRuntime) -> Result<(), Fail> {
-    for workers in [1, 3] {
-        run_of(&rt, rt.alloc(), workers, &[], &[A], RING)?.holds(
-            &rt,
-            rt.alloc(),
-            &[
-                (&[], &[A], Change::Nothing, Ok(&[A, B, C, GONE])),
-                (&[], &[A, A], Change::Nothing, Ok(&[A, B, C, GONE])),
-                (&[], &[A, D], Change::Nothing, Err(SeedMissing)),
-                (&[], &[A], Change::Without(GONE), Err(NotFetched)),
-                (&[], &[A], Change::Links(GONE, D), Err(LinkMissing)),
-                (&[], &[A], Change::Links(GONE, B), Ok(&[A, B, C, GONE])),
-                (&[], &[], Change::Nothing, Err(Unfounded)),
-                (&[], &[B], Change::Nothing, Err(Unfounded)),
-                (&[], &[A], Change::Missing(D), Err(Unfounded)),
-                (&[], &[A], Change::Again(GONE), Err(Twice)),
-                (&[], &[A], Change::Again(A), Err(Twice)),
-                (&[], &[A], Change::Links(C, GONE), Ok(&[A, B, C, GONE])),
-                // `gone` is linked by none, and then `c` only from `b`, which has as many hops.
-                (&[], &[A], Change::Links(C, A), Err(Unfounded)),
-                (&[], &[A], Change::Links(A, B), Err(Unfounded)),
-                // Of several faults the first is told.
-                (&[], &[D], Change::Without(GONE), Err(SeedMissing)),
-                (&[], &[B], Change::Without(GONE), Err(NotFetched)),
-                (&[], &[B], Change::Links(GONE, D), Err(LinkMissing)),
-                (&[], &[B], Change::Again(GONE), Err(Unfounded)),
-            ],
-        )?;
+// The page that a change puts at the URL, if it does.
+fn new_page(alloc: Global, url: &str, change: Change) -> Option<Page> {
+    match change {
+        Change::Links(at, to) if at == url => {
+            let links = urls_of(alloc, &[to]).into();
+            Some(Page::Found { links, skipped: 0 })
+        }
+        Change::Moves(at, to) if at == url => {
+            let to = to.and_then(|to| canonical(alloc, to).ok());
+            Some(Page::Moved { to })
+        }
+        _ => None,
     }
+}
+
+// Whether the change takes the result of this URL away.
+fn is_left_out(url: &str, change: Change) -> bool {
+    match change {
+        Change::Without(at) => at == url,
+        _ => false,
+    }
+}
+
+// Copies of the results, but for the changed one.
+fn changed(alloc: Global, found: &[PageResult], change: Change) -> Vec<PageResult> {
+    let mut results = Vec::new(alloc);
+    for one in found {
+        let url = one.url.as_str();
+        if is_left_out(url, change) {
+            continue;
+        }
+        let Ok(mut copy) = one.copy() else { continue };
+        if let Some(page) = new_page(alloc, url, change) {
+            copy.page = page;
+        }
+        let _ = results.push(copy);
+    }
+    results
+}
+
+// The result that a change puts at the end.
+fn one_more(alloc: Global, change: Change) -> Option<PageResult> {
+    let Change::More(url) = change else {
+        return None;
+    };
+    Some(PageResult {
+        url: canonical(alloc, url).ok()?,
+        page: Page::Missing,
+    })
+}
+
+fn results_of(alloc: Global, found: &[PageResult], change: Change) -> Vec<PageResult> {
+    let mut results = changed(alloc, found, change);
+    if let Some(one) = one_more(alloc, change) {
+        let _ = results.push(one);
+    }
+    results
+}
+
+// The pages have these URLs, in order.
+fn have_urls(pages: &[PageResult], urls: &[&str]) -> bool {
+    for (page, url) in pages.iter().zip(urls) {
+        if page.url.as_str() != *url {
+            return false;
+        }
+    }
+    pages.len() == urls.len()
+}
+
+fn is_told(found: &Result<CrawlResult, CertError>, told: Told) -> bool {
+    match (found, told) {
+        (Ok(found), Told::Pages(urls)) => have_urls(found.pages(), urls),
+        (Ok(found), Told::Count(count)) => found.pages().len() == count,
+        (Err(fault), Told::Fault(expected)) => *fault == expected,
+        _ => false,
+    }
+}
+
+// The case is told on one thread and by threads.
+fn tells<R: Threads + Sync>(rt: &R, alloc: Global, run: &Run, case: &Case) -> Option<bool> {
+    let (within, seeds, change, told) = *case;
+    let filter = Filter::new(alloc, within).ok()?;
+    let urls = urls_of(alloc, seeds);
+    let results = results_of(alloc, &run.results, change);
+    let one = certify(alloc, &filter, &urls, &run.account, &results);
+    let other = certify_in_threads(rt, alloc, &filter, &urls, &run.account, results);
+    Some(is_told(&one, told) && is_told(&other, told))
+}
+
+// The place of the first case of the group that does not hold, or how many there are.
+fn holding<R: Threads + Wait + Sync>(rt: &R, alloc: Global, group: &Group, web: &str) -> usize {
+    let Some(run) = run_of(rt, alloc, group, web) else {
+        return 0;
+    };
+    for (place, case) in group.cases.iter().enumerate() {
+        if tells(rt, alloc, &run, case) != Some(true) {
+            return place;
+        }
+    }
+    group.cases.len()
+}
+
+#[test]
+fn certificates_of_small_webs(rt: HostRuntime) {
+    for group in GROUPS.iter() {
+        let holding = holding(&rt, rt.alloc(), group, group.web);
+        assert!(rt; holding == group.cases.len(), "{}: {holding}", group.name);
+    }
+}
+
+fn long_web(alloc: Global) -> Result<String, Fail> {
+    let mut text = String::from_str(alloc, "savedweb 1\npage http://a.test/\n")?;
+    for number in FIRST..END {
+        text.push_str(&format!(in alloc; "link p{number}\n")?)?;
+    }
+    text.push_str(LONG_WEB)?;
+    Ok(text)
+}
+
+#[test]
+fn faults_in_each_part(rt: HostRuntime) -> Result<(), Fail> {
+    let text = long_web(rt.alloc())?;
+    let holding = holding(&rt, rt.alloc(), &FAULTS_IN_EACH_PART, &text);
+    assert!(rt; holding == FAULTS_IN_EACH_PART.cases.len(), "{holding}");
     Ok(())
-}
-
-const MOVED: &str = "savedweb 2
-page http://a.test/
-moved http://b.test/
-page http://b.test/
-moved mailto:x
-page http://c.test/
-link gone
-";
-
-#[test]
-fn moved_pages(rt: HostRuntime) -> Result<(), Fail> {
-    run_of(&rt, rt.alloc(), 3, &[], &[A, C], MOVED)?.holds(
-        &rt,
-        rt.alloc(),
-        &[
-            (&[], &[A, C], Change::Nothing, Ok(&[A, B, C, GONE])),
-            (&[], &[A, C], Change::Without(B), Err(NotFetched)),
-            (&[], &[A, C], Change::Moves(B, Some(D)), Err(LinkMissing)),
-            (
-                &[],
-                &[A, C],
-                Change::Moves(B, Some(A)),
-                Ok(&[A, B, C, GONE]),
-            ),
-            (&[], &[A, C], Change::Moves(A, None), Err(Unfounded)),
-            (&[], &[A, C], Change::Again(A), Err(Twice)),
-        ],
-    )
-}
-
-const CYCLE: &str = "savedweb 1
-page http://a.test/
-link http://b.test/
-page http://b.test/
-link http://a.test/
-";
-
-// Two pages link to each other: without a seed among them they are not reached.
-#[test]
-fn cycle_without_a_seed(rt: HostRuntime) -> Result<(), Fail> {
-    run_of(&rt, rt.alloc(), 2, &[], &[C, A], CYCLE)?.holds(
-        &rt,
-        rt.alloc(),
-        &[
-            (&[], &[C, A], Change::Nothing, Ok(&[A, B, C])),
-            (&[], &[C], Change::Nothing, Err(Unfounded)),
-            (&[], &[C, B], Change::Nothing, Err(Unfounded)),
-        ],
-    )
-}
-
-const NONE: &[&str] = &[];
-
-// The ring, crawled under these suffixes from these seeds, is certified under the same with these pages.
-fn certifies<R: Abort + Threads + Wait + Sync>(
-    rt: &R,
-    alloc: Global,
-    within: &[&str],
-    seeds: &[&str],
-    pages: &[&str],
-) -> Result<(), Fail> {
-    run_of(rt, alloc, 2, within, seeds, RING)?.tells(
-        rt,
-        alloc,
-        within,
-        seeds,
-        Change::Nothing,
-        Ok(pages),
-    )
-}
-
-const WITHIN_A: &[&str] = &["a.test"];
-
-const WITHIN_A_AND_C: &[&str] = &["a.test", "c.test"];
-
-// Neither a seed nor links to `b.test` are faults.
-#[test]
-fn filtered_seeds_and_links(rt: HostRuntime) -> Result<(), Fail> {
-    run_of(&rt, rt.alloc(), 3, WITHIN_A_AND_C, &[A, B], RING)?.holds(
-        &rt,
-        rt.alloc(),
-        &[
-            (WITHIN_A_AND_C, &[A, B], Change::Nothing, Ok(&[A, C, GONE])),
-            (NONE, &[A, B], Change::Nothing, Err(SeedMissing)),
-            (NONE, &[A], Change::Nothing, Err(LinkMissing)),
-            (WITHIN_A, &[A], Change::Nothing, Err(Unfounded)),
-            (WITHIN_A_AND_C, &[A, B], Change::Missing(B), Err(Unfounded)),
-        ],
-    )
-}
-
-const WITHIN_B: &[&str] = &["b.test"];
-
-const WITHIN_TEST: &[&str] = &["test"];
-
-const WITHIN_EST: &[&str] = &["est"];
-
-const A_AND_B: &[&str] = &[A, B];
-
-const ONLY_B: &[&str] = &[B];
-
-const WHOLE_RING: &[&str] = &[A, B, C, GONE];
-
-#[test]
-fn within_suffix(rt: HostRuntime) -> Result<(), Fail> {
-    certifies(&rt, rt.alloc(), WITHIN_B, A_AND_B, ONLY_B)?;
-    certifies(&rt, rt.alloc(), WITHIN_TEST, A_AND_B, WHOLE_RING)?;
-    certifies(&rt, rt.alloc(), WITHIN_EST, A_AND_B, NONE)
-}
-
-#[test]
-fn no_seeds(rt: HostRuntime) -> Result<(), Fail> {
-    certifies(&rt, rt.alloc(), NONE, NONE, NONE)
 }

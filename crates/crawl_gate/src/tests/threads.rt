@@ -1,7 +1,8 @@
 //! Many threads at one gate.
 ghost use Rattle.crawl_gate.specs.Seat.{IsSeatOf};
 
-use crate::{Close, ClosedPass, Enter, Gate, Pass, Unit};
+use crate::tests::answers::{Answer, closed, entered};
+use crate::{ClosedPass, Enter, Gate, Pass, Unit};
 use std::sync::Wait;
 use std::sync::atomic::{AtomicU64, Ordering};
 use std::test::Fail;
@@ -14,22 +15,12 @@ const ENTRIES: u64 = 100_000;
 // The gate's maximum, below the number of threads.
 const ROOM: u64 = 3;
 
-// What a thread saw: how often it entered, and the most units that were in the threads' hands at once.
-#[derive(Drop)]
-struct Seen {
-    pass: Pass,
-    entries: u64,
-    most_inside: u64,
-}
-
-// Enters and leaves `ENTRIES` times, and tries again where the gate is full.
-fn come_and_go<R: Wait>(rt: &R, gate: &Gate, inside: &AtomicU64, pass: Pass) -> Seen
+// Enters and leaves `ENTRIES` times, and tries again where the gate is full. Answers the most units that were in the threads'
+// hands at once, or none if the gate was closed.
+fn come_and_go<R: Wait>(rt: &R, gate: &Gate, inside: &AtomicU64, mut pass: Pass) -> Option<u64>
     requires { IsSeatOf gate.now pass }
-    ensures { IsSeatOf gate.now result.pass }
 {
-    let mut pass = pass;
-    let mut entries = 0;
-    let mut most_inside = 0;
+    let (mut entries, mut most_inside) = (0u64, 0u64);
     for _ in rt.forever() {
         if entries >= ENTRIES {
             break;
@@ -46,129 +37,84 @@ fn come_and_go<R: Wait>(rt: &R, gate: &Gate, inside: &AtomicU64, pass: Pass) -> 
                 thread::yield_now();
                 pass = back;
             }
-            Enter::Closed(back) => {
-                pass = back;
-                break;
-            }
-            Enter::Lost(_) => unreachable!(),
+            _ => return None,
         }
     }
-    Seen {
-        pass,
-        entries,
-        most_inside,
-    }
+    Some(most_inside)
 }
 
-fn in_two_threads<R: Threads + Wait + Sync>(
+// In two threads.
+fn two_come<R: Threads + Wait + Sync>(
     rt: &R,
     gate: &Gate,
     inside: &AtomicU64,
     one: Pass,
     other: Pass,
-) -> (Seen, Seen)
+) -> (Option<u64>, Option<u64>)
     requires { IsSeatOf gate.now one × IsSeatOf gate.now other }
-    ensures { IsSeatOf gate.now result.0.pass × IsSeatOf gate.now result.1.pass }
 {
     join(
         rt,
         move ||
             requires { IsSeatOf gate.now one }
-            ensures { IsSeatOf gate.entry.now result.pass }
         { come_and_go(rt, gate, inside, one) },
         move ||
             requires { IsSeatOf gate.now other }
-            ensures { IsSeatOf gate.entry.now result.pass }
         { come_and_go(rt, gate, inside, other) },
     )
+}
+
+// In four, by passes of this one.
+fn four_come<R: Threads + Wait + Sync>(rt: &R, gate: &Gate, mut first: Pass) -> [Option<u64>; 4]
+    requires { IsSeatOf gate.now first }
+{
+    let inside = &AtomicU64::new(0);
+    let second = gate.split(&mut first);
+    let third = gate.split(&mut first);
+    let fourth = gate.split(&mut first);
+    let ((a, b), (c, d)) = join(
+        rt,
+        move ||
+            requires { IsSeatOf gate.now first × IsSeatOf gate.now second }
+        { two_come(rt, gate, inside, first, second) },
+        move ||
+            requires { IsSeatOf gate.now third × IsSeatOf gate.now fourth }
+        { two_come(rt, gate, inside, third, fourth) },
+    );
+    [a, b, c, d]
+}
+
+// Whether the gate has room for so many, and no more, whatever four threads do; and is closed once they have gone.
+fn has_room<R: Threads + Wait + Sync>(rt: &R, gate: &Gate, opening: Unit) -> bool
+    requires { IsSeatOf gate.now opening }
+{
+    let (mut pass, _) = gate.leave(opening);
+    let mut closing = gate.split(&mut pass);
+    let late = gate.split(&mut closing);
+    for most in four_come(rt, gate, pass) {
+        if most.unwrap_or(u64::MAX) > ROOM {
+            return false;
+        }
+    }
+    closed(gate, closing) == Answer::Closed
+        && entered(gate, gate.enter(rt, late)).0 == Answer::Closed
 }
 
 #[test]
 fn never_more_than_the_maximum_inside(rt: HostRuntime) -> Result<(), Fail> {
     let (gate, opening) = Gate::new(rt.alloc(), ROOM)?;
-    let gate = &gate;
-    let inside = &AtomicU64::new(0);
-    let (mut first, _) = gate.leave(opening);
-    let second = gate.split(&mut first);
-    let third = gate.split(&mut first);
-    let fourth = gate.split(&mut first);
-    let closing = gate.split(&mut first);
-    let rt = &rt;
-    let ((a, b), (c, d)) = join(
-        rt,
-        move ||
-            requires { IsSeatOf gate.now first × IsSeatOf gate.now second }
-            ensures { IsSeatOf gate.entry.now result.0.pass × IsSeatOf gate.entry.now result.1.pass }
-        { in_two_threads(rt, gate, inside, first, second) },
-        move ||
-            requires { IsSeatOf gate.now third × IsSeatOf gate.now fourth }
-            ensures { IsSeatOf gate.entry.now result.0.pass × IsSeatOf gate.entry.now result.1.pass }
-        { in_two_threads(rt, gate, inside, third, fourth) },
-    );
-    let Close::Closed(_closed) = gate.try_close(closing) else {
-        panic!(rt; "units are left")
-    };
-    for seen in [a, b, c, d] {
-        assert_eq!(rt; seen.entries, ENTRIES);
-        assert!(rt; seen.most_inside <= ROOM);
-        let Enter::Closed(_back) = gate.enter(rt, seen.pass) else {
-            panic!(rt; "entered a closed gate")
-        };
-    }
+    assert!(rt; has_room(&rt, &gate, opening));
     Ok(())
 }
 
-// Takes a unit and drops it. Answers whether there was one to take.
-fn lose_a_unit<R: Wait>(rt: &R, gate: &Gate, pass: Pass) -> bool
-    requires { IsSeatOf gate.now pass }
-{
-    match gate.enter(rt, pass) {
-        Enter::Entered(unit) => {
-            drop(unit);
-            true
-        }
-        _ => false,
-    }
-}
+fn is_shared<T: Sync>() {}
+
+fn is_sent<T: Send>() {}
 
 #[test]
-fn a_unit_dropped_in_a_thread_keeps_the_gate_open(rt: HostRuntime) -> Result<(), Fail> {
-    let (gate, mut opening) = Gate::new(rt.alloc(), ROOM)?;
-    let gate = &gate;
-    let theirs = gate.split_unit(&mut opening);
-    let rt = &rt;
-    let (lost, ()) = join(
-        rt,
-        move ||
-            requires { IsSeatOf gate.now theirs }
-        { lose_a_unit(rt, gate, theirs) },
-        || (),
-    );
-    assert!(rt; lost);
-    let (pass, left) = gate.leave(opening);
-    assert_eq!(rt; left, 1);
-    let Close::Pending(_pass, 1) = gate.try_close(pass) else {
-        panic!(rt; "closed with a unit lost")
-    };
-    Ok(())
-}
-
-fn is_shared<T: Sync>(_value: &T) {}
-
-fn is_sent<T: Send>(_value: &T) {}
-
-#[test]
-fn gates_are_shared_and_seats_are_sent(rt: HostRuntime) -> Result<(), Fail> {
-    let (gate, mut unit): (Gate, Unit) = Gate::new(rt.alloc(), ROOM)?;
-    is_shared(&gate);
-    is_sent(&unit);
-    let pass: Pass = gate.split_unit(&mut unit);
-    is_sent(&pass);
-    drop(gate.leave(unit));
-    let Close::Closed(closed) = gate.try_close(pass) else {
-        panic!(rt; "a unit is left")
-    };
-    let closed: ClosedPass = closed;
-    is_sent(&closed);
-    Ok(())
+fn gates_are_shared_and_seats_are_sent(_rt: HostRuntime) {
+    is_shared::<Gate>();
+    is_sent::<Unit>();
+    is_sent::<Pass>();
+    is_sent::<ClosedPass>();
 }

@@ -1,131 +1,186 @@
-//! The worked rows of one worker: what it loses, and what it finds, in order.
-use crate::tests::runs::{How, Run};
-use crate::tests::sources::{Failing, OneMoved};
+//! The worked rows: what workers lose, and what they find, in order.
+use crate::tests::runs::{Found, How, Run};
+use crate::tests::sources::{Counting, Fails, OneMoved};
 use crawl_keys::canonical;
-use crawl_web::{Fetch, SavedWeb};
+use crawl_web::SavedWeb;
 use std::alloc::Global;
-use std::process::Abort;
 use std::sync::Wait;
-use std::test::Fail;
+use std::sync::atomic::AtomicU64;
 use std::thread::Threads;
 
-const SEED: &str = "http://a.test/";
+const A: &str = "http://a.test/";
 
-// A run of one worker from the seed, what it loses, and the URLs of its results.
-#[derive(Clone, Copy)]
-struct Row<'a> {
-    max_pending: u64,
-    suffixes: &'a [&'a str],
-    lost: u64,
-    urls: &'a [&'a str],
-}
+const B: &str = "http://b.test/";
 
-impl Row<'_> {
-    fn holds<F: Fetch + Sync, R: Threads + Wait + Sync + Abort>(
-        self,
-        rt: &R,
-        alloc: Global,
-        fetcher: &F,
-    ) {
-        for how in [How::Turns, How::Alone, How::Threads] {
-            let run = Run {
-                workers: 1,
-                max_pending: self.max_pending,
-                suffixes: self.suffixes,
-                seeds: &[SEED],
-                how,
-            };
-            let Some(told) = run.told(rt, alloc, fetcher) else {
-                panic!(rt; "no account: {how:?}")
-            };
-            assert_eq!(rt; told.len(), 1);
-            for one in told.iter() {
-                assert_eq!(rt; one.lost, self.lost, "{how:?}");
-                assert_eq!(rt; one.results.len(), self.urls.len(), "{how:?}");
-                for (result, url) in one.results.iter().zip(self.urls) {
-                    assert_eq!(rt; result.url.as_str(), *url, "{how:?}");
-                }
-            }
-        }
-    }
-}
+const PATH_1: &str = "http://a.test/1";
+
+const PATH_2: &str = "http://a.test/2";
+
+const NO_PAGES: &str = "savedweb 1";
 
 const TWO_LINKS: &str = "savedweb 1\npage http://a.test/\nlink 1\nlink 2\n";
 
 const THREE_LINKS: &str = "savedweb 1\npage http://a.test/\nlink 1\nlink 2\nlink 3\n";
 
-#[test]
-fn full_gate_loses_link(rt: HostRuntime) -> Result<(), Fail> {
-    let alloc = rt.alloc();
-    let web = SavedWeb::read(alloc, TWO_LINKS.as_bytes())?;
-    let urls = [SEED, "http://a.test/1", "http://a.test/2"];
-    for (max_pending, lost, found) in [(2, 1, 2), (3, 0, 3)] {
-        Row {
-            max_pending,
-            suffixes: &[],
-            lost,
-            urls: &urls[..found],
-        }
-        .holds(&rt, alloc, &web);
-    }
-    Ok(())
+const OTHER_HOST: &str = "savedweb 1\npage http://a.test/\nlink http://b.test/\nlink 1\n";
+
+// Runs of a saved web, by each of some calls, what they lose, and the URLs of their results by the places of the workers.
+struct Row {
+    name: &'static str,
+    web: &'static str,
+    fails: Fails,
+    workers: u32,
+    max_pending: u64,
+    suffixes: &'static [&'static str],
+    hows: &'static [How],
+    lost: u64,
+    urls: &'static [&'static str],
 }
 
-// It goes on after a link that was refused, and counts each.
-#[test]
-fn two_links_lost(rt: HostRuntime) -> Result<(), Fail> {
-    let alloc = rt.alloc();
-    let web = SavedWeb::read(alloc, THREE_LINKS.as_bytes())?;
+const ONE_WORKER: &[How] = &[How::Turns, How::Alone, How::Threads];
+
+// One worker begins at a.test. Of two, who begin at both hosts, the first has b.test, and the second a.test.
+static ROWS: [Row; 7] = [
     Row {
+        name: "full_gate_loses_link, with room for two",
+        web: TWO_LINKS,
+        fails: Fails::None,
+        workers: 1,
         max_pending: 2,
         suffixes: &[],
-        lost: 2,
-        urls: &[SEED, "http://a.test/1"],
-    }
-    .holds(&rt, alloc, &web);
-    Ok(())
-}
-
-#[test]
-fn filtered_links_are_not_lost(rt: HostRuntime) -> Result<(), Fail> {
-    let alloc = rt.alloc();
-    let web = "savedweb 1\npage http://a.test/\nlink http://b.test/\nlink 1\n";
-    let web = SavedWeb::read(alloc, web.as_bytes())?;
+        hows: ONE_WORKER,
+        lost: 1,
+        urls: &[A, PATH_1],
+    },
     Row {
+        name: "full_gate_loses_link, with room for three",
+        web: TWO_LINKS,
+        fails: Fails::None,
+        workers: 1,
+        max_pending: 3,
+        suffixes: &[],
+        hows: ONE_WORKER,
+        lost: 0,
+        urls: &[A, PATH_1, PATH_2],
+    },
+    // It goes on after a link that was refused, and counts each.
+    Row {
+        name: "two_links_lost",
+        web: THREE_LINKS,
+        fails: Fails::None,
+        workers: 1,
+        max_pending: 2,
+        suffixes: &[],
+        hows: ONE_WORKER,
+        lost: 2,
+        urls: &[A, PATH_1],
+    },
+    Row {
+        name: "filtered_links_are_not_lost",
+        web: OTHER_HOST,
+        fails: Fails::None,
+        workers: 1,
         max_pending: 9,
         suffixes: &["a.test"],
+        hows: ONE_WORKER,
         lost: 0,
-        urls: &[SEED, "http://a.test/1"],
-    }
-    .holds(&rt, alloc, &web);
-    Ok(())
-}
-
-// A worker that lost every URL would meet all clauses: it is the other rows that it fails.
-#[test]
-fn failing_fetcher(rt: HostRuntime) {
+        urls: &[A, PATH_1],
+    },
+    // A worker that lost every URL would meet all clauses: it is the other rows that it fails.
     Row {
+        name: "failing_fetcher",
+        web: NO_PAGES,
+        fails: Fails::All,
+        workers: 1,
         max_pending: 9,
         suffixes: &[],
+        hows: ONE_WORKER,
         lost: 1,
         urls: &[],
+    },
+    // The fetch that waits for another one ends well only where two workers fetch at once, here by `run_threads` and by
+    // `run_worker` in two threads. Workers that run in turn on one thread meet every clause of `run_threads` too.
+    Row {
+        name: "workers_run_together, two_workers_wait_for_each_other",
+        web: NO_PAGES,
+        fails: Fails::Lonely,
+        workers: 2,
+        max_pending: 9,
+        suffixes: &[],
+        hows: &[How::Threads, How::Pair],
+        lost: 0,
+        urls: &[B, A],
+    },
+    Row {
+        name: "workers_run_together, in turn",
+        web: NO_PAGES,
+        fails: Fails::Lonely,
+        workers: 2,
+        max_pending: 9,
+        suffixes: &[],
+        hows: &[How::Turns],
+        lost: 1,
+        urls: &[A],
+    },
+];
+
+impl Row {
+    fn run(&self, how: How) -> Run<'static> {
+        Run {
+            workers: self.workers,
+            max_pending: self.max_pending,
+            suffixes: self.suffixes,
+            seeds: if self.workers == 1 { &[A] } else { &[A, B] },
+            how,
+            urls: self.urls,
+        }
     }
-    .holds(&rt, rt.alloc(), &Failing);
+
+    fn found<R: Threads + Wait + Sync>(&self, rt: &R, alloc: Global, how: How) -> Option<Found> {
+        let source = Counting {
+            web: SavedWeb::read(alloc, self.web.as_bytes()).ok()?,
+            begun: AtomicU64::new(0),
+            fails: self.fails,
+        };
+        self.run(how).found(rt, alloc, &source)
+    }
+
+    fn holds<R: Threads + Wait + Sync>(&self, rt: &R, alloc: Global) -> bool {
+        let count = self.urls.len();
+        for how in self.hows {
+            if self.found(rt, alloc, *how) != Some((self.lost, count, count)) {
+                return false;
+            }
+        }
+        true
+    }
 }
 
 #[test]
-fn follows_a_page_that_moved(rt: HostRuntime) -> Result<(), Fail> {
-    let alloc = rt.alloc();
+fn rows_of_workers(rt: HostRuntime) {
+    for row in ROWS.iter() {
+        assert!(rt; row.holds(&rt, rt.alloc()), "{}", row.name);
+    }
+}
+
+// What a worker finds in a source of one page that has moved.
+fn found_of_moved<R: Threads + Wait + Sync>(rt: &R, alloc: Global) -> Option<Found> {
     let source = OneMoved {
-        from: canonical(alloc, SEED)?,
-        to: canonical(alloc, "http://b.test/")?,
+        from: canonical(alloc, A).ok()?,
+        to: canonical(alloc, B).ok()?,
     };
-    Row {
+    let run = Run {
+        workers: 1,
         max_pending: 9,
         suffixes: &[],
-        lost: 0,
-        urls: &[SEED, "http://b.test/"],
-    }
-    .holds(&rt, alloc, &source);
-    Ok(())
+        seeds: &[A],
+        how: How::Turns,
+        urls: &[A, B],
+    };
+    run.found(rt, alloc, &source)
+}
+
+#[test]
+fn follows_a_page_that_moved(rt: HostRuntime) {
+    assert!(rt; found_of_moved(&rt, rt.alloc()) == Some((0, 2, 2)));
 }

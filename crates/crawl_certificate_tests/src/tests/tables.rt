@@ -1,0 +1,256 @@
+//! Runs that are certified, and changes of their results that are not.
+use crawl_certificate::CertError;
+use crawl_certificate::CertError::{LinkMissing, NotFetched, SeedMissing, Twice, Unfounded};
+
+/// A run, and what is certified of it.
+pub struct Group {
+    pub name: &'static str,
+    pub workers: u32,
+    pub within: Texts,
+    pub seeds: Texts,
+    pub web: &'static str,
+    pub cases: &'static [Case],
+}
+
+pub type Texts = &'static [&'static str];
+
+/// The filter and the seeds that are certified, what is changed in the results, and what is told.
+pub type Case = (Texts, Texts, Change, Told);
+
+#[derive(Clone, Copy)]
+pub enum Change {
+    Nothing,
+    /// Without the result of this URL.
+    Without(&'static str),
+    /// The result of the first URL is a page with a link to the second.
+    Links(&'static str, &'static str),
+    /// The page of the URL moved to this one, or to none.
+    Moves(&'static str, Option<&'static str>),
+    /// One more result: this URL is missing.
+    More(&'static str),
+}
+
+#[derive(Clone, Copy)]
+pub enum Told {
+    Pages(Texts),
+    /// So many pages.
+    Count(usize),
+    Fault(CertError),
+}
+
+use Change::{Links, More, Moves, Nothing, Without};
+use Told::{Count, Fault, Pages};
+
+const A: &str = "http://a.test/";
+
+const B: &str = "http://b.test/";
+
+const C: &str = "http://c.test/";
+
+const D: &str = "http://d.test/";
+
+const GONE: &str = "http://c.test/gone";
+
+const NONE: Texts = &[];
+
+const WHOLE_RING: Texts = &[A, B, C, GONE];
+
+const WITHIN_A: Texts = &["a.test"];
+
+const WITHIN_A_AND_C: Texts = &["a.test", "c.test"];
+
+const RING: &str = "savedweb 1
+page http://a.test/
+link http://b.test/
+link //c.test/
+link mailto:x@a.test
+page http://b.test/
+link //c.test
+link //a.test/
+page http://c.test/
+link http://A.test:80
+link gone
+";
+
+const MOVED: &str = "savedweb 2
+page http://a.test/
+moved http://b.test/
+page http://b.test/
+moved mailto:x
+page http://c.test/
+link gone
+";
+
+const CYCLE: &str = "savedweb 1
+page http://a.test/
+link http://b.test/
+page http://b.test/
+link http://a.test/
+";
+
+const CERTIFICATE_FAULTS: &[Case] = &[
+    (NONE, &[A], Nothing, Pages(WHOLE_RING)),
+    (NONE, &[A, A], Nothing, Pages(WHOLE_RING)),
+    (NONE, &[A, D], Nothing, Fault(SeedMissing)),
+    (NONE, &[A], Without(GONE), Fault(NotFetched)),
+    (NONE, &[A], Links(GONE, D), Fault(LinkMissing)),
+    (NONE, &[A], Links(GONE, B), Pages(WHOLE_RING)),
+    (NONE, NONE, Nothing, Fault(Unfounded)),
+    (NONE, &[B], Nothing, Fault(Unfounded)),
+    (NONE, &[A], More(D), Fault(Unfounded)),
+    (NONE, &[A], More(GONE), Fault(Twice)),
+    (NONE, &[A], More(A), Fault(Twice)),
+    (NONE, &[A], Links(C, GONE), Pages(WHOLE_RING)),
+    // `gone` is linked by none, and then `c` only from `b`, which has as many hops.
+    (NONE, &[A], Links(C, A), Fault(Unfounded)),
+    (NONE, &[A], Links(A, B), Fault(Unfounded)),
+    // Of several faults the first is told.
+    (NONE, &[D], Without(GONE), Fault(SeedMissing)),
+    (NONE, &[B], Without(GONE), Fault(NotFetched)),
+    (NONE, &[B], Links(GONE, D), Fault(LinkMissing)),
+    (NONE, &[B], More(GONE), Fault(Unfounded)),
+];
+
+/// Groups of small webs.
+pub static GROUPS: [Group; 9] = [
+    Group {
+        name: "certificate_faults, one worker",
+        workers: 1,
+        within: NONE,
+        seeds: &[A],
+        web: RING,
+        cases: CERTIFICATE_FAULTS,
+    },
+    Group {
+        name: "certificate_faults, three workers",
+        workers: 3,
+        within: NONE,
+        seeds: &[A],
+        web: RING,
+        cases: CERTIFICATE_FAULTS,
+    },
+    Group {
+        name: "moved_pages",
+        workers: 3,
+        within: NONE,
+        seeds: &[A, C],
+        web: MOVED,
+        cases: &[
+            (NONE, &[A, C], Nothing, Pages(WHOLE_RING)),
+            (NONE, &[A, C], Without(B), Fault(NotFetched)),
+            (NONE, &[A, C], Moves(B, Some(D)), Fault(LinkMissing)),
+            (NONE, &[A, C], Moves(B, Some(A)), Pages(WHOLE_RING)),
+            (NONE, &[A, C], Moves(A, None), Fault(Unfounded)),
+            (NONE, &[A, C], More(A), Fault(Twice)),
+        ],
+    },
+    // Two pages link to each other: without a seed among them they are not reached.
+    Group {
+        name: "cycle_without_a_seed",
+        workers: 2,
+        within: NONE,
+        seeds: &[C, A],
+        web: CYCLE,
+        cases: &[
+            (NONE, &[C, A], Nothing, Pages(&[A, B, C])),
+            (NONE, &[C], Nothing, Fault(Unfounded)),
+            (NONE, &[C, B], Nothing, Fault(Unfounded)),
+        ],
+    },
+    // Neither a seed nor links to `b.test` are faults.
+    Group {
+        name: "filtered_seeds_and_links",
+        workers: 3,
+        within: WITHIN_A_AND_C,
+        seeds: &[A, B],
+        web: RING,
+        cases: &[
+            (WITHIN_A_AND_C, &[A, B], Nothing, Pages(&[A, C, GONE])),
+            (NONE, &[A, B], Nothing, Fault(SeedMissing)),
+            (NONE, &[A], Nothing, Fault(LinkMissing)),
+            (WITHIN_A, &[A], Nothing, Fault(Unfounded)),
+            (WITHIN_A_AND_C, &[A, B], More(B), Fault(Unfounded)),
+        ],
+    },
+    Group {
+        name: "within_suffix, a host",
+        workers: 2,
+        within: &["b.test"],
+        seeds: &[A, B],
+        web: RING,
+        cases: &[(&["b.test"], &[A, B], Nothing, Pages(&[B]))],
+    },
+    Group {
+        name: "within_suffix, all",
+        workers: 2,
+        within: &["test"],
+        seeds: &[A, B],
+        web: RING,
+        cases: &[(&["test"], &[A, B], Nothing, Pages(WHOLE_RING))],
+    },
+    Group {
+        name: "within_suffix, without its dot",
+        workers: 2,
+        within: &["est"],
+        seeds: &[A, B],
+        web: RING,
+        cases: &[(&["est"], &[A, B], Nothing, Pages(NONE))],
+    },
+    Group {
+        name: "no_seeds",
+        workers: 2,
+        within: NONE,
+        seeds: NONE,
+        web: RING,
+        cases: &[(NONE, NONE, Nothing, Pages(NONE))],
+    },
+];
+
+/// The pages that the first page of a long web links to: `p10000` and so on, up to this number.
+pub const FIRST: u32 = 10_000;
+
+pub const END: u32 = 14_996;
+
+/// The other pages of the long web. Each is the only one that links to its link.
+pub const LONG_WEB: &str = "page http://a.test/p10007
+link c1
+page http://a.test/p12000
+link c2
+page http://a.test/p13000
+link c3
+page http://a.test/p14000
+link c4
+";
+
+const IN_PART_1: &str = "http://a.test/p10007";
+
+const IN_PART_2: &str = "http://a.test/p12000";
+
+const IN_PART_3: &str = "http://a.test/p13000";
+
+const IN_PART_4: &str = "http://a.test/p14000";
+
+/// A run with so many results that threads look at four parts of them: what one part has, or lacks, is told of the whole. A
+/// page in each part links to no entry, or to itself; or it is fetched once more, at the end of the last part.
+pub static FAULTS_IN_EACH_PART: Group = Group {
+    name: "faults_in_each_part",
+    workers: 1,
+    within: NONE,
+    seeds: &[A],
+    web: LONG_WEB,
+    cases: &[
+        (NONE, &[A], Nothing, Count(5_001)),
+        (NONE, &[A], Links(IN_PART_1, D), Fault(LinkMissing)),
+        (NONE, &[A], Links(IN_PART_2, D), Fault(LinkMissing)),
+        (NONE, &[A], Links(IN_PART_3, D), Fault(LinkMissing)),
+        (NONE, &[A], Links(IN_PART_4, D), Fault(LinkMissing)),
+        (NONE, &[A], Links(IN_PART_1, IN_PART_1), Fault(Unfounded)),
+        (NONE, &[A], Links(IN_PART_2, IN_PART_2), Fault(Unfounded)),
+        (NONE, &[A], Links(IN_PART_3, IN_PART_3), Fault(Unfounded)),
+        (NONE, &[A], Links(IN_PART_4, IN_PART_4), Fault(Unfounded)),
+        (NONE, &[A], More(IN_PART_1), Fault(Twice)),
+        (NONE, &[A], More(IN_PART_2), Fault(Twice)),
+        (NONE, &[A], More(IN_PART_3), Fault(Twice)),
+        (NONE, &[A], More(IN_PART_4), Fault(Twice)),
+    ],
+};
