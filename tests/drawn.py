@@ -1,0 +1,1115 @@
+#!/usr/bin/env python3
+"""Runs the built program on drawn inputs, and compares its answers with a plain reckoning.
+
+The kinds of inputs, and how many of each come among COUNT:
+
+- webs: saved webs without a fault, each crawled with two or more numbers of workers.
+- web pieces, changed webs: pieces of lines; good webs with one byte, line or number changed.
+- folders: pages whose URLs differ in one part, with many links that stand on several of them.
+- large webs: thousands of pages, some with URLs of one hash, or one page twice.
+- narrow crawls: one worker, with little room for URLs that are pending.
+- seeds: files of seeds, good, of pieces and changed.
+- crawls at fault: the suffix, the web, the seeds' file and the seeds, each good or bad.
+- keys: URLs by the command `key`.
+- scripts: scripts without a fault, most of them long enough for every reply.
+- script pieces, changed scripts: as of webs.
+
+URLs are read by a reckoning of the URL Standard, as far as it needs no tables: a text beyond that
+is drawn anew. Each fault, reply and line of a report has to come LEAST times in its kind where
+COUNT is at least 10,000; one that does not is a failure.
+
+The inputs are the same each time for one SEED. The first differences are told, each with the
+command that shows it, its input in a kept file, and a diff. At last it prints `N passed, M failed`,
+and ends with status 1 where any failed. PROGRAM of the environment stands for the built program.
+"""
+
+from __future__ import annotations
+
+import argparse
+import difflib
+import os
+import re
+import shlex
+import subprocess
+import sys
+import tempfile
+from collections import Counter, deque
+from collections.abc import Callable, Iterator
+from concurrent.futures import ProcessPoolExecutor
+from ipaddress import AddressValueError, IPv6Address
+from pathlib import Path
+from random import Random
+from typing import NamedTuple, Optional
+from urllib.parse import unquote_to_bytes
+
+ROOT = Path(__file__).resolve().parent.parent
+BUILT = ROOT / "crates/mercator_cli/out/mercator_cli"
+PROGRAM = str(Path(os.environ.get("PROGRAM", BUILT)).resolve())
+SECONDS = 60  # the time limit of a run
+LINE_LIMIT = 4096
+COUNT = 10_000
+LEAST = 5
+TOLD = 20  # so many differences are told
+
+
+# ---------------------------------------------------------------- URLs
+
+
+class NotPlain(Exception):
+    """A URL whose reading needs tables, or whose reading has changed with the standard."""
+
+
+class NotUrl(Exception):
+    """A text that is no URL."""
+
+
+class NotHttp(Exception):
+    """A URL that is neither http nor https."""
+
+
+class Url(NamedTuple):
+    scheme: str
+    user: str  # with its `@`, or empty
+    host: str
+    port: str  # with its `:`, or empty
+    path: tuple[str, ...]
+    query: str  # with its `?`, or empty
+
+    def __str__(self) -> str:
+        path = "/".join(self.path)
+        return f"{self.scheme}://{self.user}{self.host}{self.port}/{path}{self.query}"
+
+
+PORTS = {"http": 80, "https": 443}
+SPECIAL = ("ftp", "ws", "wss", "file")
+SCHEME = re.compile(r"([A-Za-z][A-Za-z0-9+.-]*):(.*)", re.S)
+OTHER = re.compile(r"[^/\\].*|//[a-z.]+(/[a-z]*)?|", re.S)
+PLACE = re.compile(r"(\[[^\]]*\]|[^:]*)(?::([0-9]*))?", re.S)
+NO_HOST = re.compile(r"[\0-\x20#%/:<>?@\[\\\]^|\x7f]")
+TRIMMED = "".join(map(chr, range(33)))
+SHOWN = frozenset(map(chr, range(33, 127)))
+IN_USER = "\"#<>?^`{}/:;=@[\\]|"
+IN_PATH = "\"#<>?`{}"
+IN_QUERY = "\"#<>'"
+
+
+def url_of(text: str, base: Optional[Url] = None) -> Url:
+    """The URL of a text, by itself or on the page with the base."""
+    text = re.sub("[\t\n\r]", "", text.strip(TRIMMED)).partition("#")[0]
+    scheme = SCHEME.fullmatch(text)
+    if scheme:
+        name, text = scheme[1].lower(), scheme[2]
+        if name not in PORTS:
+            raise other_scheme(name, text)
+        if not base or base.scheme != name:
+            return url_at(name, text.lstrip("/\\"))
+    if not base:
+        raise NotUrl
+    if re.match(r"[/\\]{2}", text):
+        return url_at(base.scheme, text.lstrip("/\\"))
+    path, mark, query = text.partition("?")
+    query = encoded(mark + query, IN_QUERY)
+    if not path:
+        return base._replace(query=query) if mark else base
+    segments = re.split(r"[/\\]", path)
+    segments = segments[1:] if path[0] in "/\\" else [*base.path[:-1], *segments]
+    return base._replace(path=walked(segments), query=query)
+
+
+def other_scheme(name: str, text: str) -> Exception:
+    if not OTHER.fullmatch(text) or (name in SPECIAL and not text.startswith("//")):
+        return NotPlain()
+    return NotHttp()
+
+
+def url_at(scheme: str, text: str) -> Url:
+    """The URL of what stands behind the slashes."""
+    front, mark, query = text.partition("?")
+    authority, *path = re.split(r"[/\\]", front)
+    user, _, place = authority.rpartition("@")
+    parts = PLACE.fullmatch(place)
+    if not parts or not parts[1]:
+        raise NotUrl
+    host = host_of(parts[1])
+    port = int(parts[2] or PORTS[scheme])
+    if port > 65535:
+        raise NotUrl
+    return Url(
+        scheme, user_of(user), host, "" if port == PORTS[scheme] else f":{port}",
+        walked(path or [""]), encoded(mark + query, IN_QUERY),
+    )
+
+
+def user_of(text: str) -> str:
+    name, _, word = text.partition(":")
+    name, word = encoded(name, IN_USER), encoded(word, IN_USER)
+    return f"{name}:{word}@" if word else f"{name}@" if name else ""
+
+
+def host_of(text: str) -> str:
+    if text.startswith("["):
+        return f"[{address_of(text[1:-1])}]"
+    text = unquote_to_bytes(text).decode("utf-8", "replace")
+    if any(label.startswith("xn--") for label in text.lower().split(".")):
+        raise NotPlain
+    if text.isascii() and (not text or NO_HOST.search(text)):
+        raise NotUrl
+    host = text.lower() if text.isascii() else ".".join(map(label_of, text.split(".")))
+    labels = (host[:-1] if host.endswith(".") else host).split(".")
+    return dotted(labels) if re.fullmatch("[0-9]+|0x[0-9a-f]*", labels[-1]) else host
+
+
+def label_of(text: str) -> str:
+    """A label in ASCII, of letters that IDNA leaves as they are."""
+    if not re.fullmatch("[a-z0-9éü日本]*", text):
+        raise NotPlain
+    return text if text.isascii() else f"xn--{text.encode('punycode').decode()}"
+
+
+def dotted(numbers: list[str]) -> str:
+    """The address of one to four numbers, of which the last fills what is left."""
+    if len(numbers) > 4:
+        raise NotUrl
+    *first, last = map(number_of, numbers)
+    if any(number > 255 for number in first) or last >= 256 ** (4 - len(first)):
+        raise NotUrl
+    value = sum(number << 8 * (3 - place) for place, number in enumerate(first)) + last
+    return ".".join(map(str, value.to_bytes(4, "big")))
+
+
+def number_of(text: str) -> int:
+    """A number of an address, in its base."""
+    for pattern, base in (("0x([0-9a-f]*)", 16), ("0([0-7]+)", 8), ("(0|[1-9][0-9]*)", 10)):
+        digits = re.fullmatch(pattern, text)
+        if digits:
+            return int(digits[1] or "0", base)
+    raise NotUrl
+
+
+def address_of(text: str) -> str:
+    if re.search("[.%]", text) or text.count(":") > 7:
+        raise NotPlain
+    if not re.fullmatch("[0-9a-fA-F:]*", text):
+        raise NotUrl
+    try:
+        return IPv6Address(text).compressed
+    except AddressValueError:
+        raise NotUrl from None
+
+
+def encoded(text: str, more: str) -> str:
+    """The text with escapes for spaces, controls, what is beyond ASCII, and more."""
+    if text.isalnum() and text.isascii():
+        return text
+    return "".join(
+        letter if letter in SHOWN and letter not in more
+        else "".join(f"%{byte:02X}" for byte in letter.encode())
+        for letter in text
+    )
+
+
+def walked(segments: list[str]) -> tuple[str, ...]:
+    """The segments of a path, without those of dots."""
+    path: list[str] = []
+    dots = ""
+    for segment in segments:
+        if "^" in segment:
+            raise NotPlain
+        dots = re.sub("%2e", ".", segment, flags=re.I)
+        if dots == "..":
+            del path[-1:]
+        elif dots != ".":
+            path.append(encoded(segment, IN_PATH))
+    return (*path, "") if dots in (".", "..") else tuple(path)
+
+
+def url_or_none(text: str, base: Optional[Url] = None) -> Optional[Url]:
+    try:
+        return url_of(text, base)
+    except (NotUrl, NotHttp):
+        return None
+
+
+def queue_of(url: Url, workers: int) -> int:
+    number = 0
+    for byte in url.host.encode():
+        number = (31 * number + byte) % 2**32
+    return number % workers
+
+
+# ---------------------------------------------------------------- what inputs say
+
+
+class Fault(Exception):
+    """What the program tells of a bad input."""
+
+    status = 1
+
+
+class Incomplete(Fault):
+    """What it tells of a crawl that lacks a URL."""
+
+    status = 2
+
+
+def lines_of(data: bytes, what: str) -> Iterator[tuple[str, str]]:
+    """Each line with its place, as faults name it, up to one that is too long or no text."""
+    *whole, last = data.split(b"\n")
+    lines = [line[:-1] if line.endswith(b"\r") else line for line in whole]
+    for number, line in enumerate([*lines, last] if last else lines, 1):
+        place = f"{what}: line {number}"
+        if len(line) > LINE_LIMIT:
+            raise Fault(f"{place}: line too long")
+        try:
+            text = line.decode()
+        except UnicodeDecodeError:
+            raise Fault(f"{place}: not UTF-8") from None
+        yield place, text
+
+
+class Page:
+    """A page with its links, where None stands for one that is skipped; or where it moved to."""
+
+    def __init__(self) -> None:
+        self.links: list[Optional[Url]] = []
+        self.moved = False
+
+    def leads_to(self) -> list[Url]:
+        return [link for link in self.links if link]
+
+
+Web = dict[Url, Page]
+
+
+def read_web(data: bytes) -> Web:
+    lines = lines_of(data, "saved web")
+    header = next(lines, ("", ""))[1]
+    if header not in ("savedweb 1", "savedweb 2"):
+        raise Fault("saved web: bad header")
+    words = ("page", "link", "moved") if header == "savedweb 2" else ("page", "link")
+    web: Web = {}
+    url = None
+    for place, line in lines:
+        word, space, text = line.partition(" ")
+        if not line:
+            continue
+        if word not in words or not space:
+            raise Fault(f"{place}: bad line")
+        if word == "page":
+            url = url_or_none(text)
+            if url is None:
+                raise Fault(f"{place}: bad page URL")
+            if url in web:
+                raise Fault(f"{place}: page twice")
+            web[url] = Page()
+        elif url is None:
+            raise Fault(f"{place}: link before page")
+        elif web[url].moved or (word == "moved" and web[url].links):
+            raise Fault(f"{place}: mixed page")
+        else:
+            web[url].moved = word == "moved"
+            web[url].links.append(url_or_none(text, url))
+    return web
+
+
+def seed_of(text: str, place: str) -> Url:
+    try:
+        return url_of(text)
+    except NotUrl:
+        raise Fault(f"{place}: not a URL") from None
+    except NotHttp:
+        raise Fault(f"{place}: not http or https") from None
+
+
+def read_seeds(data: bytes) -> list[Url]:
+    return [seed_of(line, place) for place, line in lines_of(data, "seeds") if line]
+
+
+class Script(NamedTuple):
+    workers: int
+    most: int
+    events: list[tuple[str, int, Optional[Url]]]  # a word, its number, and the URL of an admission
+
+
+HEADER = re.compile("workers ([0-9]{1,20}) max ([0-9]{1,20})")
+EVENT = re.compile("(look|enter|back|take|done) ([0-9]{1,20})|(endseeds|close)")
+ADMISSION = re.compile("admit ([0-9]{1,20}) (.*)", re.S)
+
+
+def read_script(data: bytes) -> Script:
+    lines = lines_of(data, "script")
+    header = HEADER.fullmatch(next(lines, ("", ""))[1])
+    numbers = (int(header[1]), int(header[2])) if header else (0, 0)
+    if not (1 <= numbers[0] <= 512 and 1 <= numbers[1] <= 2**40):
+        raise Fault("script: bad header")
+    events: list[tuple[str, int, Optional[Url]]] = []
+    for place, line in lines:
+        event, admission = EVENT.fullmatch(line), ADMISSION.fullmatch(line)
+        if event and int(event[2] or 0) < 2 ** (32 if event[1] in ("take", "done") else 64):
+            events.append((event[1] or event[3], int(event[2] or 0), None))
+        elif admission and int(admission[1]) < 2**64:
+            url = url_or_none(admission[2])
+            if url is None:
+                raise Fault(f"{place}: bad URL")
+            events.append(("admit", int(admission[1]), url))
+        elif line:
+            raise Fault(f"{place}: bad line")
+    return Script(*numbers, events)
+
+
+# ---------------------------------------------------------------- what the program answers
+
+
+class Crawl(NamedTuple):
+    """A crawl's inputs and options."""
+
+    web: bytes
+    seeds: list[str]
+    listed: Optional[bytes] = None
+    suffix: Optional[str] = None
+    queues: bool = False
+    sources: bool = False
+    most: Optional[int] = None
+
+    def words(self, workers: int) -> list[str]:
+        words = ["crawl", "--workers", str(workers)]
+        words += ["--queues"] * self.queues + ["--sources"] * self.sources
+        words += [] if self.suffix is None else ["--within", self.suffix]
+        words += [] if self.listed is None else ["--seeds", LIST]
+        words += [] if self.most is None else ["--max-pending", str(self.most)]
+        return [*words, "--", "-", *self.seeds]
+
+    def allows(self, url: Url) -> bool:
+        return self.suffix is None or f".{url.host}".endswith(f".{self.suffix}")
+
+
+def crawl_of(crawl: Crawl, workers: int) -> list[str]:
+    """What is told of the crawl; its inputs are looked at in their order."""
+    if crawl.suffix is not None and not re.fullmatch("[a-z0-9.-]+", crawl.suffix):
+        raise Fault("bad suffix")
+    web = read_web(crawl.web)
+    seeds = read_seeds(crawl.listed or b"")
+    seeds += [seed_of(text, f"seed {number}") for number, text in enumerate(crawl.seeds, 1)]
+    found = search(web, crawl, seeds)
+    links = [link for url in found if url in web for link in web[url].leads_to()]
+    for urls, what in ((seeds, "seed"), (links, "link")):
+        if any(crawl.allows(url) and url not in found for url in urls):
+            raise Incomplete(f"incomplete: {what} missing")
+    return report_of(web, crawl, sorted(found, key=str), workers)
+
+
+def search(web: Web, crawl: Crawl, seeds: list[Url]) -> set[Url]:
+    """The URLs that are found: the seeds, and then the links of one page after the other.
+
+    No more are pending than there is room for, the opening or the page at work among them.
+    """
+    waiting: deque[Url] = deque()
+    found: set[Url] = set()
+    offered = seeds
+    while True:
+        for url in offered:
+            room = crawl.most is None or len(waiting) + 1 < crawl.most
+            if crawl.allows(url) and url not in found and room:
+                found.add(url)
+                waiting.append(url)
+        if not waiting:
+            return found
+        page = web.get(waiting.popleft())
+        offered = page.leads_to() if page else []
+
+
+def report_of(web: Web, crawl: Crawl, found: list[Url], workers: int) -> list[str]:
+    """The report of the URLs in their order, and what stands behind it."""
+    lines = [line_of(url, web.get(url)) for url in found]
+    count = Counter(line.split(" ")[0] for line in lines)
+    moved = f" moved {count['moved']}" if count["moved"] else ""
+    lines.append(f"total {len(found)} ok {count['ok']} missing {count['missing']}{moved}")
+    if crawl.queues:
+        had = Counter(queue_of(url, workers) for url in found)
+        lines += [f"queue {queue} {had[queue]}" for queue in range(workers)]
+    if crawl.sources:
+        lines += sources_of(web, found)
+    return lines
+
+
+def sources_of(web: Web, found: list[Url]) -> Iterator[str]:
+    named: dict[Url, list[Url]] = {url: [] for url in found if url not in web}
+    for url in found:
+        for link in set(web[url].leads_to()) if url in web else ():
+            if link in named:
+                named[link].append(url)
+    for missing, pages in named.items():
+        yield f"from {len(pages)} {pages[0] if pages else '-'} {missing}"
+
+
+def line_of(url: Url, page: Optional[Page]) -> str:
+    if page is None:
+        return f"missing {url}"
+    if page.moved:
+        return f"moved {url}"
+    return f"ok {len(page.links)} {page.links.count(None)} {url}"
+
+
+class Machine:
+    """The frontier's steps, over lists."""
+
+    def __init__(self, script: Script) -> None:
+        self.most = script.most
+        self.opening = 1
+        self.pending = 0  # accepted, and not done
+        self.closed = False
+        self.holders: set[int] = set()
+        self.words: dict[int, tuple[int, bool]] = {}
+        self.accepted: list[list[tuple[int, Url]]] = [[] for _ in range(script.workers)]
+        self.taken = [0] * script.workers
+        self.busy: set[int] = set()
+
+    def count(self) -> int:
+        return self.opening + len(self.holders) + self.pending
+
+    def reply(self, word: str, number: int, url: Optional[Url]) -> str:
+        if word in ("take", "done") and number >= len(self.accepted):
+            return "refused nosuch"
+        if word == "take":
+            return self.take(number)
+        if word == "close":
+            self.closed = self.closed or self.count() == 0
+            return "closed" if self.closed else f"pending {self.count()}"
+        if word == "look":
+            self.words[number] = (self.count(), self.closed)
+            return f"word {self.count()} {'closed' if self.closed else 'open'}"
+        if word == "enter":
+            return self.enter(number)
+        if url:
+            return self.admit(number, url)
+        return self.give_back(word, number)
+
+    def enter(self, sender: int) -> str:
+        if sender in self.holders:
+            return "refused busy"
+        if sender not in self.words:
+            return "refused nothing"
+        if self.words[sender] != (self.count(), self.closed):
+            return "lost"
+        if self.closed:
+            return "refused closed"
+        if self.count() == self.most:
+            return "refused full"
+        del self.words[sender]
+        self.holders.add(sender)
+        return f"entered {self.count()}"
+
+    def admit(self, sender: int, url: Url) -> str:
+        queue = queue_of(url, len(self.accepted))
+        if sender not in self.holders:
+            return "refused nothing"
+        if url in [accepted for _, accepted in self.accepted[queue]]:
+            return "seen"
+        number = [earlier for earlier, _ in self.accepted[queue]].count(sender)
+        self.holders.remove(sender)
+        self.accepted[queue].append((sender, url))
+        self.pending += 1
+        return f"accepted {queue} {number}"
+
+    def take(self, queue: int) -> str:
+        if queue in self.busy:
+            return "refused busy"
+        if self.taken[queue] == len(self.accepted[queue]):
+            return "empty"
+        self.busy.add(queue)
+        self.taken[queue] += 1
+        return f"taken {self.accepted[queue][self.taken[queue] - 1][1]}"
+
+    def give_back(self, word: str, number: int) -> str:
+        if word == "back" and number in self.holders:
+            self.holders.remove(number)
+        elif word == "endseeds" and self.opening:
+            self.opening = 0
+        elif word == "done" and number in self.busy:
+            self.busy.remove(number)
+            self.pending -= 1
+        else:
+            return "refused nothing"
+        return f"count {self.count()}"
+
+
+def key_of(text: str, workers: int) -> list[str]:
+    try:
+        url = url_of(text)
+    except NotUrl:
+        raise Fault("URL: not a URL") from None
+    except NotHttp:
+        raise Fault("URL: not http or https") from None
+    return [f"{url} {url.host} {queue_of(url, workers)}"]
+
+
+# ---------------------------------------------------------------- what is drawn
+
+
+class Case(NamedTuple):
+    """A command with its inputs, what has to be told, and what else is to be counted of it."""
+
+    words: list[str]
+    data: bytes
+    listed: Optional[bytes]
+    wanted: list[str]
+    status: int
+    has: list[str]
+
+
+def case(
+    words: list[str], data: bytes, answer: Callable[[], list[str]], listed: Optional[bytes] = None
+) -> Case:
+    try:
+        return Case(words, data, listed, answer(), 0, ["sound"])
+    except Fault as fault:
+        return Case(words, data, listed, [f"mercator: {fault}"], fault.status, [])
+
+
+def crawl_case(crawl: Crawl, workers: int) -> Case:
+    words = crawl.words(workers)
+    return case(words, crawl.web, lambda: crawl_of(crawl, workers), crawl.listed)
+
+
+def script_case(data: bytes) -> Case:
+    events: list[str] = []
+
+    def answer() -> list[str]:
+        script = read_script(data)
+        events.extend(f"event {event[0]}" for event in script.events)
+        machine = Machine(script)
+        return [machine.reply(*event) for event in script.events]
+
+    made = case(["replay", "-"], data, answer)
+    return made._replace(has=[*made.has, *events])
+
+
+HOSTS = ("a.test", "b.test", "c.test", "d.test", "x.a.test", "xa.test", "a.test.", "é.test", "[::1]")
+PATHS = ("", "x", "d/", "d/e", "d/f", "d/g/h", "9", "10", "B", "b", "d//e", "d/e?q", "d/e?q=/x", "é")
+NEAR = ("x", "e", "../d/e", "..", ".", "./f", "g/h", "?q", "?", "#f", "", " ", "../../x", "e?z#k")
+SKIPPED = ("mailto:x", "ftp://a.test/", "x:y", "http://a.test:65536/", "http://[", "http://a b/")
+NO_SEEDS = ("", "/x", "x", *SKIPPED)
+SUFFIXES = ("a.test", "test", "est", "x.a.test", "b.test", "a.test.")
+BAD_SUFFIXES = ("", "A.test", "a test", "a_b", "é.test")
+ODD = (
+    "http:", "https:", "HTTP:", "a:", "//", "/", "\\", "a.test", "b.test", "é", "日本", "..", ".",
+    "%2e", "%2E.", "?", "#", "@", ":", ":80", ":81", ":", "x", "y", " ", "\t", "[", "]", "[::1]",
+    "[1:0:0:2::]", "0x7f", "1", "256", "08", "%41", "%", "'", "\"", "<", "{", "|", "~", "\x7f", "u:p@",
+)
+GOOD = (
+    "http://a.test/", "HTTP://A.test:80/x/../y#f", "https://b.test", "http://c.test/x y?q",
+    " http://d.test/  ", "http://é.test/€", "http://[::1]:8080/", "http://1.2/",
+    "https:\\\\e.test\\x", "http://u:p@f.test/",
+)
+ONE_HASH = "http://a.test/000000000000010355el8CGH)V"  # with any eight bytes behind it
+
+
+class Target(NamedTuple):
+    """A URL that may be spelled in several ways; without a port it has the default one."""
+
+    scheme: str
+    user: str
+    host: str
+    port: str
+    path: str
+
+
+def drawn_targets(draw: Random, most: int) -> list[Target]:
+    hosts = draw.sample(HOSTS, draw.randrange(1, 4))
+    return [
+        Target(
+            draw.choice(("http",) * 9 + ("https",)), draw.choice(("",) * 18 + ("u@", "u:p@")),
+            draw.choice(hosts), draw.choice(("",) * 9 + (":81",)), draw.choice(PATHS),
+        )
+        for _ in range(draw.randrange(1, most + 1))
+    ]
+
+
+def spelled(draw: Random, target: Target) -> str:
+    scheme = draw.choice((target.scheme, target.scheme, target.scheme.upper()))
+    upper = target.host.upper() if target.host.isascii() else target.host
+    host = draw.choice((target.host, target.host, upper))
+    number = PORTS[target.scheme]
+    port = target.port or draw.choice(("", "", "", ":", f":{number}", f":00{number}"))
+    dots = draw.choice(("", "", "", "y/../", "./", "d/g/../../", "../", "%2e/"))
+    end = draw.choice(("", "", "", "#f", "#"))
+    return f"{scheme}://{target.user}{host}{port}/{dots}{target.path}{end}"
+
+
+def drawn_link(draw: Random, targets: list[Target]) -> str:
+    target = draw.choice(targets)
+    return draw.choice((
+        spelled(draw, target), spelled(draw, target), spelled(draw, target), f"//{target.host}",
+        f"//{target.host}/./{target.path}", f"/{target.path}", f"/y/../{target.path}#f",
+        draw.choice(NEAR), draw.choice(NEAR), draw.choice(SKIPPED),
+    ))
+
+
+def odd_text(draw: Random) -> str:
+    """Pieces of URLs in any order."""
+    front = draw.choice(("", "", "http://", "http://a.test/", "https:", "//"))
+    return front + "".join(draw.choices(ODD, k=draw.randrange(1, 6)))
+
+
+def drawn_web(draw: Random) -> tuple[bytes, list[str]]:
+    """A saved web without a fault, and seeds."""
+    version = draw.choice((1, 2))
+    lines = [f"savedweb {version}"]
+    targets = drawn_targets(draw, 20)
+    for target in dict.fromkeys(targets[draw.randrange(1 + len(targets) // 2):]):
+        lines.append(f"page {spelled(draw, target)}")
+        if version == 2 and draw.randrange(4) == 0:
+            lines.append(f"moved {drawn_link(draw, targets)}")
+        else:
+            lines += [f"link {drawn_link(draw, targets)}" for _ in range(draw.randrange(7))]
+    if draw.randrange(20) == 0:
+        lines += ["page http://long.test/", "link " + "a" * draw.randrange(4089, 4092)]
+    seeds = [spelled(draw, target) for target in draw.sample(targets, min(len(targets), 2))]
+    return joined(draw, lines), seeds
+
+
+def joined(draw: Random, lines: list[str]) -> bytes:
+    """The lines with their ends, empty lines between some, and the last one perhaps without."""
+    ends = ("\n", "\n", "\n", "\r\n", "\n\n", "\n\r\n")
+    text = "".join(line + draw.choice(ends) for line in lines)
+    return (text.rstrip("\r\n") if draw.randrange(4) == 0 else text).encode()
+
+
+NUMBERS = [str(number).encode() for number in (
+    0, 1, 512, 513, 2**32 - 1, 2**32, 2**40, 2**40 + 1, 2**64 - 1, 2**64, 10**20 - 1, 10**20
+)] + [b"+1", b"", b"0" * 20 + b"1"]
+LONG = (
+    b"close".ljust(4097) + b"\n", b"link ".ljust(4097, b"a") + b"\r\n", b"\xff" * 4097,
+    b"workers 1 max 1".ljust(4098), b"admit 1 mailto:".ljust(4096, b"a") + b"\n",
+    b"admit 7 http://a.test/".ljust(4096, b"a") + b"\r\n", b"link ".ljust(4095, b"\xff") + b"\n",
+)
+
+
+def changed(draw: Random, data: bytes) -> bytes:
+    """The bytes with one byte, line or number dropped, doubled, another, put in or elsewhere."""
+    kind = draw.randrange(8)
+    digits = list(re.finditer(rb"\d+", data))
+    if kind == 7 and digits:
+        found = draw.choice(digits)
+        return data[:found.start()] + draw.choice(NUMBERS) + data[found.end():]
+    if kind < 5:
+        place = draw.randrange(len(data))
+        old = data[place:place + 1]
+        new = bytes([draw.choice(draw.choice((data, b"\n\r #/.:0aA", bytes(range(256)))))])
+        return data[:place] + (b"", old + old, new, new + old, new)[kind] + data[place + 1:]
+    lines = re.findall(rb"[^\n]*\n|[^\n]+", data)
+    one, other = draw.randrange(len(lines)), draw.randrange(len(lines))
+    if draw.randrange(10) == 0:
+        lines.insert(other, draw.choice(LONG))
+    elif kind == 5:
+        lines[one], lines[other] = lines[other], lines[one]
+    else:
+        lines.insert(other, lines[one])
+    return b"".join(lines)
+
+
+def of_all_pages(draw: Random, data: bytes) -> Case:
+    """A crawl from all pages of the web, so that each of them is told."""
+    try:
+        seeds = list(map(str, read_web(data)))
+    except Fault:
+        seeds = []
+    draw.shuffle(seeds)
+    crawl = Crawl(data, seeds[:100] or ["http://a.test/"], sources=True)
+    return crawl_case(crawl, draw.choice((1, 1, 2, 3, 4)))
+
+
+def webs(draw: Random) -> list[Case]:
+    data, seeds = drawn_web(draw)
+    listed = "\n".join(drawn_good_seeds(draw)).encode() if draw.randrange(4) == 0 else None
+    suffix = draw.choice(SUFFIXES) if draw.randrange(4) == 0 else None
+    room = draw.choice((None, 4096, 2**40))
+    crawl = Crawl(data, seeds, listed, suffix, draw.random() < 0.5, draw.random() < 0.5, room)
+    numbers = [1, draw.choice((2, 3, 8))]
+    numbers += [draw.choice((64, 512))] if draw.randrange(20) == 0 else []
+    return [crawl_case(crawl, workers) for workers in numbers]
+
+
+def changed_webs(draw: Random) -> list[Case]:
+    return [of_all_pages(draw, changed(draw, drawn_web(draw)[0]))]
+
+
+WEB_PIECES = (
+    b"page http://a.test/\n", b"page http://a.test/\n", b"page HTTP://A.test:80/x/..#f\n",
+    b"page http://b.test/x/y\r\n", b"page http://b.test/x/y\r\n", b"page https://c.test\n",
+    b"page https://c.test\n", b"page  http://d.test/ \n", b"page http://[\n",
+    b"page ftp://a.test/\n", *[b"link ../x\n"] * 4, b"link http://\xc3\xa9.test/\xc3\xa9\r\n",
+    b"link \n", b"link mailto:x\n", *[b"moved ?x\n"] * 3, b"moved \n", b"moved http://[\r\n",
+    b"\n", b"\n", b"\n", b"\r\n", b"\r", b" ", b"page ", b"link ", b"moved ", b"page", b"Link x\n",
+    b"links\n", b"moved\n", b"savedweb 2\n", b"link \xff\n", b"\xc3", b"\xe2\x82\xac",
+    b"link \xed\xa0\x80\n", b"http://a.test/", b"\t", *[b"link #\xc3\xa9\n"] * 7,
+)
+WEB_HEADERS = (
+    *[b"savedweb 1\n"] * 3, *[b"savedweb 2\n"] * 3, b"savedweb 1\r\n", b"savedweb 2\r\n", None
+)
+
+
+def pieces(draw: Random, data: bytes, choices: tuple[bytes, ...]) -> bytes:
+    """The bytes with up to nine pieces behind them, now and then another byte or a long line."""
+    for _ in range(draw.randrange(10)):
+        data += draw.choice(choices)
+        if draw.randrange(20) == 0:
+            data += bytes([draw.randrange(256)])
+        if draw.randrange(100) == 0:
+            data += b"a" * draw.randrange(4087, 4095)
+    return data
+
+
+def web_pieces(draw: Random) -> list[Case]:
+    header = draw.choice(WEB_HEADERS) or draw.choice(WEB_PIECES)
+    return [of_all_pages(draw, pieces(draw, header, WEB_PIECES))]
+
+
+FOLDER_PAGES = (
+    "http://a.test/d/1", "http://a.test/d/2", "http://a.test/d/", "http://a.test/d/1?q=/e/",
+    "http://a.test/d/e/1", "http://a.test/d", "http://a.test", "https://a.test/d/1",
+    "http://b.test/d/1", "http://a.test:81/d/1", "http://u@a.test/d/1", "http://u:p@a.test/d/2",
+)
+FOLDER_LINKS = (
+    "", "?q", "#f", ".", "..", "x", "/x", "//h.test/x", "http:x", "https:x", "a:b", "x?y:z", "/y:z",
+    " ?q", " x", "\t#f", "\\\\h.test", "../1?q", "//[",
+)
+
+
+def plain_on_all(text: str) -> bool:
+    try:
+        return all(url_or_none(text, url_of(page)) or True for page in FOLDER_PAGES[6:9])
+    except NotPlain:
+        return False
+
+
+def folders(draw: Random) -> list[Case]:
+    """Links that most pages have, in few or many texts; some of them have one hash."""
+    texts = [*FOLDER_LINKS, *filter(plain_on_all, (odd_text(draw) for _ in range(30)))]
+    if draw.randrange(4) == 0:
+        texts += [f"x{number}{end}" for number in range(200) for end in ("", "#f")]
+        texts += [f"{ONE_HASH}{number:08}" for number in range(200)]
+    lines = ["savedweb 1"]
+    for page in draw.sample(FOLDER_PAGES, draw.randrange(2, 13)):
+        most = draw.choice((12, 12, len(texts)))
+        lines += [f"page {page}", *(f"link {text}" for text in draw.choices(texts, k=most))]
+    return [of_all_pages(draw, "\n".join(lines).encode())]
+
+
+def large_webs(draw: Random) -> list[Case]:
+    """A row of pages, each with `gone` twice and a missing URL of its own; some of one hash."""
+    urls = [f"http://a.test/{number}" for number in range(draw.choice((50, 700, 3000)))]
+    urls += [f"{ONE_HASH}{number:08}" for number in range(draw.choice((0, 200)))]
+    draw.shuffle(urls)
+    lines = ["savedweb 1"]
+    for place, url in enumerate(urls):
+        after = urls[(place + 1) % len(urls)]
+        lines += [f"page {url}", f"link {after}", "link gone", f"link m{place}", "link gone"]
+    if draw.randrange(3) == 0:
+        lines.append(f"page {draw.choice(urls)}#f")
+    crawl = Crawl("\n".join(lines).encode(), urls[:1], queues=True, sources=True)
+    return [crawl_case(crawl, workers) for workers in (1, draw.choice((2, 4)))]
+
+
+def narrow_crawls(draw: Random) -> list[Case]:
+    data, seeds = drawn_web(draw)
+    suffix = draw.choice(SUFFIXES) if draw.randrange(8) == 0 else None
+    crawl = Crawl(data, seeds, suffix=suffix, most=draw.choice((1, 2, 2, 3, 3, 4, 5, 7)))
+    return [crawl_case(crawl, 1)]
+
+
+def drawn_good_seeds(draw: Random) -> list[str]:
+    return [spelled(draw, target) for target in drawn_targets(draw, 6)]
+
+
+SEED_PIECES = tuple(f"{text}{end}".encode() for text in GOOD for end in ("\n", "\r\n")) + (
+    b"\n", b"\r\n", b"\r", b" ", b"x\n", b"mailto:x\n", b"ftp://a.test/\n", b"http://[\n", b" \n",
+    b"\xff\n", b"\xc3", b"http://a.test:99999/\n", b"http://a.test/\xff\n", b"a" * 4097, b"/x\n",
+)
+
+
+def seeds_files(draw: Random) -> list[Case]:
+    good = joined(draw, drawn_good_seeds(draw))
+    listed = changed(draw, good) if draw.random() < 0.5 else pieces(draw, b"", SEED_PIECES)
+    web = b"savedweb 1\npage http://a.test/\nlink x\n"
+    crawl = Crawl(web, draw.choice(([], [], ["http://z.test/"])), listed, sources=True)
+    return [crawl_case(crawl, draw.choice((1, 2, 4)))]
+
+
+def crawls_at_fault(draw: Random) -> list[Case]:
+    """Each input is good or bad by itself, so that the first that is bad decides."""
+    data, seeds = drawn_web(draw)
+    web = changed(draw, data) if draw.randrange(4) == 0 else data
+    listed = joined(draw, drawn_good_seeds(draw)) if draw.random() < 0.5 else None
+    if listed and draw.random() < 0.5:
+        listed += draw.choice((b"\nx\n", b"\nmailto:x\n", b"\n\xff\n", b"\n" + b"a" * 4097))
+    for _ in range(draw.choice((0, 0, 1, 2))):
+        seeds.insert(draw.randrange(len(seeds) + 1), draw.choice(NO_SEEDS))
+    suffix = draw.choice((None,) * 6 + SUFFIXES + BAD_SUFFIXES[:2] + (draw.choice(BAD_SUFFIXES),))
+    crawl = Crawl(web, seeds, listed, suffix, draw.random() < 0.5, draw.random() < 0.5)
+    return [crawl_case(crawl, draw.choice((1, 2, 4)))]
+
+
+def keys(draw: Random) -> list[Case]:
+    good = draw.choice((*GOOD, *drawn_good_seeds(draw)))
+    text = draw.choice((good, odd_text(draw), odd_text(draw), draw.choice(NO_SEEDS)))
+    workers = draw.choice((1, 2, 3, 4, 64, 511, 512))
+    words = ["key", "--workers", str(workers), "--", text]
+    return [case(words, b"", lambda: key_of(text, workers))]
+
+
+OFFER = "look {s}\nenter {s}\nadmit {s} {url}"
+EVENTS = (
+    OFFER, OFFER, "look {s}\nenter {s}", "look {s}", "enter {s}", "admit {s} {url}", "back {s}",
+    "take {q}\ndone {q}", "take {q}", "done {q}", "close", "endseeds",
+)
+
+
+def drawn_script(draw: Random, longest: int) -> bytes:
+    """A script without a fault."""
+    workers = draw.choice((1, 1, 2, 2, 3, 7, 512))
+    most = draw.choice((1, 2, 3, 4, 9, 2**40))
+    senders = draw.choice(((0, 1, 2), (0, 1, 2), (0, 7, 2**64 - 1)))
+    queues = (0, 0, 0, 1, workers - 1, workers, 2**32 - 1)
+    urls = [*GOOD, *drawn_good_seeds(draw)] if draw.random() < 0.5 else drawn_good_seeds(draw)
+    lines = [f"workers {drawn_number(draw, workers)} max {drawn_number(draw, most)}"]
+    events = EVENTS if draw.random() < 0.5 else EVENTS[:-1]
+    for _ in range(draw.randrange(longest)):
+        sender = drawn_number(draw, draw.choice(senders))
+        queue = drawn_number(draw, draw.choice(queues))
+        text = draw.choice(events).format(s=sender, q=queue, url=draw.choice(urls))
+        lines += text.split("\n")
+    return joined(draw, lines)
+
+
+def drawn_number(draw: Random, value: int) -> str:
+    """The number, now and then with zeros before it, up to twenty digits."""
+    return f"{value:0{draw.randrange(1, 21) if draw.randrange(10) == 0 else 1}}"
+
+
+def scripts(draw: Random) -> list[Case]:
+    return [script_case(drawn_script(draw, draw.choice((60, 60, 60, 600))))]
+
+
+def changed_scripts(draw: Random) -> list[Case]:
+    return [script_case(changed(draw, drawn_script(draw, 8)))]
+
+
+BAD_URLS = (
+    b"mailto:x", b"ftp://a.test/", b"/x", b"", b"http://[", b"http://a.test:99999/",
+    b"http://\xe2\x82", b"http://\xed\xa0\x80.test/", b"\r",
+)
+GAPS = (b" ",) * 147 + (b"", b"  ", b"\t")
+ENDS = (b"\n",) * 40 + (b"\r\n",) * 10 + (b"\n\r\n",) * 6 + (b"", b"\r", b" \n", b"\r\r\n")
+COUNTS = (b"1", b"2", b"7", b"00000000000000000100", b"0512", b"512")
+MOSTS = (b"1", b"9", b"0004294967296", b"00000001099511627776", b"999999999999", b"1099511627776")
+WORDS = (b"look", b"enter", b"back", b"take", b"done") * 11 + (
+    b"Look", b"looks", b"close", b"endseeds", b""
+)
+
+
+def script_piece(draw: Random) -> bytes:
+    """A line with its end, or what lines are made of."""
+    kind = draw.randrange(64)
+    number = draw.choice(NUMBERS) if draw.randrange(16) == 0 else b"%d" % draw.randrange(9)
+    if draw.randrange(16) == 0:
+        number = number.rjust(draw.randrange(18, 22), b"0")
+    if kind == 0:
+        line = draw.choice(LONG) if draw.randrange(3) == 0 else bytes([draw.randrange(256)])
+    elif kind < 3:
+        line = draw.choice((b"workers 1 max 1", *WORDS[-5:]))
+    elif kind < 18:
+        line = draw.choice((b"endseeds", b"close", b"endseeds", b"close", b""))
+    elif kind < 32:
+        url = draw.choice(BAD_URLS) if draw.randrange(10) == 0 else draw.choice(GOOD).encode()
+        line = draw.choice(GAPS).join((b"admit", number + draw.choice(GAPS) + url))
+    else:
+        line = draw.choice(WORDS) + draw.choice(GAPS) + number
+    return line + draw.choice(ENDS)
+
+
+def script_pieces(draw: Random) -> list[Case]:
+    numbers = [draw.choice(COUNTS), draw.choice(MOSTS)]
+    if draw.randrange(10) == 0:
+        numbers[draw.randrange(2)] = draw.choice(NUMBERS)
+    gaps = [draw.choice(GAPS) for _ in range(3)]
+    header = b"workers%b%b%bmax%b%b" % (gaps[0], numbers[0], gaps[1], gaps[2], numbers[1])
+    header = header + draw.choice(ENDS) if draw.randrange(30) else b""
+    body = b"".join(script_piece(draw) for _ in range(draw.randrange(10)))
+    return [script_case(header + body)]
+
+
+# ---------------------------------------------------------------- what has to come
+
+
+class Kind(NamedTuple):
+    draw: Callable[[Random], list[Case]]
+    share: int  # so many of a thousand
+    ought: list[str]  # what has to come: lines without their numbers and URLs, and what inputs have
+
+
+def faults(what: str, *texts: str) -> list[str]:
+    return [f"mercator: {what}{text}" for text in texts]
+
+
+WEB_FAULTS = faults(
+    "saved web: ", "bad header", "line: bad line", "line: link before page", "line: mixed page",
+    "line: bad page URL", "line: page twice", "line: line too long", "line: not UTF-8",
+)
+SCRIPT_FAULTS = faults(
+    "script: ", "bad header", "line: bad line", "line: bad URL", "line: line too long",
+    "line: not UTF-8",
+)
+SEEDS_FAULTS = faults(
+    "seeds: line: ", "line too long", "not UTF-8", "not a URL", "not http or https"
+)
+SEED_FAULTS = faults("seed: ", "not a URL", "not http or https")
+LINES = ["ok", "missing", "total ok missing", "from", "from -"]
+MOVED = ["moved", "total ok missing moved"]
+REPLIES = [
+    "word open", "word closed", "entered", "lost", "accepted", "seen", "count", "taken", "empty",
+    "closed", "pending", "refused closed", "refused full", "refused nothing", "refused busy",
+    "refused nosuch",
+]
+ALL_EVENTS = [f"event {word}" for word in (
+    "look", "enter", "admit", "back", "endseeds", "take", "done", "close"
+)]
+KINDS = {
+    "large web": Kind(large_webs, 2, [*LINES[:4], "queue", WEB_FAULTS[5]]),
+    "folder": Kind(folders, 30, LINES[:4]),
+    "web": Kind(webs, 90, [*LINES, *MOVED, "queue"]),
+    "web pieces": Kind(web_pieces, 150, [*LINES[:4], *MOVED, *WEB_FAULTS]),
+    "changed web": Kind(changed_webs, 150, [*LINES[:4], *MOVED, *WEB_FAULTS]),
+    "narrow crawl": Kind(
+        narrow_crawls, 70, ["ok", *faults("incomplete: ", "seed missing", "link missing")]
+    ),
+    "seeds": Kind(seeds_files, 100, [*LINES, *SEEDS_FAULTS]),
+    "crawl at fault": Kind(
+        crawls_at_fault, 70, ["ok", "mercator: bad suffix", *SEEDS_FAULTS, *SEED_FAULTS]
+    ),
+    "key": Kind(keys, 78, ["sound", *faults("URL: ", "not a URL", "not http or https")]),
+    "script": Kind(scripts, 60, REPLIES + ALL_EVENTS),
+    "script pieces": Kind(script_pieces, 100, ["sound", *ALL_EVENTS, *SCRIPT_FAULTS]),
+    "changed script": Kind(changed_scripts, 100, ["sound", *ALL_EVENTS, *SCRIPT_FAULTS]),
+}
+
+
+# ---------------------------------------------------------------- comparing
+
+LIST = "seeds.list"
+
+
+def difference(made: Case) -> str:
+    """How what is told differs: on the output at status 0, and else on standard error."""
+    if made.listed is not None:
+        Path(LIST).write_bytes(made.listed)
+    try:
+        done = subprocess.run(
+            [PROGRAM, *made.words], input=made.data, capture_output=True, timeout=SECONDS,
+            check=False,
+        )
+    except subprocess.TimeoutExpired:
+        return f"it runs for more than {SECONDS} s"
+    told, silent = done.stdout, done.stderr
+    if made.status:
+        told, silent = silent, told
+    wanted = "".join(f"{line}\n" for line in made.wanted)
+    if (told, silent, done.returncode) == (wanted.encode(), b"", made.status):
+        return ""
+    lines = told.decode("utf-8", "backslashreplace").split("\n")
+    differing = difflib.unified_diff(wanted.split("\n"), lines, "wanted", "told", lineterm="")
+    return "\n".join([
+        f"status {done.returncode}, {made.status} wanted; {len(silent)} bytes beside",
+        *list(differing)[:40],
+    ])
+
+
+def kept(made: Case, name: str, folder: str) -> str:
+    """The command that shows the difference, with its input in a kept file."""
+    file = f"{name.replace(' ', '-')}.input"
+    Path(folder, file).write_bytes(made.data)
+    words = made.words
+    if made.listed is not None:
+        listed = file.replace(".input", ".list")
+        Path(folder, listed).write_bytes(made.listed)
+        words = [listed if word == LIST else word for word in words]
+    return f"cd {folder} && {shlex.join([PROGRAM, *words])} < {file}"
+
+
+def run(kind: str, number: int, seed: str, folder: str) -> tuple[Counter[str], list[str]]:
+    """Draws and compares; answers what came, and how each case differs."""
+    name = f"{kind} {number}"
+    draw = Random(f"{name} of seed {seed}")
+    cases: list[Case] = []
+    while not cases:
+        try:
+            cases = KINDS[kind].draw(draw)
+        except NotPlain:
+            continue
+    came: Counter[str] = Counter()
+    differing = []
+    for made in cases:
+        came.update({re.sub(r" (\d+|https?://\S*)", "", line) for line in made.wanted})
+        came.update(set(made.has))
+        found = difference(made)
+        if found:
+            differing.append(f"{name}:\n{kept(made, name, folder)}\n{found}\n")
+    return came, differing
+
+
+def scratch(folder: str) -> None:
+    """Gives a process of the pool a folder of its own to work in."""
+    os.chdir(tempfile.mkdtemp(dir=folder))
+
+
+class Totals:
+    def __init__(self) -> None:
+        self.passed = self.failed = 0
+
+    def fail(self, text: str) -> None:
+        self.failed += 1
+        if self.failed <= TOLD:
+            print(text)
+
+
+def compare_all(words: argparse.Namespace, folder: str, work: str) -> Totals:
+    totals = Totals()
+    with ProcessPoolExecutor(len(os.sched_getaffinity(0)), None, scratch, (work,)) as pool:
+        for name, kind in KINDS.items():
+            if words.kind and name not in words.kind:
+                continue
+            count = max(1, words.count * kind.share // 1000)
+            came: Counter[str] = Counter()
+            rest = ([name] * count, range(count), [words.seed] * count, [folder] * count)
+            for told, differing in pool.map(run, *rest, chunksize=max(1, min(20, count // 16))):
+                came += told
+                totals.passed += not differing
+                for text in differing[:1]:
+                    totals.fail(text)
+            for line in kind.ought if words.count >= COUNT else []:
+                if came[line] < LEAST:
+                    totals.fail(f"{name}: {came[line]} times, {LEAST} wanted: {line}")
+    return totals
+
+
+def main() -> None:
+    parser = argparse.ArgumentParser(
+        description=__doc__, formatter_class=argparse.RawDescriptionHelpFormatter
+    )
+    parser.add_argument("--count", type=int, default=COUNT, help="about so many inputs")
+    parser.add_argument("--seed", default="1", help="draws other inputs")
+    parser.add_argument("--kind", action="append", choices=KINDS, help="these kinds alone")
+    words = parser.parse_args()
+    if not os.path.isfile(PROGRAM):
+        sys.exit(f"{PROGRAM} is not there: `rt run -- --help` in crates/mercator_cli builds it")
+    folder = tempfile.mkdtemp(prefix="drawn-")
+    with tempfile.TemporaryDirectory() as work:
+        totals = compare_all(words, folder, work)
+    if not os.listdir(folder):
+        os.rmdir(folder)
+    print(f"{totals.passed} passed, {totals.failed} failed")
+    sys.exit(1 if totals.failed or not totals.passed else 0)
+
+
+if __name__ == "__main__":
+    main()
