@@ -4,7 +4,7 @@ use crawl_frontier::{Offer, OfferError};
 use crawl_keys::CanonUrl;
 use std::alloc::Global;
 
-#[derive(Debug, PartialEq, Eq, Drop)]
+#[derive(Clone, Copy, PartialEq, Eq)]
 pub enum Answer {
     // Of an offer; a turn may be told Closed too.
     Accepted(u32, u64),
@@ -12,52 +12,22 @@ pub enum Answer {
     Filtered,
     Full,
     Closed,
-    // Of a turn: the URL, or how many units are out.
-    Taken(Text),
+    // Of a turn: the page of the URL, or how many units are out.
+    Taken(usize),
     Idle(u64),
-    // A unit was given back.
+    // Of the machine's take alone: nothing waits.
+    Empty,
+    // A look, an entry, or a unit that was given back.
     Fine,
     // None of these: no row has it.
     Other,
 }
 
-// How often each answer came.
-#[derive(Debug, Drop)]
-pub struct Tally {
-    pub accepted: u64,
-    pub seen: u64,
-    pub filtered: u64,
-    pub full: u64,
-    pub closed: u64,
-    pub taken: u64,
-    pub idle: u64,
-}
-
-impl Tally {
-    pub fn new() -> Tally {
-        Tally {
-            accepted: 0,
-            seen: 0,
-            filtered: 0,
-            full: 0,
-            closed: 0,
-            taken: 0,
-            idle: 0,
-        }
-    }
-
-    pub fn count(&mut self, answer: &Answer) {
-        let one = match answer {
-            Answer::Accepted(_, _) => &mut self.accepted,
-            Answer::Seen => &mut self.seen,
-            Answer::Filtered => &mut self.filtered,
-            Answer::Full => &mut self.full,
-            Answer::Closed => &mut self.closed,
-            Answer::Taken(_) => &mut self.taken,
-            Answer::Idle(_) => &mut self.idle,
-            Answer::Fine | Answer::Other => return,
-        };
-        *one = one.saturating_add(1);
+// The number of the page, which is the last part of its URL. A URL without one has the greatest.
+pub fn page_of(url: &str) -> usize {
+    match url.rsplit_once('/') {
+        Some((_, digits)) => digits.parse::<usize>().unwrap_or(usize::MAX),
+        None => usize::MAX,
     }
 }
 
@@ -72,58 +42,57 @@ pub fn of_offer(answered: Result<Offer, OfferError>) -> Answer {
     }
 }
 
-// The machine's answer to an offer that passes the filter: a look, an exchange, and the URL's admission.
+fn of_reply(reply: &Reply) -> Answer {
+    match reply {
+        Reply::Word { .. } | Reply::Entered(_) | Reply::Count(_) => Answer::Fine,
+        Reply::Accepted { queue, number } => Answer::Accepted(*queue, *number),
+        Reply::Seen => Answer::Seen,
+        Reply::Taken(url) => Answer::Taken(page_of(url.as_str())),
+        Reply::Empty => Answer::Empty,
+        Reply::Closed | Reply::Refused(Refusal::Closed) => Answer::Closed,
+        Reply::Pending(count) => Answer::Idle(*count),
+        Reply::Refused(Refusal::Full) => Answer::Full,
+        Reply::Lost | Reply::Refused(_) => Answer::Other,
+    }
+}
+
+pub fn ask(core: &mut Core, event: Event) -> Answer {
+    match core.step(&event) {
+        Ok(reply) => of_reply(&reply),
+        Err(_) => Answer::Other,
+    }
+}
+
+// The machine's answer to an offer that passes the filter: a look, an exchange, and the URL's admission. A sender whose URL
+// was seen gives its unit back.
 pub fn machine_offer(
     core: &mut Core,
     alloc: Global,
     sender: u64,
     url: &CanonUrl,
     queue: u32,
-) -> Option<Answer> {
-    core.step(&Event::Look { sender }).ok()?;
-    match core.step(&Event::Enter { sender }).ok()? {
-        Reply::Entered(_) => machine_admit(core, alloc, sender, url, queue),
-        Reply::Refused(Refusal::Full) => Some(Answer::Full),
-        Reply::Refused(Refusal::Closed) => Some(Answer::Closed),
-        _ => Some(Answer::Other),
+) -> Answer {
+    ask(core, Event::Look { sender });
+    let entered = ask(core, Event::Enter { sender });
+    if entered != Answer::Fine {
+        return entered;
     }
-}
-
-fn machine_admit(
-    core: &mut Core,
-    alloc: Global,
-    sender: u64,
-    url: &CanonUrl,
-    queue: u32,
-) -> Option<Answer> {
-    let url = Text::from_str(alloc, url.as_str()).ok()?;
-    match core.step(&Event::Admit { sender, url, queue }).ok()? {
-        Reply::Accepted { queue, number } => Some(Answer::Accepted(queue, number)),
-        Reply::Seen => match core.step(&Event::Back { sender }).ok()? {
-            Reply::Count(_) => Some(Answer::Seen),
-            _ => Some(Answer::Other),
-        },
-        _ => Some(Answer::Other),
+    let Ok(url) = Text::from_str(alloc, url.as_str()) else {
+        return Answer::Other;
+    };
+    let said = ask(core, Event::Admit { sender, url, queue });
+    if said == Answer::Seen && ask(core, Event::Back { sender }) != Answer::Fine {
+        return Answer::Other;
     }
+    said
 }
 
 // To a turn: a take, and where nothing waits an exchange that would close the gate.
-pub fn machine_turn(core: &mut Core, queue: u32) -> Option<Answer> {
-    match core.step(&Event::Take { queue }).ok()? {
-        Reply::Taken(url) => Some(Answer::Taken(url)),
-        Reply::Empty => match core.step(&Event::Close).ok()? {
-            Reply::Closed => Some(Answer::Closed),
-            Reply::Pending(count) => Some(Answer::Idle(count)),
-            _ => Some(Answer::Other),
-        },
-        _ => Some(Answer::Other),
-    }
-}
-
-// To a unit that is given back, of a fetch or of the seeds.
-pub fn machine_back(core: &mut Core, event: &Event) -> Option<Answer> {
-    match core.step(event).ok()? {
-        Reply::Count(_) => Some(Answer::Fine),
-        _ => Some(Answer::Other),
+pub fn machine_turn(core: &mut Core, queue: u32) -> Answer {
+    let said = ask(core, Event::Take { queue });
+    if said == Answer::Empty {
+        ask(core, Event::Close)
+    } else {
+        said
     }
 }

@@ -1,11 +1,11 @@
 //! A frontier and the machine side by side, in one hand.
 ghost use Rattle.std.specs.Prelude.{◌≡◌};
 
-use crate::tests::answer::{Answer, Tally, machine_back, machine_offer, machine_turn, of_offer};
+use crate::tests::answer::{Answer, ask, machine_offer, machine_turn, of_offer, page_of};
 use crate::tests::draw::{Call, Draw};
-use crawl_core::{Core, Event, Text};
+use crawl_core::{Core, Event};
 use crawl_frontier::{
-    BusyWorker, ClosedWorker, FinishError, Frontier, Name, Seeder, Sender, Setup, Turn, Worker,
+    Account, BusyWorker, ClosedWorker, Frontier, Name, Seeder, Sender, Setup, Turn, Worker,
 };
 use crawl_keys::{CanonUrl, Filter, can_assign};
 use std::alloc::Global;
@@ -20,264 +20,257 @@ pub struct Run {
     pub seed: u64,
 }
 
-// Why a run is not as it should be.
-#[derive(Debug, Drop)]
-pub enum Fault {
-    NoMemory,
-    // What the frontier answered, and what the machine did.
-    Differs(Answer, Answer),
-    NotClosed,
-    NoAccount(FinishError),
-    // How many entries the account has, and how many offers were accepted.
-    Entries(u64, u64),
+// How often each answer came.
+#[derive(Clone, Copy)]
+pub struct Tally {
+    pub accepted: u64,
+    pub seen: u64,
+    pub filtered: u64,
+    pub full: u64,
+    pub closed: u64,
+    pub taken: u64,
+    pub idle: u64,
 }
 
-// The worker of a place, in its turn.
+impl Tally {
+    fn count(&mut self, answer: Answer) {
+        let one = match answer {
+            Answer::Accepted(_, _) => &mut self.accepted,
+            Answer::Seen => &mut self.seen,
+            Answer::Filtered => &mut self.filtered,
+            Answer::Full => &mut self.full,
+            Answer::Closed => &mut self.closed,
+            Answer::Taken(_) => &mut self.taken,
+            Answer::Idle(_) => &mut self.idle,
+            Answer::Empty | Answer::Fine | Answer::Other => return,
+        };
+        *one = one.saturating_add(1);
+    }
+}
+
+// Whoever calls: the worker of a place in its turn, behind them the seeder, and then the sender.
 #[derive(Drop)]
 enum Hand<K: Name> {
     Idle(Worker<K>),
     Busy(BusyWorker<K>),
     Closed(ClosedWorker<K>),
+    Seeds(Seeder<K>),
+    Sends(Sender<K>),
     Gone,
 }
 
-// The frontier with all its parts, and the machine; and what both answered.
+// What a hand did that offered nothing.
+#[derive(Clone, Copy)]
+enum Did {
+    Turn(Answer),
+    Done,
+    End,
+    Nothing,
+}
+
+// The machine, and what it and the frontier answered.
 #[derive(Drop)]
-struct Both<K: Name> {
-    frontier: Frontier<K>,
-    hands: Vec<Hand<K>>,
-    seeder: Option<Seeder<K>>,
-    sender: Sender<K>,
-    sender_id: u64,
+struct Machine {
     core: Core,
     tally: Tally,
 }
 
-impl<K: Name> Both<K> {
-    fn new(
-        alloc: Global,
-        setup: Setup,
-        filter: &Filter,
-        core: Core,
-        sender_id: u64,
-    ) -> Option<Both<K>>
-        requires gate { setup.gate ≡ K.gate }
-        requires workers { setup.workers ≡ K.workers }
-        requires queues { setup.queues ≡ K.queues }
-        requires filter { filter.now ≡ K.filter }
-    {
-        let (frontier, workers, mut seeder) = Frontier::<K>::new(alloc, setup, filter).ok()?;
-        let sender = seeder.another(alloc, &frontier, sender_id).ok()?;
-        let mut hands = Vec::new(alloc);
-        for worker in workers {
-            hands.push(Hand::Idle(worker)).ok()?;
-        }
-        Some(Both {
-            frontier,
-            hands,
-            seeder: Some(seeder),
-            sender,
-            sender_id,
-            core,
-            tally: Tally::new(),
-        })
-    }
-
+impl Machine {
     // Both answered this.
-    fn agree(&mut self, found: Answer, wanted: Option<Answer>) -> Result<(), Fault> {
-        let Some(wanted) = wanted else {
-            return Err(Fault::NoMemory);
-        };
-        if found != wanted {
-            return Err(Fault::Differs(found, wanted));
-        }
-        self.tally.count(&found);
-        Ok(())
-    }
-
-    // The machine's answer to an offer. A URL that the filter refuses never comes to it.
-    fn machine(&mut self, alloc: Global, sender: u64, url: &CanonUrl) -> Option<Answer> {
-        if !self.frontier.filter().allows(url) {
-            return Some(Answer::Filtered);
-        }
-        let workers = self.frontier.workers();
-        if !can_assign(workers) {
+    fn agree(&mut self, found: Answer, wanted: Answer) -> Option<()> {
+        if found != wanted || found == Answer::Other {
             return None;
         }
-        let queue = url.subqueue(workers);
-        machine_offer(&mut self.core, alloc, sender, url, queue)
+        self.tally.count(found);
+        Some(())
     }
 
-    fn seed<R: Wait>(&mut self, rt: &R, alloc: Global, url: &CanonUrl) -> Result<(), Fault> {
-        let Both {
-            frontier,
-            seeder,
-            ..
-        } = self;
-        let Some(seeder) = seeder else {
-            return Ok(());
+    fn follow(&mut self, place: u32, did: Did) -> Option<()> {
+        let (found, wanted) = match did {
+            Did::Turn(found) => (found, machine_turn(&mut self.core, place)),
+            Did::Done => (
+                Answer::Fine,
+                ask(&mut self.core, Event::Done { queue: place }),
+            ),
+            Did::End => (Answer::Fine, ask(&mut self.core, Event::EndSeeds)),
+            Did::Nothing => return Some(()),
         };
-        let found = of_offer(seeder.offer(rt, frontier, url));
-        // The seeder's id is the number of workers.
-        let id = u64::from(frontier.workers());
-        let wanted = self.machine(alloc, id, url);
         self.agree(found, wanted)
-    }
-
-    fn send<R: Wait>(&mut self, rt: &R, alloc: Global, url: &CanonUrl) -> Result<(), Fault> {
-        let Both {
-            frontier,
-            sender,
-            ..
-        } = self;
-        let found = of_offer(sender.offer(rt, frontier, url));
-        let wanted = self.machine(alloc, self.sender_id, url);
-        self.agree(found, wanted)
-    }
-
-    fn link<R: Wait>(
-        &mut self,
-        rt: &R,
-        alloc: Global,
-        place: u32,
-        worker: &mut BusyWorker<K>,
-        url: &CanonUrl,
-    ) -> Result<(), Fault> {
-        let found = of_offer(worker.offer(rt, &self.frontier, url));
-        let wanted = self.machine(alloc, u64::from(place), url);
-        self.agree(found, wanted)
-    }
-
-    fn turn<R: Wait>(
-        &mut self,
-        rt: &R,
-        alloc: Global,
-        worker: Worker<K>,
-    ) -> Result<Hand<K>, Fault> {
-        let queue = worker.queue();
-        let (hand, found) = match worker.next(rt, &self.frontier) {
-            Turn::Busy(worker) => {
-                let Ok(url) = Text::from_str(alloc, worker.url().as_str()) else {
-                    return Err(Fault::NoMemory);
-                };
-                (Hand::Busy(worker), Answer::Taken(url))
-            }
-            Turn::Idle(worker, count) => (Hand::Idle(worker), Answer::Idle(count)),
-            Turn::Closed(worker) => (Hand::Closed(worker), Answer::Closed),
-        };
-        let wanted = machine_turn(&mut self.core, queue);
-        self.agree(found, wanted)?;
-        Ok(hand)
-    }
-
-    fn done(&mut self, place: u32, worker: BusyWorker<K>) -> Result<Hand<K>, Fault> {
-        let worker = worker.done(&self.frontier);
-        let wanted = machine_back(&mut self.core, &Event::Done { queue: place });
-        self.agree(Answer::Fine, wanted)?;
-        Ok(Hand::Idle(worker))
-    }
-
-    // The call of the worker of a place: it offers the URL, if there is one, or is done; or it takes its turn.
-    fn work<R: Wait>(
-        &mut self,
-        rt: &R,
-        alloc: Global,
-        place: usize,
-        url: Option<&CanonUrl>,
-    ) -> Result<(), Fault> {
-        let (Some(hand), Ok(queue)) = (self.hands.get_mut(place), u32::try_from(place)) else {
-            return Ok(());
-        };
-        let hand = match (mem::replace(hand, Hand::Gone), url) {
-            (Hand::Busy(mut worker), Some(url)) => {
-                self.link(rt, alloc, queue, &mut worker, url)?;
-                Hand::Busy(worker)
-            }
-            (Hand::Busy(worker), None) => self.done(queue, worker)?,
-            (Hand::Idle(worker), _) => self.turn(rt, alloc, worker)?,
-            (hand, _) => hand,
-        };
-        if let Some(old) = self.hands.get_mut(place) {
-            *old = hand;
-        }
-        Ok(())
-    }
-
-    fn call<R: Wait>(
-        &mut self,
-        rt: &R,
-        alloc: Global,
-        urls: &[CanonUrl],
-        call: Call,
-    ) -> Result<(), Fault> {
-        match call {
-            Call::Seed(url) => match urls.get(url) {
-                Some(url) => self.seed(rt, alloc, url),
-                None => Ok(()),
-            },
-            Call::Send(url) => match urls.get(url) {
-                Some(url) => self.send(rt, alloc, url),
-                None => Ok(()),
-            },
-            Call::Work(place, url) => self.work(rt, alloc, place, urls.get(url)),
-            Call::End(place) => self.work(rt, alloc, place, None),
-        }
-    }
-
-    // The seeder ends; its sender comes back.
-    fn end(&mut self) -> Result<Sender<K>, Fault> {
-        let Some(seeder) = self.seeder.take() else {
-            return Err(Fault::NotClosed);
-        };
-        let sender = seeder.end(&self.frontier);
-        let wanted = machine_back(&mut self.core, &Event::EndSeeds);
-        self.agree(Answer::Fine, wanted)?;
-        Ok(sender)
-    }
-
-    // The workers take their turns until each is closed, or for that many rounds.
-    fn drain<R: Wait>(&mut self, rt: &R, alloc: Global, rounds: usize) -> Result<(), Fault> {
-        for _ in 0..rounds {
-            for place in 0..self.hands.len() {
-                self.work(rt, alloc, place, None)?;
-            }
-        }
-        Ok(())
-    }
-
-    // The account has an entry for each offer that was accepted.
-    fn finish(self, alloc: Global, seeds: Sender<K>) -> Result<Tally, Fault> {
-        let mut closed = Vec::new(alloc);
-        for hand in self.hands {
-            let Hand::Closed(worker) = hand else {
-                return Err(Fault::NotClosed);
-            };
-            let Ok(()) = closed.push(worker) else {
-                return Err(Fault::NoMemory);
-            };
-        }
-        let mut senders = Vec::new(alloc);
-        let (Ok(()), Ok(())) = (senders.push(self.sender), senders.push(seeds)) else {
-            return Err(Fault::NoMemory);
-        };
-        let account = match self.frontier.finish(closed, senders) {
-            Ok(account) => account,
-            Err(fault) => return Err(Fault::NoAccount(fault)),
-        };
-        let mut entries = 0u64;
-        for queue in 0..account.workers() {
-            for _ in account.queue(queue) {
-                entries = entries.saturating_add(1);
-            }
-        }
-        if entries != self.tally.accepted {
-            return Err(Fault::Entries(entries, self.tally.accepted));
-        }
-        Ok(self.tally)
     }
 }
 
-// Makes the drawn calls, ends the seeds, drains the frontier, offers once more, and asks for the account.
+// The answer to an offer of a hand that may make one.
+fn offered<K: Name, R: Wait>(
+    rt: &R,
+    frontier: &Frontier<K>,
+    hand: &mut Hand<K>,
+    url: &CanonUrl,
+) -> Option<Answer> {
+    let answered = match hand {
+        Hand::Busy(worker) => worker.offer(rt, frontier, url),
+        Hand::Seeds(seeder) => seeder.offer(rt, frontier, url),
+        Hand::Sends(sender) => sender.offer(rt, frontier, url),
+        _ => return None,
+    };
+    Some(of_offer(answered))
+}
+
+fn turn<K: Name, R: Wait>(rt: &R, frontier: &Frontier<K>, worker: Worker<K>) -> (Hand<K>, Did) {
+    match worker.next(rt, frontier) {
+        Turn::Busy(worker) => {
+            let page = page_of(worker.url().as_str());
+            (Hand::Busy(worker), Did::Turn(Answer::Taken(page)))
+        }
+        Turn::Idle(worker, count) => (Hand::Idle(worker), Did::Turn(Answer::Idle(count))),
+        Turn::Closed(worker) => (Hand::Closed(worker), Did::Turn(Answer::Closed)),
+    }
+}
+
+// The next call of a hand that has no URL to offer: a worker takes its turn or is done, and the seeder ends.
+fn go_on<K: Name, R: Wait>(rt: &R, frontier: &Frontier<K>, hand: Hand<K>) -> (Hand<K>, Did) {
+    match hand {
+        Hand::Idle(worker) => turn(rt, frontier, worker),
+        Hand::Busy(worker) => (Hand::Idle(worker.done(frontier)), Did::Done),
+        Hand::Seeds(seeder) => (Hand::Sends(seeder.end(frontier)), Did::End),
+        hand => (hand, Did::Nothing),
+    }
+}
+
+// The machine's answer to an offer. A URL that the filter refuses never comes to it.
+fn wanted_of<K: Name>(
+    alloc: Global,
+    frontier: &Frontier<K>,
+    core: &mut Core,
+    sender: u64,
+    url: &CanonUrl,
+) -> Answer {
+    let workers = frontier.workers();
+    if !can_assign(workers) {
+        return Answer::Other;
+    }
+    if !frontier.filter().allows(url) {
+        return Answer::Filtered;
+    }
+    machine_offer(core, alloc, sender, url, url.subqueue(workers))
+}
+
+// A call of the hand: it offers the URL, if there is one and it may, or goes on.
+fn call<K: Name, R: Wait>(
+    rt: &R,
+    alloc: Global,
+    frontier: &Frontier<K>,
+    hand: &mut Hand<K>,
+    machine: &mut Machine,
+    id: u64,
+    url: Option<&CanonUrl>,
+) -> Option<()> {
+    if let Some(url) = url {
+        if let Some(found) = offered(rt, frontier, hand, url) {
+            let wanted = wanted_of(alloc, frontier, &mut machine.core, id, url);
+            return machine.agree(found, wanted);
+        }
+    }
+    let (next, did) = go_on(rt, frontier, mem::replace(hand, Hand::Gone));
+    *hand = next;
+    machine.follow(u32::try_from(id).unwrap_or(u32::MAX), did)
+}
+
+// The hands of a new frontier.
+fn hands_of<K: Name>(
+    alloc: Global,
+    workers: Vec<Worker<K>>,
+    seeder: Seeder<K>,
+    sender: Sender<K>,
+) -> Vec<Hand<K>> {
+    let mut hands = Vec::new(alloc);
+    for worker in workers {
+        let _ = hands.push(Hand::Idle(worker));
+    }
+    let _ = hands.push(Hand::Seeds(seeder));
+    let _ = hands.push(Hand::Sends(sender));
+    hands
+}
+
+// A hand calls, by its place. A worker's id is its place, and so is the seeder's.
+fn call_at<K: Name, R: Wait>(
+    rt: &R,
+    alloc: Global,
+    frontier: &Frontier<K>,
+    hands: &mut [Hand<K>],
+    machine: &mut Machine,
+    run: Run,
+    place: usize,
+    url: Option<&CanonUrl>,
+) -> Option<()> {
+    let id = if place == frontier.workers() as usize + 1 {
+        run.sender
+    } else {
+        place as u64
+    };
+    call(rt, alloc, frontier, hands.get_mut(place)?, machine, id, url)
+}
+
+// Makes the drawn calls, then ends the seeds, and lets the workers take their turns until all are closed. Last the sender
+// offers once more.
+fn play<K: Name, R: Wait>(
+    rt: &R,
+    alloc: Global,
+    frontier: &Frontier<K>,
+    hands: &mut [Hand<K>],
+    machine: &mut Machine,
+    urls: &[CanonUrl],
+    run: Run,
+) -> Option<()> {
+    let workers = frontier.workers() as usize;
+    let mut draw = Draw::new(run.seed);
+    for _ in 0..run.calls {
+        let Call { place, url } = draw.call(workers, urls.len());
+        let url = urls.get(url);
+        call_at(rt, alloc, frontier, hands, machine, run, place, url)?;
+    }
+    call_at(rt, alloc, frontier, hands, machine, run, workers, None)?;
+    for _ in 0..urls.len().saturating_mul(3) {
+        for place in 0..workers {
+            call_at(rt, alloc, frontier, hands, machine, run, place, None)?;
+        }
+    }
+    let last = workers + 1;
+    call_at(rt, alloc, frontier, hands, machine, run, last, urls.first())
+}
+
+// The account, where all workers are closed.
+fn finished<K: Name>(alloc: Global, frontier: Frontier<K>, hands: Vec<Hand<K>>) -> Option<Account> {
+    let (mut closed, mut senders) = (Vec::new(alloc), Vec::new(alloc));
+    for hand in hands {
+        match hand {
+            Hand::Closed(worker) => drop(closed.push(worker)),
+            Hand::Sends(sender) => drop(senders.push(sender)),
+            _ => {}
+        }
+    }
+    frontier.finish(closed, senders).ok()
+}
+
+// How many entries the account has.
+fn entries_of(account: &Account) -> u64 {
+    let mut entries = 0u64;
+    for queue in 0..account.workers() {
+        entries = entries.saturating_add(account.queue(queue).len() as u64);
+    }
+    entries
+}
+
+const NONE: Tally = Tally {
+    accepted: 0,
+    seen: 0,
+    filtered: 0,
+    full: 0,
+    closed: 0,
+    taken: 0,
+    idle: 0,
+};
+
+// How often each answer came, where all answers are the machine's, and the account has an entry for each accepted offer.
 pub fn compare<K: Name, R: Wait>(
     rt: &R,
     alloc: Global,
@@ -286,24 +279,22 @@ pub fn compare<K: Name, R: Wait>(
     core: Core,
     urls: &[CanonUrl],
     run: Run,
-) -> Result<Tally, Fault>
+) -> Option<Tally>
     requires gate { setup.gate ≡ K.gate }
     requires workers { setup.workers ≡ K.workers }
     requires queues { setup.queues ≡ K.queues }
     requires filter { filter.now ≡ K.filter }
 {
-    let Some(mut both) = Both::<K>::new(alloc, setup, filter, core, run.sender) else {
-        return Err(Fault::NoMemory);
-    };
-    let mut draw = Draw::new(run.seed);
-    for _ in 0..run.calls {
-        let call = draw.call(both.hands.len(), urls.len());
-        both.call(rt, alloc, urls, call)?;
+    let (frontier, workers, mut seeder) = Frontier::<K>::new(alloc, setup, filter).ok()?;
+    let sender = seeder.another(alloc, &frontier, run.sender).ok()?;
+    let mut hands = hands_of(alloc, workers, seeder, sender);
+    let mut machine = Machine { core, tally: NONE };
+    let played = play(rt, alloc, &frontier, &mut hands, &mut machine, urls, run).is_some();
+    let tally = machine.tally;
+    let account = finished(alloc, frontier, hands)?;
+    if played && entries_of(&account) == tally.accepted {
+        Some(tally)
+    } else {
+        None
     }
-    let seeds = both.end()?;
-    both.drain(rt, alloc, urls.len().saturating_mul(3))?;
-    if let Some(url) = urls.first() {
-        both.send(rt, alloc, url)?;
-    }
-    both.finish(alloc, seeds)
 }

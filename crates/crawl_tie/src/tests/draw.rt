@@ -1,21 +1,16 @@
 //! Calls drawn from a fixed seed.
 
 // Numbers by a linear congruence.
-#[derive(Drop)]
+#[derive(Clone, Copy)]
 pub struct Draw {
     state: u64,
 }
 
-// A call, of whoever may make it now.
-#[derive(Clone, Copy, Debug)]
-pub enum Call {
-    // The seeder offers the URL, or the sender does.
-    Seed(usize),
-    Send(usize),
-    // The worker of this place offers the URL if it is busy, and looks for one if it is idle.
-    Work(usize, usize),
-    // It is done with its URL if it is busy, and looks for one if it is idle.
-    End(usize),
+// Whose call it is, by the place, and which URL it offers if it may: there is none past their number.
+#[derive(Clone, Copy)]
+pub struct Call {
+    pub place: usize,
+    pub url: usize,
 }
 
 impl Draw {
@@ -34,15 +29,22 @@ impl Draw {
         }
     }
 
+    // An offer of the seeder or of the sender, or a call of a worker, which offers the URL if it is busy, or is done.
     pub fn call(&mut self, workers: usize, urls: usize) -> Call {
         let kind = self.below(8);
         let place = self.below(workers);
         let url = self.below(urls);
         match kind {
-            0 => Call::Seed(url),
-            1 => Call::Send(url),
-            2..=4 => Call::Work(place, url),
-            _ => Call::End(place),
+            0 => Call {
+                place: workers,
+                url,
+            },
+            1 => Call {
+                place: workers.saturating_add(1),
+                url,
+            },
+            2..=4 => Call { place, url },
+            _ => Call { place, url: urls },
         }
     }
 }

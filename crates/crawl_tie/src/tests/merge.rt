@@ -8,16 +8,15 @@
 //!
 //! The words that seats met are no values, so an offer's look and exchange stand right before its admission, an empty
 //! turn's exchange right after its pop, and how many units are out then is not compared.
-use crate::tests::answer::{Answer, machine_back, machine_offer, machine_turn};
-use crate::tests::traces::number_of;
-use crawl_core::{Core, Event, Text};
+use crate::tests::answer::{Answer, ask, machine_offer, machine_turn, page_of};
+use crawl_core::{Core, Event};
 use crawl_frontier::Account;
 use crawl_keys::{CanonUrl, can_assign};
 use std::alloc::Global;
 use std::mem;
 
 // A step of a worker, with a page's number, and what the call answered.
-#[derive(Clone, Copy, Debug)]
+#[derive(Clone, Copy)]
 pub enum Step {
     Took(usize),
     Accepted(usize, u32, u64),
@@ -36,18 +35,6 @@ pub struct Trace {
     until: usize,
 }
 
-// Why there is no such list.
-#[derive(Clone, Copy, Debug, PartialEq, Eq)]
-pub enum Fault {
-    NoMemory,
-    // The machine answers this step, counted from 0, another way.
-    Differs(usize),
-    // No step may come next.
-    Stuck(usize),
-    // A worker of the machine isn't told that all is done.
-    NotClosed(u32),
-}
-
 // Where a page's acceptance stands: after so many others of its subqueue, and after so many empty turns of its worker.
 #[derive(Clone, Copy)]
 struct Place {
@@ -64,7 +51,7 @@ pub struct Merge<'a> {
     places: Vec<Place>,
     // What was merged so far, of each subqueue.
     so_far: Vec<Place>,
-    pub merged: usize,
+    merged: usize,
 }
 
 impl Trace {
@@ -132,7 +119,7 @@ fn places_of(
     }
     for queue in 0..account.workers() {
         for (at, entry) in account.queue(queue).iter().enumerate() {
-            if let Some(place) = places.get_mut(number_of(&entry.url)) {
+            if let Some(place) = places.get_mut(page_of(entry.url.as_str())) {
                 place.accepted = at;
             }
         }
@@ -194,15 +181,13 @@ impl Merge<'_> {
         })
     }
 
-    fn agree(&mut self, wanted: Answer, found: Option<Answer>) -> Result<(), Fault> {
-        match found {
-            None => Err(Fault::NoMemory),
-            Some(found) if found == wanted => {
-                self.merged = self.merged.saturating_add(1);
-                Ok(())
-            }
-            Some(_) => Err(Fault::Differs(self.merged)),
+    // One step more is merged, if the machine answers it so.
+    fn agree(&mut self, wanted: Answer, found: Answer) -> Option<()> {
+        if found != wanted {
+            return None;
         }
+        self.merged = self.merged.saturating_add(1);
+        Some(())
     }
 
     // What the page's subqueue has so far, and the page's place.
@@ -212,73 +197,65 @@ impl Merge<'_> {
     }
 
     // The offer of a page, if it may come next. An accepted one comes at the end of its subqueue.
-    fn offer(&mut self, sender: u64, page: usize, wanted: Answer) -> Result<bool, Fault> {
-        let stuck = Fault::Stuck(self.merged);
-        let is_new = wanted != Answer::Seen;
-        let Some(url) = self.urls.get(page) else {
-            return Err(stuck);
-        };
+    fn offer(&mut self, sender: u64, page: usize, wanted: Answer) -> Option<bool> {
+        let url = self.urls.get(page)?;
         if !can_assign(self.workers) {
-            return Err(stuck);
+            return None;
         }
         let queue = url.subqueue(self.workers);
-        let Some((so_far, place)) = self.compare(page, queue) else {
-            return Err(stuck);
-        };
-        let may_come = if is_new {
-            place.accepted == so_far.accepted && place.empty <= so_far.empty
-        } else {
+        let (so_far, place) = self.compare(page, queue)?;
+        let is_seen = wanted == Answer::Seen;
+        let may_come = if is_seen {
             place.accepted < so_far.accepted
+        } else {
+            place.accepted == so_far.accepted && place.empty <= so_far.empty
         };
         if !may_come {
-            return Ok(false);
+            return Some(false);
         }
         let found = machine_offer(&mut self.core, self.alloc, sender, url, queue);
         self.agree(wanted, found)?;
-        if is_new {
+        if !is_seen {
             self.raise(queue, 1, 0);
         }
-        Ok(true)
+        Some(true)
     }
 
     fn raise(&mut self, queue: u32, accepted: usize, empty: usize) {
-        if let Ok(queue) = usize::try_from(queue) {
-            if let Some(so_far) = self.so_far.get_mut(queue) {
-                so_far.accepted = so_far.accepted.saturating_add(accepted);
-                so_far.empty = so_far.empty.saturating_add(empty);
-            }
+        if let Some(so_far) = self.so_far.get_mut(queue as usize) {
+            so_far.accepted = so_far.accepted.saturating_add(accepted);
+            so_far.empty = so_far.empty.saturating_add(empty);
         }
     }
 
-    fn take(&mut self, worker: u32, page: usize) -> Result<bool, Fault> {
-        let (Some(url), Some((so_far, place))) = (self.urls.get(page), self.compare(page, worker))
-        else {
-            return Err(Fault::Stuck(self.merged));
-        };
+    fn take(&mut self, worker: u32, page: usize) -> Option<bool> {
+        let (so_far, place) = self.compare(page, worker)?;
         if place.accepted >= so_far.accepted {
-            return Ok(false);
+            return Some(false);
         }
-        let Ok(url) = Text::from_str(self.alloc, url.as_str()) else {
-            return Err(Fault::NoMemory);
-        };
         let found = machine_turn(&mut self.core, worker);
-        self.agree(Answer::Taken(url), found)?;
-        Ok(true)
+        self.agree(Answer::Taken(page), found)?;
+        Some(true)
     }
 
     // The machine has no URL for the worker either, and its gate isn't closed; how many units are out may differ.
-    fn find_nothing(&mut self, worker: u32) -> Result<bool, Fault> {
-        let found = match machine_turn(&mut self.core, worker) {
-            Some(Answer::Idle(_)) => Some(Answer::Fine),
-            found => found,
+    fn find_nothing(&mut self, worker: u32) -> Option<bool> {
+        let Answer::Idle(_) = machine_turn(&mut self.core, worker) else {
+            return None;
         };
-        self.agree(Answer::Fine, found)?;
+        self.merged = self.merged.saturating_add(1);
         self.raise(worker, 0, 1);
-        Ok(true)
+        Some(true)
     }
 
-    // Makes the step, if it may come next.
-    fn step(&mut self, worker: u32, step: Step) -> Result<bool, Fault> {
+    fn done(&mut self, worker: u32) -> Option<bool> {
+        let found = ask(&mut self.core, Event::Done { queue: worker });
+        self.agree(Answer::Fine, found)?;
+        Some(true)
+    }
+
+    // Makes the step, if it may come next. None where the machine answers it another way.
+    fn step(&mut self, worker: u32, step: Step) -> Option<bool> {
         let sender = u64::from(worker);
         match step {
             Step::Took(page) => self.take(worker, page),
@@ -286,77 +263,77 @@ impl Merge<'_> {
                 self.offer(sender, page, Answer::Accepted(queue, number))
             }
             Step::Seen(page) => self.offer(sender, page, Answer::Seen),
-            Step::Done => {
-                let found = machine_back(&mut self.core, &Event::Done { queue: worker });
-                self.agree(Answer::Fine, found)?;
-                Ok(true)
-            }
+            Step::Done => self.done(worker),
             Step::Idle => self.find_nothing(worker),
         }
     }
 
     // The first offer is the seeder's, whose id is the number of workers.
-    fn seeds(&mut self) -> Result<(), Fault> {
-        let Some(url) = self.urls.first() else {
-            return Err(Fault::Stuck(0));
-        };
+    fn seeds(&mut self) -> Option<()> {
+        let url = self.urls.first()?;
         if !can_assign(self.workers) {
-            return Err(Fault::Stuck(0));
+            return None;
         }
         let wanted = Answer::Accepted(url.subqueue(self.workers), 0);
         if !self.offer(u64::from(self.workers), 0, wanted)? {
-            return Err(Fault::Stuck(0));
+            return None;
         }
-        let found = machine_back(&mut self.core, &Event::EndSeeds);
+        let found = ask(&mut self.core, Event::EndSeeds);
         self.agree(Answer::Fine, found)
     }
 
     // One step of each worker that may make its next one. Answers whether there was any.
-    fn round(&mut self, traces: &mut [Trace]) -> Result<bool, Fault> {
+    fn round(&mut self, traces: &mut [Trace]) -> Option<bool> {
         let mut moved = false;
         for trace in traces {
             if trace.at >= trace.until {
                 continue;
             }
-            if let Some(step) = trace.steps.get(trace.at) {
-                if self.step(trace.worker, *step)? {
-                    trace.at = trace.at.saturating_add(1);
-                    moved = true;
-                }
+            let step = trace.step(trace.at)?;
+            if self.step(trace.worker, step)? {
+                trace.at = trace.at.saturating_add(1);
+                moved = true;
             }
         }
-        Ok(moved)
+        Some(moved)
     }
 
-    // Merges what can be merged. A round that moves anything merges a step, so there are no more rounds than steps.
-    fn rounds(&mut self, traces: &mut [Trace]) -> Result<(), Fault> {
+    // Merges what can be merged, in so many rounds at most.
+    fn rounds(&mut self, traces: &mut [Trace], most: usize) -> Option<()> {
+        for _ in 0..most {
+            if !self.round(traces)? {
+                break;
+            }
+        }
+        Some(())
+    }
+
+    // Each worker is told that all is done.
+    fn closes(&mut self) -> bool {
+        for worker in 0..self.workers {
+            if machine_turn(&mut self.core, worker) != Answer::Closed {
+                return false;
+            }
+        }
+        true
+    }
+
+    /// Merges all steps, and then tells each worker that all is done. Answers how many were merged, if that goes. A round
+    /// that moves anything merges a step, so there are no more rounds than steps.
+    pub fn run(&mut self, traces: &mut [Trace]) -> Option<usize> {
         let mut steps = 0usize;
         for trace in traces.iter() {
             steps = steps.saturating_add(trace.steps.len());
         }
-        for _ in 0..steps {
-            if !self.round(traces)? {
-                return Ok(());
-            }
-        }
-        Ok(())
-    }
-
-    /// Merges all steps, and then tells each worker that all is done.
-    pub fn run(&mut self, traces: &mut [Trace]) -> Result<(), Fault> {
         begin(traces);
         self.seeds()?;
-        self.rounds(traces)?;
+        self.rounds(traces, steps)?;
         let_go(traces);
         self.round(traces)?;
-        if traces.iter().any(|trace| trace.at < trace.steps.len()) {
-            return Err(Fault::Stuck(self.merged));
+        // The seeds' offer and their end are merged besides.
+        if self.merged != steps.saturating_add(2) || !self.closes() {
+            return None;
         }
-        for worker in 0..self.workers {
-            if machine_turn(&mut self.core, worker) != Some(Answer::Closed) {
-                return Err(Fault::NotClosed(worker));
-            }
-        }
-        Ok(())
+        Some(self.merged)
     }
 }

@@ -1,17 +1,19 @@
 //! Four threads, each of which writes down the steps of its worker; then all of them as one list of events.
 ghost use Rattle.std.specs.Prelude.{◌≡◌};
 
-use crate::tests::merge::{Fault, Merge, Step, Trace};
+use crate::tests::answer::page_of;
+use crate::tests::merge::{Merge, Step, Trace};
 use crawl_core::Core;
 use crawl_frontier::{
-    Account, BusyWorker, ClosedWorker, Frontier, Name, Offer, OfferError, Setup, Turn, Worker,
+    Account, BusyWorker, ClosedWorker, Frontier, Name, Offer, OfferError, Seeder, Sender, Setup,
+    Turn, Worker,
 };
 use crawl_keys::{CanonUrl, Filter, canonical};
 use std::alloc::Global;
 use std::marker::Brand;
 use std::sync::Wait;
 use std::thread;
-use std::thread::{Threads, join};
+use std::thread::Threads;
 
 const PAGES: usize = 2_000;
 
@@ -67,13 +69,6 @@ impl Notes {
     }
 }
 
-pub fn number_of(url: &CanonUrl) -> usize {
-    match url.as_str().rsplit_once('/') {
-        Some((_, digits)) => digits.parse::<usize>().unwrap_or(PAGES),
-        None => PAGES,
-    }
-}
-
 // Each page is linked from one page before it, and most from others too.
 fn links_of(page: usize) -> [usize; 4] {
     let first = page.saturating_mul(3);
@@ -92,7 +87,7 @@ fn fetch<K: Name, R: Wait>(
     busy: &mut BusyWorker<K>,
     notes: &mut Notes,
 ) {
-    let page = number_of(busy.url());
+    let page = page_of(busy.url().as_str());
     notes.write(Step::Took(page));
     for link in links_of(page) {
         if let Some(url) = urls.get(link) {
@@ -128,43 +123,6 @@ fn work<K: Name, R: Wait>(
     unreachable!()
 }
 
-fn two_work<K: Name + Send + Sync, R: Threads + Wait + Sync>(
-    rt: &R,
-    alloc: Global,
-    frontier: &Frontier<K>,
-    urls: &[CanonUrl],
-    one: Worker<K>,
-    other: Worker<K>,
-) -> (Ended<K>, Ended<K>) {
-    join(
-        rt,
-        move || work(rt, alloc, frontier, urls, one),
-        move || work(rt, alloc, frontier, urls, other),
-    )
-}
-
-// What each of four workers wrote down in its thread.
-fn four_work<K: Name + Send + Sync, R: Threads + Wait + Sync>(
-    rt: &R,
-    alloc: Global,
-    frontier: &Frontier<K>,
-    urls: &[CanonUrl],
-    mut workers: Vec<Worker<K>>,
-) -> Option<[Ended<K>; 4]> {
-    let (a, b, c, d) = (
-        workers.pop()?,
-        workers.pop()?,
-        workers.pop()?,
-        workers.pop()?,
-    );
-    let ((a, b), (c, d)) = join(
-        rt,
-        move || two_work(rt, alloc, frontier, urls, a, b),
-        move || two_work(rt, alloc, frontier, urls, c, d),
-    );
-    Some([a, b, c, d])
-}
-
 // The account of the run, and what each worker wrote down.
 fn crawl<K: Name + Send + Sync, R: Threads + Wait + Sync>(
     rt: &R,
@@ -178,23 +136,47 @@ fn crawl<K: Name + Send + Sync, R: Threads + Wait + Sync>(
     requires queues { setup.queues ≡ K.queues }
     requires filter { filter.now ≡ K.filter }
 {
-    let (frontier, workers, mut seeder) = Frontier::<K>::new(alloc, setup, filter).ok()?;
-    seeder.offer(rt, &frontier, urls.first()?).ok()?;
-    let sender = seeder.end(&frontier);
-    let all = four_work(rt, alloc, &frontier, urls, workers)?;
-    let mut closed = Vec::new(alloc);
-    let mut traces = Vec::new(alloc);
+    let (frontier, workers, seeder) = Frontier::<K>::new(alloc, setup, filter).ok()?;
+    let sender = seeded(rt, &frontier, seeder, urls);
+    let all = thread::map_vec(
+        rt,
+        workers,
+        &|worker| work(rt, alloc, &frontier, urls, worker),
+    );
+    finished(alloc, frontier, sender, all.unwrap_or(Vec::new(alloc)))
+}
+
+fn seeded<K: Name, R: Wait>(
+    rt: &R,
+    frontier: &Frontier<K>,
+    mut seeder: Seeder<K>,
+    urls: &[CanonUrl],
+) -> Sender<K> {
+    if let Some(url) = urls.first() {
+        let _ = seeder.offer(rt, frontier, url);
+    }
+    seeder.end(frontier)
+}
+
+fn finished<K: Name>(
+    alloc: Global,
+    frontier: Frontier<K>,
+    sender: Sender<K>,
+    all: Vec<Ended<K>>,
+) -> Option<(Account, Vec<Trace>)> {
+    let (mut closed, mut traces, mut senders) = (Vec::new(alloc), Vec::new(alloc), Vec::new(alloc));
+    let mut lost = false;
     for ended in all {
         let Ended { worker, notes } = ended;
-        if notes.lost {
-            return None;
-        }
-        traces.push(Trace::new(worker.queue(), notes.steps)).ok()?;
-        closed.push(worker).ok()?;
+        lost |= notes.lost;
+        let _ = traces.push(Trace::new(worker.queue(), notes.steps));
+        let _ = closed.push(worker);
     }
-    let mut senders = Vec::new(alloc);
-    senders.push(sender).ok()?;
-    Some((frontier.finish(closed, senders).ok()?, traces))
+    let _ = senders.push(sender);
+    match frontier.finish(closed, senders) {
+        Ok(account) if !lost => Some((account, traces)),
+        _ => None,
+    }
 }
 
 fn pages(alloc: Global) -> Option<Vec<CanonUrl>> {
@@ -207,17 +189,16 @@ fn pages(alloc: Global) -> Option<Vec<CanonUrl>> {
     Some(urls)
 }
 
-// How many steps were merged, of the seeds too, and why no more were.
+// How many steps are merged, of the seeds too, if there is such a list.
 fn replay(
     alloc: Global,
     urls: &[CanonUrl],
     account: &Account,
     traces: &mut [Trace],
-) -> Option<(usize, Result<(), Fault>)> {
+) -> Option<usize> {
     let core = Core::new(alloc, WORKERS, MAX_PENDING).ok()?;
     let mut merge = Merge::new(alloc, core, urls, account, traces)?;
-    let end = merge.run(traces);
-    Some((merge.merged, end))
+    merge.run(traces)
 }
 
 // Another step than the one that was made.
@@ -233,7 +214,7 @@ fn other_than(step: Step) -> Step {
     }
 }
 
-// Whether there is still a list of events with another step at this place of the first worker.
+// Whether there is a list of events with another step at this place of the first worker.
 fn replays_changed(
     alloc: Global,
     urls: &[CanonUrl],
@@ -244,35 +225,39 @@ fn replays_changed(
     let first = traces.first_mut()?;
     let step = first.step(at)?;
     first.put(at, other_than(step));
-    let (_, end) = replay(alloc, urls, account, traces)?;
+    let merged = replay(alloc, urls, account, traces);
     traces.first_mut()?.put(at, step);
-    Some(end.is_ok())
+    Some(merged.is_some())
+}
+
+// All steps are merged: each page is taken once, done once, and offers four links; and there is the seeds' one offer, and
+// their end. And none of the first eight steps of a worker can be another one; a take, four offers and an end are among them.
+fn is_one_list(alloc: Global, urls: &[CanonUrl], account: &Account, traces: &mut [Trace]) -> bool {
+    let mut steps = 6 * PAGES + 2;
+    for trace in traces.iter() {
+        steps = steps.saturating_add(trace.idle());
+    }
+    if replay(alloc, urls, account, traces) != Some(steps) {
+        return false;
+    }
+    for at in 0..8 {
+        if replays_changed(alloc, urls, account, traces, at) != Some(false) {
+            return false;
+        }
+    }
+    true
+}
+
+// Whether the steps of four threads make one list of events.
+fn make_one_list<R: Threads + Wait + Sync>(rt: &R, alloc: Global) -> Option<bool> {
+    let urls = pages(alloc)?;
+    let filter = Filter::new(alloc, &[]).ok()?;
+    let setup = Setup::new(alloc, WORKERS, MAX_PENDING).ok()?;
+    let (account, mut traces) = crawl::<Brand, R>(rt, alloc, setup, &filter, &urls)?;
+    Some(is_one_list(alloc, &urls, &account, &mut traces))
 }
 
 #[test]
 fn four_threads_make_one_list_of_events(rt: HostRuntime) {
-    let alloc = rt.alloc();
-    let (Some(urls), Ok(filter)) = (pages(alloc), Filter::new(alloc, &[])) else {
-        panic!(rt; "out of memory")
-    };
-    let Ok(setup) = Setup::new(alloc, WORKERS, MAX_PENDING) else {
-        panic!(rt; "out of memory")
-    };
-    let run = crawl::<Brand, _>(&rt, alloc, setup, &filter, urls.as_slice());
-    let Some((account, mut traces)) = run else {
-        panic!(rt; "no account, or a step was lost")
-    };
-    let mut idle = 0usize;
-    for trace in traces.iter() {
-        idle = idle.saturating_add(trace.idle());
-    }
-    let replayed = replay(alloc, urls.as_slice(), &account, traces.as_mut_slice());
-    // Each page is taken once, done once, and offers four links; and there is the seeds' one offer, and their end.
-    let steps = idle.saturating_add(6 * PAGES + 2);
-    assert_eq!(rt; replayed, Some((steps, Ok(()))));
-    // A take, four offers and an end are among these.
-    for at in 0..8 {
-        let changed = replays_changed(alloc, urls.as_slice(), &account, traces.as_mut_slice(), at);
-        assert_eq!(rt; changed, Some(false), "step {at} of the first worker");
-    }
+    assert!(rt; make_one_list(&rt, rt.alloc()) == Some(true));
 }
