@@ -61,6 +61,7 @@ CASE = re.compile(r"""
     \n*(?=^\$\ |^\#\ |\Z)
 """, re.M | re.X)
 BESIDE = re.compile(r"(?:(?:# .*)?\n)*")
+AS = re.compile(r"^\[as (\S+)\]\n", re.M)
 
 
 class Case(NamedTuple):
@@ -133,13 +134,15 @@ def run(document: Document, commands: str) -> list[str]:
             answer = shown(done.stdout) + shown(done.stderr, "! ")
             if done.returncode:
                 answer += f"[status {done.returncode}]\n"
-            wanted = re.sub(
-                r"^\[as (\S+)\]\n",
-                lambda it: shown(Path(folder, it[1]).read_bytes()),
-                case.answer, flags=re.M,
-            )
+            wanted = AS.sub(lambda it: lines_of(folder, it), case.answer)
             told.append(difference(case, wanted, answer))
     return told
+
+
+def lines_of(folder: str, mark: re.Match[str]) -> str:
+    """What `[as FILE]` stands for; itself, where there is no such file."""
+    path = Path(folder, mark[1])
+    return shown(path.read_bytes()) if path.is_file() else mark[0]
 
 
 def difference(case: Case, wanted: str, answer: str) -> str:
