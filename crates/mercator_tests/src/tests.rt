@@ -1,10 +1,11 @@
 //! What no clause says: that calls succeed, the texts, and that the definitions mean the formats.
-mod broken_links;
-mod command_lines;
 mod crawls;
+mod failing;
 mod faults;
 mod inputs;
-mod keys;
+mod plans;
+mod rows;
 mod runs;
 mod sources;
 mod threads;
+mod webs;

@@ -1,36 +1,37 @@
+//! An input within its limits, by a reader that gives a byte a time.
+use crate::tests::runs::Reader;
 use mercator::{InputLimits, Unread, read_input};
-use std::io::{self, Read};
+use std::alloc::Global;
 
-/// Gives one byte a read.
-#[derive(Drop)]
-struct ByteByByte<'a> {
-    left: &'a [u8],
-}
+/// An input, the most bytes and the most reads, and why it is not read.
+const ROWS: [(&str, usize, u32, Option<Unread>); 6] = [
+    ("abcd", 4, 9, None),
+    ("abcd", 3, 9, Some(Unread::Beyond)),
+    ("abcd", 4, 5, None),
+    ("abcd", 4, 4, Some(Unread::Beyond)),
+    ("", 0, 1, None),
+    ("", 0, 0, Some(Unread::Beyond)),
+];
 
-impl Read for ByteByByte<'_> {
-    fn read(&mut self, buf: &mut [u8]) -> io::Result<usize> {
-        let most = buf.len().min(1);
-        self.left.read(&mut buf[..most])
+/// Whether the input is read whole, or not for this reason.
+fn holds(alloc: Global, text: &str, limits: InputLimits, unread: Option<Unread>) -> bool {
+    let mut reader = Reader {
+        left: text.as_bytes(),
+        most: 1,
+        fails: false,
+    };
+    match read_input(alloc, &mut reader, limits) {
+        Ok(found) => unread.is_none() && found.as_slice() == text.as_bytes(),
+        Err(why) => unread == Some(why),
     }
 }
 
 #[test]
 fn limits_of_an_input(rt: HostRuntime) {
-    let rows: [(&[u8], usize, u32, Result<usize, Unread>); 6] = [
-        (b"abcd", 4, 9, Ok(4)),
-        (b"abcd", 3, 9, Err(Unread::Beyond)),
-        (b"abcd", 4, 5, Ok(4)),
-        (b"abcd", 4, 4, Err(Unread::Beyond)),
-        (b"", 0, 1, Ok(0)),
-        (b"", 0, 0, Err(Unread::Beyond)),
-    ];
-    for (left, bytes, reads, expected) in rows {
-        let mut reader = ByteByByte { left };
-        let read = read_input(rt.alloc(), &mut reader, InputLimits { bytes, reads });
-        assert_eq!(rt;
-            read.map(|found| found.len()),
-            expected,
-            "{bytes} bytes, {reads} reads"
+    for (text, bytes, reads, unread) in ROWS {
+        assert!(rt;
+            holds(rt.alloc(), text, InputLimits { bytes, reads }, unread),
+            "{bytes}, {reads}"
         );
     }
 }

@@ -1,0 +1,218 @@
+//! Readers, writers and flushes that fail late.
+use crate::tests::runs::{ALL, BAD_COMMAND, DONE, FAULT, Failing, INCOMPLETE, Row, holds};
+use std::alloc::Global;
+use std::fs::Files;
+use std::sync::Wait;
+use std::thread::Threads;
+
+const SCRIPT: &str = "workers 1 max 9\nlook 0\nenter 0\n";
+
+const ROWS: [(Row, Failing); 12] = [
+    (
+        Row {
+            name: "second_read_fails",
+            words: "replay -",
+            input: SCRIPT,
+            status: FAULT,
+            out: "",
+            err: "mercator: cannot read -\n",
+        },
+        Failing {
+            reads: true,
+            out: ALL,
+            flushes: true,
+            err: ALL,
+        },
+    ),
+    (
+        Row {
+            name: "second_read_fails",
+            words: "crawl - x",
+            input: SCRIPT,
+            status: FAULT,
+            out: "",
+            err: "mercator: cannot read -\n",
+        },
+        Failing {
+            reads: true,
+            out: ALL,
+            flushes: true,
+            err: ALL,
+        },
+    ),
+    (
+        Row {
+            name: "first_write_fails",
+            words: "replay -",
+            input: SCRIPT,
+            status: FAULT,
+            out: "",
+            err: "mercator: cannot write\n",
+        },
+        Failing {
+            reads: false,
+            out: 0,
+            flushes: true,
+            err: ALL,
+        },
+    ),
+    (
+        Row {
+            name: "last_write_fails",
+            words: "replay -",
+            input: SCRIPT,
+            status: FAULT,
+            out: "word 1 open\nentered 2",
+            err: "mercator: cannot write\n",
+        },
+        Failing {
+            reads: false,
+            out: 21,
+            flushes: true,
+            err: ALL,
+        },
+    ),
+    (
+        Row {
+            name: "flush_fails",
+            words: "replay -",
+            input: SCRIPT,
+            status: FAULT,
+            out: "word 1 open\nentered 2\n",
+            err: "mercator: cannot write\n",
+        },
+        Failing {
+            reads: false,
+            out: 22,
+            flushes: false,
+            err: ALL,
+        },
+    ),
+    (
+        Row {
+            name: "nothing_fails",
+            words: "replay -",
+            input: SCRIPT,
+            status: DONE,
+            out: "word 1 open\nentered 2\n",
+            err: "",
+        },
+        Failing {
+            reads: false,
+            out: 22,
+            flushes: true,
+            err: 0,
+        },
+    ),
+    (
+        Row {
+            name: "nobody_hears_a_fault",
+            words: "key mailto:x",
+            input: "savedweb 1",
+            status: FAULT,
+            out: "",
+            err: "",
+        },
+        Failing {
+            reads: false,
+            out: ALL,
+            flushes: true,
+            err: 0,
+        },
+    ),
+    (
+        Row {
+            name: "a_fault_is_cut_off",
+            words: "key mailto:x",
+            input: "savedweb 1",
+            status: FAULT,
+            out: "",
+            err: "merca",
+        },
+        Failing {
+            reads: false,
+            out: ALL,
+            flushes: true,
+            err: 5,
+        },
+    ),
+    (
+        Row {
+            name: "nobody_hears_a_fault",
+            words: "crawl --max-pending 1 - http://a.test/",
+            input: "savedweb 1",
+            status: INCOMPLETE,
+            out: "",
+            err: "",
+        },
+        Failing {
+            reads: false,
+            out: ALL,
+            flushes: true,
+            err: 0,
+        },
+    ),
+    (
+        Row {
+            name: "a_fault_is_cut_off",
+            words: "crawl --max-pending 1 - http://a.test/",
+            input: "savedweb 1",
+            status: INCOMPLETE,
+            out: "",
+            err: "merca",
+        },
+        Failing {
+            reads: false,
+            out: ALL,
+            flushes: true,
+            err: 5,
+        },
+    ),
+    (
+        Row {
+            name: "nobody_hears_a_fault",
+            words: "crawl",
+            input: "savedweb 1",
+            status: BAD_COMMAND,
+            out: "",
+            err: "",
+        },
+        Failing {
+            reads: false,
+            out: ALL,
+            flushes: true,
+            err: 0,
+        },
+    ),
+    (
+        Row {
+            name: "a_fault_is_cut_off",
+            words: "crawl",
+            input: "savedweb 1",
+            status: BAD_COMMAND,
+            out: "",
+            err: "error",
+        },
+        Failing {
+            reads: false,
+            out: ALL,
+            flushes: true,
+            err: 5,
+        },
+    ),
+];
+
+/// The first row that does not hold.
+fn first_wrong<R: Files + Threads + Wait + Sync>(rt: &R, alloc: Global) -> Option<&'static str> {
+    for (row, failing) in &ROWS {
+        if !holds(rt, alloc, row, *failing) {
+            return Some(row.name);
+        }
+    }
+    None
+}
+
+#[test]
+fn reads_writes_and_flushes_that_fail(rt: HostRuntime) {
+    assert_eq!(rt; first_wrong(&rt, rt.alloc()), None);
+}
