@@ -36,6 +36,7 @@ import tempfile
 from collections import Counter, deque
 from collections.abc import Callable, Iterator
 from concurrent.futures import ProcessPoolExecutor
+from functools import lru_cache
 from ipaddress import AddressValueError, IPv6Address
 from pathlib import Path
 from random import Random
@@ -146,6 +147,7 @@ def user_of(text: str) -> str:
     return f"{name}:{word}@" if word else f"{name}@" if name else ""
 
 
+@lru_cache(maxsize=1000)
 def host_of(text: str) -> str:
     if text.startswith("["):
         return f"[{address_of(text[1:-1])}]"
@@ -187,7 +189,7 @@ def number_of(text: str) -> int:
 
 
 def address_of(text: str) -> str:
-    if re.search("[.%]", text) or text.count(":") > 7:
+    if re.search("[.%]|ffff", text, re.I) or text.count(":") > 7:
         raise NotPlain
     if not re.fullmatch("[0-9a-fA-F:]*", text):
         raise NotUrl
@@ -215,7 +217,7 @@ def walked(segments: list[str]) -> tuple[str, ...]:
     for segment in segments:
         if "^" in segment:
             raise NotPlain
-        dots = re.sub("%2e", ".", segment, flags=re.I)
+        dots = segment.lower().replace("%2e", ".")
         if dots == "..":
             del path[-1:]
         elif dots != ".":
@@ -281,6 +283,7 @@ class Page:
 Web = dict[Url, Page]
 
 
+@lru_cache(maxsize=1)
 def read_web(data: bytes) -> Web:
     lines = lines_of(data, "saved web")
     header = next(lines, ("", ""))[1]
@@ -584,21 +587,26 @@ def script_case(data: bytes) -> Case:
     return made._replace(has=[*made.has, *events])
 
 
-HOSTS = ("a.test", "b.test", "c.test", "d.test", "x.a.test", "xa.test", "a.test.", "é.test", "[::1]")
-PATHS = ("", "x", "d/", "d/e", "d/f", "d/g/h", "9", "10", "B", "b", "d//e", "d/e?q", "d/e?q=/x", "é")
+HOSTS = (
+    "a.test", "b.test", "c.test", "d.test", "x.a.test", "xa.test", "a.test.", "é.test", "[::1]"
+)
+PATHS = (
+    "", "x", "d/", "d/e", "d/f", "d/g/h", "9", "10", "B", "b", "d//e", "d/e?q", "d/e?q=/x", "é"
+)
 NEAR = ("x", "e", "../d/e", "..", ".", "./f", "g/h", "?q", "?", "#f", "", " ", "../../x", "e?z#k")
 SKIPPED = ("mailto:x", "ftp://a.test/", "x:y", "http://a.test:65536/", "http://[", "http://a b/")
-NO_SEEDS = ("", "/x", "x", *SKIPPED)
+NO_SEEDS = ("", "/x", "x", "http://08/", "http://256.1.1.1/", "http://@/", *SKIPPED)
 SUFFIXES = ("a.test", "test", "est", "x.a.test", "b.test", "a.test.")
 BAD_SUFFIXES = ("", "A.test", "a test", "a_b", "é.test")
 ODD = (
     "http:", "https:", "HTTP:", "a:", "//", "/", "\\", "a.test", "b.test", "é", "日本", "..", ".",
     "%2e", "%2E.", "?", "#", "@", ":", ":80", ":81", ":", "x", "y", " ", "\t", "[", "]", "[::1]",
-    "[1:0:0:2::]", "0x7f", "1", "256", "08", "%41", "%", "'", "\"", "<", "{", "|", "~", "\x7f", "u:p@",
+    "[1:0:0:2::]", "0x7f", "1", "256", "08", "%41", "%", "'", "\"", "<", "{", "|", "~", "\x7f",
+    "u:p@",
 )
 GOOD = (
     "http://a.test/", "HTTP://A.test:80/x/../y#f", "https://b.test", "http://c.test/x y?q",
-    " http://d.test/  ", "http://é.test/€", "http://[::1]:8080/", "http://1.2/",
+    " http://d.test/  ", "http://é.test/€", "http://[::1]:8080/", "http://1.2/", "http://017.0x1/",
     "https:\\\\e.test\\x", "http://u:p@f.test/",
 )
 ONE_HASH = "http://a.test/000000000000010355el8CGH)V"  # with any eight bytes behind it
@@ -647,7 +655,7 @@ def drawn_link(draw: Random, targets: list[Target]) -> str:
 
 def odd_text(draw: Random) -> str:
     """Pieces of URLs in any order."""
-    front = draw.choice(("", "", "http://", "http://a.test/", "https:", "//"))
+    front = draw.choice(("", "", "http://", "http://a.test/", "http://a.test?", "https:", "//"))
     return front + "".join(draw.choices(ODD, k=draw.randrange(1, 6)))
 
 
@@ -743,6 +751,7 @@ WEB_PIECES = (
     b"\n", b"\n", b"\n", b"\r\n", b"\r", b" ", b"page ", b"link ", b"moved ", b"page", b"Link x\n",
     b"links\n", b"moved\n", b"savedweb 2\n", b"link \xff\n", b"\xc3", b"\xe2\x82\xac",
     b"link \xed\xa0\x80\n", b"http://a.test/", b"\t", *[b"link #\xc3\xa9\n"] * 7,
+    *[b"page http://e.test/\r\nmoved ?x\n"] * 3,
 )
 WEB_HEADERS = (
     *[b"savedweb 1\n"] * 3, *[b"savedweb 2\n"] * 3, b"savedweb 1\r\n", b"savedweb 2\r\n", None
@@ -751,11 +760,11 @@ WEB_HEADERS = (
 
 def pieces(draw: Random, data: bytes, choices: tuple[bytes, ...]) -> bytes:
     """The bytes with up to nine pieces behind them, now and then another byte or a long line."""
-    for _ in range(draw.randrange(10)):
+    for _ in range(draw.randrange(draw.choice((4, 10)))):
         data += draw.choice(choices)
         if draw.randrange(20) == 0:
             data += bytes([draw.randrange(256)])
-        if draw.randrange(100) == 0:
+        if draw.randrange(50) == 0:
             data += b"a" * draw.randrange(4087, 4095)
     return data
 
@@ -786,7 +795,7 @@ def plain_on_all(text: str) -> bool:
 def folders(draw: Random) -> list[Case]:
     """Links that most pages have, in few or many texts; some of them have one hash."""
     texts = [*FOLDER_LINKS, *filter(plain_on_all, (odd_text(draw) for _ in range(30)))]
-    if draw.randrange(4) == 0:
+    if draw.randrange(8) == 0:
         texts += [f"x{number}{end}" for number in range(200) for end in ("", "#f")]
         texts += [f"{ONE_HASH}{number:08}" for number in range(200)]
     lines = ["savedweb 1"]
@@ -797,7 +806,10 @@ def folders(draw: Random) -> list[Case]:
 
 
 def large_webs(draw: Random) -> list[Case]:
-    """A row of pages, each with `gone` twice and a missing URL of its own; some of one hash."""
+    """A ring of pages, each with `gone` twice and a missing URL of its own; some of one hash.
+
+    It is crawled as it is, and with one page once more.
+    """
     urls = [f"http://a.test/{number}" for number in range(draw.choice((50, 700, 3000)))]
     urls += [f"{ONE_HASH}{number:08}" for number in range(draw.choice((0, 200)))]
     draw.shuffle(urls)
@@ -805,10 +817,9 @@ def large_webs(draw: Random) -> list[Case]:
     for place, url in enumerate(urls):
         after = urls[(place + 1) % len(urls)]
         lines += [f"page {url}", f"link {after}", "link gone", f"link m{place}", "link gone"]
-    if draw.randrange(3) == 0:
-        lines.append(f"page {draw.choice(urls)}#f")
     crawl = Crawl("\n".join(lines).encode(), urls[:1], queues=True, sources=True)
-    return [crawl_case(crawl, workers) for workers in (1, draw.choice((2, 4)))]
+    twice = crawl._replace(web=b"%b\npage %b#f" % (crawl.web, draw.choice(urls).encode()))
+    return [crawl_case(crawl, 1), crawl_case(crawl, draw.choice((2, 4))), crawl_case(twice, 1)]
 
 
 def narrow_crawls(draw: Random) -> list[Case]:
@@ -915,7 +926,7 @@ def script_piece(draw: Random) -> bytes:
     if draw.randrange(16) == 0:
         number = number.rjust(draw.randrange(18, 22), b"0")
     if kind == 0:
-        line = draw.choice(LONG) if draw.randrange(3) == 0 else bytes([draw.randrange(256)])
+        line = draw.choice((draw.choice(LONG), bytes([draw.randrange(256)])))
     elif kind < 3:
         line = draw.choice((b"workers 1 max 1", *WORDS[-5:]))
     elif kind < 18:
@@ -975,22 +986,22 @@ ALL_EVENTS = [f"event {word}" for word in (
     "look", "enter", "admit", "back", "endseeds", "take", "done", "close"
 )]
 KINDS = {
-    "large web": Kind(large_webs, 2, [*LINES[:4], "queue", WEB_FAULTS[5]]),
-    "folder": Kind(folders, 30, LINES[:4]),
-    "web": Kind(webs, 90, [*LINES, *MOVED, "queue"]),
-    "web pieces": Kind(web_pieces, 150, [*LINES[:4], *MOVED, *WEB_FAULTS]),
+    "large web": Kind(large_webs, 1, [*LINES[:4], "queue", WEB_FAULTS[5]]),
+    "folder": Kind(folders, 20, LINES[:4]),
+    "web": Kind(webs, 80, [*LINES, *MOVED, "queue"]),
+    "web pieces": Kind(web_pieces, 170, [*LINES[:4], *MOVED, *WEB_FAULTS]),
     "changed web": Kind(changed_webs, 150, [*LINES[:4], *MOVED, *WEB_FAULTS]),
     "narrow crawl": Kind(
-        narrow_crawls, 70, ["ok", *faults("incomplete: ", "seed missing", "link missing")]
+        narrow_crawls, 60, ["ok", *faults("incomplete: ", "seed missing", "link missing")]
     ),
     "seeds": Kind(seeds_files, 100, [*LINES, *SEEDS_FAULTS]),
     "crawl at fault": Kind(
-        crawls_at_fault, 70, ["ok", "mercator: bad suffix", *SEEDS_FAULTS, *SEED_FAULTS]
+        crawls_at_fault, 60, ["ok", "mercator: bad suffix", *SEEDS_FAULTS, *SEED_FAULTS]
     ),
-    "key": Kind(keys, 78, ["sound", *faults("URL: ", "not a URL", "not http or https")]),
-    "script": Kind(scripts, 60, REPLIES + ALL_EVENTS),
-    "script pieces": Kind(script_pieces, 100, ["sound", *ALL_EVENTS, *SCRIPT_FAULTS]),
-    "changed script": Kind(changed_scripts, 100, ["sound", *ALL_EVENTS, *SCRIPT_FAULTS]),
+    "key": Kind(keys, 79, ["sound", *faults("URL: ", "not a URL", "not http or https")]),
+    "script": Kind(scripts, 50, REPLIES + ALL_EVENTS),
+    "script pieces": Kind(script_pieces, 120, ["sound", *ALL_EVENTS, *SCRIPT_FAULTS]),
+    "changed script": Kind(changed_scripts, 110, ["sound", *ALL_EVENTS, *SCRIPT_FAULTS]),
 }
 
 
@@ -1016,7 +1027,7 @@ def difference(made: Case) -> str:
     wanted = "".join(f"{line}\n" for line in made.wanted)
     if (told, silent, done.returncode) == (wanted.encode(), b"", made.status):
         return ""
-    lines = told.decode("utf-8", "backslashreplace").split("\n")
+    lines = told.decode("utf-8", "backslashreplace").replace("\r", "\\r").split("\n")
     differing = difflib.unified_diff(wanted.split("\n"), lines, "wanted", "told", lineterm="")
     return "\n".join([
         f"status {done.returncode}, {made.status} wanted; {len(silent)} bytes beside",
@@ -1086,6 +1097,8 @@ def compare_all(words: argparse.Namespace, folder: str, work: str) -> Totals:
                 totals.passed += not differing
                 for text in differing[:1]:
                     totals.fail(text)
+            for line in kind.ought if words.counts else []:
+                print(f"{name}: {came[line]} times: {line}")
             for line in kind.ought if words.count >= COUNT else []:
                 if came[line] < LEAST:
                     totals.fail(f"{name}: {came[line]} times, {LEAST} wanted: {line}")
@@ -1099,6 +1112,7 @@ def main() -> None:
     parser.add_argument("--count", type=int, default=COUNT, help="about so many inputs")
     parser.add_argument("--seed", default="1", help="draws other inputs")
     parser.add_argument("--kind", action="append", choices=KINDS, help="these kinds alone")
+    parser.add_argument("--counts", action="store_true", help="tell how often each thing came")
     words = parser.parse_args()
     if not os.path.isfile(PROGRAM):
         sys.exit(f"{PROGRAM} is not there: `rt run -- --help` in crates/mercator_cli builds it")
