@@ -238,16 +238,31 @@ fn play<K: Name, R: Wait>(
     call_at(rt, alloc, frontier, hands, machine, run, last, urls.first())
 }
 
-// The account, where all workers are closed.
-fn finished<K: Name>(alloc: Global, frontier: Frontier<K>, hands: Vec<Hand<K>>) -> Option<Account> {
-    let (mut closed, mut senders) = (Vec::new(alloc), Vec::new(alloc));
+// The workers, where all are closed.
+fn closed_of<K: Name>(alloc: Global, hands: Vec<Hand<K>>) -> Option<Vec<ClosedWorker<K>>> {
+    let mut closed = Vec::new(alloc);
     for hand in hands {
-        match hand {
-            Hand::Closed(worker) => drop(closed.push(worker)),
-            Hand::Sends(sender) => drop(senders.push(sender)),
-            _ => {}
+        let Hand::Closed(worker) = hand else {
+            return None;
+        };
+        let _ = closed.push(worker);
+    }
+    Some(closed)
+}
+
+// The account, where all workers are closed. The two senders stand last.
+fn finished<K: Name>(
+    alloc: Global,
+    frontier: Frontier<K>,
+    mut hands: Vec<Hand<K>>,
+) -> Option<Account> {
+    let mut senders = Vec::new(alloc);
+    for _ in 0..2 {
+        if let Some(Hand::Sends(sender)) = hands.pop() {
+            let _ = senders.push(sender);
         }
     }
+    let closed = closed_of(alloc, hands)?;
     frontier.finish(closed, senders).ok()
 }
 
