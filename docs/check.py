@@ -1,0 +1,114 @@
+#!/usr/bin/env python3
+"""Checks the repository's documents, and prints what is wrong with them.
+
+- A link leads to a file that is there.
+- A path in backticks names a file or folder, from the document's folder, its crate or the root.
+- A name in backticks stands in some file that is no document.
+- A document is no larger than LIMITS allow, and all together are at most TOTAL bytes.
+- No document tells when something was so: dates stand in FIGURES and CHANGELOG alone.
+
+`tests/cases.py` runs the commands that README, MANUAL and FORMATS show. The status is 1 where
+anything is wrong.
+"""
+
+from __future__ import annotations
+
+import re
+import subprocess
+import sys
+from pathlib import Path
+from typing import Iterator
+
+ROOT = Path(__file__).resolve().parent.parent
+TOTAL = 200_000
+LIMITS = (
+    (re.compile(r"README\.md"), 7_000),
+    (re.compile(r"crates/\w+/README\.md"), 6_000),
+    (re.compile(r"docs/(THEOREMS|DECISIONS|PROOFS)\.md"), 20_000),
+)
+HISTORY = ("bench/FIGURES.md", "CHANGELOG.md")
+DIARY = re.compile(r"\b(today|tonight|yesterday|until then|this morning|20\d\d-\d\d-\d\d|(?:November|December) 20\d\d)\b", re.I)
+LINK = re.compile(r"\]\(([^)#\s]+)[^)]*\)")
+TICKED = re.compile(r"`([^`]+)`")
+PATH = re.compile(r"(?:[\w.-]+/)+[\w.-]*")
+NAME = re.compile(r"(?:[A-Za-z_]\w*(?:::|\.))*([A-Za-z_]\w{4,})(?:\(.*\)|!)?")
+# What stands for any name, and what decisions and proofs say of things that were not taken.
+STANDS_FOR = {"NAME_tests"}
+UNCHECKED_NAMES = ("docs/DECISIONS.md", "docs/PROOFS.md")
+
+
+def tracked() -> list[Path]:
+    listed = subprocess.run(["git", "ls-files"], cwd=ROOT, check=True, capture_output=True, text=True)
+    paths = [ROOT / line for line in listed.stdout.splitlines()]
+    return [path for path in paths if path.is_file()]
+
+
+def words_of(paths: list[Path]) -> set[str]:
+    """The names in all files but documents; the cases are no documents."""
+    words: set[str] = set()
+    for path in paths:
+        name = path.relative_to(ROOT).as_posix()
+        words.update(re.findall(r"[A-Za-z_]\w*", name))
+        if path.suffix != ".md" or name.startswith("tests/cases/"):
+            words.update(re.findall(r"[A-Za-z_]\w*", path.read_text("utf-8", "replace")))
+    return words
+
+
+def prose(text: str) -> Iterator[tuple[int, str]]:
+    """The lines outside fenced blocks, with their numbers."""
+    fenced = False
+    for number, line in enumerate(text.splitlines(), 1):
+        if line.startswith("```"):
+            fenced = not fenced
+        elif not fenced:
+            yield number, line
+
+
+def is_there(document: Path, path: str) -> bool:
+    places = [document.parent, ROOT, *(ROOT / "crates").iterdir(), ROOT / "docs", ROOT / "tests"]
+    return any((place / path).exists() for place in places)
+
+
+def faults_of_line(document: Path, name: str, line: str, words: set[str]) -> Iterator[str]:
+    for link in LINK.findall(line):
+        if "://" not in link and not (document.parent / link).exists():
+            yield f"a link to {link}, which is not there"
+    for ticked in TICKED.findall(line):
+        if PATH.fullmatch(ticked) and "NAME" not in ticked and not is_there(document, ticked):
+            if ticked.split("/")[0] in ("crates", "docs", "tests", "tools", "bench", "examples", "src", "specs", "proofs"):
+                yield f"`{ticked}` is not there"
+        called = NAME.fullmatch(ticked.strip())
+        if called and name not in UNCHECKED_NAMES and called[1] not in words | STANDS_FOR:
+            yield f"`{ticked}` is the name of nothing"
+    if name not in HISTORY and DIARY.search(line):
+        yield f"a diary: {DIARY.search(line)[0]}"
+
+
+def faults(paths: list[Path]) -> Iterator[str]:
+    words = words_of(paths)
+    total = 0
+    for document in (path for path in paths if path.suffix == ".md"):
+        name = document.relative_to(ROOT).as_posix()
+        text = document.read_text("utf-8")
+        size = len(text.encode())
+        total += 0 if name.startswith("tests/cases/") else size
+        for pattern, limit in LIMITS:
+            if pattern.fullmatch(name) and size > limit:
+                yield f"{name}: {size} bytes, where {limit} are the most"
+        for number, line in prose(text):
+            for fault in faults_of_line(document, name, line, words):
+                yield f"{name}:{number}: {fault}"
+    if total > TOTAL:
+        yield f"all documents: {total} bytes, where {TOTAL} are the most"
+
+
+def main() -> None:
+    found = list(faults(tracked()))
+    for fault in found:
+        print(fault)
+    print(f"{len(found)} faults")
+    sys.exit(1 if found else 0)
+
+
+if __name__ == "__main__":
+    main()
