@@ -34,6 +34,8 @@ PATH = re.compile(r"(?:[\w.-]+/)+[\w.-]*")
 NAME = re.compile(r"(?:[A-Za-z_]\w*(?:::|\.))*([A-Za-z_]\w{4,})(?:\(.*\)|!)?")
 # What stands for any name, and what decisions and proofs say of things that were not taken.
 STANDS_FOR = {"NAME_tests"}
+# Paths of the kit's documents.
+OF_THE_KIT = ("docs/NOT_COVERED.md", "docs/REFUSED.md")
 UNCHECKED_NAMES = ("docs/DECISIONS.md", "docs/PROOFS.md")
 
 
@@ -74,7 +76,7 @@ def faults_of_line(document: Path, name: str, line: str, words: set[str]) -> Ite
         if "://" not in link and not (document.parent / link).exists():
             yield f"a link to {link}, which is not there"
     for ticked in TICKED.findall(line):
-        if PATH.fullmatch(ticked) and "NAME" not in ticked and not is_there(document, ticked):
+        if PATH.fullmatch(ticked) and "NAME" not in ticked and ticked not in OF_THE_KIT and not is_there(document, ticked):
             if ticked.split("/")[0] in ("crates", "docs", "tests", "tools", "bench", "examples", "src", "specs", "proofs"):
                 yield f"`{ticked}` is not there"
         called = NAME.fullmatch(ticked.strip())

@@ -1,21 +1,16 @@
 #!/usr/bin/env python3
-"""The definitions that contracts reach, and what each says.
+"""The definitions that contracts reach, and what each says, as a page on standard output.
 
-  docs/definitions.py            prints the parts of docs/DEFINITIONS.md that it writes
-  docs/definitions.py --write    writes them into the page, between its marks
-  docs/definitions.py --check    status 1 where the page is not today's, or a public contract reaches a definition that
-                                 has no row there
+  docs/definitions.py            prints the page: a reading list for each theorem of THEOREMS, and a table of each crate's definitions
+  docs/definitions.py --check    status 1 where a public contract reaches a definition that has no row
 
-There is a reading list for each theorem of THEOREMS, and a table of each crate's definitions, in the words of the comments
-that stand above them in `specs/`; one without a comment stands with the one above it. The script reads `specs/` and `src/`
-as text: a definition reaches the names that its text has and its file imports or defines.
+A row has the words of the comment that stands above a definition in `specs/`; a definition without one stands with the one
+above it. The script reads `specs/` and `src/` as text: a definition reaches the names that its text has and its file imports
+or defines.
 """
 import os, re, sys
 
 ROOT = os.path.dirname(os.path.dirname(os.path.abspath(__file__)))
-PAGE = os.path.join(ROOT, "docs", "DEFINITIONS.md")
-MARK = "<!-- written by docs/definitions.py: %s -->"
-END = "<!-- end of what docs/definitions.py wrote -->"
 
 # title, and the public functions whose contracts it is: crate, file of src/, function
 THEOREMS = [
@@ -277,41 +272,34 @@ def reached_by_contracts(crates):
     return crates.closure(ours, set())[0]
 
 
-def parts_of(crates):
-    """The parts of the page that are written here, by their marks."""
-    found = {"reading lists": lists(crates)}
+def page_of(crates):
+    """The whole page."""
+    parts = ["# Definitions", "## Reading lists", lists(crates)]
     for crate in sorted({path.split("/")[1] for path in crates.files}):
-        found["definitions of " + crate] = table_of(crates, crate)
-    return found
+        parts += ["## `%s`" % crate, table_of(crates, crate)]
+    return "\n\n".join(part.strip() for part in parts) + "\n"
 
 
-def main():
-    crates = Crates()
-    mode = sys.argv[1] if len(sys.argv) > 1 else ""
-    old = page = read(PAGE)
-    wrong = []
-    for title, text in parts_of(crates).items():
-        mark = MARK % title
-        if mark not in page:
-            wrong.append("no mark for the %s: %s" % (title, mark))
-            continue
-        block = "%s\n\n%s\n%s" % (mark, text.strip() + "\n", END)
-        page = re.sub(re.escape(mark) + ".*?" + re.escape(END), lambda _: block, page, flags=re.S)
-        if not mode:
-            print(block)
-    if mode == "--write":
-        with open(PAGE, "w", encoding="utf-8") as f:
-            f.write(page)
-    elif page != old:
-        wrong.append("the page is not today's: docs/definitions.py --write")
+def without_row(crates, page):
+    """What public contracts reach and the page's tables do not have."""
     rows = set()
     for line in page.splitlines():
         if line.startswith("| `"):
             rows |= set(re.findall(r"`([^`]+)`", line.split(" | ")[0]))
-    wrong += sorted("no row for %s: %s" % (path, name) for path, name in reached_by_contracts(crates) if name not in rows)
+    return sorted("no row for %s: %s" % (path, name) for path, name in reached_by_contracts(crates) if name not in rows)
+
+
+def main():
+    crates = Crates()
+    page = page_of(crates)
+    if sys.argv[1:] != ["--check"]:
+        print(page, end="")
+        return
+    wrong = without_row(crates, page)
     for line in wrong:
-        print(line, file=sys.stderr)
-    sys.exit(1 if wrong and mode != "" else 0)
+        print(line)
+    print("%d definitions without a row" % len(wrong))
+    sys.exit(1 if wrong else 0)
 
 
 main()

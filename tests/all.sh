@@ -24,7 +24,7 @@ part() {
     fi
 }
 
-part python3 docs/definitions.py --check
+part docs/definitions.py --check
 part tests/stress_crawl.py
 part tests/stress_threads.sh
 part tests/real-site.sh

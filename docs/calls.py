@@ -1,0 +1,114 @@
+#!/usr/bin/env python3
+"""The public calls, crate by crate, as a page on standard output: `docs/calls.py [CRATE ..]`.
+
+Each call has its signature, its first words, whether it may wait (a bound `Wait` or `Threads`), whether it may run out of
+memory (its errors have `NoMemory`, or it answers an `AllocError`), its errors in the order of their checks, and its clauses.
+The script reads `src/` as text.
+"""
+
+from __future__ import annotations
+
+import re
+import sys
+from pathlib import Path
+from typing import Iterator, NamedTuple
+
+ROOT = Path(__file__).resolve().parent.parent
+CALL = re.compile(r"( *)pub (?:const )?fn (\w+)(.*)")
+OWNER = re.compile(r"^impl(?:<[^{]*?>)? (?:(?:[\w:]+(?:<[^{]*?>)? for )?)(\w+)", re.M)
+ENUM = re.compile(r"pub enum (\w+Error|\w*Fault|NoMemory)\b[^{]*\{(.*?)^\}", re.M | re.S)
+CLAUSE = re.compile(r"\b(ensures|requires) ?(\w*) ?\{(.*)\}")
+
+
+class Call(NamedTuple):
+    name: str
+    signature: str
+    says: str
+    clauses: list[tuple[str, str, str]]
+
+
+def errors_in(crates: list[Path]) -> dict[str, list[str]]:
+    """The variants of each error, in order."""
+    found: dict[str, list[str]] = {}
+    for crate in crates:
+        for path in sorted(crate.glob("src/**/*.rt")):
+            for name, body in ENUM.findall(path.read_text("utf-8")):
+                found[name] = re.findall(r"^    ([A-Z]\w*)", body, re.M)
+    return found
+
+
+def exported(crate: Path) -> set[str]:
+    """The names that the root file, or a public module of it, gives to other crates."""
+    root = (crate / "src/lib.rt").read_text("utf-8")
+    texts = [root] + [(crate / f"src/{name}.rt").read_text("utf-8") for name in re.findall(r"^pub mod (\w+);", root, re.M)]
+    uses = re.findall(r"^pub use [^;]*;", "\n".join(texts), re.M)
+    return set(re.findall(r"\w+", " ".join(uses))) | set(re.findall(r"^pub fn (\w+)", "\n".join(texts[1:]), re.M))
+
+
+def doc_above(lines: list[str], start: int) -> str:
+    """The doc comment that stands above a line, as one text."""
+    said: list[str] = []
+    for line in map(str.strip, reversed(lines[:start])):
+        if not line.startswith(("///", "#[")):
+            break
+        said += [line[3:].strip()] if line.startswith("///") else []
+    return " ".join(reversed(said))
+
+
+def head_of(lines: list[str], start: int) -> list[str]:
+    """The lines of a function from its name to its body."""
+    end = next(k for k, line in enumerate(lines[start:], start) if line.strip() in ("{", "{}") or line.endswith((" {", " {}")))
+    last = lines[end].rstrip("{} ")
+    return lines[start:end] + ([last] if last else [])
+
+
+def calls_of(text: str) -> Iterator[Call]:
+    lines = text.splitlines()
+    for start, line in enumerate(lines):
+        found = CALL.fullmatch(line)
+        if found is None:
+            continue
+        owners = OWNER.findall("\n".join(lines[:start])) if found[1] else []
+        head = head_of(lines, start)
+        split = next((k for k, it in enumerate(head) if CLAUSE.search(it)), len(head))
+        signature = re.sub(r"\s+", " ", " ".join(head[:split])).partition(found[2])[2].strip()
+        yield Call(
+            f"{owners[-1]}::{found[2]}" if owners else found[2],
+            re.sub(r",? \)", ")", signature.replace("( ", "(")),
+            re.split(r"(?<=\.) ", doc_above(lines, start))[0],
+            [(kind, label, clause.strip()) for kind, label, clause in CLAUSE.findall("\n".join(head[split:]))],
+        )
+
+
+def told(call: Call, errors: dict[str, list[str]]) -> Iterator[str]:
+    error = re.search(r"Result<.*?,\s*(\w+)>", call.signature)
+    variants = errors.get(error[1], []) if error else []
+    waits = re.search(r"\b(Wait|Threads)\b", call.signature) is not None
+    memory = "NoMemory" in variants or bool(error and error[1] in ("AllocError", "NoMemory"))
+    yield f"### `{call.name}`\n"
+    yield f"```rust\nfn {call.name.split('::')[-1]}{call.signature}\n```\n"
+    yield f"{call.says or '(no words)'} {'May wait' if waits else 'Does not wait'}; {'may' if memory else 'does not'} run out of memory.\n"
+    if error:
+        yield f"Errors: {', '.join(f'`{it}`' for it in variants) or f'`{error[1]}`'}.\n"
+    for kind, label, clause in call.clauses:
+        yield f"- {kind} {label or '(unnamed)'}: `{clause}`"
+    yield ""
+
+
+def main(names: list[str]) -> None:
+    crates = [path.parent.parent for path in sorted(ROOT.glob("crates/*/src/lib.rt")) if not path.parent.parent.name.endswith("_tests")]
+    errors = errors_in(crates)
+    print("# Public calls\n")
+    for crate in crates:
+        if names and crate.name not in names:
+            continue
+        print(f"## `{crate.name}`\n")
+        names_out = exported(crate)
+        for path in sorted(crate.glob("src/**/*.rt")):
+            for call in calls_of(path.read_text("utf-8")):
+                if call.name.split("::")[0] in names_out:
+                    print("\n".join(told(call, errors)))
+
+
+if __name__ == "__main__":
+    main(sys.argv[1:])
