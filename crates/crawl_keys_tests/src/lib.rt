@@ -1,4 +1,4 @@
-//! The tests of `crawl_keys`, by what any crate can call: the worked rows of each call with ample memory, and tables of links, folders and fragments.
+//! The tests of `crawl_keys`, by what any crate can call: copies, equality, order, hashes, bases, folders, filters, threads.
 #![tactic(auto)]
 
 #[cfg(test)]

@@ -1,0 +1,253 @@
+//! Reports and their sources, of results in any order, that stand there twice, or that no crawl gives.
+use crate::tests::results::{Asked, result_at};
+use crawl_sources::sources_text;
+use crawl_web::{Page, PageResult, report_text};
+use std::alloc::Global;
+
+/// Results in their order of arrival, their report, and where its missing URLs are linked from.
+struct Row {
+    results: &'static [Asked],
+    report: &'static str,
+    sources: &'static str,
+}
+
+const RING: &str =
+    "savedweb 1\npage http://a.test/\nlink http://b.test/\nlink #top\nlink mailto:x@a.test\npage http://b.test/\nlink //c.test\nlink /\npage http://c.test/\nlink http://A.test:80\nlink gone\n";
+
+const RING_A: Asked = (RING, "http://a.test/");
+
+const RING_B: Asked = (RING, "http://b.test/");
+
+const RING_C: Asked = (RING, "http://c.test/");
+
+const RING_GONE: Asked = (RING, "http://c.test/gone");
+
+const RING_REPORT: &str =
+    "ok 3 1 http://a.test/\nok 2 0 http://b.test/\nok 2 0 http://c.test/\nmissing http://c.test/gone\ntotal 4 ok 3 missing 1\n";
+
+const RING_SOURCES: &str = "from 1 http://c.test/ http://c.test/gone\n";
+
+const NONE: &str = "savedweb 1";
+
+const OTHER: Asked = (NONE, "http://a.test/2");
+
+// Three results of one URL.
+const FIRST: Asked = ("savedweb 1\npage http://a.test/\nlink x", "http://a.test/");
+
+const SECOND: Asked = (
+    "savedweb 1\npage http://a.test/\nlink x\nlink mailto:x",
+    "http://a.test/",
+);
+
+const THIRD: Asked = (NONE, "http://a.test/");
+
+const MOVED: &str =
+    "savedweb 2\npage http://a.test/\nmoved http://b.test/\npage http://b.test/\nmoved mailto:x\npage http://c.test/\nlink gone\n";
+
+// `gone` twice on one page and once on another; `c.test/x` linked from `b`, and where `b.test` moved to.
+const BROKEN: &str =
+    "savedweb 2\npage http://a.test/\nlink gone\nlink /b\nlink gone#there\npage http://a.test/b\nlink gone\nlink http://c.test/x\npage http://b.test/\nmoved http://c.test/x\n";
+
+const BROKEN_REPORT: &str =
+    "ok 3 0 http://a.test/\nok 2 0 http://a.test/b\nmissing http://a.test/gone\nmoved http://b.test/\nmissing http://c.test/x\nmissing http://z.test/\ntotal 6 ok 2 missing 3 moved 1\n";
+
+const BROKEN_SOURCES: &str =
+    "from 2 http://a.test/ http://a.test/gone\nfrom 2 http://a.test/b http://c.test/x\nfrom 0 - http://z.test/\n";
+
+const LETTERS: &str =
+    "savedweb 1\npage http://a.test/9\nlink x\nlink X\npage http://a.test/10\nlink x\n";
+
+const ROWS: &[Row] = &[
+    Row {
+        results: &[],
+        report: "total 0 ok 0 missing 0\n",
+        sources: "",
+    },
+    Row {
+        results: &[RING_A, RING_B, RING_C, RING_GONE],
+        report: RING_REPORT,
+        sources: RING_SOURCES,
+    },
+    Row {
+        results: &[RING_GONE, RING_C, RING_B, RING_A],
+        report: RING_REPORT,
+        sources: RING_SOURCES,
+    },
+    Row {
+        results: &[RING_C, RING_A, RING_GONE, RING_B],
+        report: RING_REPORT,
+        sources: RING_SOURCES,
+    },
+    // Results of one URL stay as they came.
+    Row {
+        results: &[OTHER, FIRST, SECOND, THIRD],
+        report: "ok 1 0 http://a.test/\nok 2 1 http://a.test/\nmissing http://a.test/\nmissing http://a.test/2\ntotal 4 ok 2 missing 2\n",
+        sources: "from 0 - http://a.test/\nfrom 0 - http://a.test/2\n",
+    },
+    Row {
+        results: &[THIRD, SECOND, OTHER, FIRST],
+        report: "missing http://a.test/\nok 2 1 http://a.test/\nok 1 0 http://a.test/\nmissing http://a.test/2\ntotal 4 ok 2 missing 2\n",
+        sources: "from 0 - http://a.test/\nfrom 0 - http://a.test/2\n",
+    },
+    Row {
+        results: &[
+            (MOVED, "http://c.test/"),
+            (MOVED, "http://a.test/"),
+            (MOVED, "http://b.test/"),
+        ],
+        report: "moved http://a.test/\nmoved http://b.test/\nok 1 0 http://c.test/\ntotal 3 ok 1 missing 0 moved 2\n",
+        sources: "",
+    },
+    Row {
+        results: &[
+            (BROKEN, "http://a.test/"),
+            (BROKEN, "http://a.test/b"),
+            (BROKEN, "http://a.test/gone"),
+            (BROKEN, "http://b.test/"),
+            (BROKEN, "http://c.test/x"),
+            (BROKEN, "http://z.test/"),
+        ],
+        report: BROKEN_REPORT,
+        sources: BROKEN_SOURCES,
+    },
+    Row {
+        results: &[
+            (BROKEN, "http://z.test/"),
+            (BROKEN, "http://c.test/x"),
+            (BROKEN, "http://b.test/"),
+            (BROKEN, "http://a.test/gone"),
+            (BROKEN, "http://a.test/b"),
+            (BROKEN, "http://a.test/"),
+        ],
+        report: BROKEN_REPORT,
+        sources: BROKEN_SOURCES,
+    },
+    // `gone` is linked from both, and is no result.
+    Row {
+        results: &[(BROKEN, "http://a.test/"), (BROKEN, "http://a.test/b")],
+        report: "ok 3 0 http://a.test/\nok 2 0 http://a.test/b\ntotal 2 ok 2 missing 0\n",
+        sources: "",
+    },
+    Row {
+        results: &[(BROKEN, "http://a.test/gone")],
+        report: "missing http://a.test/gone\ntotal 1 ok 0 missing 1\n",
+        sources: "from 0 - http://a.test/gone\n",
+    },
+    // Bytes decide, not numbers or letters; a result that stands there twice counts twice, and has two lines.
+    Row {
+        results: &[
+            (LETTERS, "http://a.test/x"),
+            (LETTERS, "http://a.test/9"),
+            (LETTERS, "http://a.test/x"),
+            (LETTERS, "http://a.test/X"),
+            (LETTERS, "http://a.test/10"),
+            (LETTERS, "http://a.test/9"),
+        ],
+        report: "ok 1 0 http://a.test/10\nok 2 0 http://a.test/9\nok 2 0 http://a.test/9\nmissing http://a.test/X\nmissing http://a.test/x\nmissing http://a.test/x\ntotal 6 ok 3 missing 3\n",
+        sources: "from 2 http://a.test/9 http://a.test/X\nfrom 3 http://a.test/10 http://a.test/x\nfrom 3 http://a.test/10 http://a.test/x\n",
+    },
+];
+
+#[test]
+fn reports_and_sources(rt: HostRuntime) {
+    for row in ROWS {
+        assert!(rt; is_told(rt.alloc(), row), "{}", row.report);
+    }
+}
+
+fn is_told(alloc: Global, row: &Row) -> bool {
+    let mut results = Vec::new(alloc);
+    push_results(alloc, &mut results, row.results)
+        && is_report(alloc, &results, row.report)
+        && are_sources(alloc, &results, row.sources)
+        && are_copied(&results)
+}
+
+fn push_results(alloc: Global, results: &mut Vec<PageResult>, asked: &[Asked]) -> bool {
+    for one in asked {
+        if !push_result(alloc, results, one) {
+            return false;
+        }
+    }
+    true
+}
+
+fn push_result(alloc: Global, results: &mut Vec<PageResult>, asked: &Asked) -> bool {
+    match result_at(alloc, asked) {
+        Some(result) => results.push(result).is_ok(),
+        None => false,
+    }
+}
+
+fn is_report(alloc: Global, results: &[PageResult], expected: &str) -> bool {
+    match report_text(alloc, results) {
+        Ok(text) => text.as_slice() == expected.as_bytes(),
+        Err(_) => false,
+    }
+}
+
+fn are_sources(alloc: Global, results: &[PageResult], expected: &str) -> bool {
+    match sources_text(alloc, results) {
+        Ok(text) => text.as_slice() == expected.as_bytes(),
+        Err(_) => false,
+    }
+}
+
+// Whether a copy of each is equal.
+fn are_copied(results: &[PageResult]) -> bool {
+    for one in results {
+        if !is_copied(one) {
+            return false;
+        }
+    }
+    true
+}
+
+fn is_copied(one: &PageResult) -> bool {
+    match one.copy() {
+        Ok(copy) => copy == *one,
+        Err(_) => false,
+    }
+}
+
+/// A saved web, and the report of its page as if that had the most links that a `u64` counts besides.
+const PAST_64_BITS: &[Asked] = &[
+    (
+        "savedweb 1\npage http://a.test/",
+        "ok 18446744073709551615 18446744073709551615 http://a.test/\ntotal 1 ok 1 missing 0\n",
+    ),
+    (
+        "savedweb 1\npage http://a.test/\nlink x",
+        "ok 18446744073709551616 18446744073709551615 http://a.test/\ntotal 1 ok 1 missing 0\n",
+    ),
+    (
+        "savedweb 1\npage http://a.test/\nlink x\nlink x\nlink y",
+        "ok 18446744073709551618 18446744073709551615 http://a.test/\ntotal 1 ok 1 missing 0\n",
+    ),
+];
+
+#[test]
+fn links_past_64_bits(rt: HostRuntime) {
+    for row in PAST_64_BITS {
+        assert!(rt; is_counted(rt.alloc(), row), "{}", row.1);
+    }
+}
+
+fn is_counted(alloc: Global, row: &Asked) -> bool {
+    match result_at(alloc, &(row.0, "http://a.test/")) {
+        Some(result) => is_report(alloc, &[with_most_skipped(result)], row.1),
+        None => false,
+    }
+}
+
+fn with_most_skipped(one: PageResult) -> PageResult {
+    let PageResult { url, page } = one;
+    let page = match page {
+        Page::Found { links, .. } => Page::Found {
+            links,
+            skipped: u64::MAX,
+        },
+        other => other,
+    };
+    PageResult { url, page }
+}

@@ -1,0 +1,101 @@
+//! Scripts as values, their replies, and the messages of their faults.
+use crawl_core::Event;
+use crawl_replay::{ScriptError, read_script, replay_text};
+use std::alloc::Global;
+
+const EACH_EVENT: &str =
+    "workers 2 max 9\nlook 1\nenter 2\nadmit 3 http://a.test/\nback 4\nendseeds\ntake 5\ndone 6\nclose\n";
+
+/// An event: its word, its sender, its queue and its URL.
+type Said = (&'static str, u64, u32, &'static str);
+
+const EVENTS: &[Said] = &[
+    ("look", 1, 0, ""),
+    ("enter", 2, 0, ""),
+    ("admit", 3, 1, "http://a.test/"),
+    ("back", 4, 0, ""),
+    ("endseeds", 0, 0, ""),
+    ("take", 0, 5, ""),
+    ("done", 0, 6, ""),
+    ("close", 0, 0, ""),
+];
+
+#[test]
+fn script_of_each_event(rt: HostRuntime) {
+    assert!(rt; has_each_event(rt.alloc()));
+}
+
+fn has_each_event(alloc: Global) -> bool {
+    match read_script(alloc, EACH_EVENT.as_bytes()) {
+        Ok(script) => script.workers == 2 && script.max == 9 && are_said(&script.events, EVENTS),
+        Err(_) => false,
+    }
+}
+
+fn are_said(events: &[Event], rows: &[Said]) -> bool {
+    if events.len() != rows.len() {
+        return false;
+    }
+    for (event, row) in events.iter().zip(rows) {
+        if !is_said(event, row) {
+            return false;
+        }
+    }
+    true
+}
+
+fn is_said(event: &Event, row: &Said) -> bool {
+    match event {
+        Event::Look { sender } => row.0 == "look" && *sender == row.1,
+        Event::Enter { sender } => row.0 == "enter" && *sender == row.1,
+        Event::Admit { sender, url, queue } => {
+            row.0 == "admit" && *sender == row.1 && *queue == row.2 && url.as_str() == row.3
+        }
+        Event::Back { sender } => row.0 == "back" && *sender == row.1,
+        Event::EndSeeds => row.0 == "endseeds",
+        Event::Take { queue } => row.0 == "take" && *queue == row.2,
+        Event::Done { queue } => row.0 == "done" && *queue == row.2,
+        Event::Close => row.0 == "close",
+    }
+}
+
+const SCRIPT: &str =
+    "workers 2 max 9\nlook 2\nenter 2\nadmit 2 http://a.test/\nendseeds\ntake 1\ndone 1\nclose\nlook 2\nenter 2\n";
+
+const REPLIES: &str =
+    "word 1 open\nentered 2\naccepted 1 0\ncount 1\ntaken http://a.test/\ncount 0\nclosed\nword 0 closed\nrefused closed\n";
+
+#[test]
+fn closes_when_drained(rt: HostRuntime) {
+    assert!(rt; replies_so(rt.alloc()));
+}
+
+fn replies_so(alloc: Global) -> bool {
+    match replay_text(alloc, SCRIPT.as_bytes()) {
+        Ok(text) => text.as_slice() == REPLIES.as_bytes(),
+        Err(_) => false,
+    }
+}
+
+const MESSAGES: &[(ScriptError, &str)] = &[
+    (ScriptError::LineTooLong(3), "script: line 3: line too long"),
+    (ScriptError::NotText(1), "script: line 1: not UTF-8"),
+    (ScriptError::BadHeader, "script: bad header"),
+    (ScriptError::BadLine(3), "script: line 3: bad line"),
+    (ScriptError::BadUrl(3), "script: line 3: bad URL"),
+    (ScriptError::NoMemory, "out of memory"),
+];
+
+#[test]
+fn messages(rt: HostRuntime) {
+    for row in MESSAGES {
+        assert!(rt; is_message(rt.alloc(), row.0, row.1), "{}", row.1);
+    }
+}
+
+fn is_message(alloc: Global, fault: ScriptError, message: &str) -> bool {
+    match fault.to_string(alloc) {
+        Ok(text) => text.as_str() == message,
+        Err(_) => false,
+    }
+}
