@@ -24,6 +24,7 @@ part() {
     fi
 }
 
+part docs/check.py
 part docs/definitions.py --check
 part tests/stress_crawl.py
 part tests/stress_threads.sh
