@@ -3,30 +3,47 @@ ghost use Rattle.std.specs.Prelude.{◌≡◌};
 
 use crawl_frontier::laws::Admit;
 use crawl_frontier::testing::admit;
-use crawl_frontier::{Frontier, HOPS_LIMIT, Name, Setup};
+use crawl_frontier::{Frontier, HOPS_LIMIT, Name, Setup, Worker};
 use crawl_keys::{CanonUrl, Filter, canonical};
 use std::alloc::Global;
 use std::marker::Brand;
 use std::sync::Wait;
 
-// Admits two URLs, at the limit and above it.
-fn admit_both<K: Name, R: Wait>(
+// Admits the URL by the pass of the last of the workers.
+fn admit_by_last<K: Name, R: Wait>(
+    rt: &R,
+    frontier: &Frontier<K>,
+    workers: &mut Vec<Worker<K>>,
+    url: &CanonUrl,
+    own: u64,
+    hops: u64,
+) -> Option<Admit> {
+    admit(rt, frontier, workers.pop()?, url, own, hops)
+}
+
+// Whether a URL at the limit is admitted, and then another one above it is too far.
+fn has_bound<K: Name, R: Wait>(
     rt: &R,
     alloc: Global,
     setup: Setup,
     filter: &Filter,
-    urls: &[CanonUrl],
-) -> Option<(Admit, Admit)>
+    urls: (&CanonUrl, &CanonUrl),
+) -> bool
     requires gate { setup.gate ≡ K.gate }
     requires workers { setup.workers ≡ K.workers }
     requires queues { setup.queues ≡ K.queues }
     requires filter { filter.now ≡ K.filter }
 {
-    let (frontier, mut workers, _) = Frontier::<K>::new(alloc, setup, filter).ok()?;
-    let first = admit(rt, &frontier, workers.pop()?, urls.first()?, 0, HOPS_LIMIT)?;
-    let above = HOPS_LIMIT + 1;
-    let second = admit(rt, &frontier, workers.pop()?, urls.last()?, 1, above)?;
-    Some((first, second))
+    let Ok((frontier, mut workers, _)) = Frontier::<K>::new(alloc, setup, filter) else {
+        return false;
+    };
+    let (one, other) = urls;
+    let first = admit_by_last(rt, &frontier, &mut workers, one, 0, HOPS_LIMIT);
+    let above = admit_by_last(rt, &frontier, &mut workers, other, 1, HOPS_LIMIT + 1);
+    matches!(
+        (first, above),
+        (Some(Admit::Admitted(0)), Some(Admit::TooFar(_)))
+    )
 }
 
 #[test]
@@ -42,6 +59,5 @@ fn hop_bound_of_shard(rt: HostRuntime) {
     ) else {
         panic!(rt; "no URL")
     };
-    let both = admit_both::<Brand, _>(&rt, alloc, setup, &filter, &[one, other]);
-    assert!(rt; matches!(both, Some((Admit::Admitted(0), Admit::TooFar(_)))));
+    assert!(rt; has_bound::<Brand, _>(&rt, alloc, setup, &filter, (&one, &other)));
 }

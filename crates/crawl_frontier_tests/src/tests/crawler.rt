@@ -1,4 +1,4 @@
-//! A crawler: two threads, each of which fetches the pages of its hosts.
+//! A crawler: a thread for each worker, which fetches the pages of its hosts.
 ghost use Rattle.std.specs.Prelude.{◌≡◌};
 
 use crawl_frontier::{
@@ -8,7 +8,8 @@ use crawl_keys::{CanonUrl, Filter, canonical, resolve};
 use std::alloc::Global;
 use std::marker::Brand;
 use std::sync::Wait;
-use std::thread::{Threads, join};
+use std::thread;
+use std::thread::Threads;
 
 // The texts of the links of a page. A page of a host that isn't known has none.
 fn links_of(url: &CanonUrl) -> &'static [&'static str] {
@@ -57,7 +58,7 @@ fn crawl<K: Name, R: Wait>(
     unreachable!()
 }
 
-// Crawls from a seed in two threads.
+// Crawls from a seed, with a thread for each worker.
 fn crawl_from<K: Name + Send + Sync, R: Threads + Wait + Sync>(
     rt: &R,
     alloc: Global,
@@ -70,20 +71,12 @@ fn crawl_from<K: Name + Send + Sync, R: Threads + Wait + Sync>(
     requires queues { setup.queues ≡ K.queues }
     requires filter { filter.now ≡ K.filter }
 {
-    let (frontier, mut workers, mut seeder) = Frontier::<K>::new(alloc, setup, filter).ok()?;
-    let (other, one) = (workers.pop()?, workers.pop()?);
+    let (frontier, workers, mut seeder) = Frontier::<K>::new(alloc, setup, filter).ok()?;
     seeder.offer(rt, &frontier, seed).ok()?;
-    let sender = seeder.end(&frontier);
+    let mut senders = Vec::new(alloc);
+    senders.push(seeder.end(&frontier)).ok()?;
     let shared = &frontier;
-    let (one, other) = join(
-        rt,
-        move || crawl(rt, alloc, shared, one),
-        move || crawl(rt, alloc, shared, other),
-    );
-    let (mut closed, mut senders) = (Vec::new(alloc), Vec::new(alloc));
-    closed.push(one).ok()?;
-    closed.push(other).ok()?;
-    senders.push(sender).ok()?;
+    let closed = thread::map_vec(rt, workers, &|worker| crawl(rt, alloc, shared, worker)).ok()?;
     Some(frontier.finish(closed, senders))
 }
 
@@ -99,8 +92,7 @@ fn crawls_in_two_threads(rt: HostRuntime) {
     let Some(Ok(account)) = crawl_from::<Brand, _>(&rt, alloc, setup, &filter, &seed) else {
         panic!(rt; "no account")
     };
-    assert_eq!(rt; account.workers(), 2);
     // b.test is of subqueue 0; a.test and c.test are of subqueue 1.
-    assert_eq!(rt; account.queue(0).len(), 2);
-    assert_eq!(rt; account.queue(1).len(), 4);
+    assert!(rt; account.workers() == 2);
+    assert!(rt; account.queue(0).len() == 2 && account.queue(1).len() == 4);
 }

@@ -1,215 +1,603 @@
-//! Four workers in four threads, which offer what they find.
+//! Parts in threads of their own: workers that offer the links of what they take, beside senders that offer the same.
 ghost use Rattle.std.specs.Prelude.{◌≡◌};
 
+use crate::tests::parts::{Part, add_sender, done, end, finish, next, offer, open};
 use crawl_frontier::{
-    Account, BusyWorker, ClosedWorker, FinishError, Frontier, Name, Seeder, Sender, Setup, Turn,
-    Worker,
+    Account, Entry, FinishError, Frontier, Name, Offer, OfferError, Setup, Turn, Worker,
 };
 use crawl_keys::{CanonUrl, Filter, canonical};
-use std::alloc::{AllocError, Global};
+use std::alloc::Global;
 use std::marker::Brand;
 use std::sync::Wait;
-use std::test::Fail;
+use std::sync::atomic::{AtomicU64, Ordering};
 use std::thread;
-use std::thread::{Threads, join};
+use std::thread::Threads;
+use std::time::Duration;
 
-const PAGES: usize = 20_000;
+const PAGES: usize = 8_000;
 
 const HOSTS: usize = 50;
 
-// A worker at its end, and how many of its offers were refused.
-#[derive(Drop)]
-struct Ended<K: Name> {
-    worker: ClosedWorker<K>,
-    refused: u64,
+// Page n leads to the pages 2n + 1 to 2n + 4, so that two pages lead to nearly each.
+const LINKS: usize = 4;
+
+// More threads than a run has parts.
+const THREADS: usize = 8;
+
+// In seconds, far more than a test is given: whoever rests and is not woken holds the run up.
+const HOUR: u64 = 3_600;
+
+// Where workers leave, one gives up after so many turns in a row that find nothing.
+const IDLE_TURNS: u32 = 20_000;
+
+// When a worker is dropped: at this URL of those that it takes, from 1; 0: never.
+#[derive(Clone, Copy)]
+struct Leave {
+    at: u32,
+    // With the URL in hand, or when it is done with it.
+    busy: bool,
 }
 
-// Page n links to the pages 3n + 1 to 3n + 3, so that each page is linked from one.
-fn first_link(url: &CanonUrl) -> usize {
+const STAYS: Leave = Leave { at: 0, busy: false };
+
+// A run: a frontier, its pages, of which the first ones are seeds, and two senders, one of which was the seeder.
+#[derive(Drop)]
+struct Plan {
+    name: &'static str,
+    workers: u32,
+    max_pending: u64,
+    pages: usize,
+    seeds: usize,
+    // How many of the pages a sender offers, one by one: once, or again and again until it is told `Closed`, and then once
+    // more.
+    sent: usize,
+    until_closed: bool,
+    // Of each worker. Where none leaves, they rest after each turn that finds nothing.
+    leave: &'static [Leave],
+    rounds: u32,
+}
+
+// What all threads of a run have.
+#[derive(Drop)]
+struct Run<'a> {
+    plan: &'a Plan,
+    urls: &'a [CanonUrl],
+    // How many workers were told that the gate is closed.
+    closed: AtomicU64,
+    accepted: AtomicU64,
+    refused: AtomicU64,
+    late: AtomicU64,
+}
+
+// What a part was answered: how often its offers were accepted, or refused but for `Closed`; and how often it was not told
+// `Closed`, though it was before, or a worker was.
+#[derive(Drop)]
+struct Counts {
+    accepted: u64,
+    refused: u64,
+    late: u64,
+    closed: bool,
+    taken: u32,
+    idle: u32,
+}
+
+fn page(alloc: Global, number: usize) -> Option<CanonUrl> {
+    let host = number % HOSTS;
+    let text = format!(in alloc; "http://h{host}.test/{number}").ok()?;
+    canonical(alloc, &text).ok()
+}
+
+fn pages(alloc: Global) -> Option<Vec<CanonUrl>> {
+    let mut urls = Vec::new(alloc);
+    for number in 0..PAGES {
+        urls.push(page(alloc, number)?).ok()?;
+    }
+    Some(urls)
+}
+
+// `PAGES` where the URL is no page's.
+fn number_of(url: &CanonUrl) -> usize {
     match url.as_str().rsplit_once('/') {
-        Some((_, digits)) => match digits.parse::<usize>() {
-            Ok(number) => number.saturating_mul(3).saturating_add(1),
-            Err(_) => PAGES,
-        },
+        Some((_, digits)) => digits.parse::<usize>().unwrap_or(PAGES),
         None => PAGES,
     }
 }
 
-// Offers the links of the page in hand. Answers how many were refused.
-pub fn offer_links<K: Name, R: Wait>(
+fn links<'a>(urls: &'a [CanonUrl], url: &CanonUrl) -> &'a [CanonUrl] {
+    let first = number_of(url).saturating_mul(2).saturating_add(1);
+    let end = first.saturating_add(LINKS).min(urls.len());
+    urls.get(first..end).unwrap_or(&[])
+}
+
+fn count(counts: &mut Counts, known: bool, answer: Result<Offer, OfferError>) {
+    let mut late = known;
+    match answer {
+        Ok(Offer::Accepted(_, _)) => counts.accepted = counts.accepted.saturating_add(1),
+        Ok(Offer::Seen) => {}
+        Err(OfferError::Closed) => {
+            counts.closed = true;
+            late = false;
+        }
+        Err(_) => counts.refused = counts.refused.saturating_add(1),
+    }
+    if late {
+        counts.late = counts.late.saturating_add(1);
+    }
+}
+
+fn offer_each<K: Name, R: Wait>(
     rt: &R,
     frontier: &Frontier<K>,
+    run: &Run<'_>,
+    part: &mut Part<K>,
     urls: &[CanonUrl],
-    busy: &mut BusyWorker<K>,
-) -> u64 {
-    let first = first_link(busy.url());
-    let mut refused = 0u64;
-    for number in first..first.saturating_add(3) {
-        let Some(url) = urls.get(number) else {
-            return refused;
-        };
-        if busy.offer(rt, frontier, url).is_err() {
-            refused = refused.saturating_add(1);
+    counts: &mut Counts,
+) {
+    for url in urls {
+        let known = counts.closed || run.closed.load(Ordering::SeqCst) > 0;
+        if let Some(answer) = offer(rt, frontier, part, url) {
+            count(counts, known, answer);
         }
     }
-    refused
+}
+
+// Offers the links of the page in hand, and is done with it, or leaves. Answers whether the worker stays.
+fn work_on_page<K: Name, R: Wait>(
+    rt: &R,
+    frontier: &Frontier<K>,
+    run: &Run<'_>,
+    leave: Leave,
+    part: &mut Part<K>,
+    counts: &mut Counts,
+) -> bool {
+    let Part::Worker(Turn::Busy(worker)) = part else {
+        return false;
+    };
+    let links = links(run.urls, worker.url());
+    offer_each(rt, frontier, run, part, links, counts);
+    counts.idle = 0;
+    counts.taken = counts.taken.saturating_add(1);
+    let leaves = counts.taken == leave.at;
+    if !(leaves && leave.busy) {
+        done(frontier, part);
+    }
+    if leaves {
+        *part = Part::Gone;
+    }
+    !leaves
+}
+
+// Rests, or counts the turn. Answers whether the worker stays.
+fn pause<K: Name, R: Wait>(
+    rt: &R,
+    frontier: &Frontier<K>,
+    run: &Run<'_>,
+    worker: &Worker<K>,
+    counts: &mut Counts,
+) -> bool {
+    if run.plan.leave.is_empty() {
+        worker.rest_for(rt, frontier, Duration::from_secs(HOUR));
+        return true;
+    }
+    thread::yield_now();
+    counts.idle = counts.idle.saturating_add(1);
+    counts.idle < IDLE_TURNS
+}
+
+// A turn of a worker. Answers whether there may be more.
+fn turn<K: Name, R: Wait>(
+    rt: &R,
+    frontier: &Frontier<K>,
+    run: &Run<'_>,
+    leave: Leave,
+    part: &mut Part<K>,
+    counts: &mut Counts,
+) -> bool {
+    next(rt, frontier, part);
+    match part {
+        Part::Worker(Turn::Busy(_)) => work_on_page(rt, frontier, run, leave, part, counts),
+        Part::Worker(Turn::Idle(worker, _)) => pause(rt, frontier, run, worker, counts),
+        _ => {
+            run.closed.fetch_add(1, Ordering::SeqCst);
+            false
+        }
+    }
 }
 
 fn work<K: Name, R: Wait>(
     rt: &R,
     frontier: &Frontier<K>,
-    urls: &[CanonUrl],
-    mut worker: Worker<K>,
-) -> Ended<K> {
-    let mut refused = 0u64;
+    run: &Run<'_>,
+    leave: Leave,
+    part: &mut Part<K>,
+    counts: &mut Counts,
+) {
     for _ in rt.forever() {
-        match worker.next(rt, frontier) {
-            Turn::Busy(mut busy) => {
-                let more = offer_links(rt, frontier, urls, &mut busy);
-                refused = refused.saturating_add(more);
-                worker = busy.done(frontier);
-            }
-            Turn::Idle(idle, _) => {
-                thread::yield_now();
-                worker = idle;
-            }
-            Turn::Closed(worker) => return Ended { worker, refused },
+        if !turn(rt, frontier, run, leave, part, counts) {
+            return;
         }
     }
     unreachable!()
 }
 
-fn two_work<K: Name + Send + Sync, R: Threads + Wait + Sync>(
+fn send<K: Name, R: Wait>(
     rt: &R,
     frontier: &Frontier<K>,
-    urls: &[CanonUrl],
-    one: Worker<K>,
-    other: Worker<K>,
-) -> (Ended<K>, Ended<K>) {
-    join(
-        rt,
-        move || work(rt, frontier, urls, one),
-        move || work(rt, frontier, urls, other),
-    )
-}
-
-// The last two of the workers, the last one first.
-pub fn two_of<K: Name>(workers: &mut Vec<Worker<K>>) -> Option<(Worker<K>, Worker<K>)> {
-    let one = workers.pop()?;
-    Some((one, workers.pop()?))
-}
-
-// Runs the four workers to their ends.
-fn four_end<K: Name + Send + Sync, R: Threads + Wait + Sync>(
-    rt: &R,
-    frontier: &Frontier<K>,
-    urls: &[CanonUrl],
-    mut workers: Vec<Worker<K>>,
-) -> Option<[Ended<K>; 4]> {
-    let (a, b) = two_of(&mut workers)?;
-    let (c, d) = two_of(&mut workers)?;
-    let ((a, b), (c, d)) = join(
-        rt,
-        move || two_work(rt, frontier, urls, a, b),
-        move || two_work(rt, frontier, urls, c, d),
-    );
-    Some([a, b, c, d])
-}
-
-// The closed workers, and how many offers were refused.
-fn sum_up<K: Name>(alloc: Global, all: [Ended<K>; 4]) -> Option<(Vec<ClosedWorker<K>>, u64)> {
-    let mut closed = Vec::new(alloc);
-    let mut refused = 0u64;
-    for ended in all {
-        refused = refused.saturating_add(ended.refused);
-        closed.push(ended.worker).ok()?;
+    run: &Run<'_>,
+    part: &mut Part<K>,
+    counts: &mut Counts,
+) {
+    let sent = run.urls.get(..run.plan.sent).unwrap_or(&[]);
+    for _ in rt.forever() {
+        let last = counts.closed || counts.late > 0 || !run.plan.until_closed;
+        offer_each(rt, frontier, run, part, sent, counts);
+        if last {
+            return;
+        }
+        thread::yield_now();
     }
-    Some((closed, refused))
+    unreachable!()
 }
 
-// Offers the URLs. The seeder is then the one sender.
-pub fn seed<K: Name, R: Wait>(
+// Lets the others go on until they probably rest.
+fn wait_a_while() {
+    for _ in 0..100u32 {
+        thread::yield_now();
+    }
+}
+
+// What the seeder does before it is a sender.
+fn seed<K: Name, R: Wait>(
+    rt: &R,
+    frontier: &Frontier<K>,
+    run: &Run<'_>,
+    part: &mut Part<K>,
+    counts: &mut Counts,
+) {
+    let seeds = run.urls.get(..run.plan.seeds).unwrap_or(&[]);
+    wait_a_while();
+    offer_each(rt, frontier, run, part, seeds, counts);
+    wait_a_while();
+    end(frontier, part);
+}
+
+fn no_counts() -> Counts {
+    Counts {
+        accepted: 0,
+        refused: 0,
+        late: 0,
+        closed: false,
+        taken: 0,
+        idle: 0,
+    }
+}
+
+fn add(run: &Run<'_>, counts: &Counts) {
+    run.accepted.fetch_add(counts.accepted, Ordering::SeqCst);
+    run.refused.fetch_add(counts.refused, Ordering::SeqCst);
+    run.late.fetch_add(counts.late, Ordering::SeqCst);
+}
+
+// What the part does in its thread.
+fn act<K: Name, R: Wait>(
+    rt: &R,
+    frontier: &Frontier<K>,
+    run: &Run<'_>,
+    at: usize,
+    part: &mut Part<K>,
+) {
+    let mut counts = no_counts();
+    match part {
+        Part::Worker(_) => {
+            let leave = run.plan.leave.get(at).copied().unwrap_or(STAYS);
+            work(rt, frontier, run, leave, part, &mut counts);
+        }
+        Part::Seeder(_) => {
+            seed(rt, frontier, run, part, &mut counts);
+            send(rt, frontier, run, part, &mut counts);
+        }
+        _ => send(rt, frontier, run, part, &mut counts),
+    }
+    add(run, &counts);
+}
+
+// Each part in its thread; then each one that still can offers the first page once more.
+fn act_all<K: Name + Send + Sync, R: Threads + Wait + Sync>(
+    rt: &R,
+    frontier: &Frontier<K>,
+    run: &Run<'_>,
+    parts: &mut [Part<K>],
+) {
+    thread::for_each_mut(
+        rt,
+        parts,
+        THREADS,
+        &|at, part| act(rt, frontier, run, at, part),
+    );
+    let first = run.urls.get(..1).unwrap_or(&[]);
+    let mut counts = no_counts();
+    for part in parts.iter_mut() {
+        offer_each(rt, frontier, run, part, first, &mut counts);
+    }
+    add(run, &counts);
+}
+
+// Where workers leave, the pages are seeded before they begin, so that each has some.
+fn begin<K: Name, R: Wait>(
     rt: &R,
     alloc: Global,
     frontier: &Frontier<K>,
-    urls: &[CanonUrl],
-    mut seeder: Seeder<K>,
-) -> Option<Vec<Sender<K>>> {
-    for url in urls {
-        seeder.offer(rt, frontier, url).ok()?;
+    run: &Run<'_>,
+    parts: &mut Vec<Part<K>>,
+) {
+    let seeder = run.plan.workers as usize;
+    add_sender(alloc, frontier, parts, seeder, 77);
+    if run.plan.leave.is_empty() {
+        return;
     }
-    let mut senders = Vec::new(alloc);
-    senders.push(seeder.end(frontier)).ok()?;
-    Some(senders)
+    if let Some(part) = parts.get_mut(seeder) {
+        seed(rt, frontier, run, part, &mut no_counts());
+    }
 }
 
-// The account of the run, and how many offers were refused.
-fn four_work<K: Name + Send + Sync, R: Threads + Wait + Sync>(
+// How the run ends.
+fn ends<K: Name + Send + Sync, R: Threads + Wait + Sync>(
     rt: &R,
     alloc: Global,
     setup: Setup,
     filter: &Filter,
-    urls: &[CanonUrl],
-) -> Option<(Result<Account, FinishError>, u64)>
+    run: &Run<'_>,
+) -> Result<Account, FinishError>
     requires gate { setup.gate ≡ K.gate }
     requires workers { setup.workers ≡ K.workers }
     requires queues { setup.queues ≡ K.queues }
     requires filter { filter.now ≡ K.filter }
 {
-    let first = urls.get(..1)?;
-    let (frontier, workers, seeder) = Frontier::<K>::new(alloc, setup, filter).ok()?;
-    let senders = seed(rt, alloc, &frontier, first, seeder)?;
-    let all = four_end(rt, &frontier, urls, workers)?;
-    let (closed, refused) = sum_up(alloc, all)?;
-    Some((frontier.finish(closed, senders), refused))
+    let Some((frontier, mut parts)) = open::<K>(alloc, setup, filter) else {
+        return Err(FinishError::NoMemory);
+    };
+    begin(rt, alloc, &frontier, run, &mut parts);
+    act_all(rt, &frontier, run, parts.as_mut_slice());
+    finish(alloc, frontier, parts)
 }
 
-pub fn pages(alloc: Global) -> Option<Vec<CanonUrl>> {
-    let mut urls = Vec::new(alloc);
-    for number in 0..PAGES {
-        let host = number % HOSTS;
-        let text = format!(in alloc; "http://h{host}.test/{number}").ok()?;
-        urls.push(canonical(alloc, &text).ok()?).ok()?;
-    }
-    Some(urls)
-}
-
-// How many entries there are, if no URL has two.
-pub fn entries_once(alloc: Global, account: &Account) -> Option<usize> {
-    let mut numbers = Vec::new(alloc);
-    for queue in 0..account.workers() {
-        for entry in account.queue(queue) {
-            numbers.push(first_link(&entry.url)).ok()?;
+// How many entries there are, if none has a page that was found before.
+fn new_pages(entries: &[Entry], found: &mut [bool]) -> Option<u64> {
+    let mut new = 0u64;
+    for entry in entries {
+        let slot = found.get_mut(number_of(&entry.url))?;
+        if *slot {
+            return None;
         }
+        *slot = true;
+        new = new.saturating_add(1);
     }
-    numbers.sort_unstable();
-    let twice = (1..numbers.len()).any(|at| numbers[at - 1] == numbers[at]);
-    if twice { None } else { Some(numbers.len()) }
+    Some(new)
 }
+
+// How many entries the account has, if no page has two.
+fn entries_once(alloc: Global, account: &Account) -> Option<u64> {
+    let mut found = vec![in alloc; false; PAGES].ok()?;
+    let mut entries = 0u64;
+    for queue in 0..account.workers() {
+        let new = new_pages(account.queue(queue), found.as_mut_slice())?;
+        entries = entries.saturating_add(new);
+    }
+    Some(entries)
+}
+
+// What is wrong with a run that ended well.
+fn fault_of_account(alloc: Global, run: &Run<'_>, account: &Account) -> Option<&'static str> {
+    let Some(entries) = entries_once(alloc, account) else {
+        return Some("a page twice");
+    };
+    let has_room = run.plan.max_pending > PAGES as u64;
+    if run.accepted.load(Ordering::SeqCst) != entries {
+        return Some("not the URLs that were accepted");
+    }
+    if has_room && entries != run.urls.len() as u64 {
+        return Some("not all pages");
+    }
+    if (run.refused.load(Ordering::SeqCst) == 0) != has_room {
+        return Some("refused, or not refused");
+    }
+    None
+}
+
+// What is wrong with a run.
+fn fault_of_end(
+    alloc: Global,
+    run: &Run<'_>,
+    end: &Result<Account, FinishError>,
+) -> Option<&'static str> {
+    let leaves = !run.plan.leave.is_empty();
+    if run.late.load(Ordering::SeqCst) > 0 {
+        return Some("not told `Closed` after closing");
+    }
+    if leaves && run.closed.load(Ordering::SeqCst) > 0 {
+        return Some("closed, with work left");
+    }
+    match end {
+        Ok(account) if !leaves => fault_of_account(alloc, run, account),
+        Err(FinishError::MissingPart) if leaves => None,
+        _ => Some("another end"),
+    }
+}
+
+fn fault<R: Threads + Wait + Sync>(
+    rt: &R,
+    alloc: Global,
+    plan: &Plan,
+    urls: &[CanonUrl],
+) -> Option<&'static str> {
+    let (Ok(filter), Ok(setup)) = (
+        Filter::new(alloc, &[]),
+        Setup::new(alloc, plan.workers, plan.max_pending),
+    ) else {
+        return Some("no setup");
+    };
+    let run = Run {
+        plan,
+        urls: urls.get(..plan.pages).unwrap_or(&[]),
+        closed: AtomicU64::new(0),
+        accepted: AtomicU64::new(0),
+        refused: AtomicU64::new(0),
+        late: AtomicU64::new(0),
+    };
+    let end = ends::<Brand, R>(rt, alloc, setup, &filter, &run);
+    fault_of_end(alloc, &run, &end)
+}
+
+const CLOSING: &[Plan] = &[
+    Plan {
+        name: "one page, offered until the end",
+        workers: 2,
+        max_pending: 1_000_000,
+        pages: 1,
+        seeds: 1,
+        sent: 1,
+        until_closed: true,
+        leave: &[],
+        rounds: 30,
+    },
+    Plan {
+        name: "one page, which the workers end alone",
+        workers: 2,
+        max_pending: 1_000_000,
+        pages: 1,
+        seeds: 1,
+        sent: 0,
+        until_closed: false,
+        leave: &[],
+        rounds: 30,
+    },
+    Plan {
+        name: "forty pages, offered once",
+        workers: 2,
+        max_pending: 1_000_000,
+        pages: 40,
+        seeds: 1,
+        sent: 40,
+        until_closed: false,
+        leave: &[],
+        rounds: 20,
+    },
+    Plan {
+        name: "all pages, offered until the end",
+        workers: 2,
+        max_pending: 1_000_000,
+        pages: PAGES,
+        seeds: 1,
+        sent: PAGES,
+        until_closed: true,
+        leave: &[],
+        rounds: 1,
+    },
+    Plan {
+        name: "all pages, found by links",
+        workers: 4,
+        max_pending: 1_000_000,
+        pages: PAGES,
+        seeds: 1,
+        sent: 1,
+        until_closed: false,
+        leave: &[],
+        rounds: 1,
+    },
+    Plan {
+        name: "a gate that is often full",
+        workers: 2,
+        max_pending: 8,
+        pages: PAGES,
+        seeds: 1,
+        sent: PAGES,
+        until_closed: true,
+        leave: &[],
+        rounds: 1,
+    },
+];
 
 #[test]
-fn four_threads_crawl_each_url_once(rt: HostRuntime) {
-    let alloc = rt.alloc();
-    let (Some(urls), Ok(filter)) = (pages(alloc), Filter::new(alloc, &[])) else {
+fn workers_and_senders_end_in_threads(rt: HostRuntime) {
+    let Some(urls) = pages(rt.alloc()) else {
         panic!(rt; "out of memory")
     };
-    // With room for all; and with a maximum of 8, where offers are refused and give their units back, so that the gate
-    // closes.
-    for (max_pending, has_room) in [(1_000_000, true), (8, false)] {
-        let Ok(setup) = Setup::new(alloc, 4, max_pending) else {
-            panic!(rt; "out of memory")
+    for plan in CLOSING {
+        for _ in 0..plan.rounds {
+            if let Some(fault) = fault(&rt, rt.alloc(), plan, urls.as_slice()) {
+                panic!(rt; "{}: {fault}", plan.name);
+            }
+        }
+    }
+}
+
+// Each leaves a URL in hand, or URLs that wait, so the gate can't close.
+const LEAVING: &[[Leave; 4]] = &[
+    [Leave { at: 1, busy: true }, STAYS, STAYS, STAYS],
+    [
+        STAYS,
+        STAYS,
+        STAYS,
+        Leave {
+            at: 1_000,
+            busy: true,
+        },
+    ],
+    [
+        Leave { at: 1, busy: true },
+        Leave { at: 2, busy: true },
+        Leave { at: 3, busy: true },
+        Leave { at: 4, busy: true },
+    ],
+    [Leave { at: 1, busy: false }, STAYS, STAYS, STAYS],
+    [
+        STAYS,
+        Leave { at: 1, busy: false },
+        Leave {
+            at: 100,
+            busy: true,
+        },
+        Leave {
+            at: 500,
+            busy: false,
+        },
+    ],
+    [
+        Leave { at: 1, busy: false },
+        Leave {
+            at: 10,
+            busy: false,
+        },
+        Leave {
+            at: 100,
+            busy: false,
+        },
+        Leave {
+            at: 1_000,
+            busy: false,
+        },
+    ],
+];
+
+#[test]
+fn dropped_workers_leave_no_account(rt: HostRuntime) {
+    let Some(urls) = pages(rt.alloc()) else {
+        panic!(rt; "out of memory")
+    };
+    for (row, leave) in LEAVING.iter().enumerate() {
+        let plan = Plan {
+            name: "leaving",
+            workers: 4,
+            max_pending: 1_000_000,
+            pages: PAGES,
+            seeds: 50,
+            sent: 0,
+            until_closed: false,
+            leave,
+            rounds: 1,
         };
-        let run = four_work::<Brand, _>(&rt, alloc, setup, &filter, urls.as_slice());
-        let Some((ended, refused)) = run else {
-            panic!(rt; "out of memory")
-        };
-        let Ok(account) = ended else {
-            panic!(rt; "no account")
-        };
-        let Some(entries) = entries_once(alloc, &account) else {
-            panic!(rt; "a URL twice")
-        };
-        assert_eq!(rt; entries == PAGES, has_room);
-        assert_eq!(rt; refused == 0, has_room);
+        if let Some(fault) = fault(&rt, rt.alloc(), &plan, urls.as_slice()) {
+            panic!(rt; "row {row}: {fault}");
+        }
     }
 }
