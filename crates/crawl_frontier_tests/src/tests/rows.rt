@@ -416,12 +416,6 @@ fn other_answer<K: Name, R: Wait>(
     parts: &mut Vec<Part<K>>,
     row: &Row,
 ) -> Option<usize> {
-<<<<<<< HEAD
-    for (at, (who, call)) in row.steps.iter().copied().flatten().enumerate() {
-        let place = place_of(*who, row.workers);
-        if !answers(rt, alloc, frontier, parts, place, *call) {
-            return Some(at);
-=======
     let mut at = 0usize;
     for steps in row.steps {
         for (who, call) in *steps {
@@ -430,7 +424,6 @@ fn other_answer<K: Name, R: Wait>(
                 return Some(at);
             }
             at = at.saturating_add(1);
->>>>>>> 2d4f86ef2e22cc072957135e1755cb485e001972
         }
     }
     None
@@ -445,20 +438,12 @@ fn is_listed(entry: &Entry, listed: &Listed) -> bool {
 }
 
 fn are_listed(entries: &[Entry], list: &[Listed]) -> bool {
-<<<<<<< HEAD
-    entries.len() == list.len()
-        && entries
-            .iter()
-            .zip(list)
-            .all(|(entry, listed)| is_listed(entry, listed))
-=======
     for (entry, listed) in entries.iter().zip(list) {
         if !is_listed(entry, listed) {
             return false;
         }
     }
     entries.len() == list.len()
->>>>>>> 2d4f86ef2e22cc072957135e1755cb485e001972
 }
 
 fn lists(account: &Account, expected: &[&[Listed]]) -> bool {

@@ -229,11 +229,7 @@ fn send<K: Name, R: Wait>(
 ) {
     let sent = run.urls.get(..run.plan.sent).unwrap_or(&[]);
     for _ in rt.forever() {
-<<<<<<< HEAD
-        let last = counts.closed || !run.plan.until_closed;
-=======
         let last = counts.closed || counts.late > 0 || !run.plan.until_closed;
->>>>>>> 2d4f86ef2e22cc072957135e1755cb485e001972
         offer_each(rt, frontier, run, part, sent, counts);
         if last {
             return;
