@@ -28,7 +28,7 @@ const THREADS: usize = 8;
 const HOUR: u64 = 3_600;
 
 // Where workers leave, one gives up after so many turns in a row that find nothing.
-const IDLE_TURNS: u32 = 20_000;
+const IDLE_TURNS: u32 = 1_000;
 
 // When a worker is dropped: at this URL of those that it takes, from 1; 0: never.
 #[derive(Clone, Copy)]
