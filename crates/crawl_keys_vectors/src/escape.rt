@@ -1,5 +1,5 @@
 //! The escapes of the table, by which a line can hold any character.
-use std::alloc::{AllocError, Global};
+use std::alloc::Global;
 
 /// Where the reader of a text stands: outside an escape, after its backslash, or in the
 /// hexadecimal digits of a character's number, which a semicolon ends.
@@ -11,17 +11,17 @@ enum Place {
 }
 
 /// The text that an escaped one stands for.
-pub fn unescape(alloc: Global, escaped: &str) -> Result<String, AllocError> {
+pub fn unescape(alloc: Global, escaped: &str) -> Option<String> {
     let mut text = String::new(alloc);
     let mut place = Place::Outside;
     for c in escaped.chars() {
         let (next, shown) = step(place, c);
         if let Some(shown) = shown {
-            text.push(shown)?;
+            text.push(shown).ok()?;
         }
         place = next;
     }
-    Ok(text)
+    Some(text)
 }
 
 /// Where the reader stands after one more character, and the character that ended there.

@@ -1,76 +1,86 @@
 //! The table of vectors, and what `crawl_keys` answers for each.
 use crate::escape::unescape;
 use crawl_keys::{Base, CanonUrl, KeyError, canonical, resolve};
-use std::alloc::{AllocError, Global};
-use std::io;
+use std::alloc::Global;
 
 /// How many vectors were asked, and how many were answered otherwise.
-#[derive(Clone, Copy, Default)]
+#[derive(Clone, Copy)]
 pub struct Tally {
     pub vectors: u64,
     pub differing: u64,
 }
 
-/// The page that links stand on, as `resolve` and as `Base` take it.
-#[derive(Drop)]
-struct Page {
-    url: CanonUrl,
-    base: Base,
-}
-
 /// Asks each vector of the table in turn.
-pub fn run(rt: &impl Print, alloc: Global, table: &str) -> io::Result<Tally> {
-    let mut tally = Tally::default();
+pub fn run(rt: &impl Print, alloc: Global, table: &str) -> Tally {
+    let (mut vectors, mut differing) = (0u64, 0u64);
     let mut page = None;
     for line in table.lines() {
-        if line.is_empty() || line.starts_with("-- ") {
-            continue;
-        }
         if let Some(text) = line.strip_prefix("base ") {
-            page = open(alloc, text).ok();
-        } else {
-            let differs = ask(rt, alloc, page.as_ref(), line)?;
-            tally.vectors = tally.vectors.saturating_add(1);
-            tally.differing = tally.differing.saturating_add(u64::from(differs));
+            page = canonical(alloc, text).ok();
+        } else if !line.is_empty() && !line.starts_with("-- ") {
+            let answered = ask(rt, alloc, page.as_ref(), line).unwrap_or(false);
+            vectors = vectors.saturating_add(1);
+            differing = differing.saturating_add(u64::from(!answered));
         }
     }
-    Ok(tally)
+    Tally { vectors, differing }
 }
 
-/// The page at a URL, if it is one.
-fn open(alloc: Global, text: &str) -> Result<Page, KeyError> {
-    let url = canonical(alloc, text)?;
-    let base = Base::new(alloc, &url)?;
-    Ok(Page { url, base })
-}
-
-/// Whether a vector is answered otherwise; if so, it is printed.
-fn ask(rt: &impl Print, alloc: Global, page: Option<&Page>, line: &str) -> io::Result<bool> {
+/// Whether a vector is answered as it says: its input is a link of the page, where there is one, or a URL.
+fn ask(rt: &impl Print, alloc: Global, page: Option<&CanonUrl>, line: &str) -> Option<bool> {
     let (input, expected) = line.split_once(" => ").unwrap_or((line, ""));
-    let text = unescape(alloc, input)?;
     let expected = unescape(alloc, expected)?;
-    let (one, other) = match page {
-        Some(page) => (
-            shown(alloc, resolve(alloc, &page.url, text.as_str()))?,
-            shown(alloc, page.base.resolve(alloc, text.as_str()))?,
-        ),
-        None => {
-            let one = shown(alloc, canonical(alloc, text.as_str()))?;
-            let other = one.clone()?;
-            (one, other)
-        }
-    };
-    let differs = one != expected || other != expected;
-    if differs {
-        println!(rt; "{input} => {one} or {other}, and not {expected}")?;
+    ask_for(rt, alloc, page, input, expected.as_str())
+}
+
+fn ask_for(
+    rt: &impl Print,
+    alloc: Global,
+    page: Option<&CanonUrl>,
+    input: &str,
+    expected: &str,
+) -> Option<bool> {
+    let text = unescape(alloc, input)?;
+    match page {
+        Some(page) => ask_link(rt, alloc, page, text.as_str(), expected),
+        None => is_answered(rt, alloc, canonical(alloc, text.as_str()), input, expected),
     }
-    Ok(differs)
+}
+
+/// Asks for a link by `resolve` and by `Base::resolve`.
+fn ask_link(
+    rt: &impl Print,
+    alloc: Global,
+    page: &CanonUrl,
+    text: &str,
+    expected: &str,
+) -> Option<bool> {
+    let by_page = is_answered(rt, alloc, resolve(alloc, page, text), text, expected)?;
+    let base = Base::new(alloc, page).ok()?;
+    let by_base = is_answered(rt, alloc, base.resolve(alloc, text), text, expected);
+    Some(by_page && by_base?)
+}
+
+/// Whether an answer is the one expected; if not, it is printed.
+fn is_answered(
+    rt: &impl Print,
+    alloc: Global,
+    answer: Result<CanonUrl, KeyError>,
+    input: &str,
+    expected: &str,
+) -> Option<bool> {
+    let shown = shown(alloc, answer)?;
+    let same = shown.as_str() == expected;
+    if !same {
+        let _ = println!(rt; "{input} => {shown}, and not {expected}");
+    }
+    Some(same)
 }
 
 /// An answer as the table writes it.
-fn shown(alloc: Global, answer: Result<CanonUrl, KeyError>) -> Result<String, AllocError> {
+fn shown(alloc: Global, answer: Result<CanonUrl, KeyError>) -> Option<String> {
     match answer {
-        Ok(url) => format!(in alloc; "{url} {}", url.host_key()),
-        Err(error) => format!(in alloc; "{error:?}"),
+        Ok(url) => format!(in alloc; "{url} {}", url.host_key()).ok(),
+        Err(error) => format!(in alloc; "{error:?}").ok(),
     }
 }
