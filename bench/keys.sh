@@ -10,9 +10,9 @@ urls=${1:-300000}
 links=${2:-500000}
 counted=2000 # under callgrind, which is slow
 
-cd "$(dirname "$0")/../crates/bench_keys"
+cd "$(dirname "$0")/../crates/bench_calls"
 rt run -- texts 1 > /dev/null
-program=$PWD/out/bench_keys
+program=$PWD/out/bench_calls
 scratch=$(mktemp -d)
 trap 'rm -r "$scratch"' EXIT
 

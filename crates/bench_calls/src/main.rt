@@ -1,0 +1,63 @@
+//! Work for `bench/keys.sh` and `bench/frontier.sh` to measure: `bench_calls WORK COUNT THREADS ..` does each piece of work
+//! and prints what came of it.
+//!
+//! Of `crawl_keys`, with how many bytes came out: `texts` (makes the texts of URLs), `canonical` (and canonicalises each),
+//! `links` (makes the texts of links), `joined` (and joins each to its page), `kept` (keeps each URL in a set), `shared` (and
+//! three copies of it), `one` (asks a filter of one host for 64 URLs, COUNT times) or `many` (asks a filter of 100,000 hosts).
+//!
+//! Of `crawl_frontier`, with what became of the URLs: `urls` (makes the URLs), `new` (and offers each once), `seen` (and then
+//! all of them five times again), or `taken` (and then takes them, and is done with each), by so many threads.
+#![tactic(auto)]
+
+mod filters;
+mod frontier;
+mod keys;
+mod threads;
+mod urls;
+mod words;
+
+use std::alloc::Global;
+use std::process::ExitCode;
+use std::sync::Wait;
+use std::thread::Threads;
+use words::{number, word};
+
+/// How many pieces of work there are at most.
+const MOST: usize = 8;
+
+fn main(rt: HostRuntime) -> ExitCode {
+    for piece in 0..MOST {
+        let mut room = [0u8; 16];
+        let name = word(&rt, 3 * piece + 1, &mut room);
+        if name.is_empty() && piece > 0 {
+            return ExitCode::SUCCESS;
+        }
+        let (count, threads) = (number(&rt, 3 * piece + 2), number(&rt, 3 * piece + 3));
+        if done(&rt, rt.alloc(), name, count, threads).is_none() {
+            let _ = eprintln!(rt; "{name}: no such work, no number, or no memory");
+            return ExitCode::FAILURE;
+        }
+    }
+    ExitCode::SUCCESS
+}
+
+/// Does a piece of work, and prints what came of it.
+fn done<R: Print + Threads + Wait + Sync>(
+    rt: &R,
+    alloc: Global,
+    name: &str,
+    count: Option<u32>,
+    threads: Option<u32>,
+) -> Option<()> {
+    let count = count?;
+    let Some(rounds) = frontier::rounds(name) else {
+        let bytes = keys::done(alloc, name, count)?;
+        return println!(rt; "{name} {count}: {bytes} bytes").ok();
+    };
+    let (threads, takes) = (threads?, name == "taken");
+    let done = frontier::done(rt, alloc, count, threads, rounds, takes)?;
+    let (accepted, seen, taken) = done;
+    println!(rt;
+        "{name} {count} by {threads}: {accepted} accepted, {seen} seen, {taken} taken"
+    ).ok()
+}

@@ -1,0 +1,100 @@
+//! URLs and links, made, canonicalised, joined and kept.
+use crawl_keys::{Base, CanonUrl, KeyError, canonical};
+use std::alloc::Global;
+use std::collections::BTreeSet;
+
+/// How many hosts the URLs are spread over.
+const HOSTS: u32 = 1000;
+
+/// How often the work `shared` keeps each URL besides the set.
+pub const COPIES: u32 = 3;
+
+/// What is made of each number.
+#[derive(Clone, Copy)]
+pub enum Work {
+    Texts,
+    Canonical,
+    Links,
+    Joined,
+}
+
+/// Makes so many, and answers how many bytes they have.
+pub fn made(alloc: Global, work: Work, count: u32) -> Option<u64> {
+    let base = page(alloc)?;
+    let mut bytes = 0u64;
+    for n in 0..count {
+        bytes = bytes.wrapping_add(made_of(alloc, work, &base, n)?);
+    }
+    Some(bytes)
+}
+
+fn made_of(alloc: Global, work: Work, base: &Base, n: u32) -> Option<u64> {
+    match work {
+        Work::Texts => Some(spelled(alloc, n)?.len() as u64),
+        Work::Canonical => bytes_of(canonical(alloc, spelled(alloc, n)?.as_str())),
+        Work::Links => Some(link(alloc, n)?.len() as u64),
+        Work::Joined => bytes_of(base.resolve(alloc, link(alloc, n)?.as_str())),
+    }
+}
+
+fn bytes_of(url: Result<CanonUrl, KeyError>) -> Option<u64> {
+    Some(url.ok()?.as_str().len() as u64)
+}
+
+/// The page that the links are joined to.
+fn page(alloc: Global) -> Option<Base> {
+    let url = canonical(
+        alloc,
+        "http://host-000.crawl.test/section/page-000000?view=full",
+    )
+    .ok()?;
+    Base::new(alloc, &url).ok()
+}
+
+/// A URL that canonicalising changes in case, port, dot segments and fragment.
+fn spelled(alloc: Global, n: u32) -> Option<String> {
+    let host = n % HOSTS;
+    format!(in alloc;
+        "http://Host-{host:03}.Crawl.test:80/section/./old/../page-{n:06}?view=full#top"
+    ).ok()
+}
+
+/// A link from a page to another one of its host.
+fn link(alloc: Global, n: u32) -> Option<String> {
+    format!(in alloc; "../page-{n:06}?view=full").ok()
+}
+
+fn url(alloc: Global, n: u32) -> Option<CanonUrl> {
+    canonical(alloc, spelled(alloc, n)?.as_str()).ok()
+}
+
+/// Keeps so many URLs in a set, and so many copies of each beside it.
+pub fn kept(alloc: Global, count: u32, copies: u32) -> Option<u64> {
+    let mut kept = Vec::with_capacity(alloc, count as usize * copies as usize).ok()?;
+    let mut seen = BTreeSet::new(alloc);
+    keep(alloc, &mut seen, &mut kept, count, copies)
+}
+
+fn keep(
+    alloc: Global,
+    seen: &mut BTreeSet<CanonUrl>,
+    kept: &mut Vec<CanonUrl>,
+    count: u32,
+    copies: u32,
+) -> Option<u64> {
+    let mut bytes = 0u64;
+    for n in 0..count {
+        let url = url(alloc, n)?;
+        bytes = bytes.wrapping_add(url.as_str().len() as u64);
+        keep_copies(kept, &url, copies)?;
+        seen.insert(url).ok()?;
+    }
+    Some(bytes)
+}
+
+fn keep_copies(kept: &mut Vec<CanonUrl>, url: &CanonUrl, copies: u32) -> Option<()> {
+    for _ in 0..copies {
+        kept.push(url.copy().ok()?).ok()?;
+    }
+    Some(())
+}
