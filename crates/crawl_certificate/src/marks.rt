@@ -52,7 +52,7 @@ impl Told {
 /// What the results say of the entries, and what is wrong with them.
 ///
 /// The entry of each result is looked for first at the place behind that of the result before it, and of the first one at
-/// `first`: a run's results come in the order of its entries.
+/// `first`: each worker's results come in the order of its subqueue's entries.
 pub fn marks_of<'a>(
     alloc: Global,
     filter: &Filter,
@@ -118,22 +118,21 @@ fn mark_results<'a>(
     };
     let mut guess = first;
     for one in results {
-        let of_one = mark_result(filter, accepted, entries, fetched, linked, guess, one);
+        let of_one = mark_result(filter, accepted, entries, fetched, linked, &mut guess, one);
         told = told.and(of_one);
-        guess = guess.saturating_add(1);
     }
     told
 }
 
 /// Marks the entry that has the result, and those that are linked from it and have one hop more. `twice` tells whether the
-/// entry was marked before.
+/// entry was marked before. The guess moves on behind the place that was found.
 fn mark_result<'a>(
     filter: &Filter,
     accepted: &Places<'a>,
     entries: &[&Entry],
     fetched: &mut [bool],
     linked: &mut [bool],
-    guess: usize,
+    guess: &mut usize,
     one: &'a PageResult,
 ) -> Told
     requires places { ArePlaces (pointed entries.now) accepted.now }
@@ -146,8 +145,9 @@ fn mark_result<'a>(
     ensures twice { (known : List ℕ → Bool) → fetched.old ≡ map (λ e. known e.url) (pointed entries.now) → result.stray ≡ false → result.twice ≡ known one.now.url }
 {
     let links = links_of(&one.page);
-    match place_by(accepted, entries, guess, &one.url) {
+    match place_by(accepted, entries, *guess, &one.url) {
         Some(place) => {
+            *guess = place.saturating_add(1);
             let twice = fetched[place];
             fetched[place] = true;
             let hops = entries[place].hops;
