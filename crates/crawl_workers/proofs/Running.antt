@@ -1,7 +1,8 @@
 -- How a worker's run goes on.
-use Rattle.std.proofs.Common.{◌≡◌, ◌⊎◌, inl, inr, ℕ, suc, ◌+◌, ◌-◌, ◌^◌, ◌<◌, ◌≤◌, Bool, List, [], ◌∷◌, ◌++◌, length, map, Option, None, Some, Result, Ok, Err, refl, sym, ap, subst, ◌∙◌, arith, IsTrue, IfSome, slice_set, slice_index_or}
-use Rattle.std.specs.List.{All, AllZip}
-use Rattle.std.proofs.lemmas.List.{append_assoc, map-append, length_push, set-get_or}
+use Rattle.std.proofs.Common.{◌≡◌, ◌⊎◌, inl, inr, ℕ, suc, ◌+◌, ◌-◌, ◌^◌, ◌<◌, ◌≤◌, min, Bool, true, false, cond, List, [], ◌∷◌, ◌++◌, length, map, take, Option, None, Some, Result, Ok, Err, refl, sym, ap, subst, ◌∙◌, arith, IsTrue, IfSome, slice_set, slice_index_or}
+use Rattle.std.specs.List.{All, AllZip, count_by}
+use Rattle.std.proofs.lemmas.List.{append_assoc, map-append, length_push, set-get_or, take_more}
+use Rattle.std.proofs.lemmas.List.Sums.{sum_by_push, sum_by-append}
 use Rattle.std.proofs.lemmas.Grind.{flat_map-append}
 use Rattle.std.proofs.lemmas.List.Elements.{All-push, All-nil, All-weaker, Contains-append_left, Contains-push}
 use Rattle.crawl_keys.specs.Assignment.{subqueue_of}
@@ -24,7 +25,7 @@ use Rattle.crawl_workers.specs.declared.worker_end.WorkerEnd.{WorkerEnd}
 use Rattle.crawl_workers.specs.declared.met.Met.{Met}
 use Rattle.crawl_workers.specs.Logs.{line_of, HasLine, AllLogged, Grows}
 use Rattle.crawl_workers.specs.Met.{Knows}
-use Rattle.crawl_workers.specs.Ran.{Fate, result_at, results_of, taken_in, AtLeast, Ran}
+use Rattle.crawl_workers.specs.Ran.{Fate, result_at, results_of, taken_in, most_lost_at, most_lost, Ran}
 use Rattle.crawl_workers.specs.Turn.{Finds, Loses, SameBusy}
 use Rattle.crawl_workers.specs.Runs.{AllRan}
 
@@ -95,6 +96,15 @@ knows_on workers b b' met grows all =
 pub unchanged_at : {X : Type 0} (xs : List X) (i : ℕ) (x y : X) → y ≡ slice_index_or xs i x → slice_set xs i y ≡ xs
 unchanged_at xs i x y same = ap (slice_set xs i) same ∙ set-get_or xs i x
 
+-- ## Links that are refused
+
+pub is_allowed : (may refused : Bool) → (may ≡ false → refused ≡ false) → refused ≡ true → may ≡ true
+is_allowed true refused none is = refl
+is_allowed false refused none is = absurd (let no = sym (none refl) ∙ is in cc)
+
+pub count_more : {X : Type 0} (p : X → Bool) (xs : List X) (i : ℕ) (x : X) → i < length xs → count_by p (take i xs) ≤ count_by p (take (i + 1) xs)
+count_more p xs i x less = rw (take_more xs i x less, sum_by-append (λ y. cond (p y) 1 0) (take i xs) (slice_index_or xs i x ∷ [])) (omega arith)
+
 -- ## A busy worker
 
 pub busy_same : (b : BusyId) → SameBusy b b
@@ -123,6 +133,7 @@ ran_nothing workers allowed meaning w = record {
   found = refl;
   pages = All-nil (λ (r : PageResult). r.page ≡ meaning r.url);
   counted = λ _. omega arith;
+  few = omega arith;
   grows = grows_same w.book w.book refl;
   links = λ _. All-nil (λ (r : PageResult). AllLogged workers allowed w.book.log (links_of r.page));
 }
@@ -137,6 +148,7 @@ ran_on workers allowed meaning start w v results lost place taken book ran = rec
   found = ran.found;
   pages = ran.pages;
   counted = ran.counted;
+  few = ran.few;
   grows = rw book ran.grows;
   links = rw book ran.links;
 }
@@ -156,6 +168,10 @@ taken_next start w fates e o taken =
 results_next : (fates : List Fate) (e : Entry) (o : Option Page) (results : List PageResult) → results ≡ results_of fates → results ++ result_at e o ≡ results_of (fates ++ (e, o) ∷ [])
 results_next fates e o results found =
     rw (flat_map-append (λ (f : Fate). result_at f.0 f.1) fates ((e, o) ∷ []), found, append_nil (result_at e o)) refl
+
+few_next : (allowed : List ℕ → Bool) (meaning : List ℕ → Page) (fates : List Fate) (e : Entry) (o : Option Page) (before after : ℕ) → before ≤ most_lost allowed meaning fates → after ≤ before + most_lost_at allowed (links_of (meaning e.url)) o → after ≤ most_lost allowed meaning (fates ++ (e, o) ∷ [])
+few_next allowed meaning fates e o before after few next =
+    rw (sum_by_push (λ (f : Fate). most_lost_at allowed (links_of (meaning f.0.url)) f.1) fates (e, o)) (omega (arith, few, next))
 
 -- a URL got its page
 ran_found : (workers : ℕ) (allowed : List ℕ → Bool) (meaning : List ℕ → Page) (start w v : WorkerId) (e : Entry) (old new : Harvest)
@@ -177,6 +193,7 @@ ran_found workers allowed meaning start w v e old new may place taken grows find
       found = finds.results ∙ results_next ran.fates e (Some finds.page) old.results.items ran.found;
       pages = rw finds.results (All-push (λ (r : PageResult). r.page ≡ meaning r.url) old.results.items result ran.pages finds.means);
       counted = rw finds.results counted;
+      few = few_next allowed meaning ran.fates e (Some finds.page) old.lost new.lost ran.few finds.few;
       grows = grows_on start.book w.book v.book ran.grows grows;
       links = λ none. rw finds.results (All-push (λ (r : PageResult). AllLogged workers allowed v.book.log (links_of r.page)) old.results.items result
           (all_links_on workers allowed w.book v.book old.results.items grows (ran.links (finds.links none).0)) (finds.links none).1);
@@ -184,7 +201,7 @@ ran_found workers allowed meaning start w v e old new may place taken grows find
 
 -- a URL was lost
 ran_lost : (workers : ℕ) (allowed : List ℕ → Bool) (meaning : List ℕ → Page) (start w v : WorkerId) (e : Entry) (old new : Harvest)
-    → MayFollow workers w.place w.taken e → v.place ≡ w.place → v.taken ≡ w.taken ++ e ∷ [] → Grows w.book v.book → Loses old new
+    → MayFollow workers w.place w.taken e → v.place ≡ w.place → v.taken ≡ w.taken ++ e ∷ [] → Grows w.book v.book → Loses (most_lost_at allowed (links_of (meaning e.url)) None) old new
     → Ran workers allowed meaning start w old.results.items old.lost → Ran workers allowed meaning start v new.results.items new.lost
 ran_lost workers allowed meaning start w v e old new may place taken grows loses ran =
     let fates : List Fate = ran.fates ++ (e, None) ∷ [] in
@@ -201,6 +218,7 @@ ran_lost workers allowed meaning start w v e old new may place taken grows loses
       found = loses.results ∙ (sym (append_nil old.results.items) ∙ results_next ran.fates e None old.results.items ran.found);
       pages = rw loses.results ran.pages;
       counted = rw loses.results counted;
+      few = few_next allowed meaning ran.fates e None old.lost new.lost ran.few loses.few;
       grows = grows_on start.book w.book v.book ran.grows grows;
       links = λ none. let more = loses.more (omega (arith, none)) in absurd (omega (arith, more, none));
     }
@@ -208,7 +226,7 @@ ran_lost workers allowed meaning start w v e old new may place taken grows loses
 -- a turn with a URL
 pub ran_worked : (workers : ℕ) (allowed : List ℕ → Bool) (meaning : List ℕ → Page) (start w v : WorkerId) (b b' : BusyId) (old new : Harvest)
     → (b.worker ≡ worker w.place w.seat (w.taken ++ b.message.entry ∷ []) w.empty_pops w.book) → MayFollow workers w.place w.taken b.message.entry
-    → SameBusy b b' → Finds workers allowed meaning b.message.entry.url b'.worker.book.log old new ⊎ Loses old new
+    → SameBusy b b' → Finds workers allowed meaning b.message.entry.url b'.worker.book.log old new ⊎ Loses (most_lost_at allowed (links_of (meaning b.message.entry.url)) None) old new
     → v.place ≡ b'.worker.place → v.taken ≡ b'.worker.taken → v.book ≡ b'.worker.book
     → Ran workers allowed meaning start w old.results.items old.lost → Ran workers allowed meaning start v new.results.items new.lost
 ran_worked workers allowed meaning start w v b b' old new takes may same finds place taken book ran =
@@ -223,23 +241,26 @@ ran_worked workers allowed meaning start w v b b' old new takes may same finds p
 
 -- a page was fetched, its links were offered, and its result kept or lost
 pub kept : (workers : ℕ) (allowed : List ℕ → Bool) (meaning : List ℕ → Page) (url : List ℕ) (log : List Logged) (old mid new : Harvest) (refused : ℕ) (page : Page)
-    → page ≡ meaning url → (refused ≡ 0 → AllLogged workers allowed log (links_of page))
-    → mid.results ≡ old.results → AtLeast (old.lost + refused) mid.lost → (mid.lost ≡ 0 → (old.lost ≡ 0) × (refused ≡ 0))
-    → ((new.results.items ≡ mid.results.items ++ record { url = url; page = page } ∷ []) × (new.lost ≡ mid.lost)) ⊎ Loses mid new
-    → Finds workers allowed meaning url log old new ⊎ Loses old new
-kept workers allowed meaning url log old mid new refused page means links same more none keeps = elim keeps [
-  | inl k ↦ inl (record {
-    page = page;
-    means = means;
-    results = k.0 ∙ ap (λ (v : _). v.items ++ record { url = url; page = page } ∷ []) same;
-    more = λ less. let m = more (omega (arith, k.1, less)) in omega (arith, m, k.1);
-    links = λ zero. let both = none (sym k.1 ∙ zero) in (both.0, links both.1);
-  })
-  | inr l ↦ inr (record {
-    results = l.results ∙ ap (λ (v : _). v.items) same;
-    more = λ less. let m = l.more less in let before = more (omega (arith, m, less)) in omega (arith, m, before);
-  })
-]
+    → page ≡ meaning url → refused ≤ count_by allowed (links_of page) → (refused ≡ 0 → AllLogged workers allowed log (links_of page))
+    → mid.results ≡ old.results → mid.lost ≡ min (old.lost + refused) (2 ^ 64 - 1)
+    → ((new.results.items ≡ mid.results.items ++ record { url = url; page = page } ∷ []) × (new.lost ≡ mid.lost)) ⊎ Loses 1 mid new
+    → Finds workers allowed meaning url log old new ⊎ Loses (most_lost_at allowed (links_of (meaning url)) None) old new
+kept workers allowed meaning url log old mid new refused page means refuses links same lost keeps =
+    let few : refused ≤ count_by allowed (links_of (meaning url)) = rw (← means) refuses in elim keeps [
+      | inl k ↦ inl (record {
+        page = page;
+        means = means;
+        results = k.0 ∙ ap (λ (v : _). v.items ++ record { url = url; page = page } ∷ []) same;
+        more = λ less. omega (arith, lost, k.1, less);
+        few = omega (arith, lost, k.1, few);
+        links = λ zero. (omega (arith, lost, k.1, zero), links (omega (arith, lost, k.1, zero)));
+      })
+      | inr l ↦ inr (record {
+        results = l.results ∙ ap (λ (v : _). v.items) same;
+        more = λ less. let m = l.more less in omega (arith, m, lost, less);
+        few = let f = l.few in omega (arith, f, lost, few);
+      })
+    ]
 
 pub all_zip_push : {A B : Type 0} (R : A → B → Type 0) (xs : List A) (ys : List B) (x : A) (y : B) → AllZip R xs ys → R x y → AllZip R (xs ++ x ∷ []) (ys ++ y ∷ [])
 all_zip_push R [] [] x y all last = (last, tt)

@@ -1,6 +1,6 @@
 -- What a worker has done in a run.
 use Rattle.std.specs.Prelude.{◌≡◌, ℕ, ◌+◌, ◌-◌, ◌^◌, ◌<◌, ◌≤◌, Bool, List, [], ◌∷◌, ◌++◌, length, map, Option, None, Some}
-use Rattle.std.specs.List.{All, flat_map}
+use Rattle.std.specs.List.{All, flat_map, count_by, sum_by}
 use Rattle.crawl_web.specs.declared.page.Page.{Page}
 use Rattle.crawl_web.specs.declared.page.PageResult.{PageResult}
 use Rattle.crawl_web.specs.Pages.{links_of}
@@ -29,10 +29,19 @@ taken_in fates = map (λ (f : Fate). f.0) fates
 abbrev pub AtLeast : ℕ → ℕ → Type 0
 AtLeast n lost = lost < 2 ^ 64 - 1 → n ≤ lost
 
+-- the most that is lost of a URL whose page has these links: those that are allowed, and the URL where it has no result
+abbrev pub most_lost_at : (List ℕ → Bool) → List (List ℕ) → Option Page → ℕ
+most_lost_at allowed links None = count_by allowed links + 1
+most_lost_at allowed links (Some page) = count_by allowed links
+
+abbrev pub most_lost : (List ℕ → Bool) → (List ℕ → Page) → List Fate → ℕ
+most_lost allowed meaning fates = sum_by (λ (f : Fate). most_lost_at allowed (links_of (meaning f.0.url)) f.1) fates
+
 -- From `start` to `now`, on a frontier with this number of workers and this filter, over pages with this meaning: the worker
 -- keeps its place; it took more entries, each with a URL that is new there and belongs there; the results are those of
--- the entries that have a page, in order, and each page is the one that its URL means; what has no result is lost; its
--- books have only grown; and where nothing was lost, each allowed link of each result stands in its log.
+-- the entries that have a page, in order, and each page is the one that its URL means; what has no result is lost, and
+-- beside it no more than links that are allowed, each once; its books have only grown; and where nothing was lost, each
+-- allowed link of each result stands in its log.
 pub record Ran (workers : ℕ) (allowed : List ℕ → Bool) (meaning : List ℕ → Page) (start now : WorkerId) (results : List PageResult) (lost : ℕ) : Type 0 where
   pub fates : List Fate
   pub place : now.place ≡ start.place
@@ -41,5 +50,6 @@ pub record Ran (workers : ℕ) (allowed : List ℕ → Bool) (meaning : List ℕ
   pub found : results ≡ results_of fates
   pub pages : All (λ r. r.page ≡ meaning r.url) results
   pub counted : lost < 2 ^ 64 - 1 → length fates ≤ length results + lost
+  pub few : lost ≤ most_lost allowed meaning fates
   pub grows : Grows start.book now.book
   pub links : lost ≡ 0 → All (λ r. AllLogged workers allowed now.book.log (links_of r.page)) results

@@ -1,5 +1,5 @@
 -- What one turn of a worker does.
-use Rattle.std.specs.Prelude.{◌≡◌, ℕ, ◌+◌, Bool, List, [], ◌∷◌, ◌++◌}
+use Rattle.std.specs.Prelude.{◌≡◌, ℕ, ◌+◌, ◌≤◌, Bool, List, [], ◌∷◌, ◌++◌, Some}
 use Rattle.crawl_web.specs.declared.page.Page.{Page}
 use Rattle.crawl_web.specs.Pages.{links_of}
 use Rattle.crawl_frontier.specs.declared.book.Logged.{Logged}
@@ -9,7 +9,7 @@ use Rattle.crawl_workers.specs.declared.turn.Step.{Step}
 use Rattle.crawl_workers.specs.declared.turn.Step.TheVariants.{Worked, Waits, Closes}
 use Rattle.crawl_workers.specs.Logs.{AllLogged, Grows}
 use Rattle.crawl_workers.specs.Met.{Knows}
-use Rattle.crawl_workers.specs.Ran.{AtLeast, Ran}
+use Rattle.crawl_workers.specs.Ran.{AtLeast, most_lost_at, Ran}
 
 -- the worker after a turn
 abbrev pub worker_in : {K : _} → Step K → WorkerId
@@ -26,17 +26,19 @@ Goes workers allowed meaning start now harvest =
 abbrev pub Keeps : List ℕ → Page → Harvest → Harvest → Type 0
 Keeps url page old new = (new.results.items ≡ old.results.items ++ record { url = url; page = page } ∷ []) × (new.lost ≡ old.lost)
 
--- one loss more at least, and no result
-pub record Loses (old new : Harvest) : Type 0 where
+-- one loss more at least and no more than so many, and no result
+pub record Loses (most : ℕ) (old new : Harvest) : Type 0 where
   pub results : new.results.items ≡ old.results.items
   pub more : AtLeast (old.lost + 1) new.lost
+  pub few : new.lost ≤ old.lost + most
 
--- the URL has its page as a result, and what was lost is counted
+-- the URL has its page as a result, and what was lost is counted: no more than the links of the page that are allowed
 pub record Finds (workers : ℕ) (allowed : List ℕ → Bool) (meaning : List ℕ → Page) (url : List ℕ) (log : List Logged) (old new : Harvest) : Type 0 where
   pub page : Page
   pub means : page ≡ meaning url
   pub results : new.results.items ≡ old.results.items ++ record { url = url; page = page } ∷ []
   pub more : AtLeast old.lost new.lost
+  pub few : new.lost ≤ old.lost + most_lost_at allowed (links_of (meaning url)) (Some page)
   pub links : new.lost ≡ 0 → (old.lost ≡ 0) × AllLogged workers allowed log (links_of page)
 
 -- the same worker and entry; the pass may be another, and the books have grown

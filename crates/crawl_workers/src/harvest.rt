@@ -1,9 +1,8 @@
 //! What a worker has found so far.
-ghost use Rattle.std.specs.Prelude.{◌≡◌, ◌⊎◌, ◌+◌, ◌++◌, ◌∷◌, [], ℕ, List};
+ghost use Rattle.std.specs.Prelude.{◌≡◌, ◌⊎◌, ◌+◌, ◌-◌, ◌^◌, min, [], ℕ, List};
 ghost use Rattle.crawl_frontier.specs.declared.book.Logged.{Logged};
 ghost use Rattle.crawl_workers.specs.Met.{Knows};
 ghost use Rattle.crawl_workers.specs.Turn.{Keeps, Loses};
-ghost use Rattle.crawl_workers.specs.Ran.{AtLeast};
 
 use crate::met::Met;
 use crate::worker_end::WorkerEnd;
@@ -36,15 +35,14 @@ impl Harvest {
     pub fn lose(&mut self, count: u64)
         ensures same { self.new.results ≡ self.old.results }
         ensures met { self.new.met ≡ self.old.met }
-        ensures more { AtLeast (self.old.lost + count) self.new.lost }
-        ensures none { self.new.lost ≡ 0 → (self.old.lost ≡ 0) × (count ≡ 0) }
+        ensures lost { self.new.lost ≡ min (self.old.lost + count) (2 ^ 64 - 1) }
     {
         self.lost = self.lost.saturating_add(count);
     }
 
     /// Keeps a result, or counts it as lost where there is no room for it.
     pub fn keep(&mut self, url: &CanonUrl, page: Page)
-        ensures kept { Keeps url.now page self.old self.new ⊎ Loses self.old self.new }
+        ensures kept { Keeps url.now page self.old self.new ⊎ Loses 1 self.old self.new }
         ensures met { self.new.met ≡ self.old.met }
     {
         let Ok(url) = url.copy() else {

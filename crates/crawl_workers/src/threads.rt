@@ -1,5 +1,5 @@
 //! A thread for each worker.
-ghost use Rattle.std.specs.Prelude.{◌≡◌, ◌≤◌, ◌<◌, ◌++◌, ◌∷◌, [], true, false, IfOk, IfSome, vec_capacity, vec_len, length};
+ghost use Rattle.std.specs.Prelude.{◌≡◌, ◌≤◌, ◌<◌, ◌++◌, ◌∷◌, [], true, false, IfOk, IfErr, IfSome, MatchResult, vec_capacity, vec_len, length};
 ghost use Rattle.std.specs.Thread.{IsSend, IsSync};
 ghost use Rattle.crawl_keys.specs.HostFilter.{allows};
 ghost use Rattle.crawl_workers.specs.Runs.{RanTo, AllRan};
@@ -61,6 +61,7 @@ fn run_all<K: Name + Send + Sync, F: Fetch + Sync, R: Threads + Wait + Sync>(
     requires room { length workers.items ≤ vec_capacity ends }
     requires none { ends.items ≡ [] }
     ensures ran { IfOk result (λ v. AllRan K.workers (allows K.filter) (F.meaning fetcher.now) workers.items v.items) }
+    ensures error { IfErr result (λ e. e ≡ RunError.NoThread) }
     ensures room { IfOk result (λ v. vec_capacity v ≡ vec_capacity ends) }
 {
     let Some(worker) = workers.pop() else {
@@ -75,6 +76,7 @@ fn run_all<K: Name + Send + Sync, F: Fetch + Sync, R: Threads + Wait + Sync>(
             requires room { length workers.items < vec_capacity ends }
             requires none { ends.items ≡ [] }
             ensures ran { IfOk result (λ v. AllRan K.workers (allows K.filter) (F.meaning fetcher.entry.now) (workers.items ++ worker ∷ []) v.items) }
+            ensures error { IfErr result (λ e. e ≡ RunError.NoThread) }
             ensures room { IfOk result (λ v. vec_capacity v ≡ vec_capacity ends) }
         {
             let promise = EndOf {
@@ -99,6 +101,16 @@ fn run_all<K: Name + Send + Sync, F: Fetch + Sync, R: Threads + Wait + Sync>(
     )
 }
 
+// Room for so many ends.
+fn room_for<K: Name>(alloc: Global, count: usize) -> Result<Vec<WorkerEnd<K>>, RunError>
+    ensures { MatchResult result (λ v. (v.items ≡ []) × (count ≤ vec_capacity v)) (λ e. e ≡ RunError.NoMemory) }
+{
+    let Ok(ends) = Vec::with_capacity(alloc, count) else {
+        return Err(RunError::NoMemory);
+    };
+    Ok(ends)
+}
+
 /// Runs each worker in a thread of its own, and answers their ends in the order given. No worker takes a URL before all
 /// threads were started.
 ///
@@ -116,9 +128,7 @@ pub fn run_threads<K: Name + Send + Sync, F: Fetch + Sync, R: Threads + Wait + S
 ) -> Result<Vec<WorkerEnd<K>>, RunError>
     ensures { IfOk result (λ v. AllRan K.workers (allows K.filter) (F.meaning fetcher.now) workers.items v.items) }
 {
-    let Ok(ends) = Vec::with_capacity(alloc, workers.len()) else {
-        return Err(RunError::NoMemory);
-    };
+    let ends = room_for(alloc, workers.len())?;
     let started = OnceLock::new();
     run_all(rt, alloc, frontier, workers, fetcher, &started, ends)
 }

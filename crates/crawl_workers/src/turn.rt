@@ -1,10 +1,11 @@
 //! One turn of a worker: it takes a URL, fetches it, offers its links, and is done.
-ghost use Rattle.std.specs.Prelude.{◌≡◌, ◌⊎◌, true, false};
+ghost use Rattle.std.specs.Prelude.{◌≡◌, ◌⊎◌, ◌≤◌, true, false, None, count_by};
 ghost use Rattle.crawl_keys.specs.HostFilter.{allows};
 ghost use Rattle.crawl_frontier.specs.Parts.{WorkerId};
 ghost use Rattle.crawl_web.specs.Pages.{links_of};
 ghost use Rattle.crawl_workers.specs.Logs.{AllLogged, HasLine};
 ghost use Rattle.crawl_workers.specs.Met.{Knows};
+ghost use Rattle.crawl_workers.specs.Ran.{most_lost_at};
 ghost use Rattle.crawl_workers.specs.Turn.{Finds, Goes, Loses, SameBusy, worker_in};
 
 use crate::harvest::Harvest;
@@ -38,6 +39,7 @@ fn is_refused<K: Name, R: Wait>(
 ) -> bool
     ensures url { url.new ≡ url.old }
     ensures same { SameBusy busy.old busy.new }
+    ensures filtered { allows K.filter url.old ≡ false → result ≡ false }
     ensures line { Knows K.workers busy.old.worker.book.log met.old → result ≡ false → allows K.filter url.old ≡ true → HasLine K.workers busy.new.worker.book.log url.old }
     ensures met { Knows K.workers busy.old.worker.book.log met.old → Knows K.workers busy.new.worker.book.log met.new }
 {
@@ -65,6 +67,7 @@ fn offer_links<K: Name, R: Wait>(
 ) -> u64
     ensures links { links.new ≡ links.old }
     ensures same { SameBusy busy.old busy.new }
+    ensures few { result ≤ count_by (allows K.filter) links.old }
     ensures lines { Knows K.workers busy.old.worker.book.log met.old → result ≡ 0 → AllLogged K.workers (allows K.filter) busy.new.worker.book.log links.old }
     ensures met { Knows K.workers busy.old.worker.book.log met.old → Knows K.workers busy.new.worker.book.log met.new }
 {
@@ -88,6 +91,7 @@ fn offer_page<K: Name, R: Wait>(
 ) -> (Page, u64)
     ensures page { result.0 ≡ page }
     ensures same { SameBusy busy.old busy.new }
+    ensures few { result.1 ≤ count_by (allows K.filter) (links_of page) }
     ensures lines { Knows K.workers busy.old.worker.book.log met.old → result.1 ≡ 0 → AllLogged K.workers (allows K.filter) busy.new.worker.book.log (links_of page) }
     ensures met { Knows K.workers busy.old.worker.book.log met.old → Knows K.workers busy.new.worker.book.log met.new }
 {
@@ -117,7 +121,7 @@ fn work<K: Name, F: Fetch, R: Wait>(
     harvest: &mut Harvest,
 )
     ensures same { SameBusy busy.old busy.new }
-    ensures finds { Knows K.workers busy.old.worker.book.log harvest.old.met → Finds K.workers (allows K.filter) (F.meaning fetcher.now) busy.old.message.entry.url busy.new.worker.book.log harvest.old harvest.new ⊎ Loses harvest.old harvest.new }
+    ensures finds { Knows K.workers busy.old.worker.book.log harvest.old.met → Finds K.workers (allows K.filter) (F.meaning fetcher.now) busy.old.message.entry.url busy.new.worker.book.log harvest.old harvest.new ⊎ Loses (most_lost_at (allows K.filter) (links_of (F.meaning fetcher.now busy.old.message.entry.url)) None) harvest.old harvest.new }
     ensures met { Knows K.workers busy.old.worker.book.log harvest.old.met → Knows K.workers busy.new.worker.book.log harvest.new.met }
 {
     let Ok(page) = fetcher.fetch(alloc, busy.url()) else {

@@ -15,5 +15,6 @@ scope-returns g t c =
     let ran : Ran g.K.Name.workers (allows g.K.Name.filter) (g.F.Fetch.meaning c.captures.fetcher.now) c.captures.worker c.in-Some.end.closed c.in-Some.end.results.items c.in-Some.end.lost = rw (c.in-Ok.ensures.ok, c.of.ensures) at kept in
     record {
       ran = rw c.push_reserved.ensures.items (all_ran_push _ _ _ c.captures.workers.items c.in_ok-ends.ends.items c.captures.worker c.in-Some.end c.in_ok-ends.ensures.ran ran);
+      error = tt;
       room = c.push_reserved.ensures.capacity ∙ c.in_ok-ends.ensures.room;
     }

@@ -1,4 +1,4 @@
-use Rattle.std.proofs.Common.{◌≡◌, sym, subst}
+use Rattle.std.proofs.Common.{sym, subst}
 use Rattle.crawl_workers.specs.Logs.{HasLine}
 use Rattle.crawl_workers.proofs.Running.{offer_grows, offer_line, knows_on}
 use Rattle.crawl_workers.proofs.turn.is_refused.Goals as goal

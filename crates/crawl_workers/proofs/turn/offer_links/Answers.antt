@@ -1,8 +1,9 @@
-use Rattle.std.proofs.Common.{◌≡◌, true, arith, take, ap, subst, ◌∙◌, slice_index_or}
+use Rattle.std.proofs.Common.{◌≡◌, true, false, arith, take, subst, ◌∙◌, slice_index_or}
 use Rattle.std.proofs.lemmas.List.{take_more}
+use Rattle.std.proofs.lemmas.List.Sums.{count_by_more_yes}
 use Rattle.crawl_keys.specs.HostFilter.{allows}
 use Rattle.crawl_workers.specs.Logs.{HasLine}
-use Rattle.crawl_workers.proofs.Running.{busy_on, all_logged_more, unchanged_at}
+use Rattle.crawl_workers.proofs.Running.{busy_on, all_logged_more, unchanged_at, is_allowed, count_more}
 use Rattle.crawl_workers.proofs.turn.offer_links.Goals.{then-is_refused, else-is_refused}
 use Rattle.crawl_workers.proofs.turn.offer_links.Goals as goal
 
@@ -31,4 +32,13 @@ loop-place-preserved g c =
             c.is_refused.ensures.met before.1,
           ),
       unchanged_at c.loop-place.links i x c.is_refused.new.url c.is_refused.ensures.url ∙ inv.3,
+      elim c.if-is_refused.branch [
+        | then-is_refused w ↦
+            let may = subst (λ ls. allows g.K.Name.filter (slice_index_or ls i x) ≡ false → c.is_refused.result ≡ false) inv.3 c.is_refused.ensures.filtered in
+            let one = count_by_more_yes (allows g.K.Name.filter) links i x c.loop-place-test.true (is_allowed _ _ may w.if-is_refused.true) in
+            omega (arith, w.refused-is, one, inv.4)
+        | else-is_refused w ↦
+            let more = count_more (allows g.K.Name.filter) links i x c.loop-place-test.true in
+            omega (arith, w.refused-is, more, inv.4)
+      ],
     )

@@ -1,4 +1,5 @@
-use Rattle.std.proofs.Common.{◌≡◌, ◌≤◌, take, length}
+use Rattle.std.proofs.Common.{◌≡◌, ◌≤◌, take}
+use Rattle.std.specs.List.{count_by}
 use Rattle.crawl_keys.specs.HostFilter.{allows}
 use Rattle.crawl_workers.specs.Logs.{AllLogged}
 use Rattle.crawl_workers.specs.Met.{Knows}
@@ -13,3 +14,4 @@ invariant-loop-place g l =
     → (l.refused ≡ 0 → AllLogged g.K.Name.workers (allows g.K.Name.filter) l.busy.worker.book.log (take l.place l.fn.links))
     × Knows g.K.Name.workers l.busy.worker.book.log l.met)
     × (l.links ≡ l.fn.links)
+    × (l.refused ≤ count_by (allows g.K.Name.filter) (take l.place l.fn.links))

@@ -1,4 +1,4 @@
-use Rattle.std.proofs.Common.{◌≡◌, ap, sym, subst}
+use Rattle.std.proofs.Common.{ap, sym, subst}
 use Rattle.crawl_frontier.specs.Books.{BookId}
 use Rattle.crawl_frontier.specs.Parts.{WorkerId}
 use Rattle.crawl_keys.specs.HostFilter.{allows}

@@ -1,4 +1,5 @@
-use Rattle.std.proofs.Common.{◌≡◌, sym, ap, subst, ◌∙◌}
+use Rattle.std.proofs.Common.{◌≡◌, ◌≤◌, sym, ap, subst, ◌∙◌}
+use Rattle.std.specs.List.{count_by}
 use Rattle.crawl_keys.specs.HostFilter.{allows}
 use Rattle.crawl_web.specs.Pages.{links_of}
 use Rattle.crawl_workers.specs.Logs.{AllLogged}
@@ -14,8 +15,9 @@ returns-clause-finds g c = λ known.
     kept g.K.Name.workers (allows g.K.Name.filter) (g.F.Fetch.meaning c.args.fetcher.now) c.args.busy.now.message.entry.url log
     c.args.harvest.now c.lose-2.new.self c.keep.new.self offered.result.1 offered.result.0
     (offered.ensures.page ∙ c.in-Ok.ensures.meaning ∙ ap (g.F.Fetch.meaning c.args.fetcher.now) c.url.ensures)
+    (subst (λ p. offered.result.1 ≤ count_by (allows g.K.Name.filter) (links_of p)) (sym offered.ensures.page) offered.ensures.few)
     (subst (λ p. offered.result.1 ≡ 0 → AllLogged g.K.Name.workers (allows g.K.Name.filter) log (links_of p)) (sym offered.ensures.page) (offered.ensures.lines known))
-    c.lose-2.ensures.same c.lose-2.ensures.more c.lose-2.ensures.none (rw url at c.keep.ensures.kept)
+    c.lose-2.ensures.same c.lose-2.ensures.lost (rw url at c.keep.ensures.kept)
 
 pub returns-clause-met : goal.returns-clause-met
 returns-clause-met g c = λ known.

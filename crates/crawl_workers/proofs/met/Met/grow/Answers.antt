@@ -1,4 +1,4 @@
-use Rattle.std.proofs.Common.{◌≡◌, List, ℕ, subst, sym, ◌∙◌, Option, Some, IfSome, slice_index_or}
+use Rattle.std.proofs.Common.{subst, sym, ◌∙◌, IfSome}
 use Rattle.crawl_workers.specs.Logs.{HasLine}
 use Rattle.crawl_workers.specs.Met.{AllKnown}
 use Rattle.crawl_workers.proofs.met.Met.grow.Goals.{in-Some, in_default-slot}
