@@ -1,7 +1,7 @@
 -- From the ends of a run to its results, and from an account to its counts.
-use Rattle.std.proofs.Common.{◌≡◌, inl, inr, ℕ, ◌+◌, Bool, List, [], ◌∷◌, ◌++◌, length, slice_get, Option, Some, None, Err, sym, ap, ◌∙◌, arith, length-append}
+use Rattle.std.proofs.Common.{◌≡◌, inl, inr, ℕ, ◌+◌, Bool, List, [], ◌∷◌, ◌++◌, length, slice_get, Option, Some, None, Err, sym, ap, subst, ◌∙◌, arith, length-append}
 use Rattle.std.proofs.lemmas.Bool.{cases_lt}
-use Rattle.std.proofs.lemmas.List.Elements.{All-nil, All-append, All-pop, All-cons}
+use Rattle.std.proofs.lemmas.List.Elements.{All-nil, All-append, All-head, All-tail, All-cons}
 use Rattle.crawl_certificate.specs.Certificate.{ArePages, CountsOf, unless_fault}
 use Rattle.crawl_certificate.specs.CertFaults.{first_fault}
 use Rattle.crawl_certificate.specs.declared.error.CertError.{CertError}
@@ -24,10 +24,12 @@ all_pages {K} workers allowed meaning (s ∷ ss) [] ran = absurd ran
 all_pages {K} workers allowed meaning (s ∷ ss) (e ∷ es) ran = All-cons (λ (x : WorkerEnd K). ArePages meaning x.results.items) e es ran.0.pages (all_pages workers allowed meaning ss es ran.1)
 
 -- one worker's results go to the others'
-pub pages_on : {K : _} (meaning : List ℕ → Page) (front : List (WorkerEnd K)) (e : WorkerEnd K) (all : List (WorkerEnd K)) (results : List PageResult) → all ≡ front ++ e ∷ [] → AllPages meaning all → ArePages meaning results → AllPages meaning front × ArePages meaning (results ++ e.results.items)
-pages_on {K} meaning front e all results is pages are =
-    let cut = All-pop (λ (x : WorkerEnd K). ArePages meaning x.results.items) all front (Some e) is pages in
-    (cut.0, All-append (λ (r : PageResult). r.page ≡ meaning r.url) results e.results.items are cut.1)
+pub pages_on : {K : _} (meaning : List ℕ → Page) (e : WorkerEnd K) (rest all : List (WorkerEnd K)) (results : List PageResult) → all ≡ e ∷ rest → AllPages meaning all → ArePages meaning results → AllPages meaning rest × ArePages meaning (results ++ e.results.items)
+pages_on {K} meaning e rest all results is pages are =
+    let each : AllPages meaning (e ∷ rest) = subst (AllPages meaning) is pages in (
+      All-tail (λ (x : WorkerEnd K). ArePages meaning x.results.items) e rest each,
+      All-append (λ (r : PageResult). r.page ≡ meaning r.url) results e.results.items are (All-head (λ (x : WorkerEnd K). ArePages meaning x.results.items) e rest each),
+    )
 
 -- ---- counts
 

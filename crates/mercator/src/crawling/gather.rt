@@ -9,16 +9,17 @@ use crawl_web::PageResult;
 use crawl_workers::WorkerEnd;
 use std::alloc::{AllocError, Global};
 
-/// The closed workers, and the results of all of them.
+/// The closed workers, and the results of all of them, in the order of the ends: so the results come in the order of an
+/// account's entries, where the certificate looks for each first.
 pub fn gathered<K: Name>(
     alloc: Global,
-    mut ends: Vec<WorkerEnd<K>>,
+    ends: Vec<WorkerEnd<K>>,
 ) -> Result<(Vec<ClosedWorker<K>>, Vec<PageResult>), AllocError>
     ensures { (meaning : List ℕ → Page) → AllPages meaning ends.items → IfOk result (λ r. ArePages meaning r.1.items) }
 {
     let mut closed = Vec::new(alloc);
     let mut results = Vec::new(alloc);
-    while let Some(end) = ends.pop() {
+    for end in ends {
         let WorkerEnd {
             closed: worker,
             results: mut found,
