@@ -1,6 +1,6 @@
 #!/bin/bash
-# Crawls saved webs of 10,000, 100,000 and 1,000,000 pages by the built program with 1, 2, 4 and 8 workers, each in a thread
-# of its own. It compares the reports of all numbers of workers byte for byte; and prints instructions a page at 10,000
+# Crawls saved webs of 10,000, 100,000 and 1,000,000 pages by the built program with 1, 2, 4 and 8 workers, several each
+# in a thread of its own. It compares the reports of all numbers of workers byte for byte; and prints instructions a page at 10,000
 # pages by callgrind, peak memory beyond the file a page, and the times, all with their ratios to those of one worker. Then it
 # does so a link on webs of the shape of real sites, with some 100 links a page, of 3,000 and 30,000 pages. It fails where a
 # report differs, a page is not found, or a target is missed. Wants `rt`, valgrind and GNU time in the path.

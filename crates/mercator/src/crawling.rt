@@ -27,7 +27,7 @@ use std::thread::Threads;
 pub enum Mode {
     /// All on the calling thread, one URL of each worker in turn.
     Turns,
-    /// Each in a thread of its own.
+    /// Each in a thread of its own, one alone on the calling thread.
     Threads,
 }
 

@@ -18,10 +18,13 @@ ghost use Rattle.mercator.specs.declared.commands.planned.Plan.{Plan};
 // The laws of scripts, which stand where scripts do.
 pub use crawl_replay::laws::{hosts_keep_to_their_subqueues, lines_mean_what_the_format_says};
 
-/// What a crawl finds and writes depends on the saved web, the seeds and the filter alone. So two crawls of one input from one
-/// list of seeds within one suffix, both with the lines of sources or both without, that both end with status 0, and began with an output that held the same, leave the same
-/// bytes there, whatever their numbers of workers and their maximums were; with the lines of their subqueues, where they have as
-/// many.
+/// What a crawl finds and writes depends on the saved web, the seeds and the filter alone.
+///
+/// `pages`: the pages of two crawls of the same bytes, from the same file of seeds and the same seeds, within the same
+/// suffixes, are equal. `reports`: so are the reports of two such crawls without a file of seeds. `outputs`: two plans crawl
+/// the same standard input from the same seeds of the command line within the same suffix, without a file of seeds, and ask
+/// for the same lines of sources and of subqueues; for the latter, with as many workers. Where each plan's text was appended
+/// to an output that held the same before, the outputs hold the same, whatever the workers and maximums were.
 pub fn same_bytes_for_any_workers()
     ensures pages { (bytes listed : List ℕ) (seeds suffixes : List (List ℕ)) (pages others : List PageResult) → IsSiteCrawl bytes listed seeds suffixes pages → IsSiteCrawl bytes listed seeds suffixes others → pages ≡ others }
     ensures reports { (bytes : List ℕ) (seeds suffixes : List (List ℕ)) (text other : List ℕ) → IsCrawlReport bytes seeds suffixes text → IsCrawlReport bytes seeds suffixes other → text ≡ other }

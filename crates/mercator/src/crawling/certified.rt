@@ -14,7 +14,7 @@ use crawl_web::PageResult;
 use std::alloc::Global;
 use std::thread::Threads;
 
-/// Certifies the results. Who asked for one worker, or for none in threads, gets no other thread here either.
+/// Certifies the results. Where no worker had a thread, none is started here.
 pub fn certified<R: Threads + Sync>(
     rt: &R,
     alloc: Global,

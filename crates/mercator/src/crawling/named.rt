@@ -1,7 +1,8 @@
 //! A crawl on a frontier that has a name.
-ghost use Rattle.std.specs.Prelude.{◌≡◌, ◌⊎◌, IfOk, IfErr};
+ghost use Rattle.std.specs.Prelude.{◌≡◌, ◌⊎◌, ◌≤◌, true, false, IfOk, IfErr, vec_len};
 ghost use Rattle.crawl_certificate.specs.Certificate.{IsCrawl, result_urls};
 ghost use Rattle.crawl_keys.specs.HostFilter.{allows};
+ghost use Rattle.crawl_workers.specs.Logs.{AllLogged, Grows, HasLine};
 ghost use Rattle.crawl_workers.specs.Runs.{AllRan};
 ghost use Rattle.crawl_workers.specs.declared.error.RunError.TheVariants as unrun;
 ghost use Rattle.mercator.specs.Crawls.{AreCounts, ComesIn, IsJudged, IsOfRun};
@@ -10,7 +11,7 @@ ghost use Rattle.mercator.specs.declared.crawling.Mode.TheVariants as modes;
 use crate::crawling::certified::certified;
 use crate::crawling::gather::{counts_of, gathered};
 use crate::crawling::{CrawlError, Crawled, Mode};
-use crawl_frontier::{Frontier, Name, Seeder, Setup, Worker};
+use crawl_frontier::{Frontier, Name, OfferError, Seeder, Setup, Worker};
 use crawl_keys::{CanonUrl, Filter};
 use crawl_web::Fetch;
 use crawl_workers::{RunError, WorkerEnd, run_threads, run_turns};
@@ -39,7 +40,8 @@ pub fn crawl_named<K: Name + Send + Sync, F: Fetch + Sync, R: Threads + Wait + S
     ensures judged { IfErr result (IsJudged (F.meaning fetcher.now) (allows filter.now) seeds.now) }
 {
     let (frontier, workers, mut seeder) = Frontier::<K>::new(alloc, setup, filter)?;
-    offer_seeds(rt, &frontier, &mut seeder, seeds);
+    // A seed that was refused may still come in by a link, and the certificate asks for it.
+    let _refused = offer_seeds(rt, &frontier, &mut seeder, seeds);
     let sender = seeder.end(&frontier);
     let ends = run(rt, alloc, &frontier, workers, fetcher, mode)?;
     let (closed, results) = gathered(alloc, ends)?;
@@ -51,19 +53,43 @@ pub fn crawl_named<K: Name + Send + Sync, F: Fetch + Sync, R: Threads + Wait + S
     Ok(Crawled { result, counts })
 }
 
-/// Offers the seeds in order. What is refused is passed over: it may still come in by a link, and the certificate asks for it.
+/// Offers the seeds in order, and answers how many are refused.
 fn offer_seeds<K: Name, R: Wait>(
     rt: &R,
     frontier: &Frontier<K>,
     seeder: &mut Seeder<K>,
     seeds: &[CanonUrl],
-) {
+) -> usize
+    ensures { result ≡ 0 → AllLogged K.workers (allows K.filter) seeder.new.book.log seeds.now }
+{
+    let mut refused = 0;
     for seed in seeds {
-        let _ = seeder.offer(rt, frontier, seed);
+        if is_refused(rt, frontier, seeder, seed) {
+            refused += 1;
+        }
+    }
+    refused
+}
+
+/// Offers a seed, and answers whether it is refused. One that the filter does not allow is not.
+fn is_refused<K: Name, R: Wait>(
+    rt: &R,
+    frontier: &Frontier<K>,
+    seeder: &mut Seeder<K>,
+    seed: &CanonUrl,
+) -> bool
+    ensures grows { Grows seeder.old.book seeder.new.book }
+    ensures line { result ≡ false → allows K.filter seed.now ≡ true → HasLine K.workers seeder.new.book.log seed.now }
+    ensures filtered { allows K.filter seed.now ≡ false → result ≡ false }
+{
+    match seeder.offer(rt, frontier, seed) {
+        Ok(_) => false,
+        Err(OfferError::Filtered) => false,
+        Err(_) => true,
     }
 }
 
-/// Runs all workers to their ends.
+/// Runs all workers to their ends. One alone runs on the calling thread in either mode.
 fn run<K: Name + Send + Sync, F: Fetch + Sync, R: Threads + Wait + Sync>(
     rt: &R,
     alloc: Global,
@@ -74,9 +100,10 @@ fn run<K: Name + Send + Sync, F: Fetch + Sync, R: Threads + Wait + Sync>(
 ) -> Result<Vec<WorkerEnd<K>>, RunError>
     ensures ran { IfOk result (λ ends. AllRan K.workers (allows K.filter) (F.meaning fetcher.now) workers.items ends.items) }
     ensures mode { IfErr result (λ error. (error ≡ unrun.NoMemory) ⊎ (mode ≡ modes.Threads)) }
+    ensures alone { vec_len workers ≤ 1 → IfErr result (λ error. error ≡ unrun.NoMemory) }
 {
     match mode {
-        Mode::Turns => run_turns(rt, alloc, frontier, workers, fetcher),
-        Mode::Threads => run_threads(rt, alloc, frontier, workers, fetcher),
+        Mode::Threads if workers.len() > 1 => { run_threads(rt, alloc, frontier, workers, fetcher) }
+        _ => run_turns(rt, alloc, frontier, workers, fetcher),
     }
 }
