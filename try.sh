@@ -1,6 +1,6 @@
 #!/bin/bash
 # Makes a saved web of the shipped site, crawls it, and prints its broken links. From a fresh clone it builds the program without
-# its proofs, in two minutes of one processor; with --proved it proves and builds it. A program that is built already is used.
+# its proofs, in two to three minutes of processor; with --proved it proves and builds it. A program that is built is used.
 #
 # Usage: ./try.sh [--proved]
 # Wants the Rattle kit and Python 3.9.
@@ -28,7 +28,7 @@ elif [ "${1:-}" = --proved ]; then
     (cd crates/mercator_cli && rt run -- "${words[@]}" < "$scratch/web" > "$scratch/report" 2> "$scratch/told") || { cat "$scratch/told"; exit 1; }
     said="by the proved program, $program"
 else
-    echo "building the program without its proofs, which takes two minutes or more .." >&2
+    echo "building the program without its proofs, which takes two to three minutes of processor .." >&2
     (cd crates/mercator_cli && rt try -- "${words[@]}" < "$scratch/web" > "$scratch/report" 2> "$scratch/told") || { cat "$scratch/told"; exit 1; }
     said="by a program without proofs; \`./try.sh --proved\` proves and builds it"
 fi
