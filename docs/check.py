@@ -2,8 +2,11 @@
 """Checks the repository's documents, and prints what is wrong with them.
 
 - A link leads to a file that is there.
-- A path in backticks names a file or folder, from the document's folder, its crate or the root.
+- A path in backticks names a file or folder, from the document's folder, its crate or the root. What a
+  build makes, below a crate's `out`, need not be there.
 - A name in backticks stands in some file that is no document.
+- Code below a line that begins with "From `PATH`" stands in that file, function by function.
+- No sentence has more than LONGEST words, where code in backticks counts as one.
 - A document is no larger than LIMITS allow, and all together are at most TOTAL bytes.
 - No document tells when something was so: dates stand in FIGURES and CHANGELOG alone.
 
@@ -21,6 +24,7 @@ from typing import Iterator
 
 ROOT = Path(__file__).resolve().parent.parent
 TOTAL = 200_000
+LONGEST = 40
 LIMITS = (
     (re.compile(r"README\.md"), 7_000),
     (re.compile(r"crates/\w+/README\.md"), 6_000),
@@ -28,6 +32,9 @@ LIMITS = (
 )
 HISTORY = ("bench/FIGURES.md", "CHANGELOG.md")
 DIARY = re.compile(r"\b(today|tonight|yesterday|until then|this morning|20\d\d-\d\d-\d\d|(?:November|December) 20\d\d)\b", re.I)
+QUOTED = re.compile(r"^From `([^`]+)`.*\n\n```rust\n(.*?)^```$", re.M | re.S)
+ITEM = re.compile(r"\s*(?:[-*#]+|\d+\.)\s+")
+SENTENCE_END = re.compile(r"[.:?!](?:\*\*|\))?\s")
 LINK = re.compile(r"\]\(([^)#\s]+)[^)]*\)")
 TICKED = re.compile(r"`([^`]+)`")
 PATH = re.compile(r"(?:[\w.-]+/)+[\w.-]*")
@@ -66,7 +73,48 @@ def prose(text: str) -> Iterator[tuple[int, str]]:
             yield number, line
 
 
+def units(text: str) -> Iterator[tuple[int, str]]:
+    """The paragraphs, items of lists and cells of tables, each with the number of its first line."""
+    unit: list[str] = []
+    above = first = 0
+    for number, line in prose(text + "\n\n"):
+        item = ITEM.match(line)
+        if unit and (not line.strip() or item or line[0] == "|" or number > above + 1):
+            yield first, " ".join(unit)
+            unit = []
+        above = number
+        line = TICKED.sub("code", line)
+        if line[:1] == "|":
+            yield from ((number, cell) for cell in line.split("|"))
+        elif line.strip():
+            first = first if unit else number
+            unit.append(line[item.end() if item else 0:])
+
+
+def faults_of_sentences(text: str) -> Iterator[tuple[int, str]]:
+    for number, unit in units(text):
+        for sentence in SENTENCE_END.split(unit):
+            words = len(sentence.split())
+            if words > LONGEST:
+                yield number, f"a sentence of {words} words, where {LONGEST} are the most"
+
+
+def faults_of_quotations(document: Path, text: str) -> Iterator[tuple[int, str]]:
+    for quoted in QUOTED.finditer(text):
+        path, code = quoted.groups()
+        number = text.count("\n", 0, quoted.start()) + 1
+        file = next((it for it in (ROOT / path, document.parent / path) if it.is_file()), None)
+        if file is None:
+            yield number, f"code of {path}, which is not there"
+            continue
+        source = file.read_text("utf-8")
+        for piece in code.rstrip("\n").split("\n\n"):
+            if piece not in source:
+                yield number, f"code that is not in {path}: {piece.splitlines()[0]}"
+
+
 def is_there(document: Path, path: str) -> bool:
+    path = re.sub(r"(?<=/)out/.*", "", path)
     places = [document.parent, ROOT, *(ROOT / "crates").iterdir(), ROOT / "docs", ROOT / "tests"]
     return any((place / path).exists() for place in places)
 
@@ -97,9 +145,11 @@ def faults(paths: list[Path]) -> Iterator[str]:
         for pattern, limit in LIMITS:
             if pattern.fullmatch(name) and size > limit:
                 yield f"{name}: {size} bytes, where {limit} are the most"
-        for number, line in prose(text):
-            for fault in faults_of_line(document, name, line, words):
-                yield f"{name}:{number}: {fault}"
+        found = [(number, fault) for number, line in prose(text)
+                 for fault in faults_of_line(document, name, line, words)]
+        found += [*faults_of_sentences(text), *faults_of_quotations(document, text)]
+        for number, fault in found:
+            yield f"{name}:{number}: {fault}"
     if total > TOTAL:
         yield f"all documents: {total} bytes, where {TOTAL} are the most"
 
