@@ -1,14 +1,18 @@
 -- When the books of a part agree with the list of a subqueue.
-use Rattle.std.proofs.Common.{◌≡◌, ℕ, zero, suc, ◌+◌, ◌≤◌, Bool, true, false, cond, eqb, List, [], ◌∷◌, ◌++◌, length, Some, refl, sym, ap, ◌∙◌, subst, arith}
+use Rattle.std.proofs.Common.{◌≡◌, ℕ, zero, suc, ◌+◌, ◌<◌, ◌≤◌, Bool, true, false, true≢false, cond, eqb, List, [], ◌∷◌, ◌++◌, length, Some, refl, sym, ap, ◌∙◌, subst, ⊎_elim, arith}
+use Rattle.std.proofs.lemmas.Bool.{cases_lt, or_left, or_right}
+use Rattle.std.proofs.lemmas.Slice.Eq.{bytes_eq-Decides}
+use Rattle.std.specs.Prelude.{bytes_eq}
 use Rattle.std.proofs.lemmas.Bool.Decides.{nat_tests}
 use Rattle.crawl_frontier.specs.declared.entry.Entry.{Entry}
 use Rattle.crawl_frontier.specs.declared.book.Logged.{Logged}
 use Rattle.crawl_frontier.specs.declared.book.Logged.TheVariants.{Accepted, Seen}
-use Rattle.crawl_frontier.specs.Entries.{KeepsRule, count_of, entries_of}
+use Rattle.crawl_frontier.specs.Entries.{KeepsRule, has_url, count_of, entries_of, HasNoUrlTwice}
 use Rattle.crawl_frontier.specs.Books.{BookId, sent_to, Numbered, IsBook, place_of}
 use Rattle.crawl_frontier.specs.Accounts.{At}
-use Rattle.crawl_frontier.specs.Finishing.{Stands, LogStands, CountsStand, AgreesBelow, KeepRuleBelow}
+use Rattle.crawl_frontier.specs.Finishing.{Stands, LogStands, LogFails, CountsStand, CountFails, AgreesBelow, DisagreesAt, KeepRuleBelow}
 use Rattle.crawl_frontier.proofs.Entries.{count_of-snoc}
+use Rattle.crawl_frontier.proofs.Gets.{same_at}
 
 -- the k-th entry of a numbered list has the k-th number
 numbered_at : (id n : ℕ) (xs : List Entry) (k : ℕ) (x : Entry) → Numbered id n xs → At xs k x → (x.sender ≡ id) × (x.number ≡ n + k)
@@ -110,3 +114,74 @@ agrees workers least below lists b is within rule under stands now under' counts
     found j x here =
         let r = sent_to-stands q es b.log in_list j x here in
         entries_of-at b.id es r.0 x r.1 (numbered_at b.id 0 (sent_to q b.log) j x (is.numbered q) here).0
+
+-- ---- what is found to differ is a fault
+
+entries_of-in : (id : ℕ) (es : List Entry) (j : ℕ) (x : Entry) → At (entries_of id es) j x → (k : ℕ) × At es k x
+entries_of-in id [] j x at = absurd (cc (at))
+entries_of-in id (e ∷ es) j x at = by_case (eqb e.sender id) j at (λ i here. entries_of-in id es i x here)
+  where
+    by_case : (t : Bool) (j : ℕ) → At (cond t (e ∷ entries_of id es) (entries_of id es)) j x → ((i : ℕ) → At (entries_of id es) i x → (k : ℕ) × At es k x) → (k : ℕ) × At (e ∷ es) k x
+    by_case true zero here rest = (0, here)
+    by_case true (suc j) here rest = let r = rest j here in (suc r.0, r.1)
+    by_case false j here rest = let r = rest j here in (suc r.0, r.1)
+
+-- an accepted line is among those of its subqueue
+sent_to-has : (q : ℕ) (log : List Logged) (k : ℕ) (e : Entry) → At log k (Accepted e q) → (j : ℕ) × At (sent_to q log) j e
+sent_to-has q [] k e at = absurd (cc (at))
+sent_to-has q (Seen u p ∷ ls) zero e at = absurd (cc (at))
+sent_to-has q (Seen u p ∷ ls) (suc k) e at = sent_to-has q ls k e at
+sent_to-has q (Accepted x p ∷ ls) zero e at = here (eqb p q) refl
+  where
+    here : (t : Bool) → eqb p q ≡ t → (j : ℕ) × At (cond t (x ∷ sent_to q ls) (sent_to q ls)) j e
+    here true is = let same : x ≡ e = cc in (0, ap Some same)
+    here false is = let same : p ≡ q = cc in absurd (grind (arith, nat_tests))
+sent_to-has q (Accepted x p ∷ ls) (suc k) e at = later (eqb p q) (sent_to-has q ls k e at)
+  where
+    later : (t : Bool) → (j : ℕ) × At (sent_to q ls) j e → (j : ℕ) × At (cond t (x ∷ sent_to q ls) (sent_to q ls)) j e
+    later true r = (suc r.0, r.1)
+    later false r = r
+
+-- a line that is false
+pub log_disagrees : (q : ℕ) (lists : List (List Entry)) (b : BookId) → LogFails q lists b.log → DisagreesAt q lists b
+log_disagrees q lists b (k, Seen u p, at, place, (es, here, fails)) =
+    (es, subst (λ n. At lists n es) place here, λ agree. true≢false (sym (agree.seen k u (subst (λ n. At b.log k (Seen u n)) place at)) ∙ fails))
+log_disagrees q lists b (k, Accepted e p, at, place, (es, here, fails)) =
+    (es, subst (λ n. At lists n es) place here, λ agree. refute agree.sent (sent_to-has q b.log k e (subst (λ n. At b.log k (Accepted e n)) place at)))
+  where
+    refute : sent_to q b.log ≡ entries_of b.id es → (j : ℕ) × At (sent_to q b.log) j e → ⊥
+    refute same r =
+        let s = entries_of-in b.id es r.0 e (subst (λ xs. At xs r.0 e) same r.1) in
+        fails s.0 s.1
+
+-- a count that is another
+pub count_disagrees : (workers q : ℕ) (lists : List (List Entry)) (b : BookId) → IsBook workers b → q < workers → CountFails q lists b → DisagreesAt q lists b
+count_disagrees workers q lists b is lt (es, n, here, counted, differs) = (
+  es,
+  here,
+  λ agree.
+      let both : Some n ≡ Some (length (sent_to q b.log)) = sym counted ∙ is.counted q lt in
+      let same : n ≡ length (sent_to q b.log) = cc in
+      differs (same ∙ (ap length agree.sent ∙ entries_of-length b.id es)),
+)
+
+-- a bound that falls to a place where something fails
+pub fails_next : (P : ℕ → Type 0) (first old new : ℕ) → new ≤ old → (old < first → P old) → (new < old → P new) → new < first → P new
+fails_next P first old new le before now lt = ⊎_elim now (λ not. let same : old ≡ new = omega (arith, le, not) in subst P same (before (omega (arith, lt, same)))) (cases_lt new old)
+
+-- ---- one entry of a list
+
+has_url-at : (es : List Entry) (k : ℕ) (e : Entry) → At es k e → has_url e.url es ≡ true
+has_url-at [] k e at = absurd (cc (at))
+has_url-at (x ∷ xs) zero e at =
+    let same : x ≡ e = cc in
+    or_left (bytes_eq x.url e.url) (has_url e.url xs) ((bytes_eq-Decides x.url e.url).1 (ap (λ z. z.url) same))
+has_url-at (x ∷ xs) (suc k) e at = or_right (bytes_eq x.url e.url) (has_url e.url xs) (has_url-at xs k e at)
+
+-- a list that does not have the URL
+pub not_there : (es : List Entry) (e : Entry) → has_url e.url es ≡ false → (k : ℕ) → ¬ At es k e
+not_there es e none k at = true≢false (sym (has_url-at es k e at) ∙ none)
+
+-- a list that has the URL once
+pub is_that : (es : List Entry) (found e : Entry) (j k : ℕ) → HasNoUrlTwice es → At es j found → found.url ≡ e.url → At es k e → found ≡ e
+is_that es found e j k once here url at = let same : j ≡ k = once j k found e here at url in same_at es k found e (subst (λ i. At es i found) same here) at

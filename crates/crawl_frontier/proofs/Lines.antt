@@ -9,28 +9,11 @@ use Rattle.crawl_gate.specs.View.{fresh_view}
 use Rattle.crawl_frontier.specs.Parts.{WorkerId}
 use Rattle.crawl_frontier.specs.Books.{fresh_book}
 use Rattle.crawl_frontier.specs.FreshParts.{Line, AllPush, AllPop, AllFresh}
-
--- what stands in a list one longer stood in it before, or is the last
-get_snoc : {A : Type 0} (xs : List A) (a b : A) (k : ℕ) → slice_get (xs ++ a ∷ []) k ≡ Some b → (slice_get xs k ≡ Some b) ⊎ ((k ≡ length xs) × (a ≡ b))
-get_snoc [] a b zero e = inr (refl, cc (e))
-get_snoc [] a b (suc k) e = absurd (cc (e))
-get_snoc (x ∷ xs) a b zero e = inl e
-get_snoc (x ∷ xs) a b (suc k) e = ⊎_elim inl (λ t. inr (ap suc t.0, t.1)) (get_snoc xs a b k e)
+use Rattle.crawl_frontier.proofs.Gets.{get_both}
 
 get_past : {A : Type 0} (xs : List A) (a : A) → slice_get xs (length xs) ≡ Some a → ⊥
 get_past [] a e = absurd (cc (e))
 get_past (x ∷ xs) a e = get_past xs a e
-
--- the same of two lists of one length
-get_both : {A B : Type 0} (xs : List A) (ys : List B) (a a' : A) (b b' : B) (k : ℕ) → length xs ≡ length ys
-    → slice_get (xs ++ a ∷ []) k ≡ Some a' → slice_get (ys ++ b ∷ []) k ≡ Some b'
-    → ((slice_get xs k ≡ Some a') × (slice_get ys k ≡ Some b')) ⊎ ((k ≡ length xs) × (a ≡ a') × (b ≡ b'))
-get_both [] [] a a' b b' zero same e f = inr (refl, cc (e), cc (f))
-get_both [] [] a a' b b' (suc k) same e f = absurd (cc (e))
-get_both [] (y ∷ ys) a a' b b' k same e f = absurd (omega arith)
-get_both (x ∷ xs) [] a a' b b' k same e f = absurd (omega arith)
-get_both (x ∷ xs) (y ∷ ys) a a' b b' zero same e f = inl (e, f)
-get_both (x ∷ xs) (y ∷ ys) a a' b b' (suc k) same e f = ⊎_elim inl (λ t. inr (ap suc t.0, t.1, t.2)) (get_both xs ys a a' b b' k (omega arith) e f)
 
 pub line-snoc : (gate : GateId) (workers : ℕ) (qs : List QueueId) (ss ts : List PassId) (n : ℕ) (q : QueueId) (s t : PassId) → Line gate workers qs ss ts n
     → (s.queue ≡ q) × (s.view ≡ pushing (home gate workers n) []) → (t.queue ≡ q) × (t.view ≡ popping (home gate workers n) [] 0)

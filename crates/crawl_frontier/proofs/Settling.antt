@@ -11,24 +11,22 @@ use Rattle.std.specs.BTreeSet.{BTreeSet, contains}
 use Rattle.crawl_gate.specs.Seat.{GateId}
 use Rattle.crawl_frontier.specs.declared.entry.Entry.{Entry}
 use Rattle.crawl_frontier.specs.declared.book.Book.{Book}
+use Rattle.crawl_frontier.specs.declared.finish.settle.Doubt.{Doubt}
 use Rattle.crawl_frontier.specs.QueueId.{QueueId}
 use Rattle.crawl_frontier.specs.PassId.{PassId}
 use Rattle.crawl_frontier.specs.Entries.{KeepsRule}
 use Rattle.crawl_frontier.specs.Rule.{popping, home}
 use Rattle.crawl_frontier.specs.Books.{BookId, book_of}
-use Rattle.crawl_frontier.specs.Parts.{WorkerId, SenderId}
-use Rattle.crawl_frontier.specs.Accounts.{At, IsPart, HasWorkers, HasStranger, Accounts}
-use Rattle.crawl_frontier.specs.Finishing.{Slots, Placed, OwnRight, Settled, IdsOf, Stranger, AgreesBelow, Gathered, AllAre, SendersIn, HasBook}
-use Rattle.crawl_frontier.proofs.Gets.{get_snoc, get_within}
+use Rattle.crawl_frontier.specs.Parts.{WorkerId, SenderId, ShardId}
+use Rattle.crawl_frontier.specs.Accounts.{At, IsPart, HasWorkers, Accounts}
+use Rattle.crawl_frontier.specs.Finishing.{Slots, Placed, OwnRight, IsShared, SettlesAt, AllSettle, IdsOf, AgreesBelow, Gathered, AllAre, SendersIn, HasBook}
+use Rattle.crawl_frontier.proofs.Gets.{get_snoc, get_both, get_within, has_at, same_at}
 
 key_is : (key q : ℕ) → is_at (nat_cmp key) q ≡ true → key ≡ q
 key_is key q e = let same : eqb key q ≡ true = unsigned_ties key q ∙ e in grind (arith, nat_tests)
 
 key_self : (key : ℕ) → is_at (nat_cmp key) key ≡ true
 key_self key = let same : eqb key key ≡ true = grind (arith, nat_tests) in sym (unsigned_ties key key) ∙ same
-
-pub same_at : {X : Type 0} (xs : List X) (k : ℕ) (a b : X) → At xs k a → At xs k b → a ≡ b
-same_at xs k a b p q = let both : Some a ≡ Some b = sym p ∙ q in cc
 
 -- the books of an element
 pub at_book : (books : List Book) (j : ℕ) (x : Book) → j < length books → x ≡ get_or books j x → At (map book_of books) j (book_of x)
@@ -62,16 +60,18 @@ some_not_none : (o : Option PassId) (p : PassId) → o ≡ Some p → o ≡ None
 some_not_none o p a b = let both : Some p ≡ None = sym a ∙ b in absurd (cc (both))
 
 -- no worker was taken apart
-pub placed-none : (gate : GateId) (workers : ℕ) (closed : List WorkerId) (rights : BTreeMap ℕ PassId) (alone : ℕ) → Placed gate workers closed (length closed) rights alone
-placed-none gate workers closed rights alone = record {
-  within = λ k w at le. past k w at le;
-  there = λ k w at le. past k w at le;
-  own = λ k w at le. past k w at le;
-  once = λ j k v w at there le le'. past j v at le;
+pub placed-none : (gate : GateId) (workers : ℕ) (closed : List WorkerId) (rights : BTreeMap ℕ PassId) (alone : ℕ)
+    → ((q : ℕ) → get nat_cmp rights q ≡ None) → Placed gate workers closed (length closed) rights alone
+placed-none gate workers closed rights alone none = record {
+  within = λ k w at from. past k w at from;
+  there = λ k w at from. past k w at from;
+  own = λ k w at from. past k w at from;
+  once = λ j k v w at there from from'. past j v at from;
+  whose = λ q has. absurd (true≢false (sym has ∙ ap is_some (none q)));
 }
   where
     past : {X : Type 0} → (k : ℕ) (w : WorkerId) → At closed k w → length closed ≤ k → X
-    past k w at le = let lt = get_within closed k w at in absurd (omega arith)
+    past k w at from = let lt = get_within closed k w at in absurd (omega arith)
 
 -- one closed worker more was taken apart, the n-th
 pub placed_more : (gate : GateId) (workers : ℕ) (closed : List WorkerId) (m m' : BTreeMap ℕ PassId) (n : ℕ) (w : WorkerId) (r : PassId) (alone alone' : ℕ)
@@ -86,8 +86,16 @@ placed_more gate workers closed m m' n w r alone alone' old at below h view le n
   once = λ j k u v at_j at_k from_j from_k same small. ⊎_elim (λ e. ⊎_elim (λ e'. e ∙ sym e') (λ later. absurd (clash k v at_k later (sym same ∙ sym (ap (λ z. z.place) (is_w j u at_j e))) small)) (first k from_k))
       (λ later_j. ⊎_elim (λ e'. absurd (clash j u at_j later_j (same ∙ sym (ap (λ z. z.place) (is_w k v at_k e'))) (omega (arith, same, small)))) (λ later_k. old.once j k u v at_j at_k later_j later_k same (omega (arith, small, le))) (first k from_k))
       (first j from_j);
+  whose = λ q has. whose q has;
 }
   where
+    whose : (q : ℕ) → is_some (get nat_cmp m' q) ≡ true → (k : ℕ) × (v : WorkerId) × At closed k v × (n ≤ k) × (v.place ≡ q)
+    whose q has = by_case (is_at (nat_cmp w.place) q) refl (sym (ap is_some (h q)) ∙ has)
+      where
+        by_case : (t : Bool) → is_at (nat_cmp w.place) q ≡ t → is_some (cond t (Some r) (get nat_cmp m q)) ≡ true → (k : ℕ) × (v : WorkerId) × At closed k v × (n ≤ k) × (v.place ≡ q)
+        by_case true is here = (n, w, at, omega arith, key_is w.place q is)
+        by_case false is here = let t = old.whose q here in (t.0, t.1, t.2, omega (arith, t.3), t.4)
+
     mine : get nat_cmp m' w.place ≡ Some r
     mine = h w.place ∙ ap (λ t. cond t (Some r) (get nat_cmp m w.place)) (key_self w.place)
 
@@ -118,16 +126,42 @@ placed_more gate workers closed m m' n w r alone alone' old at below h view le n
             let p = old.own k v here later (omega (arith, small, le)) in
             (p.0, h v.place ∙ ((λ i. cond (is i) (Some r) (get nat_cmp m v.place)) ∙ p.1), p.2)
 
-pub settled_more : (workers : ℕ) (rights : BTreeMap ℕ PassId) (least least' : ℕ) (lists : List (List Entry)) (list : List Entry) (p : PassId) (ok : Bool)
-    → Settled workers rights least lists → least' ≤ least → (length lists < least' → ok ≡ true) → get nat_cmp rights (length lists) ≡ Some p
-    → (ok ≡ true → list ≡ p.view.taken) → (ok ≡ true → KeepsRule workers (length lists) [] list) → Settled workers rights least' (lists ++ list ∷ [])
-settled_more workers rights least least' lists list p ok old le good there taken rule q es lt at =
-    ⊎_elim (λ before. old q es (omega arith) before) (λ (t : (q ≡ length lists) × (list ≡ es)). last t.0 t.1) (get_snoc lists list es q at)
+-- two workers meet at the place at which the bound falls
+pub shared_more : (gate : GateId) (workers : ℕ) (closed : List WorkerId) (m : BTreeMap ℕ PassId) (n : ℕ) (w : WorkerId) (limit alone alone' : ℕ)
+    → Placed gate workers closed (n + 1) m alone → At closed n w → alone' ≤ alone → (alone' < alone → (alone' ≡ w.place) × (is_some (get nat_cmp m w.place) ≡ true))
+    → (alone < limit → IsShared closed alone) → alone' < limit → IsShared closed alone'
+shared_more gate workers closed m n w limit alone alone' old at le named before lt = ⊎_elim meets
+    (λ not. let same : alone ≡ alone' = omega (arith, le, not) in subst (IsShared closed) same (before (omega (arith, lt, same))))
+    (cases_lt alone' alone)
   where
-    last : q ≡ length lists → list ≡ es → ((p : PassId) × (get nat_cmp rights q ≡ Some p) × (es ≡ p.view.taken)) × KeepsRule workers q [] es
-    last here equal =
-        let yes = good (omega arith) in
-        subst (λ (y : ℕ × List Entry). ((p : PassId) × (get nat_cmp rights y.0 ≡ Some p) × (y.1 ≡ p.view.taken)) × KeepsRule workers y.0 [] y.1) (λ i. (sym here i, equal i)) ((p, there, taken yes), rule yes)
+    meets : alone' < alone → IsShared closed alone'
+    meets less =
+        let here = named less in
+        let t = old.whose w.place here.1 in
+        (n, t.0, w, t.1, at, t.2, sym here.0, t.4 ∙ sym here.0, λ same. absurd (omega (arith, t.3, same)))
+
+-- one place more was settled
+pub settle_more : (workers : ℕ) (queues : List QueueId) (shards : List ShardId) (rights : BTreeMap ℕ PassId) (lists : List (List Entry)) (doubts : List (Option Doubt))
+    (list : List Entry) (doubt : Option Doubt) → AllSettle workers queues shards rights lists doubts → length lists ≡ length doubts
+    → SettlesAt workers queues shards rights (length lists) list doubt → AllSettle workers queues shards rights (lists ++ list ∷ []) (doubts ++ doubt ∷ [])
+settle_more workers queues shards rights lists doubts list doubt old len last q es d at there = ⊎_elim
+    (λ before. old q es d before.0 before.1)
+    (λ now. subst (λ (y : ℕ × List Entry × Option Doubt). SettlesAt workers queues shards rights y.0 y.1 y.2) (λ i. (sym now.0 i, now.1 i, now.2 i)) last)
+    (get_both lists doubts list es doubt d q len at there)
+
+-- below `least` each list is what the right to pop took, and keeps its rule
+abbrev pub Settled : ℕ → BTreeMap ℕ PassId → ℕ → List (List Entry) → Type 0
+Settled workers rights least lists =
+    (q : ℕ) (es : List Entry) → q < least → At lists q es
+    → ((p : PassId) × (get nat_cmp rights q ≡ Some p) × (es ≡ p.view.taken)) × KeepsRule workers q [] es
+
+-- where no place is in doubt
+pub settled : (workers : ℕ) (queues : List QueueId) (shards : List ShardId) (rights : BTreeMap ℕ PassId) (lists : List (List Entry)) (doubts : List (Option Doubt)) (least : ℕ)
+    → AllSettle workers queues shards rights lists doubts → ((q : ℕ) → q < least → At doubts q None) → Settled workers rights least lists
+settled workers queues shards rights lists doubts least all none q es lt at =
+    let t = all q es None at (none q lt) in
+    let shows = t.6 in
+    ((t.2, t.5, shows.0 ∙ shows.2.1), subst (λ (n : ℕ). KeepsRule workers n [] es) shows.2.0 shows.1)
 
 -- the ids of the first books
 abbrev pub IdsBelow : List BookId → ℕ → BTreeSet ℕ → Type 0
@@ -174,13 +208,8 @@ known_some : (o : Option PassId) → is_some o ≡ true → (p : PassId) × (o �
 known_some None e = absurd (cc (e))
 known_some (Some p) e = (p, refl)
 
-has_at : {X : Type 0} (xs : List X) (k : ℕ) → k < length xs → (x : X) × At xs k x
-has_at [] k lt = absurd (omega arith)
-has_at (x ∷ xs) zero lt = (x, refl)
-has_at (x ∷ xs) (suc k) lt = has_at xs k (omega arith)
-
 -- with nothing left to take apart, the books of each part are here
-has_book : (workers : ℕ) (closed : List WorkerId) (senders : List SenderId) (books : List BookId) → Gathered workers closed senders [] [] books → (b : BookId) → IsPart closed senders b → HasBook books b
+pub has_book : (workers : ℕ) (closed : List WorkerId) (senders : List SenderId) (books : List BookId) → Gathered workers closed senders [] [] books → (b : BookId) → IsPart closed senders b → HasBook books b
 has_book workers closed senders books g b part = ⊎_elim
     (λ (t : (k : ℕ) × (w : WorkerId) × At closed k w × (w.book ≡ b)). subst (HasBook books) t.3 (⊎_elim (λ (lt : t.0 < 0). absurd (omega arith)) (λ h. h) (g.closed_in t.0 t.1 t.2)))
     (λ (t : (k : ℕ) × (s : SenderId) × At senders k s × (s.book ≡ b)). subst (HasBook books) t.3 (⊎_elim (λ (lt : t.0 < 0). absurd (omega arith)) (λ h. h) (g.senders_in t.0 t.1 t.2)))
@@ -199,21 +228,6 @@ pub one_is_missing : (gate : GateId) (workers : ℕ) (closed : List WorkerId) (r
 one_is_missing gate workers closed rights alone q placed lt none has =
     let t = has q lt in
     true≢false (sym (placed.there t.0 t.1 t.2 (omega arith)) ∙ (ap (λ k. is_some (get nat_cmp rights k)) t.3 ∙ none))
-
--- an entry whose sender is not among the ids of the books
-pub strangers : (workers : ℕ) (closed : List WorkerId) (senders : List SenderId) (books : List BookId) (ids : BTreeSet ℕ) (lists : List (List Entry))
-    → Gathered workers closed senders [] [] books → IdsOf books ids → ((q : ℕ) × (es : List Entry) × At lists q es × Stranger ids es) → HasStranger closed senders lists
-strangers workers closed senders books ids lists g of_ids s = (
-  s.0,
-  s.1,
-  s.3.0,
-  s.3.1,
-  s.2,
-  s.3.2,
-  λ b part same.
-      let h = has_book workers closed senders books g b part in
-      true≢false (sym (of_ids.all h.0 b h.1) ∙ (ap (contains nat_cmp ids) same ∙ s.3.3)),
-)
 
 -- with nothing left to take apart and all places compared, the lists are an account
 pub accounts : (gate : GateId) (workers : ℕ) (queues : List QueueId) (closed : List WorkerId) (senders : List SenderId) (rights : BTreeMap ℕ PassId) (books : List BookId) (lists : List (List Entry)) (alone least now : ℕ) (ids : BTreeSet ℕ)

@@ -1,5 +1,5 @@
 -- What an account lists, how it agrees with the parts of a run, and why a run has none.
-use Rattle.std.specs.Prelude.{◌≡◌, ◌≢◌, ◌⊎◌, ℕ, ◌<◌, true, List, [], length, Some, slice_get}
+use Rattle.std.specs.Prelude.{◌≡◌, ◌≢◌, ◌⊎◌, ℕ, ◌<◌, Bool, true, List, [], length, Some, slice_get}
 use Rattle.crawl_frontier.specs.declared.entry.Entry.{Entry}
 use Rattle.crawl_frontier.specs.declared.book.Logged.TheVariants.{Seen}
 use Rattle.crawl_frontier.specs.declared.error.FinishError.{FinishError}
@@ -26,6 +26,13 @@ pub record Agrees (q : ℕ) (es : List Entry) (b : BookId) : Type 0 where
   pub sent : sent_to q b.log ≡ entries_of b.id es
   pub seen : (k : ℕ) (url : List ℕ) → At b.log k (Seen url q) → has_url url es ≡ true
 
+-- each entry's sender is a part, and some entry's is none
+abbrev pub HasSenders : List WorkerId → List SenderId → List Entry → Type 0
+HasSenders closed senders es = (k : ℕ) (e : Entry) → At es k e → (b : BookId) × IsPart closed senders b × (b.id ≡ e.sender)
+
+abbrev pub HasStranger : List WorkerId → List SenderId → List Entry → Type 0
+HasStranger closed senders es = (k : ℕ) × (e : Entry) × At es k e × ((b : BookId) → IsPart closed senders b → b.id ≢ e.sender)
+
 -- an account agrees with the closed workers and the senders of a run
 pub record Accounts (workers : ℕ) (closed : List WorkerId) (senders : List SenderId) (queues : List (List Entry)) : Type 0 where
   pub len : length queues ≡ workers
@@ -35,7 +42,7 @@ pub record Accounts (workers : ℕ) (closed : List WorkerId) (senders : List Sen
   pub taken : (k : ℕ) (w : WorkerId) → At closed k w → At queues w.place w.taken
   -- the books of each part agree, and each entry's sender is a part
   pub agrees : (q : ℕ) (es : List Entry) → At queues q es → (b : BookId) → IsPart closed senders b → Agrees q es b
-  pub parts : (q : ℕ) (es : List Entry) → At queues q es → (k : ℕ) (e : Entry) → At es k e → (b : BookId) × IsPart closed senders b × (b.id ≡ e.sender)
+  pub parts : (q : ℕ) (es : List Entry) → At queues q es → HasSenders closed senders es
 
 -- each list keeps the rule of its subqueue
 abbrev pub AllKeepRule : ℕ → List (List Entry) → Type 0
@@ -46,17 +53,44 @@ pub record AccountId : Type 0 where
   pub workers : ℕ
   pub queues : List (List Entry)
 
--- some entry of these lists has a sender that is no part
-abbrev pub HasStranger : List WorkerId → List SenderId → List (List Entry) → Type 0
-HasStranger closed senders lists =
-    (q : ℕ) × (es : List Entry) × (k : ℕ) × (e : Entry) × At lists q es × At es k e
-    × ((b : BookId) → IsPart closed senders b → b.id ≢ e.sender)
+-- what was found at a place: which subqueue's shard, the list sent, and whether its worker was seen to have taken all of it
+pub record Found : Type 0 where
+  pub place : ℕ
+  pub sent : List Entry
+  pub is_taken : Bool
 
--- A worker is missing, or else a sender of what the shards list: no clause of an earlier call has their lists. One
--- subqueue disagrees only where no worker is missing. That the gate is unsettled is never answered.
+-- The list keeps the rule of its shard's subqueue. One that was seen to be taken is what a closed worker of the place took.
+pub record IsFound (workers : ℕ) (closed : List WorkerId) (q : ℕ) (f : Found) : Type 0 where
+  pub rule : KeepsRule workers f.place [] f.sent
+  pub taken : f.is_taken ≡ true → (k : ℕ) × (w : WorkerId) × At closed k w × (w.place ≡ q) × (w.taken ≡ f.sent)
+
+-- what can be found, place by place
+pub record AreFound (workers : ℕ) (closed : List WorkerId) (found : List Found) : Type 0 where
+  pub len : length found ≡ workers
+  pub each : (q : ℕ) (f : Found) → At found q f → IsFound workers closed q f
+
+-- The place has its own shard and one worker, which took all that was sent; and the books of each part agree with that.
+pub record IsSettled (closed : List WorkerId) (senders : List SenderId) (q : ℕ) (f : Found) : Type 0 where
+  pub here : f.place ≡ q
+  pub taken : f.is_taken ≡ true
+  pub once : (j k : ℕ) (v w : WorkerId) → At closed j v → At closed k w → v.place ≡ q → w.place ≡ q → j ≡ k
+  pub agrees : (b : BookId) → IsPart closed senders b → Agrees q f.sent b
+
+-- q is the least place that is not settled
+pub record IsFirstUnsettled (closed : List WorkerId) (senders : List SenderId) (found : List Found) (q : ℕ) : Type 0 where
+  pub there : (f : Found) × At found q f × (¬ IsSettled closed senders q f)
+  pub below : (p : ℕ) (f : Found) → p < q → At found p f → IsSettled closed senders p f
+
+-- A worker is missing; or else a sender of what was found; or else one place disagrees, and it is the least. No clause of
+-- an earlier call has the lists that were found. That the gate is unsettled is never answered.
 abbrev pub FinishFails : ℕ → List WorkerId → List SenderId → FinishError → Type 0
 FinishFails workers closed senders MissingPart =
-    (¬ HasWorkers workers closed) ⊎ ((lists : List (List Entry)) × (length lists ≡ workers) × HasStranger closed senders lists)
+    (¬ HasWorkers workers closed)
+    ⊎ (HasWorkers workers closed × ((found : List Found) × AreFound workers closed found × ((q : ℕ) × (f : Found) × At found q f × HasStranger closed senders f.sent)))
 FinishFails workers closed senders (Unsettled word) = ⊥
-FinishFails workers closed senders (Disagree q) = (q < workers) × HasWorkers workers closed
+FinishFails workers closed senders (Disagree q) =
+    HasWorkers workers closed
+    × ((found : List Found) × AreFound workers closed found
+    × ((p : ℕ) (f : Found) → At found p f → HasSenders closed senders f.sent)
+    × IsFirstUnsettled closed senders found q)
 FinishFails workers closed senders NoMemory = Unit {0}

@@ -1,5 +1,5 @@
 -- Inside `finish`: how far the parts were taken apart, settled and compared.
-use Rattle.std.specs.Prelude.{◌≡◌, ◌⊎◌, ℕ, ◌<◌, ◌≤◌, true, false, List, [], length, Some, slice_get, is_some}
+use Rattle.std.specs.Prelude.{◌≡◌, ◌≢◌, ◌⊎◌, ℕ, ◌+◌, ◌<◌, ◌≤◌, true, false, List, [], length, Option, None, Some, slice_get, is_some}
 use Rattle.std.specs.Ordering.{nat_cmp}
 use Rattle.std.specs.BTreeMap.{BTreeMap, get}
 use Rattle.std.specs.BTreeSet.{BTreeSet, contains}
@@ -7,12 +7,14 @@ use Rattle.crawl_gate.specs.Seat.{GateId}
 use Rattle.crawl_frontier.specs.declared.entry.Entry.{Entry}
 use Rattle.crawl_frontier.specs.declared.book.Logged.{Logged}
 use Rattle.crawl_frontier.specs.declared.book.Logged.TheVariants.{Accepted, Seen}
+use Rattle.crawl_frontier.specs.declared.finish.settle.Doubt.{Doubt}
+use Rattle.crawl_frontier.specs.declared.finish.settle.Doubt.TheVariants.{Elsewhere, Holds}
 use Rattle.crawl_frontier.specs.QueueId.{QueueId}
 use Rattle.crawl_frontier.specs.PassId.{PassId}
 use Rattle.crawl_frontier.specs.Rule.{popping, home}
 use Rattle.crawl_frontier.specs.Entries.{has_url, count_of, KeepsRule}
 use Rattle.crawl_frontier.specs.Books.{BookId, IsBook, place_of}
-use Rattle.crawl_frontier.specs.Parts.{WorkerId, SenderId}
+use Rattle.crawl_frontier.specs.Parts.{WorkerId, SenderId, ShardId}
 use Rattle.crawl_frontier.specs.Accounts.{At, IsPart, Agrees}
 
 -- what is left of a list that is used up from its end
@@ -42,6 +44,10 @@ abbrev pub OwnRight : GateId → ℕ → BTreeMap ℕ PassId → WorkerId → Ty
 OwnRight gate workers rights w =
     (p : PassId) × (get nat_cmp rights w.place ≡ Some p) × (p.view ≡ popping (home gate workers w.place) w.taken w.empty_pops)
 
+-- two closed workers have place q
+abbrev pub IsShared : List WorkerId → ℕ → Type 0
+IsShared closed q = (j k : ℕ) × (v w : WorkerId) × At closed j v × At closed k w × (v.place ≡ q) × (w.place ≡ q) × (j ≢ k)
+
 -- of the closed workers from `from` on: each has a place, and a right stands there; and at a place below `alone` that
 -- right is its own, and no other of them has the place
 pub record Placed (gate : GateId) (workers : ℕ) (closed : List WorkerId) (from : ℕ) (rights : BTreeMap ℕ PassId) (alone : ℕ) : Type 0 where
@@ -49,16 +55,34 @@ pub record Placed (gate : GateId) (workers : ℕ) (closed : List WorkerId) (from
   pub there : (k : ℕ) (w : WorkerId) → At closed k w → from ≤ k → is_some (get nat_cmp rights w.place) ≡ true
   pub own : (k : ℕ) (w : WorkerId) → At closed k w → from ≤ k → w.place < alone → OwnRight gate workers rights w
   pub once : (j k : ℕ) (v w : WorkerId) → At closed j v → At closed k w → from ≤ j → from ≤ k → v.place ≡ w.place → w.place < alone → j ≡ k
+  -- a right that stands is one of theirs
+  pub whose : (q : ℕ) → is_some (get nat_cmp rights q) ≡ true → (k : ℕ) × (w : WorkerId) × At closed k w × (from ≤ k) × (w.place ≡ q)
 
 -- each right is one of these queues'
 abbrev pub RightsOf : List QueueId → BTreeMap ℕ PassId → Type 0
 RightsOf queues rights = (q : ℕ) (p : PassId) → get nat_cmp rights q ≡ Some p → slice_get queues q ≡ Some p.queue
 
--- below `least` each list is what the right to pop took, and keeps its rule
-abbrev pub Settled : ℕ → BTreeMap ℕ PassId → ℕ → List (List Entry) → Type 0
-Settled workers rights least lists =
-    (q : ℕ) (es : List Entry) → q < least → At lists q es
-    → ((p : PassId) × (get nat_cmp rights q ≡ Some p) × (es ≡ p.view.taken)) × KeepsRule workers q [] es
+-- of the shard behind the lock of place q and the right to pop: either the shard is this place's, and what was sent is
+-- what was taken; or it is another's; or it is this place's, and the subqueue was not seen to be empty
+abbrev pub Shows : List QueueId → ℕ → ShardId → PassId → Option Doubt → Type 0
+Shows queues q s right None = (s.place ≡ q) × (s.sent ≡ right.view.taken)
+Shows queues q s right (Some (Elsewhere p)) = (p ≡ s.place) × (p ≢ q)
+Shows queues q s right (Some (Holds held)) =
+    (s.place ≡ q) × (slice_get queues q ≡ Some held.queue) × (held.view.sent ≡ s.sent) × (held.view.taken ≡ right.view.taken)
+
+-- the list is the shard's
+abbrev pub Settles : ℕ → List QueueId → ℕ → ShardId → PassId → List Entry → Option Doubt → Type 0
+Settles workers queues q s right es doubt = (es ≡ s.sent) × KeepsRule workers s.place [] es × Shows queues q s right doubt
+
+-- place q is settled with its shard, of those that come last first, and its right to pop
+abbrev pub SettlesAt : ℕ → List QueueId → List ShardId → BTreeMap ℕ PassId → ℕ → List Entry → Option Doubt → Type 0
+SettlesAt workers queues shards rights q es doubt =
+    (j : ℕ) × (s : ShardId) × (right : PassId) × At shards j s × (j + q + 1 ≡ length shards) × (get nat_cmp rights q ≡ Some right)
+    × Settles workers queues q s right es doubt
+
+abbrev pub AllSettle : ℕ → List QueueId → List ShardId → BTreeMap ℕ PassId → List (List Entry) → List (Option Doubt) → Type 0
+AllSettle workers queues shards rights lists doubts =
+    (q : ℕ) (es : List Entry) (doubt : Option Doubt) → At lists q es → At doubts q doubt → SettlesAt workers queues shards rights q es doubt
 
 -- the line of a log is true of these entries
 abbrev pub Stands : List Entry → Logged → Type 0
@@ -67,6 +91,29 @@ Stands es (Seen u q) = has_url u es ≡ true
 
 abbrev pub StandsAt : List (List Entry) → Logged → Type 0
 StandsAt lists l = (es : List Entry) → At lists (place_of l) es → Stands es l
+
+-- or false of them
+abbrev pub Fails : List Entry → Logged → Type 0
+Fails es (Accepted e q) = (k : ℕ) → ¬ At es k e
+Fails es (Seen u q) = has_url u es ≡ false
+
+abbrev pub FailsAt : List (List Entry) → Logged → Type 0
+FailsAt lists l = (es : List Entry) × At lists (place_of l) es × Fails es l
+
+-- some line of the log for subqueue q is false of the list there
+abbrev pub LogFails : ℕ → List (List Entry) → List Logged → Type 0
+LogFails q lists log = (k : ℕ) × (l : Logged) × At log k l × (place_of l ≡ q) × FailsAt lists l
+
+-- the count of subqueue q is not that of the list there
+abbrev pub CountFails : ℕ → List (List Entry) → BookId → Type 0
+CountFails q lists b = (es : List Entry) × (n : ℕ) × At lists q es × At b.counts q n × (n ≢ count_of b.id es)
+
+-- the books do not agree with the list there
+abbrev pub DisagreesAt : ℕ → List (List Entry) → BookId → Type 0
+DisagreesAt q lists b = (es : List Entry) × At lists q es × (¬ Agrees q es b)
+
+abbrev pub OneDisagrees : ℕ → List (List Entry) → List BookId → Type 0
+OneDisagrees q lists books = (j : ℕ) × (b : BookId) × At books j b × DisagreesAt q lists b
 
 -- below `least` the line at k of the log is true of its subqueue's list
 abbrev pub LineStands : ℕ → List (List Entry) → List Logged → ℕ → Type 0

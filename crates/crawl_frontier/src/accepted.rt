@@ -1,5 +1,5 @@
 //! What one subqueue accepted, once its shard is out of its lock.
-ghost use Rattle.std.specs.Prelude.{◌≡◌, ℕ, true};
+ghost use Rattle.std.specs.Prelude.{◌≡◌, ℕ, true, false};
 ghost use Rattle.crawl_frontier.specs.Entries.{has_url, count_of};
 ghost use Rattle.crawl_frontier.specs.Accounts.{At};
 
@@ -20,7 +20,7 @@ pub struct AcceptedList {
 impl Model for AcceptedList {
     ghost use Rattle.std.specs.Prelude.{◌≡◌, ℕ, List};
     ghost use Rattle.crawl_frontier.specs.declared.entry.Entry.{Entry};
-    ghost use Rattle.crawl_frontier.specs.Entries.{count_of};
+    ghost use Rattle.crawl_frontier.specs.Entries.{count_of, HasNoUrlTwice};
     ghost use Rattle.crawl_frontier.specs.Tables.{count_in, KnowsEach};
 
     ghost Value = { List Entry };
@@ -29,7 +29,8 @@ impl Model for AcceptedList {
 
     ghost invariant = { λ s.
         KnowsEach s.places s.sent.items
-        × ((id : ℕ) → count_in s.counts id ≡ count_of id s.sent.items) };
+        × ((id : ℕ) → count_in s.counts id ≡ count_of id s.sent.items)
+        × HasNoUrlTwice s.sent.items };
 }
 
 impl AcceptedList {
@@ -41,11 +42,19 @@ impl AcceptedList {
     }
 
     /// Whether an equal entry stands in the list; its URL leads to it.
-    pub fn has_entry(&self, entry: &Entry, url: &UrlKey) -> bool
-        ensures { result ≡ true → (k : ℕ) × At self.now k entry.now }
+    pub fn has_entry(&self, entry: Entry) -> bool
+        ensures there { result ≡ true → (k : ℕ) × At self.now k entry }
+        ensures absent { result ≡ false → (k : ℕ) → ¬ At self.now k entry }
     {
-        match self.places.find(self.sent.as_slice(), url) {
-            Some(found) => found.is_same(entry),
+        let Entry {
+            url,
+            sender,
+            number,
+            hops,
+        } = entry;
+        let url = UrlKey::from(url);
+        match self.places.find(self.sent.as_slice(), &url) {
+            Some(found) => found.sender == sender && found.number == number && found.hops == hops,
             None => false,
         }
     }

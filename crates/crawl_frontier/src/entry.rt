@@ -1,5 +1,5 @@
 //! What lies in a subqueue.
-ghost use Rattle.std.specs.Prelude.{◌≡◌, true, IfOk};
+ghost use Rattle.std.specs.Prelude.{◌≡◌, IfOk};
 ghost use Rattle.crawl_frontier.specs.Entries.{entry};
 
 use crawl_gate::Unit;
@@ -41,15 +41,5 @@ impl Entry {
             number,
             hops,
         })
-    }
-
-    /// Whether all four parts are equal.
-    pub(crate) fn is_same(&self, other: &Entry) -> bool
-        ensures { result ≡ true → self.now ≡ other.now }
-    {
-        self.sender == other.sender
-            && self.number == other.number
-            && self.hops == other.hops
-            && self.url == other.url
     }
 }

@@ -87,8 +87,8 @@ pub enum FinishError {
     MissingPart,
     /// The gate's word, were it not closed with count 0. A closed worker knows that it is, so this never comes.
     Unsettled(u64),
-    /// The least subqueue whose shard is at another place, whose worker did not take all that was sent, or whose
-    /// entries are not those of the parts' logs; or whose place two workers have.
+    /// The least subqueue behind whose lock stands another's shard, whose worker was not seen to have taken all that was
+    /// sent, whose place two workers have, or whose entries are not those of the parts' logs.
     Disagree(u32),
     /// There was not memory enough.
     NoMemory,

@@ -14,7 +14,7 @@ use crate::name::Name;
 use crate::sender::Sender;
 use compare::{all_senders_in, books_agree, ids_of};
 use gather::gather;
-use settle::{all_there, settle_all, unlock};
+use settle::{all_there, first_doubt, settle_all, unlock};
 
 impl<K: Name> Frontier<K> {
     /// The account of a run, from its closed workers and its senders, in any order. It uses all parts up.
@@ -42,11 +42,12 @@ impl<K: Name> Frontier<K> {
             return Err(FinishError::MissingPart);
         }
         let shards = unlock(alloc, shards)?;
-        let (lists, settled) = settle_all(alloc, &queues, shards, rights, alone)?;
+        let (lists, doubts) = settle_all(alloc, &queues, shards, rights)?;
         let ids = ids_of(alloc, books.as_slice())?;
         if !all_senders_in(lists.as_slice(), &ids) {
             return Err(FinishError::MissingPart);
         }
+        let settled = first_doubt(doubts.as_slice(), alone);
         let least = books_agree(lists.as_slice(), books.as_slice(), workers, settled)?;
         if least < workers {
             return Err(FinishError::Disagree(least));

@@ -3,7 +3,7 @@ ghost use Rattle.std.specs.Prelude.{◌≡◌, ◌+◌, ◌++◌, ◌∷◌, [],
 ghost use Rattle.crossbeam_queue.specs.SegTies.{IsSegPassOf};
 ghost use Rattle.crawl_gate.specs.Seat.{IsSeatOf};
 ghost use Rattle.crawl_frontier.specs.Entries.{MayFollow};
-ghost use Rattle.crawl_frontier.specs.Rule.{undivided, pushing, popping};
+ghost use Rattle.crawl_frontier.specs.Rule.{undivided, pushing, popping, reunited};
 
 use crate::entry::Message;
 use crate::rights::{Pass, PopRight, PushRight};
@@ -52,6 +52,21 @@ impl Model for Subqueue {
     ghost Value = { QueueId };
 
     ghost view = { λ q. q.line.web };
+}
+
+/// Both rights to a subqueue that was not seen to be empty. Only [`Subqueue::held`] makes one, so it shows that the
+/// subqueue was asked.
+#[derive(Drop)]
+pub struct Held {
+    pass: Pass,
+}
+
+impl Model for Held {
+    ghost use Rattle.crawl_frontier.specs.PassId.{PassId};
+
+    ghost Value = { PassId };
+
+    ghost view = { λ h. record { queue = h.pass.web; view = h.pass.me.view.client } };
 }
 
 impl Drop for Subqueue {
@@ -186,14 +201,17 @@ impl Subqueue {
         }
     }
 
-    /// Whether all that was sent was taken: `true` only if so. It uses both rights up, and waits for nobody.
-    pub(crate) fn is_all_taken(&self, push: PushRight, pop: PopRight) -> bool
+    /// What it is seen to hold still: nothing only if all that was sent was taken. It waits for nobody.
+    pub(crate) fn held(&self, push: PushRight, pop: PopRight) -> Option<Held>
         requires queue { (push.queue ≡ self.now) × (pop.queue ≡ self.now) }
-        ensures { result ≡ true → push.view.sent ≡ pop.view.taken }
+        ensures { MatchOption result (push.view.sent ≡ pop.view.taken) (λ h. (h.queue ≡ self.now) × (h.view ≡ reunited push.view pop.view)) }
     {
         let PushRight { mut pass } = push;
         let PopRight { pass: other } = pop;
         self.line.absorb::<Reunite>(&mut pass, other);
-        self.line.is_empty_as::<Reunite>(&mut pass)
+        if self.line.is_empty_as::<Reunite>(&mut pass) {
+            return None;
+        }
+        Some(Held { pass })
     }
 }

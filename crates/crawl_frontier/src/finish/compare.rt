@@ -6,8 +6,9 @@ ghost use Rattle.crawl_frontier.specs.declared.entry.Entry.{Entry};
 ghost use Rattle.crawl_frontier.specs.Logs.{accepted_in};
 ghost use Rattle.crawl_frontier.specs.Books.{IsBook, book_of, logged_by, place_of};
 ghost use Rattle.crawl_frontier.specs.Accounts.{At};
-ghost use Rattle.crawl_frontier.specs.Finishing.{StandsAt, LineStands, LogStands, CountsStand, AgreesBelow, KeepRuleBelow, AllAre, IdsOf, SendersIn, Stranger};
+ghost use Rattle.crawl_frontier.specs.Finishing.{StandsAt, FailsAt, LineStands, LogStands, LogFails, CountsStand, CountFails, AgreesBelow, DisagreesAt, OneDisagrees, KeepRuleBelow, AllAre, IdsOf, SendersIn, Stranger};
 
+use super::settle::least_of;
 use crate::accepted::AcceptedList;
 use crate::book::{Book, Logged};
 use crate::entry::Entry;
@@ -54,21 +55,16 @@ pub fn all_senders_in(lists: &[AcceptedList], ids: &BTreeSet<u64>) -> bool
 }
 
 // Whether the line of a log is true of its subqueue's list.
-fn stands(lists: &[AcceptedList], logged: Logged) -> Result<bool, AllocError>
+fn stands(lists: &[AcceptedList], logged: Logged) -> bool
     requires { place_of logged < length lists.now }
-    ensures { IfOk result (λ is. is ≡ true → StandsAt lists.now logged) }
+    ensures stands { result ≡ true → StandsAt lists.now logged }
+    ensures fails { result ≡ false → FailsAt lists.now logged }
 {
     match logged {
-        Logged::Accepted(entry, place) => {
-            let Ok(url) = entry.url.copy() else {
-                return Err(AllocError);
-            };
-            let url = UrlKey::from(url);
-            Ok(lists[place as usize].has_entry(&entry, &url))
-        }
+        Logged::Accepted(entry, place) => lists[place as usize].has_entry(entry),
         Logged::Seen(url, place) => {
             let url = UrlKey::from(url);
-            Ok(lists[place as usize].has_url(&url))
+            lists[place as usize].has_url(&url)
         }
     }
 }
@@ -86,19 +82,20 @@ fn line_stands(
     requires lists { least ≤ length lists.now }
     requires within { at < length log.now.lines.items }
     requires accepted { accepted ≡ accepted_in (take at log.now.lines.items) }
-    ensures { IfOk result (λ r. (r ≤ least) × LineStands r lists.now (logged_by id log.now) at) }
+    ensures { IfOk result (λ r. (r ≤ least) × LineStands r lists.now (logged_by id log.now) at × (r < least → LogFails r lists.now (logged_by id log.now))) }
 {
     let place = log.lines[at].place;
-    if place < least && !stands(lists, log.line(id, at, accepted)?)? {
-        return Ok(place);
+    if place >= least {
+        return Ok(least);
     }
-    Ok(least)
+    let is_true = stands(lists, log.line(id, at, accepted)?);
+    Ok(least_of(is_true, place, least))
 }
 
 // The least place at which a line of the log of part `id` is false, where that is less.
 fn log_stands(lists: &[AcceptedList], log: &Log, id: u64, mut least: u32) -> Result<u32, AllocError>
     requires { least ≤ length lists.now }
-    ensures { IfOk result (λ r. (r ≤ least) × LogStands r lists.now (logged_by id log.now)) }
+    ensures { IfOk result (λ r. (r ≤ least) × LogStands r lists.now (logged_by id log.now) × (r < least → LogFails r lists.now (logged_by id log.now))) }
 {
     let mut accepted = 0;
     for at in 0..log.lines.len() {
@@ -116,6 +113,7 @@ fn counts_stand(lists: &[AcceptedList], book: &Book, least: u32) -> u32
     requires counts { least ≤ length book.now.counts.items }
     ensures below { result ≤ least }
     ensures stands { CountsStand result lists.now (book_of book.now) }
+    ensures fails { result < least → CountFails result lists.now (book_of book.now) }
 {
     for place in 0..least {
         if book.counts[place as usize] != lists[place as usize].count(book.id) {
@@ -136,7 +134,7 @@ fn book_agrees(
     requires book { IsBook workers (book_of book.now) }
     requires least { least ≤ workers }
     requires rule { KeepRuleBelow workers least lists.now }
-    ensures { IfOk result (λ r. (r ≤ least) × AgreesBelow r lists.now (book_of book.now)) }
+    ensures { IfOk result (λ r. (r ≤ least) × AgreesBelow r lists.now (book_of book.now) × (r < least → DisagreesAt r lists.now (book_of book.now))) }
 {
     let below = log_stands(lists, &book.log, book.id, least)?;
     Ok(counts_stand(lists, book, below))
@@ -153,7 +151,7 @@ pub fn books_agree(
     requires books { AllAre (IsBook workers) (map book_of books.now) }
     requires least { least ≤ workers }
     requires rule { KeepRuleBelow workers least lists.now }
-    ensures { IfOk result (λ r. (r ≤ least) × AllAre (AgreesBelow r lists.now) (map book_of books.now)) }
+    ensures { IfOk result (λ r. (r ≤ least) × AllAre (AgreesBelow r lists.now) (map book_of books.now) × (r < least → OneDisagrees r lists.now (map book_of books.now))) }
 {
     for book in books {
         least = book_agrees(lists, book, workers, least)?;

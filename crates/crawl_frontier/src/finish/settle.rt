@@ -1,23 +1,34 @@
 //! Each subqueue's list, and whether its worker took all of it.
-ghost use Rattle.std.specs.Prelude.{◌≡◌, ◌<◌, ◌≤◌, ℕ, [], true, false, None, Some, IfOk, is_some, slice_get, vec_len};
+ghost use Rattle.std.specs.Prelude.{◌≡◌, ◌<◌, ◌≤◌, ℕ, [], true, false, None, Some, IfOk, is_some, length, slice_get, vec_len};
 ghost use Rattle.std.specs.Ordering.{nat_cmp};
 ghost use Rattle.std.specs.BTreeMap.{get};
-ghost use Rattle.crawl_frontier.specs.Entries.{KeepsRule};
-ghost use Rattle.crawl_frontier.specs.Finishing.{Settled, RightsOf};
+ghost use Rattle.crawl_frontier.specs.declared.finish.settle.Doubt.{Doubt};
+ghost use Rattle.crawl_frontier.specs.Accounts.{At};
+ghost use Rattle.crawl_frontier.specs.Finishing.{Settles, AllSettle, RightsOf};
 
 use crate::accepted::AcceptedList;
 use crate::name::Name;
 use crate::rights::PopRight;
 use crate::shard::Shard;
-use crate::subqueue::Subqueue;
+use crate::subqueue::{Held, Subqueue};
 use std::alloc::{AllocError, Global};
 use std::collections::BTreeMap;
 use std::sync::Mutex;
+
+/// Why a place is in doubt.
+#[derive(Drop)]
+pub enum Doubt {
+    /// Behind its lock stands the shard of this other place.
+    Elsewhere(u32),
+    /// Its worker was not seen to have taken all that was sent.
+    Holds(Held),
+}
 
 /// The lesser of the two, where this place is not good.
 pub fn least_of(is_good: bool, place: u32, least: u32) -> u32
     ensures below { result ≤ least }
     ensures good { place < result → is_good ≡ true }
+    ensures named { result < least → (result ≡ place) × (is_good ≡ false) }
 {
     if !is_good && place < least {
         place
@@ -53,43 +64,43 @@ pub fn unlock<K: Name>(
     Ok(shards)
 }
 
-// The list of a shard, and whether the shard is this place's and its worker took all of it.
+// The list of a shard, and why the place where it stood is in doubt, if it is.
 fn settle<K: Name>(
     queue: &Subqueue,
     shard: Shard<K>,
     place: u32,
     right: PopRight,
-) -> (AcceptedList, bool)
+) -> (AcceptedList, Option<Doubt>)
     requires queue { slice_get K.queues place ≡ Some queue.now }
     requires right { slice_get K.queues place ≡ Some right.queue }
-    ensures taken { result.1 ≡ true → result.0 ≡ right.view.taken }
-    ensures rule { result.1 ≡ true → KeepsRule K.workers place [] result.0 }
+    ensures { Settles K.workers K.queues place shard right result.0 result.1 }
 {
-    let is_here = shard.place() == place;
+    let found = shard.place();
     let (list, push) = shard.into_parts();
-    if !is_here {
-        return (list, false);
+    if found != place {
+        return (list, Some(Doubt::Elsewhere(found)));
     }
-    let is_all = queue.is_all_taken(push, right);
-    (list, is_all)
+    match queue.held(push, right) {
+        Some(held) => (list, Some(Doubt::Holds(held))),
+        None => (list, None),
+    }
 }
 
-/// The lists by place, and the least place that is not settled, or `least` where that is less. The shards come last
-/// first.
+/// The lists by place, and why a place is in doubt, where one is. The shards come last first.
 pub fn settle_all<K: Name>(
     alloc: Global,
     queues: &Vec<Subqueue>,
     mut shards: Vec<Shard<K>>,
     mut rights: BTreeMap<u32, PopRight>,
-    mut least: u32,
-) -> Result<(Vec<AcceptedList>, u32), AllocError>
+) -> Result<(Vec<AcceptedList>, Vec<Option<Doubt>>), AllocError>
     requires queues { (queues.now.items ≡ K.queues) × (vec_len queues.now ≡ K.workers) × (K.workers < 4294967296) }
     requires shards { vec_len shards ≡ K.workers }
     requires rights { RightsOf K.queues rights }
     requires there { (q : ℕ) → q < K.workers → is_some (get nat_cmp rights q) ≡ true }
-    ensures { IfOk result (λ r. (vec_len r.0 ≡ K.workers) × (r.1 ≤ least) × Settled K.workers rights r.1 r.0.items) }
+    ensures { IfOk result (λ r. (vec_len r.0 ≡ K.workers) × (vec_len r.1 ≡ K.workers) × AllSettle K.workers K.queues shards.items rights r.0.items r.1.items) }
 {
     let mut lists = Vec::new(alloc);
+    let mut doubts = Vec::new(alloc);
     for place in 0..queues.len() as u32 {
         let Some(right) = rights.remove(&place) else {
             unreachable!()
@@ -97,9 +108,36 @@ pub fn settle_all<K: Name>(
         let Some(shard) = shards.pop() else {
             unreachable!()
         };
-        let (list, is_settled) = settle(&queues[place as usize], shard, place, right);
+        let (list, doubt) = settle(&queues[place as usize], shard, place, right);
         lists.push(list)?;
-        least = least_of(is_settled, place, least);
+        doubts.push(doubt)?;
     }
-    Ok((lists, least))
+    Ok((lists, doubts))
+}
+
+// Whether the place is in doubt.
+fn is_in_doubt(doubts: &[Option<Doubt>], place: u32) -> bool
+    requires { place < length doubts.now }
+    ensures yes { result ≡ true → (why : Doubt) × At doubts.now place (Some why) }
+    ensures no { result ≡ false → At doubts.now place None }
+{
+    match &doubts[place as usize] {
+        Some(_) => true,
+        None => false,
+    }
+}
+
+/// The least place that is in doubt, where that is less.
+pub fn first_doubt(doubts: &[Option<Doubt>], least: u32) -> u32
+    requires { least ≤ length doubts.now }
+    ensures below { result ≤ least }
+    ensures none { (q : ℕ) → q < result → At doubts.now q None }
+    ensures named { result < least → (why : Doubt) × At doubts.now result (Some why) }
+{
+    for place in 0..least {
+        if is_in_doubt(doubts, place) {
+            return place;
+        }
+    }
+    least
 }

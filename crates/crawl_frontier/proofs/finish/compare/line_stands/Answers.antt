@@ -1,28 +1,28 @@
-use Rattle.std.proofs.Common.{rules, ◌≡◌, ◌∙◌, Some, refl, sym, subst, length, slice_get, arith}
+use Rattle.std.proofs.Common.{rules, ◌≡◌, ◌<◌, ◌∙◌, false, Some, refl, sym, subst, length, slice_get, arith}
 use Rattle.std.proofs.lemmas.Option.{slice_get_read}
 use Rattle.crawl_frontier.specs.Books.{place_of}
 use Rattle.crawl_frontier.specs.Finishing.{StandsAt}
 use Rattle.crawl_frontier.proofs.Logging.{line_place}
 use Rattle.crawl_frontier.proofs.finish.compare.line_stands.Goals as goal
-use Rattle.crawl_frontier.proofs.finish.compare.line_stands.Goals.{else-place-least-via-then-place-least+in_ok-line+in_ok-stands+else-not-branch, else-place-least-via-else-place-least}
 
-pub stands-requires : goal.stands-requires
-stands-requires c =
+pub stands-is_true-requires : goal.stands-is_true-requires
+stands-is_true-requires c =
     let log = c.args.log.now in
     let ls = log.lines.items in
     let line = c.index.result.now in
     let at : slice_get ls c.args.at ≡ Some line = slice_get_read ls (length ls) c.args.at line refl c.requires.within c.index.ensures in
     let place : place_of c.in_ok-line.field-0 ≡ line.place = line_place c.args.id ls log.acceptances.items c.args.at c.in_ok-line.field-0 line c.in_ok-line.ensures at in
-    omega (arith, place, c.if-place-least.true, c.requires.lists)
+    omega (arith, place, c.if-place-least.false, c.requires.lists)
 
-pub returns-then-not-branch : goal.returns-then-not-branch
-returns-then-not-branch c =
+pub returns-then-place-least : goal.returns-then-place-least
+returns-then-place-least c =
     let log = c.args.log.now in
     let ls = log.lines.items in
     let line = c.index.result.now in
     let at : slice_get ls c.args.at ≡ Some line = slice_get_read ls (length ls) c.args.at line refl c.requires.within c.index.ensures in (
-      omega (arith, c.if-place-least.true),
-      λ l here below. let place : place_of l ≡ line.place = line_place c.args.id ls log.acceptances.items c.args.at l line here at in absurd (omega (arith, place, below)),
+      omega arith,
+      λ l here below. let place : place_of l ≡ line.place = line_place c.args.id ls log.acceptances.items c.args.at l line here at in absurd (omega (arith, place, below, c.if-place-least.true)),
+      λ less. absurd (omega (arith, less)),
     )
 
 pub returns : goal.returns
@@ -30,15 +30,15 @@ returns c =
     let log = c.args.log.now in
     let ls = log.lines.items in
     let line = c.index.result.now in
-    let at : slice_get ls c.args.at ≡ Some line = slice_get_read ls (length ls) c.args.at line refl c.requires.within c.index.ensures in (
-      omega arith,
-      elim c.else-place-least.branch [
-        | else-place-least-via-then-place-least+in_ok-line+in_ok-stands+else-not-branch w ↦ λ l here below.
-            let logged = w.in_ok-line.field-0 in
-            let both : Some logged ≡ Some l = sym w.in_ok-line.ensures ∙ here in
-            let same : logged ≡ l = cc in
-            subst (λ x. StandsAt c.args.lists.now x) same (w.in_ok-stands.ensures (search (rules, w.if-not-branch)))
-        | else-place-least-via-else-place-least w ↦ λ l here below.
-            let place : place_of l ≡ line.place = line_place c.args.id ls log.acceptances.items c.args.at l line here at in absurd (omega (arith, place, below, w.if-place-least.false))
-      ],
+    let logged = c.in_ok-line.field-0 in
+    let least = c.least_of.ensures in
+    let at : slice_get ls c.args.at ≡ Some line = slice_get_read ls (length ls) c.args.at line refl c.requires.within c.index.ensures in
+    let place : place_of logged ≡ line.place = line_place c.args.id ls log.acceptances.items c.args.at logged line c.in_ok-line.ensures at in (
+      least.below,
+      λ l here below.
+          let both : Some logged ≡ Some l = sym c.in_ok-line.ensures ∙ here in
+          let same : logged ≡ l = cc in
+          let less : line.place < c.least_of.result = subst (λ k. k < c.least_of.result) (subst (λ x. place_of x ≡ line.place) same place) below in
+          subst (λ x. StandsAt c.args.lists.now x) same (c.stands-is_true.ensures.stands (least.good less)),
+      λ less. let named = least.named less in (c.args.at, logged, c.in_ok-line.ensures, place ∙ sym named.0, c.stands-is_true.ensures.fails named.1),
     )

@@ -4,6 +4,8 @@ use Rattle.crawl_frontier.specs.Logs.{accepted_in}
 use Rattle.crawl_frontier.specs.Books.{logged_by}
 use Rattle.crawl_frontier.proofs.Gets.{get_within}
 use Rattle.crawl_frontier.proofs.Logging.{accepted_before, accepted_in-next, logged-length, stands_next}
+use Rattle.crawl_frontier.specs.Finishing.{LogFails}
+use Rattle.crawl_frontier.proofs.Agreeing.{fails_next}
 use Rattle.crawl_frontier.proofs.finish.compare.log_stands.Goals as goal
 use Rattle.crawl_frontier.proofs.finish.compare.log_stands.Goals.{then-index, else-index}
 
@@ -39,6 +41,7 @@ loop-at-preserved c =
             omega (arith, more, inv.1, w.accepted-is)
       ],
       stands_next c.args.lists.now (logged_by c.args.id log) c.loop-at.least c.in_ok-least.least c.loop-at.at one.0 inv.2 one.1,
+      fails_next (λ n. LogFails n c.args.lists.now (logged_by c.args.id log)) c.args.least c.loop-at.least c.in_ok-least.least one.0 inv.3 one.2,
     )
 
 pub returns : goal.returns
@@ -49,4 +52,5 @@ returns c =
       λ k l here.
           let lt = get_within (logged_by c.args.id log) k l here in
           c.loop-at.invariant.2 k (omega (arith, lt, logged-length c.args.id ls log.acceptances.items, c.loop-at-test.false, c.len-at-end.ensures, log.lines.ok.0)) l here,
+      c.loop-at.invariant.3,
     )

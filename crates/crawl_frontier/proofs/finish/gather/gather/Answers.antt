@@ -1,15 +1,29 @@
-use Rattle.std.proofs.Common.{rules, ◌≡◌, ◌∙◌, ◌+◌, ◌<◌, ◌++◌, ◌∷◌, [], ℕ, List, map, sym, ap, subst, length, length-append, cond, None, Some, arith}
+use Rattle.std.proofs.Common.{rules, ◌≡◌, ◌∙◌, ◌+◌, ◌<◌, ◌++◌, ◌∷◌, [], ℕ, List, map, sym, ap, subst, length, length-append, cond, true, None, Some, arith}
+use Rattle.std.specs.Prelude.{is_some}
 use Rattle.std.specs.Ordering.{nat_cmp}
 use Rattle.std.specs.BTreeMap.{get, is_at}
 use mathlib.Core.List.{map-append}
+use Rattle.crawl_frontier.specs.declared.book.Book.{Book}
 use Rattle.crawl_frontier.specs.Books.{BookId, book_of, IsBook}
 use Rattle.crawl_frontier.specs.Parts.{WorkerId, SenderId}
 use Rattle.crawl_frontier.specs.Accounts.{At}
 use Rattle.crawl_frontier.specs.Finishing.{Placed, Gathered}
 use Rattle.crawl_frontier.proofs.Gets.{get_last}
-use Rattle.crawl_frontier.proofs.Gathering.{gather-worker, gather-sender}
-use Rattle.crawl_frontier.proofs.Settling.{slots_more, placed_more}
+use Rattle.crawl_frontier.proofs.Gathering.{gather-none, gather-worker, gather-sender}
+use Rattle.crawl_frontier.proofs.Settling.{placed-none, slots_more, placed_more, shared_more}
 use Rattle.crawl_frontier.proofs.finish.gather.gather.Goals as goal
+
+pub loop-worker-init : goal.loop-worker-init
+loop-worker-init g c =
+    let none : (q : ℕ) → get nat_cmp c.new-rights.result q ≡ None = λ q. search rules in
+    let closed = c.args.closed.items in
+    let senders = c.args.senders.items in (
+      λ q p is. let both : Some p ≡ None = sym is ∙ none q in absurd (cc (both)),
+      placed-none g.K.Name.gate g.K.Name.workers closed c.new-rights.result c.args.workers none,
+      subst (λ (l : List Book). Gathered g.K.Name.workers closed senders closed senders (map book_of l)) (sym c.new-books.ensures.items) (gather-none g.K.Name.workers closed senders),
+      omega arith,
+      λ lt. absurd (omega (arith, lt)),
+    )
 
 pub loop-worker-preserved : goal.loop-worker-preserved
 loop-worker-preserved g c =
@@ -31,12 +45,15 @@ loop-worker-preserved g c =
     let placed : Placed g.K.Name.gate g.K.Name.workers c.args.closed.items (length left + 1) c.loop-worker.rights c.loop-worker.alone =
     subst (λ (n : ℕ). Placed g.K.Name.gate g.K.Name.workers c.args.closed.items n c.loop-worker.rights c.loop-worker.alone) (ap length all ∙ length-append left (w ∷ [])) i.1 in
     let none : w.place < c.least_of-alone.result → get nat_cmp c.loop-worker.rights w.place ≡ None =
-    λ lt. search (rules, c.least_of-alone.ensures.good, lt, place) in (
+    λ lt. search (rules, c.least_of-alone.ensures.good, lt, place) in
+    let named : c.least_of-alone.result < c.loop-worker.alone → (c.least_of-alone.result ≡ w.place) × (is_some (get nat_cmp c.loop-worker.rights w.place) ≡ true) =
+    λ lt. let p = c.least_of-alone.ensures.named lt in (p.0 ∙ place, search (rules, p.1, place)) in (
       slots_more g.K.Name.gate g.K.Name.workers g.K.Name.queues c.args.closed.items c.loop-worker.rights c.insert.new.self (length left) w parts.result.0 i.0 updates here parts.ensures.right.0 parts.ensures.right.1,
       placed_more g.K.Name.gate g.K.Name.workers c.args.closed.items c.loop-worker.rights c.insert.new.self (length left) w parts.result.0 c.loop-worker.alone c.least_of-alone.result placed here
           (subst (λ (k : ℕ). k < g.K.Name.workers) place c.queue-place.ensures.1) updates parts.ensures.right.0 c.least_of-alone.ensures.below none,
       subst (λ (l : List BookId). Gathered g.K.Name.workers c.args.closed.items c.args.senders.items left c.args.senders.items l) (sym books) after,
       omega (arith, i.3, c.least_of-alone.ensures.below),
+      shared_more g.K.Name.gate g.K.Name.workers c.args.closed.items c.loop-worker.rights (length left) w c.args.workers c.loop-worker.alone c.least_of-alone.result placed here c.least_of-alone.ensures.below named i.4,
     )
 
 pub loop-worker-preserved-in_ok-push : goal.loop-worker-preserved-in_ok-push
@@ -59,12 +76,15 @@ loop-worker-preserved-in_ok-push g c =
     let placed : Placed g.K.Name.gate g.K.Name.workers c.args.closed.items (length left + 1) c.loop-worker.rights c.loop-worker.alone =
     subst (λ (n : ℕ). Placed g.K.Name.gate g.K.Name.workers c.args.closed.items n c.loop-worker.rights c.loop-worker.alone) (ap length all ∙ length-append left (w ∷ [])) i.1 in
     let none : w.place < c.least_of-alone.result → get nat_cmp c.loop-worker.rights w.place ≡ None =
-    λ lt. search (rules, c.least_of-alone.ensures.good, lt, place) in (
+    λ lt. search (rules, c.least_of-alone.ensures.good, lt, place) in
+    let named : c.least_of-alone.result < c.loop-worker.alone → (c.least_of-alone.result ≡ w.place) × (is_some (get nat_cmp c.loop-worker.rights w.place) ≡ true) =
+    λ lt. let p = c.least_of-alone.ensures.named lt in (p.0 ∙ place, search (rules, p.1, place)) in (
       slots_more g.K.Name.gate g.K.Name.workers g.K.Name.queues c.args.closed.items c.loop-worker.rights c.insert.new.self (length left) w parts.result.0 i.0 updates here parts.ensures.right.0 parts.ensures.right.1,
       placed_more g.K.Name.gate g.K.Name.workers c.args.closed.items c.loop-worker.rights c.insert.new.self (length left) w parts.result.0 c.loop-worker.alone c.least_of-alone.result placed here
           (subst (λ (k : ℕ). k < g.K.Name.workers) place c.queue-place.ensures.1) updates parts.ensures.right.0 c.least_of-alone.ensures.below none,
       subst (λ (l : List BookId). Gathered g.K.Name.workers c.args.closed.items c.args.senders.items left c.args.senders.items l) (sym books) after,
       omega (arith, i.3, c.least_of-alone.ensures.below),
+      shared_more g.K.Name.gate g.K.Name.workers c.args.closed.items c.loop-worker.rights (length left) w c.args.workers c.loop-worker.alone c.least_of-alone.result placed here c.least_of-alone.ensures.below named i.4,
     )
 
 pub loop-sender-preserved : goal.loop-sender-preserved
@@ -79,4 +99,4 @@ loop-sender-preserved g c =
     let after = gather-sender g.K.Name.workers c.args.closed.items c.args.senders.items [] left s (map book_of c.loop-sender.books.items) before (subst (IsBook g.K.Name.workers) book c.into_book.ensures.is_book) in
     let books : map book_of c.push-in-Some-pop.new.self.items ≡ map book_of c.loop-sender.books.items ++ s.book ∷ [] =
     ap (map book_of) c.in_ok-push-2.ensures.items ∙ (map-append book_of c.loop-sender.books.items (c.into_book.result ∷ []) ∙ ap (λ (b : BookId). map book_of c.loop-sender.books.items ++ b ∷ []) book) in
-    (i.0, i.1, subst (λ (l : List BookId). Gathered g.K.Name.workers c.args.closed.items c.args.senders.items [] left l) (sym books) after, i.3)
+    (i.0, i.1, subst (λ (l : List BookId). Gathered g.K.Name.workers c.args.closed.items c.args.senders.items [] left l) (sym books) after, i.3, i.4)

@@ -1,6 +1,6 @@
-use Rattle.std.proofs.Common.{◌≤◌, [], map, vec_len, length}
+use Rattle.std.proofs.Common.{◌<◌, ◌≤◌, [], map, vec_len, length}
 use Rattle.crawl_frontier.specs.Books.{book_of}
-use Rattle.crawl_frontier.specs.Finishing.{Slots, Placed, Gathered}
+use Rattle.crawl_frontier.specs.Finishing.{Slots, Placed, Gathered, IsShared}
 use Rattle.crawl_frontier.proofs.finish.gather.gather.Given as goal
 
 abbrev pub invariant-loop-worker : goal.invariant-loop-worker
@@ -9,6 +9,7 @@ invariant-loop-worker g l =
     × Placed g.K.Name.gate g.K.Name.workers l.fn.closed.items (length l.closed.items) l.rights l.alone
     × Gathered g.K.Name.workers l.fn.closed.items l.fn.senders.items l.closed.items l.fn.senders.items (map book_of l.books.items)
     × (l.alone ≤ l.workers)
+    × (l.alone < l.workers → IsShared l.fn.closed.items l.alone)
 
 abbrev pub decreases-loop-worker : goal.decreases-loop-worker
 decreases-loop-worker g l = vec_len l.closed
@@ -19,6 +20,7 @@ invariant-loop-sender g l =
     × Placed g.K.Name.gate g.K.Name.workers l.fn.closed.items 0 l.rights l.alone
     × Gathered g.K.Name.workers l.fn.closed.items l.fn.senders.items [] l.senders.items (map book_of l.books.items)
     × (l.alone ≤ l.workers)
+    × (l.alone < l.workers → IsShared l.fn.closed.items l.alone)
 
 abbrev pub decreases-loop-sender : goal.decreases-loop-sender
 decreases-loop-sender g l = vec_len l.senders

@@ -1,6 +1,6 @@
 use Rattle.std.proofs.Common.{ap}
 use Rattle.crawl_frontier.proofs.Passing.{unites, compares}
-use Rattle.crawl_frontier.proofs.subqueue.Subqueue.is_all_taken.Goals as goal
+use Rattle.crawl_frontier.proofs.subqueue.Subqueue.held.Goals as goal
 
 pub absorb-requires-clause-rule : goal.absorb-requires-clause-rule
 absorb-requires-clause-rule c = unites _ _ _ _ c.push.invariant.2 c.pop.invariant.2
