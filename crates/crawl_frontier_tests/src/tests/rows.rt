@@ -126,6 +126,43 @@ const CROSSED: &[Step] = &[
     (Worker(1), Closes),
 ];
 
+// Two senders with one id, of which the second offers nothing: where the first was accepted, their logs cannot both be
+// right. Below that, a run of two workers and one of three, until all are closed.
+const TWINS: &[Step] = &[(Seeder, Makes(7)), (Seeder, Makes(7))];
+
+const TWO_CLOSE: &[Step] = &[(Seeder, Ends), (Worker(0), Closes), (Worker(1), Closes)];
+
+const THREE_CLOSE: &[Step] = &[
+    (Seeder, Ends),
+    (Worker(0), Closes),
+    (Worker(1), Closes),
+    (Worker(2), Closes),
+];
+
+const TAKEN_AT_1_OF_2: &[Step] = &[
+    (Sender(0), Offers("http://a.test/", Ok(Accepted(1, 0)))),
+    (Worker(1), Takes("http://a.test/", 0)),
+    (Worker(1), Finishes),
+];
+
+const TAKEN_AT_0: &[Step] = &[
+    (Sender(0), Offers("http://a.test/", Ok(Accepted(0, 0)))),
+    (Worker(0), Takes("http://a.test/", 0)),
+    (Worker(0), Finishes),
+];
+
+const TAKEN_AT_1: &[Step] = &[
+    (Sender(0), Offers("http://b.test/", Ok(Accepted(1, 0)))),
+    (Worker(1), Takes("http://b.test/", 0)),
+    (Worker(1), Finishes),
+];
+
+const TAKEN_AT_2: &[Step] = &[
+    (Sender(0), Offers("http://c.test/", Ok(Accepted(2, 0)))),
+    (Worker(2), Takes("http://c.test/", 0)),
+    (Worker(2), Finishes),
+];
+
 const DROPPED: &[Step] = &[
     (Seeder, Makes(7)),
     (Seeder, Offers("http://a.test/", Ok(Accepted(1, 0)))),
@@ -273,6 +310,30 @@ const ROWS: &[Row] = &[
         max_pending: 9,
         suffixes: &[],
         steps: &[CROSSED],
+        end: Err(FinishError::Disagree(0)),
+    },
+    Row {
+        name: "least_disagreement: at place 1 alone",
+        workers: 2,
+        max_pending: 9,
+        suffixes: &[],
+        steps: &[TWINS, TAKEN_AT_1_OF_2, TWO_CLOSE],
+        end: Err(FinishError::Disagree(1)),
+    },
+    Row {
+        name: "least_disagreement: at places 1 and 2",
+        workers: 3,
+        max_pending: 9,
+        suffixes: &[],
+        steps: &[TWINS, TAKEN_AT_2, TAKEN_AT_1, THREE_CLOSE],
+        end: Err(FinishError::Disagree(1)),
+    },
+    Row {
+        name: "least_disagreement: at places 0 and 2",
+        workers: 3,
+        max_pending: 9,
+        suffixes: &[],
+        steps: &[TWINS, TAKEN_AT_2, TAKEN_AT_0, THREE_CLOSE],
         end: Err(FinishError::Disagree(0)),
     },
     Row {
