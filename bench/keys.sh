@@ -1,7 +1,8 @@
 #!/bin/bash
 # Measures crawl_keys: URLs and links per second, instructions each by callgrind, and the bytes
-# that a URL keeps in a set, alone and with three copies; and what a filter's answer costs. Wants
-# `rt`, valgrind and GNU time in the path.
+# that a URL keeps in a set, alone and with three copies; and what a filter's answer costs. URLs and
+# links that are not parsed are the works `plain`, `joined`, `rooted`, `beside` and `part`. Wants `rt`,
+# valgrind and GNU time in the path.
 #
 # usage: bench/keys.sh [URLS [LINKS]]      300000 URLs and 500000 links where none is given
 set -euo pipefail
@@ -39,12 +40,21 @@ resident() {
     env time -f %M "$program" "$1" "$2" 2>&1 > /dev/null | awk '{ print $1 * 1024 }'
 }
 
-# what a piece of work costs a count besides making its texts
+# the instructions of so many more of a piece of work
+more() {
+    echo $(($(instructions "$1" $((2 * counted))) - $(instructions "$1" "$counted")))
+}
+
+# row WORK COUNT [TEXTS]: what a piece of work costs a count, besides making its texts where it makes any
 row() {
-    local work=$1 texts=$2 count=$3 time calls
-    time=$(($(nanoseconds "$work" "$count") - $(nanoseconds "$texts" "$count")))
-    calls=$((($(instructions "$work" $((2 * counted))) - $(instructions "$work" "$counted")
-        - $(instructions "$texts" $((2 * counted))) + $(instructions "$texts" "$counted")) / counted))
+    local work=$1 count=$2 time calls
+    time=$(nanoseconds "$work" "$count")
+    calls=$(more "$work")
+    if [ $# -gt 2 ]; then
+        time=$((time - $(nanoseconds "$3" "$count")))
+        calls=$((calls - $(more "$3")))
+    fi
+    calls=$((calls / counted))
     printf '%s: %d in %d ms, %d a second, %d instructions each\n' \
         "$work" "$count" $((time / 1000000)) $((count * 1000000000 / time)) "$calls"
 }
@@ -61,8 +71,10 @@ answer() {
 
 "$program" canonical "$urls"
 "$program" texts "$urls"
-row canonical texts "$urls"
-row joined links "$links"
+row canonical "$urls" texts
+row plain "$urls" spelled
+row joined "$links" links
+for work in rooted beside part odd; do row "$work" "$links"; done
 kept kept
 kept shared
 

@@ -32,6 +32,7 @@ part tests/real-site.sh
 part tests/refused-growths.sh
 part tests/refused-growths.sh tests
 part tests/drawn.py --count 100000
+part tests/plain_texts.py
 part tests/mutants.sh -j 2
 echo "$passed passed, $failed failed"
 [ "$failed" -eq 0 ]

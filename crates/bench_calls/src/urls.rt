@@ -14,8 +14,12 @@ pub const COPIES: u32 = 3;
 pub enum Work {
     Texts,
     Canonical,
+    PlainTexts,
+    Plain,
     Links,
     Joined,
+    /// A link with this text.
+    Link(&'static str),
 }
 
 /// Makes so many, and answers how many bytes they have.
@@ -32,8 +36,11 @@ fn made_of(alloc: Global, work: Work, base: &Base, n: u32) -> Option<u64> {
     match work {
         Work::Texts => Some(spelled(alloc, n)?.len() as u64),
         Work::Canonical => bytes_of(canonical(alloc, spelled(alloc, n)?.as_str())),
+        Work::PlainTexts => Some(plain(alloc, n)?.len() as u64),
+        Work::Plain => bytes_of(canonical(alloc, plain(alloc, n)?.as_str())),
         Work::Links => Some(link(alloc, n)?.len() as u64),
         Work::Joined => bytes_of(base.resolve(alloc, link(alloc, n)?.as_str())),
+        Work::Link(text) => bytes_of(base.resolve(alloc, text)),
     }
 }
 
@@ -57,6 +64,12 @@ fn spelled(alloc: Global, n: u32) -> Option<String> {
     format!(in alloc;
         "http://Host-{host:03}.Crawl.test:80/section/./old/../page-{n:06}?view=full#top"
     ).ok()
+}
+
+/// A URL that is canonical as it is.
+fn plain(alloc: Global, n: u32) -> Option<String> {
+    let host = n % HOSTS;
+    format!(in alloc; "http://host-{host:03}.crawl.test/section/page-{n:06}?view=full").ok()
 }
 
 /// A link from a page to another one of its host.

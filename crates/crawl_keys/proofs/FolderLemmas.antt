@@ -8,7 +8,7 @@ use Rattle.std.proofs.lemmas.Bool.Decides.{nat_tests}
 use Rattle.std.proofs.lemmas.List.{append_assoc, get_or-reverse, get_or_past, length-append, length-reverse}
 use Rattle.std.proofs.lemmas.List.Elements.{All-nil, All-cons, All-filter, All-head, All-tail, All-take}
 use Rattle.url.specs.declared.scheme.SchemeType.TheVariants.{SpecialNotFile}
-use Rattle.url.specs.declared.slicing.Position.TheVariants.{BeforeScheme, AfterPort, AfterPath}
+use Rattle.url.specs.declared.slicing.Position.TheVariants.{BeforeScheme, AfterPath}
 use Rattle.url.specs.Head.{head_only}
 use Rattle.url.specs.Input.{is_c0_control_or_space, is_tab_or_new_line, rsplit_once, rsplit_step, split_once, strip_tabs_and_new_lines, trim_c0_control_and_space}
 use Rattle.url.specs.Parser.{Parsed, and_then, after_double_slash, after_slashes, before_tail, leading_slashes, parse_all, parse_body, parse_by_scheme, parse_parts, parse_relative, parse_url, parse_without_scheme, split_scheme, with_path, with_tail}
@@ -20,16 +20,16 @@ use Rattle.url.proofs.PathLemmas.{empty_segment, push_valid, rooted, without_las
 use Rattle.url.proofs.Theorems.{parse_url-serialize_special}
 use Rattle.url.proofs.ValidLemmas.{base_from_authority, hierarchical, special_has_authority}
 use Rattle.crawl_keys.specs.CanonicalText.{IsPage, is_web, resolve, resolve_from, text_of_parse}
-use Rattle.crawl_keys.specs.Folders.{folder_text, is_colon, is_of_folder}
+use Rattle.crawl_keys.specs.Folders.{folder_text, is_colon, is_of_folder, root_text}
 use Rattle.crawl_keys.proofs.CanonicalLemmas.{web_kind}
 
 -- ---- what the parser makes of the text
 
 -- the list begins with the byte, and all in it have the property
-record Begins (b : ℕ) (P : ℕ → Type 0) (l : List ℕ) : Type 0 where
-  rest : List ℕ
-  is : l ≡ b ∷ rest
-  all : All P l
+pub record Begins (b : ℕ) (P : ℕ → Type 0) (l : List ℕ) : Type 0 where
+  pub rest : List ℕ
+  pub is : l ≡ b ∷ rest
+  pub all : All P l
 
 -- a byte that does not pass ends the front that does
 prefix_len-stops : (p : ℕ → Bool) (xs : List ℕ) (i : ℕ) → i < length xs → p (get_or xs i 0) ≡ false → prefix_len p xs ≤ i
@@ -54,14 +54,14 @@ begins-take : (b : ℕ) (P : ℕ → Type 0) (rest : List ℕ) (n : ℕ) → 0 <
 begins-take b P rest zero some all = absurd (omega arith)
 begins-take b P rest (suc n) some all = record { rest = take n rest; is = refl; all = All-take P (suc n) (b ∷ rest) all }
 
-begins-trim : (b : ℕ) (P : ℕ → Type 0) (rest : List ℕ) → 32 < b → All P (b ∷ rest) → Begins b P (trim_c0_control_and_space (b ∷ rest))
+pub begins-trim : (b : ℕ) (P : ℕ → Type 0) (rest : List ℕ) → 32 < b → All P (b ∷ rest) → Begins b P (trim_c0_control_and_space (b ∷ rest))
 unfolding trim_c0_control_and_space
 begins-trim b P rest above all =
     let fails : is_c0_control_or_space b ≡ false = lt-leb b 32 above in
     let end = suffix_len-stops is_c0_control_or_space [] b rest fails in
     rw fails (begins-take b P rest (length (b ∷ rest) - suffix_len is_c0_control_or_space (b ∷ rest)) (omega (arith, end)) all)
 
-begins-strip : (b : ℕ) (P : ℕ → Type 0) (l : List ℕ) → 32 < b → Begins b P l → Begins b P (strip_tabs_and_new_lines l)
+pub begins-strip : (b : ℕ) (P : ℕ → Type 0) (l : List ℕ) → 32 < b → Begins b P l → Begins b P (strip_tabs_and_new_lines l)
 unfolding strip_tabs_and_new_lines
 begins-strip b P l above k =
     let stays : not (is_tab_or_new_line b) ≡ true = grind (arith, nat_tests) in
@@ -82,7 +82,7 @@ All-split s P (x ∷ l) all =
     let later = All-split s P l (All-tail P x l all) in
     cond_both {A = Split} (x == s) ([], Some l) (x ∷ (split_once s l).0, (split_once s l).1) (λ (r : Split). All P r.0) (λ _. All-nil P) (λ _. All-cons P x _ (All-head P x l all) later)
 
-begins-split : (b s : ℕ) (P : ℕ → Type 0) (l : List ℕ) → b ≢ s → Begins b P l → Begins b P (split_once s l).0
+pub begins-split : (b s : ℕ) (P : ℕ → Type 0) (l : List ℕ) → b ≢ s → Begins b P l → Begins b P (split_once s l).0
 unfolding split_once
 begins-split b s P l other k = record {
   rest = (split_once s k.rest).0;
@@ -91,13 +91,13 @@ begins-split b s P l other k = record {
 }
 
 -- the scheme's end would be a colon
-abbrev NoScheme : ℕ → ℕ → Type 0
+abbrev pub NoScheme : ℕ → ℕ → Type 0
 NoScheme b x = (b ≡ 47) ⊎ (x ≢ 58)
 
 no_colon_at : (l : List ℕ) (n : ℕ) → All (λ x. x ≢ 58) l → get_or l n 0 ≢ 58
 no_colon_at l n all = ⊎_elim (λ inside. all n 0 inside) (λ past same. let none = get_or_past l n 0 past in omega (arith, none, same)) (cases_lt n (length l))
 
-no_scheme : (b : ℕ) (l : List ℕ) → Begins b (NoScheme b) l → split_scheme l ≡ None
+pub no_scheme : (b : ℕ) (l : List ℕ) → Begins b (NoScheme b) l → split_scheme l ≡ None
 unfolding split_scheme scheme_len
 no_scheme b l k =
     ⊎_elim (λ slash. let none : l ≡ 47 ∷ k.rest = k.is ∙ ap (λ x. x ∷ k.rest) slash in rw none refl)
@@ -113,10 +113,10 @@ no_scheme b l k =
 abbrev folder : Parts → Parts
 folder url = record url { path = without_last_segment url.path ++ 47 ∷ []; query = None; fragment = None }
 
-front_of_last : (front : List ℕ) → without_last_segment (front ++ 47 ∷ []) ≡ front
+pub front_of_last : (front : List ℕ) → without_last_segment (front ++ 47 ∷ []) ≡ front
 front_of_last front = ap (λ (r : Option (List ℕ) × List ℕ). unwrap_or r.0 []) (rsplit_once_at 47 front [] (All-nil _))
 
-shorten_web : (path : List ℕ) → shorten_path SpecialNotFile path ≡ without_last_segment path
+pub shorten_web : (path : List ℕ) → shorten_path SpecialNotFile path ≡ without_last_segment path
 unfolding shorten_path
 shorten_web path = refl
 
@@ -138,7 +138,7 @@ parse_relative-folder : (url : Parts) (body : List ℕ) → kind_of url ≡ Spec
 unfolding parse_relative
 parse_relative-folder url body kind = ap (relative_to url body) (shorten-folder url kind)
 
-parse_body-web : (url : Parts) (body : List ℕ) → kind_of url ≡ SpecialNotFile → parse_body url.scheme (Some url) body ≡ parse_relative url body
+pub parse_body-web : (url : Parts) (body : List ℕ) → kind_of url ≡ SpecialNotFile → parse_body url.scheme (Some url) body ≡ parse_relative url body
 unfolding parse_body
 parse_body-web url body kind = cond-false _ _ _ (ap is_file kind)
 
@@ -150,7 +150,7 @@ parse_parts-more : (url : Parts) (body : List ℕ) (query fragment : Option (Lis
 unfolding parse_parts
 parse_parts-more url body query fragment more = cond-false _ _ _ (is_empty_nonempty body more)
 
-parse_without_scheme-web : (url : Parts) (body : List ℕ) (query fragment : Option (List ℕ)) → has_authority url ≡ true → 0 < length body → parse_without_scheme (Some url) body query fragment ≡ parse_all url.scheme (Some url) body query fragment
+pub parse_without_scheme-web : (url : Parts) (body : List ℕ) (query fragment : Option (List ℕ)) → has_authority url ≡ true → 0 < length body → parse_without_scheme (Some url) body query fragment ≡ parse_all url.scheme (Some url) body query fragment
 parse_without_scheme-web url body query fragment authority more =
     cond-false _ _ _ (and_left _ _ (base_from_authority url authority)) ∙ parse_parts-more url body query fragment more
 
@@ -163,17 +163,17 @@ parse_without_scheme-folder url body query fragment kind authority more =
 -- ---- the folder's text
 
 -- the list has a slash
-record Cut (l : List ℕ) : Type 0 where
-  front : List ℕ
-  back : List ℕ
-  at : rsplit_once 47 l ≡ (Some front, back)
+pub record Cut (l : List ℕ) : Type 0 where
+  pub front : List ℕ
+  pub back : List ℕ
+  pub at : rsplit_once 47 l ≡ (Some front, back)
 
 cut_step : (rest : List ℕ) (front : Option (List ℕ)) (back : List ℕ) → rsplit_once 47 rest ≡ (front, back) → Cut (47 ∷ rest)
 unfolding rsplit_once
 cut_step rest (Some front) back is = record { front = 47 ∷ front; back = back; at = ap (λ (r : Option (List ℕ) × List ℕ). rsplit_step 47 47 r.0 r.1) is }
 cut_step rest None back is = record { front = []; back = back; at = ap (λ (r : Option (List ℕ) × List ℕ). rsplit_step 47 47 r.0 r.1) is }
 
-cut_path : (path : List ℕ) → 0 < length path → (path ≡ []) ⊎ (get_or path 0 0 ≡ 47) → Cut path
+pub cut_path : (path : List ℕ) → 0 < length path → (path ≡ []) ⊎ (get_or path 0 0 ≡ 47) → Cut path
 cut_path [] some first = absurd (omega arith)
 cut_path (b ∷ rest) some first =
     ⊎_elim (λ empty. absurd (let none = ap length empty in omega arith))
@@ -191,25 +191,21 @@ without_last-append xs ys k =
     ap (λ (r : Option (List ℕ) × List ℕ). unwrap_or r.0 []) (rsplit-append xs ys k.front k.back k.at)
     ∙ sym (ap (λ (r : Option (List ℕ) × List ℕ). xs ++ unwrap_or r.0 []) k.at)
 
--- what stands before the path
-abbrev root_text : Parts → List ℕ
-root_text url = text_between url BeforeScheme AfterPort
-
-path_text : (url : Parts) → has_authority url ≡ true → text_between url BeforeScheme AfterPath ≡ root_text url ++ url.path
+pub path_text : (url : Parts) → has_authority url ≡ true → text_between url BeforeScheme AfterPath ≡ root_text url ++ url.path
 path_text url authority = rw authority (simp (append_assoc, append-nil))
 
 bare_text : (url : Parts) → has_authority url ≡ true → url.query ≡ None → url.fragment ≡ None → serialize url ≡ root_text url ++ url.path
 bare_text url authority query fragment = rw (authority, query, fragment) (simp (append_assoc, append-nil))
 
 -- what a web URL is
-record IsWeb (url : Parts) : Type 0 where
-  valid : IsValid url
-  kind : kind_of url ≡ SpecialNotFile
-  authority : has_authority url ≡ true
-  list : IsSegmentList (kind_of url) url.path
-  some : 0 < length url.path
+pub record IsWeb (url : Parts) : Type 0 where
+  pub valid : IsValid url
+  pub kind : kind_of url ≡ SpecialNotFile
+  pub authority : has_authority url ≡ true
+  pub list : IsSegmentList (kind_of url) url.path
+  pub some : 0 < length url.path
 
-web_url : (url : Parts) → IsValid url → is_web url ≡ true → IsWeb url
+pub web_url : (url : Parts) → IsValid url → is_web url ≡ true → IsWeb url
 web_url url valid web =
     let kind = web_kind url web in
     let authority = special_has_authority url valid.head (ap is_special kind) in
@@ -241,12 +237,16 @@ folder_valid url web =
       fragment = tt;
     }
 
-serialize-folder : (url : Parts) → IsWeb url → serialize (folder url) ≡ folder_text url ++ 47 ∷ []
+-- the folder's text stands behind the root
+pub folder_text-root : (url : Parts) → IsWeb url → folder_text url ≡ root_text url ++ without_last_segment url.path
 unfolding folder_text
-serialize-folder url web =
+folder_text-root url web =
     let cut = cut_path url.path web.some (rooted (kind_of url) url.path web.list) in
-    let text = ap without_last_segment (path_text url web.authority) ∙ without_last-append (root_text url) url.path cut in
-    bare_text (folder url) web.authority refl refl ∙ sym (append_assoc (root_text url) (without_last_segment url.path) (47 ∷ [])) ∙ ap (λ l. l ++ 47 ∷ []) (sym text)
+    ap without_last_segment (path_text url web.authority) ∙ without_last-append (root_text url) url.path cut
+
+serialize-folder : (url : Parts) → IsWeb url → serialize (folder url) ≡ folder_text url ++ 47 ∷ []
+serialize-folder url web =
+    bare_text (folder url) web.authority refl refl ∙ sym (append_assoc (root_text url) (without_last_segment url.path) (47 ∷ [])) ∙ ap (λ l. l ++ 47 ∷ []) (sym (folder_text-root url web))
 
 -- two pages whose folders have one text have one folder
 same_folder : (one other : Parts) → IsWeb one → IsWeb other → folder_text one ≡ folder_text other → folder one ≡ folder other
@@ -266,12 +266,12 @@ none_from_first p (x ∷ l) first =
     (cases_Bool (p x))
 
 -- the text begins visibly, and has no scheme
-record IsPlain (text : List ℕ) : Type 0 where
-  first : ℕ
-  above : 32 < first
-  no_query : first ≢ 63
-  no_fragment : first ≢ 35
-  begins : Begins first (NoScheme first) text
+pub record IsPlain (text : List ℕ) : Type 0 where
+  pub first : ℕ
+  pub above : 32 < first
+  pub no_query : first ≢ 63
+  pub no_fragment : first ≢ 35
+  pub begins : Begins first (NoScheme first) text
 
 no_colon : (l : List ℕ) → list_any is_colon l ≡ false → All (λ x. x ≢ 58) l
 no_colon [] none = All-nil (λ x. x ≢ 58)
@@ -282,7 +282,7 @@ no_colon (x ∷ l) none =
 differs : (b s : ℕ) → not (b == s) ≡ true → b ≢ s
 differs b s other same = true≢false (sym (eq-eqb b s same) ∙ not-true _ other)
 
-plain_text : (text : List ℕ) → is_of_folder text ≡ true → IsPlain text
+pub plain_text : (text : List ℕ) → is_of_folder text ≡ true → IsPlain text
 plain_text [] plain = absurd (true≢false (sym plain))
 plain_text (b ∷ rest) plain =
     let one = and_parts _ _ plain in
@@ -300,7 +300,7 @@ plain_text (b ∷ rest) plain =
       };
     }
 
-begins-text : (text : List ℕ) (k : IsPlain text) → Begins k.first (NoScheme k.first) (strip_tabs_and_new_lines (trim_c0_control_and_space text))
+pub begins-text : (text : List ℕ) (k : IsPlain text) → Begins k.first (NoScheme k.first) (strip_tabs_and_new_lines (trim_c0_control_and_space text))
 begins-text text k =
     let P = NoScheme k.first in
     let trimmed = subst (λ t. Begins k.first P (trim_c0_control_and_space t)) (sym k.begins.is) (begins-trim k.first P k.begins.rest k.above (subst (All P) k.begins.is k.begins.all)) in

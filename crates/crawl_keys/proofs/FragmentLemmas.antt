@@ -17,7 +17,7 @@ use Rattle.url.specs.Parts.{Parts, cannot_be_a_base, kind_of}
 use Rattle.url.specs.Scheme.{is_special}
 use Rattle.url.proofs.InputLemmas.{All-take_from_reads, IsNot, is_empty_nonempty, split_around, split_once_at, split_once_none}
 use Rattle.crawl_keys.specs.declared.error.KeyError.TheVariants.{NotHttp}
-use Rattle.crawl_keys.specs.CanonicalText.{is_web, resolve, resolve_from, text_of, text_of_parse}
+use Rattle.crawl_keys.specs.CanonicalText.{canonical, is_web, resolve, resolve_from, text_of, text_of_parse}
 use Rattle.crawl_keys.specs.Folders.{is_colon, is_of_folder}
 use Rattle.crawl_keys.specs.Fragments.{before_fragment, ends_visibly, is_number_sign}
 use Rattle.crawl_keys.proofs.CanonicalLemmas.{web_kind}
@@ -226,6 +226,14 @@ resolve-before_fragment text base =
     ⊎_elim
     (λ same. ap (resolve base) same)
     (λ k. ap (resolve base) k.cut ∙ resolve_from-cut (parse_url None base) (k.front ++ k.last ∷ 35 ∷ k.fragment) (k.front ++ k.last ∷ []) (cut_parts k.front k.last k.fragment k.above k.plain) ∙ sym (ap (resolve base) k.whole))
+    (long_or_whole text)
+
+-- and so does its canonical text
+pub canonical-before_fragment : (text : List ℕ) → canonical (before_fragment text) ≡ canonical text
+canonical-before_fragment text =
+    ⊎_elim
+    (λ same. ap canonical same)
+    (λ k. ap canonical k.cut ∙ parse_url-cut None (k.front ++ k.last ∷ 35 ∷ k.fragment) (k.front ++ k.last ∷ []) (cut_parts k.front k.last k.fragment k.above k.plain) ∙ sym (ap canonical k.whole))
     (long_or_whole text)
 
 front_of_folder : (front rest : List ℕ) → 0 < length front → is_of_folder (front ++ rest) ≡ true → is_of_folder front ≡ true

@@ -9,6 +9,7 @@ use Rattle.crawl_keys.specs.declared.canon_url.Laid.TheInside.{Inside}
 use Rattle.crawl_keys.specs.CanonicalText.{is_web, without_fragment}
 use Rattle.crawl_keys.specs.HostKey.{host_key, host_of_parse}
 use Rattle.crawl_keys.specs.Layout.{IsLaidOut}
+use Rattle.crawl_keys.specs.Spelled.{IsSpelled}
 use Rattle.crawl_keys.proofs.CanonicalLemmas.{canonical_text, parse_url-without_fragment}
 
 -- between the places before and after the host stands the host key
@@ -18,12 +19,13 @@ slice_range-host url valid web =
     ∙ sym (ap host_of_parse (parse_url-without_fragment url valid web))
 
 -- the fields that are read off a web URL are laid out
-pub laid_out : (u : Inside) (url : Parts) → IsValid url → is_web url ≡ true → u.text ≡ serialize (without_fragment url) → IsAscii u.text → u.host_start ≡ offset url BeforeHost → u.host_end ≡ offset url AfterHost → u.hash ≡ hash_of u.text → IsLaidOut u
-laid_out u url valid web spelled ascii start end hashed = record {
+pub laid_out : (u : Inside) (url : Parts) → IsValid url → is_web url ≡ true → u.text ≡ serialize (without_fragment url) → IsAscii u.text → u.host_start ≡ offset url BeforeHost → u.host_end ≡ offset url AfterHost → u.hash ≡ hash_of u.text → IsSpelled u.text u.host_start u.host_end → IsLaidOut u
+laid_out u url valid web spelled ascii start end hashed own = record {
   canonical = rw spelled (canonical_text url valid web);
   ascii = ascii;
   ordered = rw (start, end) (upto_ordered (pieces url) 6 7 (omega arith));
   inside = rw (end, spelled) (upto-le (pieces (without_fragment url)) 7);
   host = rw (start, end, spelled) (slice_range-host url valid web);
+  spelled = own;
   hashed = hashed;
 }

@@ -6,3 +6,8 @@ pub mod FolderLemmas
 pub mod FragmentLemmas
 pub mod InOrderLemmas
 pub mod MarkLemmas
+pub mod PlainLemmas
+pub mod SpelledLemmas
+pub mod PlainLinks
+pub mod BaseLemmas
+pub mod LaneLemmas

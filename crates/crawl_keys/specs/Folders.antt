@@ -1,7 +1,7 @@
 -- Where a page's folder ends, and the links that lead to one URL from all pages of a folder.
 use Rattle.std.specs.Prelude.{ℕ, Bool, not, ◌&&◌, ◌||◌, ◌==◌, nat_lt, List, slice_index}
 use Rattle.std.specs.List.{list_any}
-use Rattle.url.specs.declared.slicing.Position.TheVariants.{BeforeScheme, AfterPath}
+use Rattle.url.specs.declared.slicing.Position.TheVariants.{BeforeScheme, AfterPath, AfterPort}
 use Rattle.url.specs.Ascii.{colon, number_sign, question_mark, slash, space}
 use Rattle.url.specs.Parts.{Parts, text_between}
 use Rattle.url.specs.Path.{without_last_segment}
@@ -21,3 +21,7 @@ is_of_folder text =
 -- the URL's text before the last slash of its path
 unfoldable pub folder_text : Parts → List ℕ
 folder_text url = without_last_segment (text_between url BeforeScheme AfterPath)
+
+-- the URL's text before its path
+abbrev pub root_text : Parts → List ℕ
+root_text url = text_between url BeforeScheme AfterPort

@@ -4,6 +4,7 @@ use Rattle.hash_order.specs.HashOrder.{hash_of}
 use Rattle.crawl_keys.specs.declared.canon_url.Laid.TheInside.{Inside}
 use Rattle.crawl_keys.specs.CanonicalText.{IsCanonical}
 use Rattle.crawl_keys.specs.HostKey.{host_key}
+use Rattle.crawl_keys.specs.Spelled.{IsSpelled}
 
 -- the text is canonical, the two places bound its host key, and the hash is the text's
 pub record IsLaidOut (u : Inside) : Type 0 where
@@ -12,4 +13,5 @@ pub record IsLaidOut (u : Inside) : Type 0 where
   pub ordered : u.host_start ≤ u.host_end
   pub inside : u.host_end ≤ length u.text
   pub host : slice_range u.text u.host_start u.host_end ≡ host_key u.text
+  pub spelled : IsSpelled u.text u.host_start u.host_end
   pub hashed : u.hash ≡ hash_of u.text

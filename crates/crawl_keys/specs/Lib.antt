@@ -9,3 +9,8 @@ pub mod Outcome
 pub mod Limits
 pub mod HostFilter
 pub mod Marks
+pub mod Plain
+pub mod Links
+pub mod Bases
+pub mod Spelled
+pub mod Lanes

@@ -1,34 +1,42 @@
 //! A page whose links are resolved.
-ghost use Rattle.std.specs.Prelude.{◌≡◌, ℕ, List, Ok, true};
-ghost use Rattle.crawl_keys.specs.CanonicalText.{text_of, without_fragment};
+ghost use Rattle.std.specs.Prelude.{◌≡◌, ◌≤◌, ◌+◌, ℕ, List, Ok, Some, length, true, IfSome};
+ghost use Rattle.crawl_keys.specs.Bases.{IsBase};
 ghost use Rattle.crawl_keys.specs.CanonicalText as spec;
 ghost use Rattle.crawl_keys.specs.Folders.{is_of_folder};
+ghost use Rattle.crawl_keys.specs.Links.{IsInFolder, is_query, is_rooted, is_same};
 ghost use Rattle.crawl_keys.specs.Outcome.{Gives};
+ghost use Rattle.crawl_keys.specs.Spelled.{IsSpelled};
+ghost use Rattle.url.specs.Parser.{parse_url};
 
-use crate::canon_url::is_web;
-use crate::folder::folder_of;
-use crate::{CanonUrl, KeyError};
+use crate::folder::{folder_above, folder_len};
+use crate::parsed::Parsed;
+use crate::plain::{HostPlace, PlainLink, behind_ups, is_plain, len_before, plain_link};
+use crate::{CanonUrl, KeyError, before_fragment};
 use std::alloc::{AllocError, Global};
 use std::marker::Model;
 use url::Url;
 
-/// The URL of a page, parsed once for all its links.
+/// The URL of a page, with the places in its text that its links are put behind.
 #[derive(Debug, Drop)]
 pub struct Base {
-    url: Url,
+    url: CanonUrl,
+    // Where the path begins.
+    root: usize,
+    // The place behind the last slash of the path.
+    folder: usize,
+    parsed: Parsed,
 }
 
 // Contracts see a base as the canonical text of its page.
 impl Model for Base {
     ghost use Rattle.std.specs.Prelude.{ℕ, List};
-    ghost use Rattle.url.specs.Parts.{serialize};
-    ghost use Rattle.crawl_keys.specs.CanonicalText.{IsPage};
+    ghost use Rattle.crawl_keys.specs.Bases.{IsBase};
 
     ghost Value = { List ℕ };
 
-    ghost view = { λ base. serialize base.url };
+    ghost view = { λ base. base.url };
 
-    ghost invariant = { λ base. IsPage base.url };
+    ghost invariant = { λ base. IsBase base.url base.root base.folder };
 }
 
 impl Base {
@@ -36,8 +44,8 @@ impl Base {
     pub fn new(alloc: Global, page: &CanonUrl) -> Result<Base, KeyError>
         ensures { Gives KeyError.NoMemory (λ base. base) result (Ok page.now) }
     {
-        let url = Url::parse(alloc, page.as_str())?;
-        Ok(Base { url })
+        let url = page.copy()?;
+        Ok(Base::of_url(alloc, url))
     }
 
     /// The base for the links of the page whose URL is spelled so, parsed once; with the errors of
@@ -45,19 +53,23 @@ impl Base {
     pub fn canonical(alloc: Global, text: &str) -> Result<Base, KeyError>
         ensures { Gives KeyError.NoMemory (λ base. base) result (spec.canonical text.now) }
     {
-        let url = Url::parse(alloc, text)?;
-        Base::of_url(url)
+        let url = crate::canonical(alloc, text)?;
+        Ok(Base::of_url(alloc, url))
     }
 
-    fn of_url(url: Url) -> Result<Base, KeyError>
-        ensures { Gives KeyError.NoMemory (λ base. base) result (text_of url) }
+    fn of_url(alloc: Global, url: CanonUrl) -> Base
+        ensures { result ≡ url }
     {
-        let web = is_web(&url);
-        if !web {
-            return Err(KeyError::NotHttp);
+        let text = url.as_str();
+        let host = url.host();
+        let root = host.end + len_before(&text.as_bytes()[host.end..], b'/');
+        let folder = folder_len(text.as_bytes()) + 1;
+        Base {
+            url,
+            root,
+            folder,
+            parsed: Parsed::new(alloc),
         }
-        let url = bare(url)?;
-        Ok(Base { url })
     }
 
     /// The canonical text of the page's URL.
@@ -67,20 +79,129 @@ impl Base {
         self.url.as_str()
     }
 
-    /// The page's URL, by a copy of its text; the only error is `NoMemory`.
-    pub fn keep(&self, alloc: Global) -> Result<CanonUrl, KeyError>
+    /// The page's URL, sharing the text; the only error is `NoMemory`.
+    pub fn keep(&self, _alloc: Global) -> Result<CanonUrl, KeyError>
         ensures { Gives KeyError.NoMemory (λ url. url) result (Ok self.now) }
     {
-        CanonUrl::keep(alloc, &self.url)
+        self.url.copy()
     }
 
     /// The canonical URL of a link on the page: what `resolve` answers with the page's URL, errors
     /// included.
+    ///
+    /// A link whose text the parser would put behind a part of the page's text as it is, is not parsed.
     pub fn resolve(&self, alloc: Global, text: &str) -> Result<CanonUrl, KeyError>
         ensures { Gives KeyError.NoMemory (λ url. url) result (spec.resolve self.now text.now) }
     {
-        let url = self.url.join(text)?;
-        CanonUrl::keep(alloc, &url)
+        match self.known(alloc, text) {
+            Some(answer) => answer,
+            None => self.without_fragment(alloc, text),
+        }
+    }
+
+    /// What a link that is not parsed leads to. `None` says nothing.
+    fn known(&self, alloc: Global, text: &str) -> Option<Result<CanonUrl, KeyError>>
+        ensures { IfSome result (λ answer. Gives KeyError.NoMemory (λ url. url) answer (spec.resolve self.now text.now)) }
+    {
+        match plain_link(text) {
+            PlainLink::Absolute(host) => Some(self.absolute(alloc, text, host)),
+            PlainLink::Rooted => Some(self.rooted(alloc, text)),
+            PlainLink::Query => Some(self.query(alloc, text)),
+            PlainLink::Same => Some(self.same(text)),
+            PlainLink::Other => self.beside(alloc, text),
+        }
+    }
+
+    /// The canonical URL of a link that is not plain: the text before its fragment may be.
+    fn without_fragment(&self, alloc: Global, text: &str) -> Result<CanonUrl, KeyError>
+        ensures { Gives KeyError.NoMemory (λ url. url) result (spec.resolve self.now text.now) }
+    {
+        let front = before_fragment(text);
+        if front.len() == text.len() {
+            return self.parsed(alloc, text);
+        }
+        match self.known(alloc, front) {
+            Some(answer) => answer,
+            None => self.parsed(alloc, front),
+        }
+    }
+
+    /// The canonical URL of a link that is one as it is.
+    fn absolute(&self, alloc: Global, text: &str, host: HostPlace) -> Result<CanonUrl, KeyError>
+        requires { IsSpelled text.now host.start host.end }
+        ensures { Gives KeyError.NoMemory (λ url. url) result (spec.resolve self.now text.now) }
+    {
+        // For the proof: the page's URL has a text that parses.
+        let _ = self.url.as_str();
+        CanonUrl::join(alloc, text, "", host)
+    }
+
+    /// The canonical URL of a link that stands behind the page's root.
+    fn rooted(&self, alloc: Global, text: &str) -> Result<CanonUrl, KeyError>
+        requires { is_rooted text.now ≡ true }
+        ensures { Gives KeyError.NoMemory (λ url. url) result (spec.resolve self.now text.now) }
+    {
+        let root = &self.url.ascii()[..self.root];
+        CanonUrl::join(alloc, root, text, self.url.host())
+    }
+
+    /// The canonical URL of a link that is a query.
+    fn query(&self, alloc: Global, text: &str) -> Result<CanonUrl, KeyError>
+        requires { is_query text.now ≡ true }
+        ensures { Gives KeyError.NoMemory (λ url. url) result (spec.resolve self.now text.now) }
+    {
+        let page = self.url.ascii();
+        let end = len_before(page.as_bytes(), b'?');
+        let path = &page[..end];
+        CanonUrl::join(alloc, path, text, self.url.host())
+    }
+
+    /// What a link to the page's folder, or to one above it, leads to. `None` says nothing.
+    fn beside(&self, alloc: Global, text: &str) -> Option<Result<CanonUrl, KeyError>>
+        ensures { IfSome result (λ answer. Gives KeyError.NoMemory (λ url. url) answer (spec.resolve self.now text.now)) }
+    {
+        let (ups, rest) = behind_ups(text);
+        if is_plain(b'/', rest.as_bytes()) && crate::is_of_folder(text) {
+            return Some(self.in_folder(alloc, text, ups, rest));
+        }
+        None
+    }
+
+    /// The canonical URL of a link that has to be parsed.
+    fn parsed(&self, alloc: Global, text: &str) -> Result<CanonUrl, KeyError>
+        ensures { Gives KeyError.NoMemory (λ url. url) result (spec.resolve self.now text.now) }
+    {
+        match self.parsed.url(alloc, self.url.as_str())? {
+            Some(page) => joined(alloc, page, text),
+            None => crate::resolve(alloc, &self.url, text),
+        }
+    }
+
+    /// The canonical URL of a link that is `../` so many times and this rest.
+    fn in_folder(
+        &self,
+        alloc: Global,
+        text: &str,
+        ups: usize,
+        rest: &str,
+    ) -> Result<CanonUrl, KeyError>
+        requires { IsInFolder text.now ups rest.now }
+        ensures { Gives KeyError.NoMemory (λ url. url) result (spec.resolve self.now text.now) }
+    {
+        let page = self.url.ascii();
+        let end = folder_above(page.as_bytes(), self.root, self.folder, ups);
+        let folder = &page[..end];
+        CanonUrl::join(alloc, folder, rest, self.url.host())
+    }
+
+    /// The canonical URL of a link to a place on the page.
+    fn same(&self, text: &str) -> Result<CanonUrl, KeyError>
+        requires { is_same text.now ≡ true }
+        ensures { Gives KeyError.NoMemory (λ url. url) result (spec.resolve self.now text.now) }
+    {
+        // For the proof: the page's URL has a text that parses.
+        let _ = self.url.as_str();
+        self.url.copy()
     }
 
     /// Whether both pages lie in one folder: their URLs have one text up to the last slash of their
@@ -88,8 +209,8 @@ impl Base {
     pub fn is_beside(&self, other: &Base) -> bool
         ensures { result ≡ true → (text : List ℕ) → is_of_folder text ≡ true → spec.resolve self.now text ≡ spec.resolve other.now text }
     {
-        let own = folder_of(&self.url);
-        let its = folder_of(&other.url);
+        let own = &self.url.ascii()[..self.folder];
+        let its = &other.url.ascii()[..other.folder];
         own == its
     }
 }
@@ -99,17 +220,19 @@ impl Clone for Base {
 
     fn clone(&self) -> Result<Base, AllocError> {
         let url = self.url.clone()?;
-        Ok(Base { url })
+        Ok(Base {
+            url,
+            root: self.root,
+            folder: self.folder,
+            parsed: self.parsed.anew(),
+        })
     }
 }
 
-/// The URL without its fragment. A text without one is not copied.
-fn bare(mut url: Url) -> Result<Url, KeyError>
-    ensures { Gives KeyError.NoMemory (λ bare. bare) result (Ok (without_fragment url)) }
+/// The canonical URL of a link on the page with this URL.
+fn joined(alloc: Global, page: &Url, text: &str) -> Result<CanonUrl, KeyError>
+    ensures { Gives KeyError.NoMemory (λ url. url) result (spec.text_of_parse (parse_url (Some page.now) text.now)) }
 {
-    if url.fragment().is_none() {
-        return Ok(url);
-    }
-    url.set_fragment(None)?;
-    Ok(url)
+    let url = page.join(text)?;
+    CanonUrl::keep(alloc, &url)
 }

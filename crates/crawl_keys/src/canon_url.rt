@@ -1,5 +1,5 @@
 //! A canonical URL, the parts of it that callers ask for, and its copies.
-ghost use Rattle.std.specs.Prelude.{◌≡◌, ◌<◌, ◌≤◌, Ok};
+ghost use Rattle.std.specs.Prelude.{◌≡◌, ◌<◌, ◌≤◌, ◌++◌, length, IsAscii, Ok};
 ghost use Rattle.hash_order.specs.HashOrder.{hash_of};
 ghost use Rattle.crawl_keys.specs.Assignment.{subqueue_of};
 ghost use Rattle.crawl_keys.specs.CanonicalText.{IsCanonical, text_of};
@@ -7,7 +7,9 @@ ghost use Rattle.crawl_keys.specs.CanonicalText as spec;
 ghost use Rattle.crawl_keys.specs.HostKey as spec_host;
 ghost use Rattle.crawl_keys.specs.Limits.{subqueues_limit};
 ghost use Rattle.crawl_keys.specs.Outcome.{Gives};
+ghost use Rattle.crawl_keys.specs.Spelled.{IsSpelled};
 
+use crate::plain::HostPlace;
 use crate::{KeyError, assign};
 use hash_order::HashedText;
 use std::alloc::{AllocError, Global};
@@ -80,6 +82,23 @@ impl CanonUrl {
         }
     }
 
+    /// The canonical URL whose text is made of these two, with the host at this place.
+    pub(crate) fn join(
+        alloc: Global,
+        front: &str,
+        back: &str,
+        host: HostPlace,
+    ) -> Result<CanonUrl, KeyError>
+        requires { IsSpelled (front.now ++ back.now) host.start host.end }
+        ensures { Gives KeyError.NoMemory (λ url. url) result (Ok (front.now ++ back.now)) }
+    {
+        let laid = Laid::join(alloc, front, back, host)?;
+        match Arc::new(alloc, laid) {
+            Ok(shared) => Ok(CanonUrl { shared }),
+            Err(_) => Err(KeyError::NoMemory),
+        }
+    }
+
     /// The canonical text.
     pub fn as_str(&self) -> &str
         ensures value { result.now ≡ self.now }
@@ -91,6 +110,24 @@ impl CanonUrl {
         ensures canonical { IsCanonical self.now }
     {
         self.shared.as_ref().as_str()
+    }
+
+    /// The canonical text, which can be cut at any place.
+    pub(crate) fn ascii(&self) -> &str
+        ensures value { result.now ≡ self.now }
+        ensures canonical { IsCanonical self.now }
+        ensures ascii { IsAscii result.now }
+    {
+        let laid = self.shared.as_ref();
+        laid.as_str()
+    }
+
+    /// Where the host stands in the text.
+    pub(crate) fn host(&self) -> HostPlace
+        ensures spelled { IsSpelled self.now result.start result.end }
+        ensures within { result.end ≤ length self.now }
+    {
+        self.shared.as_ref().host()
     }
 
     /// The serialized host, without port, user name and password. An IPv6 address keeps its

@@ -1,10 +1,13 @@
 //! The folder of a page, and the links that lead to one URL from all pages of it.
-ghost use Rattle.std.specs.Prelude.{◌≡◌};
-ghost use Rattle.std.specs.List.{list_any};
-ghost use Rattle.url.specs.Parts.{IsValid};
+ghost use Rattle.std.specs.Prelude.{◌≡◌, ◌≤◌, ◌<◌, length, take};
+ghost use Rattle.std.specs.List.{list_any, prefix_len};
+ghost use Rattle.url.specs.Ascii.{question_mark};
+ghost use Rattle.url.specs.Path.{without_last_segment};
 ghost use Rattle.crawl_keys.specs.Folders as spec;
+ghost use Rattle.crawl_keys.specs.Links as links;
+ghost use Rattle.crawl_keys.specs.Plain.{is_other};
 
-use url::{Position, Url};
+use crate::plain::len_before;
 
 /// Whether a link with this text leads to one URL from all pages of a folder: it is more than a
 /// query or a fragment, has no scheme, since it begins with a slash or has no colon, and does not
@@ -29,14 +32,35 @@ fn has_colon(text: &str) -> bool
     }
 }
 
-/// The URL's text before the last slash of its path.
-pub fn folder_of(url: &Url) -> &str
-    ensures value { result.now ≡ spec.folder_text url.now }
-    ensures valid { IsValid url.now }
+/// How long the text of a URL is before the last slash of its path.
+pub fn folder_len(text: &[u8]) -> usize
+    ensures value { result ≡ length (without_last_segment (take (prefix_len (is_other question_mark) text.now) text.now)) }
+    ensures within { result ≤ length text.now }
 {
-    let text = url.slice(Position::BeforeScheme, Position::AfterPath);
-    match text.as_bytes().iter().rposition(|&byte| byte == b'/') {
-        Some(place) => &text[..place],
-        None => "",
+    last_slash(&text[..len_before(text, b'?')])
+}
+
+/// How long the path is before its last slash.
+fn last_slash(path: &[u8]) -> usize
+    ensures value { result ≡ length (without_last_segment path.now) }
+    ensures within { result ≤ length path.now }
+{
+    match path.iter().rposition(|&byte| byte == b'/') {
+        Some(place) => place,
+        None => 0,
     }
+}
+
+/// Where so many folders above a folder end in the text of a page, whose path begins at the root.
+pub fn folder_above(page: &[u8], root: usize, folder: usize, ups: usize) -> usize
+    requires ordered { root < folder }
+    requires within { folder ≤ length page.now }
+    ensures value { result ≡ links.folder_above page.now root folder ups }
+    ensures within { result ≤ length page.now }
+{
+    let mut place = folder;
+    for up in 0..ups {
+        place = root + last_slash(&page[root..place - 1]) + 1;
+    }
+    place
 }

@@ -8,6 +8,9 @@ mod error;
 mod filter;
 mod folder;
 mod fragment;
+mod lanes;
+mod parsed;
+mod plain;
 mod read;
 mod url_key;
 

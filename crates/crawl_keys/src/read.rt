@@ -2,7 +2,8 @@
 ghost use Rattle.crawl_keys.specs.CanonicalText as spec;
 ghost use Rattle.crawl_keys.specs.Outcome.{Gives};
 
-use crate::{CanonUrl, KeyError};
+use crate::plain::host_place;
+use crate::{CanonUrl, KeyError, before_fragment};
 use std::alloc::Global;
 use url::Url;
 
@@ -11,6 +12,30 @@ use url::Url;
 /// `NotUrl` where the URL Standard's parser finds no URL, `NotHttp` where the URL's scheme is neither
 /// `http` nor `https`, `NoMemory` where memory is wanting or the URL would come to 4 GB.
 pub fn canonical(alloc: Global, text: &str) -> Result<CanonUrl, KeyError>
+    ensures { Gives KeyError.NoMemory (λ url. url) result (spec.canonical text.now) }
+{
+    match host_place(text) {
+        Some(host) => CanonUrl::join(alloc, text, "", host),
+        None => without_fragment(alloc, text),
+    }
+}
+
+/// The canonical URL of a text that is none as it is: the text before its fragment may be one.
+fn without_fragment(alloc: Global, text: &str) -> Result<CanonUrl, KeyError>
+    ensures { Gives KeyError.NoMemory (λ url. url) result (spec.canonical text.now) }
+{
+    let front = before_fragment(text);
+    if front.len() == text.len() {
+        return parsed(alloc, text);
+    }
+    match host_place(front) {
+        Some(host) => CanonUrl::join(alloc, front, "", host),
+        None => parsed(alloc, front),
+    }
+}
+
+/// The canonical URL of a text that has to be parsed.
+fn parsed(alloc: Global, text: &str) -> Result<CanonUrl, KeyError>
     ensures { Gives KeyError.NoMemory (λ url. url) result (spec.canonical text.now) }
 {
     let url = Url::parse(alloc, text)?;

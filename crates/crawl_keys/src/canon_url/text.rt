@@ -1,5 +1,5 @@
 //! A text that lies in its owner where it is short.
-ghost use Rattle.std.specs.Prelude.{◌≡◌, IfOk};
+ghost use Rattle.std.specs.Prelude.{◌≡◌, ◌++◌, IfOk};
 
 use arrayvec::ArrayString;
 use std::alloc::{AllocError, Global};
@@ -44,6 +44,24 @@ impl Text {
             Err(_) => Kept::Long(String::from_str(alloc, text)?),
         };
         Ok(Text { kept })
+    }
+
+    /// The text that is made of these two. Only a long one wants memory.
+    pub(super) fn join(alloc: Global, front: &str, back: &str) -> Result<Text, AllocError>
+        ensures { IfOk result (λ text. text ≡ front.now ++ back.now) }
+    {
+        if let Ok(mut short) = ArrayString::from(front) {
+            if short.try_push_str(back).is_ok() {
+                return Ok(Text {
+                    kept: Kept::Short(short),
+                });
+            }
+        }
+        let mut long = String::from_str(alloc, front)?;
+        long.push_str(back)?;
+        Ok(Text {
+            kept: Kept::Long(long),
+        })
     }
 
     /// The text.

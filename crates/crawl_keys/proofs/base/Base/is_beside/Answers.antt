@@ -1,13 +1,14 @@
-use Rattle.std.proofs.Common.{sym, ◌∙◌, ap}
+use Rattle.std.proofs.Common.{ap, sym, ◌∙◌}
 use Rattle.std.proofs.lemmas.Slice.Eq.{bytes_eq-Decides}
 use Rattle.crawl_keys.specs.CanonicalText.{resolve}
-use Rattle.crawl_keys.proofs.FolderLemmas.{resolve-beside}
+use Rattle.crawl_keys.proofs.BaseLemmas.{front_slice, leads_beside}
 use Rattle.crawl_keys.proofs.base.Base.is_beside.Goals as goal
 
 pub returns : goal.returns
 returns c same text plain =
-    let equal = (bytes_eq-Decides _ _).0 (sym c.eq.ensures ∙ same) in
-    let folders = sym c.folder_of-own.ensures.value ∙ equal ∙ c.folder_of-its.ensures.value in
+    let own = c.range-own.ensures.value ∙ front_slice c.self.inside.url _ c.self.inside.folder c.ascii.ensures.value in
+    let its = c.range-its.ensures.value ∙ front_slice c.other.inside.url _ c.other.inside.folder c.ascii-2.ensures.value in
+    let equal = sym own ∙ (bytes_eq-Decides _ _).0 (sym c.eq.ensures ∙ same) ∙ its in
     ap (λ t. resolve t text) (sym c.self.view_is)
-    ∙ resolve-beside _ _ c.folder_of-own.ensures.valid c.folder_of-its.ensures.valid c.self.invariant c.other.invariant folders text plain
+    ∙ leads_beside c.self.inside.url c.other.inside.url c.self.inside.root c.self.inside.folder c.other.inside.root c.other.inside.folder c.ascii.ensures.canonical c.ascii-2.ensures.canonical c.self.invariant c.other.invariant equal text plain
     ∙ ap (λ t. resolve t text) c.other.view_is

@@ -1,18 +1,16 @@
-use Rattle.std.proofs.Common.{◌≡◌, Ok, ap, inl, sym, subst, ◌∙◌}
-use Rattle.url.specs.Parts.{serialize}
-use Rattle.crawl_keys.specs.CanonicalText.{IsPage, without_fragment}
-use Rattle.crawl_keys.proofs.CanonicalLemmas.{given_url, page-without_fragment, text_of-other, text_of-web}
+use Rattle.std.proofs.Common.{◌+◌, ap, length, take, ◌∙◌}
+use Rattle.std.specs.List.{prefix_len}
+use Rattle.url.specs.Path.{without_last_segment}
+use Rattle.crawl_keys.specs.Plain.{is_other}
+use Rattle.crawl_keys.proofs.BaseLemmas.{back_slice, is_base}
 use Rattle.crawl_keys.proofs.base.Base.of_url.Goals as goal
-
-pub returns-then-not-web : goal.returns-then-not-web
-returns-then-not-web c = inl (text_of-other _ (sym c.is_web-web.ensures.value ∙ c.if-not-web.true))
 
 pub invariant_of-result : goal.invariant_of-result
 invariant_of-result c =
-    let web = sym c.is_web-web.ensures.value ∙ c.if-not-web.false in
-    subst IsPage (given_url _ _ c.in_ok-url.ensures) (page-without_fragment c.args.url c.is_web-web.ensures.valid web)
-
-pub returns : goal.returns
-returns c =
-    let web = sym c.is_web-web.ensures.value ∙ c.if-not-web.false in
-    text_of-web c.args.url web ∙ ap (λ u. Ok (serialize u)) (given_url _ _ c.in_ok-url.ensures)
+    let text = c.args.url in
+    let end = c.host-host.result.end in
+    let bytes = c.as_bytes.ensures.value ∙ c.as_str-text.ensures.value in
+    let all = c.as_bytes-2.ensures.value ∙ c.as_str-text.ensures.value in
+    is_base text _ _ c.host-host.result.start end c.as_str-text.ensures.canonical c.host-host.ensures.spelled
+    (ap (λ n. end + n) (c.len_before.ensures.value ∙ ap (prefix_len (is_other 47)) (back_slice text _ end bytes)))
+    (ap (λ n. n + 1) (c.folder_len-folder.ensures.value ∙ ap (λ t. length (without_last_segment (take (prefix_len (is_other 63) t) t))) all))

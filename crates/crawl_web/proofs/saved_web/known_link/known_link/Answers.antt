@@ -27,3 +27,8 @@ pub returns-in_err-add-clause-of_folder : goal.returns-in_err-add-clause-of_fold
 returns-in_err-add-clause-of_folder c = λ own all.
     all_with (λ x. is_of_folder x.0 ≡ true) c.args.known.now c.place_or_note.new.self c.add.new.self (c.args.text.now, c.in_ok-copy_of-2.field-0)
     c.place_or_note.ensures c.add.ensures all own
+
+pub returns-in_err-add-clause-known : goal.returns-in_err-add-clause-known
+returns-in_err-add-clause-known c =
+    all_with (λ x. x.1 ≡ link_url c.args.base.now x.0) c.args.known.now c.place_or_note.new.self c.add.new.self (c.args.text.now, c.in_ok-copy_of-2.field-0)
+    c.place_or_note.ensures c.add.ensures c.requires (c.in_ok-copy_of-2.ensures ∙ c.in_ok-link.ensures.link)

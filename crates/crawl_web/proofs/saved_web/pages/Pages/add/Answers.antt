@@ -11,3 +11,7 @@ invariant_of-self-2 c =
     rw c.in_ok-push.ensures.items
     (keeps_more list page c.keep_if_new.new.places c.len-place.result (search rules) (absent (has list page.url) told)
     (search rules) c.self.invariant.0 (rw c.deref.ensures.value at c.keep_if_new.ensures.kept))
+
+pub invariant_of-self-in_err-push : goal.invariant_of-self-in_err-push
+invariant_of-self-in_err-push c =
+    rw c.in_err-push.ensures.items (c.self.invariant.0, rw c.deref.ensures.value at c.keep_if_new.ensures.kept)

@@ -1,0 +1,192 @@
+-- What a plain text is made of: the segments of a path, and a query.
+use Rattle.std.proofs.Common.{◌≡◌, ◌≢◌, ℕ, suc, ◌+◌, ◌-◌, ◌<◌, ◌==◌, Bool, true, false, not, ◌&&◌, List, [], ◌∷◌, ◌++◌, length, get_or, refl, ap, sym, subst, ◌∙◌, ⊎_elim, All, Some, IfSome, arith, bit_and, nat_eq}
+use Rattle.std.specs.Prelude.{Option, is_some, unwrap_or}
+use Rattle.std.proofs.lemmas.Bool.{agree_below, agree_below_at, and_from, and_parts, cases_eq, cond-true, cond_both, eq-eqb, eqb-true, ne_eqb, true≢false}
+use Rattle.std.proofs.lemmas.Bool.Decides.{nat_tests}
+use Rattle.std.proofs.lemmas.List.Elements.{All-nil, All-cons, All-head, All-tail, All-weaker}
+use Rattle.percent_encoding.specs.Percent.{IsKept}
+use Rattle.url.specs.declared.sets.TheConstants.{PATH, SPECIAL_QUERY}
+use Rattle.url.specs.declared.scheme.SchemeType.TheVariants.{SpecialNotFile}
+use Rattle.url.specs.Input.{split_once, when}
+use Rattle.url.specs.Path.{dot_len, dot_count, IsSegment, IsSegmentList, join_segments}
+use Rattle.url.proofs.InputLemmas.{IsNot, Passes}
+use Rattle.url.proofs.PathLemmas.{IsNoSlash}
+use Rattle.url.proofs.SetLemmas.{kept_from_passes}
+use Rattle.crawl_keys.specs.Lanes.{Follow}
+use Rattle.crawl_keys.specs.Plain.{is_kept, is_plain, may_begin, may_follow}
+
+-- ---- bytes
+
+kept_below : (b : ℕ) → is_kept b ≡ true → b < 128
+kept_below b kept = grind (arith, nat_tests)
+
+pub path_byte : (b : ℕ) → is_kept b ≡ true → b ≢ 63 → IsKept PATH b
+path_byte b kept other =
+    kept_from_passes (λ x. is_kept x && not (x == 63)) PATH refl b (kept_below b kept) (and_from _ _ kept (ap not (ne_eqb b 63 other)))
+
+pub query_byte : (b : ℕ) → is_kept b ≡ true → IsKept SPECIAL_QUERY b
+query_byte b kept = kept_from_passes is_kept SPECIAL_QUERY refl b (kept_below b kept) kept
+
+no_slash_byte : (b : ℕ) → is_kept b ≡ true → b ≢ 47 → IsNoSlash SpecialNotFile b
+no_slash_byte b kept other = grind (arith, nat_tests)
+
+pub visible_byte : (b : ℕ) → Passes is_kept b → 32 < b
+visible_byte b kept = grind (arith, nat_tests)
+
+pub no_sign_byte : (b : ℕ) → Passes is_kept b → IsNot 35 b
+no_sign_byte b kept same = grind (arith, nat_tests)
+
+behind_slash : (last b : ℕ) → may_follow last b ≡ true → last ≡ 47 → may_begin b ≡ true
+behind_slash last b test slash = sym (cond-true _ _ _ (eq-eqb last 47 slash)) ∙ test
+
+follows_kept : (last b : ℕ) → may_follow last b ≡ true → is_kept b ≡ true
+follows_kept last b test =
+    cond_both (last == 47) (may_begin b) (is_kept b) (λ (v : Bool). v ≡ true → is_kept b ≡ true) (λ _ begins. (and_parts _ _ begins).0) (λ _ kept. kept) test
+
+pub all_kept : (last : ℕ) (text : List ℕ) → is_plain last text ≡ true → All (Passes is_kept) text
+all_kept last [] plain = All-nil (Passes is_kept)
+all_kept last (b ∷ text) plain =
+    let parts = and_parts _ _ plain in
+    All-cons (Passes is_kept) b text (follows_kept last b parts.0) (all_kept b text parts.1)
+
+-- ---- bytes behind bytes
+
+plain_behind : (last b : ℕ) (text : List ℕ) → may_follow last b ≡ true → Follow (b ∷ text) 0 (length text) → is_plain last (b ∷ text) ≡ true
+plain_behind last b [] first each = and_from _ _ first refl
+plain_behind last b (c ∷ text) first each =
+    and_from _ _ first (plain_behind b c text (each 0 (omega arith) (omega arith)) (λ k from to. later b c text k (each (suc k) (omega arith) (omega arith))))
+  where
+    later : (b c : ℕ) (text : List ℕ) (k : ℕ) → may_follow (get_or (b ∷ c ∷ text) (suc k) 0) (get_or (b ∷ c ∷ text) (suc k + 1) 0) ≡ true → may_follow (get_or (c ∷ text) k 0) (get_or (c ∷ text) (k + 1) 0) ≡ true
+    later b c text k each =
+        let next : suc k + 1 ≡ suc (k + 1) = omega arith in
+        subst (λ j. may_follow (get_or (c ∷ text) k 0) (get_or (b ∷ c ∷ text) j 0) ≡ true) next each
+
+-- a text is plain where each byte may follow the one before it
+pub plain_from : (last : ℕ) (text : List ℕ) → 0 < length text → may_follow last (get_or text 0 0) ≡ true → Follow text 0 (length text - 1) → is_plain last text ≡ true
+plain_from last [] some first each = absurd (omega arith)
+plain_from last (b ∷ text) some first each = plain_behind last b text first (λ k from to. each k from (omega arith))
+
+-- ---- segments
+
+dots_none : (segment : List ℕ) → dot_len segment ≡ 0 → dot_count segment ≡ 0
+unfolding dot_count
+dots_none segment none = rw none
+
+begins_segment : (b : ℕ) (segment : List ℕ) → may_begin b ≡ true → dot_count (b ∷ segment) ≡ 0
+begins_segment b segment begins =
+    let no_dot : (b == 46) ≡ false = grind (arith, nat_tests) in
+    let no_escape : (b == 37) ≡ false = grind (arith, nat_tests) in
+    dots_none (b ∷ segment) (rw (no_dot, no_escape) refl)
+
+-- the text goes on with the segment that this byte stands in or begins, and has whole segments behind it
+pub record IsRun (last : ℕ) (text : List ℕ) : Type 0 where
+  pub first : List ℕ
+  pub others : List (List ℕ)
+  pub is : text ≡ first ++ join_segments others
+  pub escaped : All (IsKept PATH) first
+  pub whole : All (IsNoSlash SpecialNotFile) first
+  pub begins : last ≡ 47 → dot_count first ≡ 0
+  pub each : All (IsSegment SpecialNotFile) others
+
+-- what goes on behind a slash is a segment
+pub run_segment : (text : List ℕ) (k : IsRun 47 text) → IsSegment SpecialNotFile k.first
+run_segment text k = record { escaped = k.escaped; whole = k.whole; resolved = k.begins refl }
+
+pub runs : (last : ℕ) (text : List ℕ) → is_plain last text ≡ true → All (IsNot 63) text → IsRun last text
+runs last [] plain none = record {
+  first = [];
+  others = [];
+  is = refl;
+  escaped = All-nil (IsKept PATH);
+  whole = All-nil (IsNoSlash SpecialNotFile);
+  begins = λ _. dots_none [] refl;
+  each = All-nil (IsSegment SpecialNotFile);
+}
+runs last (b ∷ text) plain none =
+    let parts = and_parts _ _ plain in
+    let later = runs b text parts.1 (All-tail (IsNot 63) b text none) in
+    ⊎_elim (λ slash. after_slash last b text slash later)
+    (λ other. in_segment last b text (follows_kept last b parts.0) (All-head (IsNot 63) b text none) other (behind_slash last b parts.0) later)
+    (cases_eq b 47)
+  where
+    after_slash : (last b : ℕ) (text : List ℕ) → b ≡ 47 → IsRun b text → IsRun last (b ∷ text)
+    after_slash last b text slash later = record {
+      first = [];
+      others = later.first ∷ later.others;
+      is = (λ i. slash i ∷ later.is i);
+      escaped = All-nil (IsKept PATH);
+      whole = All-nil (IsNoSlash SpecialNotFile);
+      begins = λ _. dots_none [] refl;
+      each = All-cons (IsSegment SpecialNotFile) later.first later.others (record { escaped = later.escaped; whole = later.whole; resolved = later.begins slash }) later.each;
+    }
+
+    in_segment : (last b : ℕ) (text : List ℕ) → is_kept b ≡ true → b ≢ 63 → b ≢ 47 → (last ≡ 47 → may_begin b ≡ true) → IsRun b text → IsRun last (b ∷ text)
+    in_segment last b text kept no_mark no_slash begins later = record {
+      first = b ∷ later.first;
+      others = later.others;
+      is = ap (λ l. b ∷ l) later.is;
+      escaped = All-cons (IsKept PATH) b later.first (path_byte b kept no_mark) later.escaped;
+      whole = All-cons (IsNoSlash SpecialNotFile) b later.first (no_slash_byte b kept no_slash) later.whole;
+      begins = λ slash. begins_segment b later.first (begins slash);
+      each = later.each;
+    }
+
+-- a plain text with no query that begins with a slash is a list of segments
+pub rooted_path : (last b : ℕ) (text : List ℕ) → b ≡ 47 → is_plain last (b ∷ text) ≡ true → All (IsNot 63) (b ∷ text) → IsSegmentList SpecialNotFile (b ∷ text)
+rooted_path last b text slash plain none =
+    let run = runs b text (and_parts _ _ plain).1 (All-tail (IsNot 63) b text none) in
+    record {
+      segments = run.first ∷ run.others;
+      joined = (λ i. slash i ∷ run.is i);
+      each = All-cons (IsSegment SpecialNotFile) run.first run.others (record { escaped = run.escaped; whole = run.whole; resolved = run.begins slash }) run.each;
+    }
+
+-- ---- the query
+
+-- the mark and the query, if there is one
+abbrev pub query_text : Option (List ℕ) → List ℕ
+query_text query = when (is_some query) (63 ∷ []) ++ unwrap_or query []
+
+-- what stands before the first `?`, and the query behind it
+pub record IsSplit (last : ℕ) (text path : List ℕ) (query : Option (List ℕ)) : Type 0 where
+  pub plain : is_plain last path ≡ true
+  pub none : All (IsNot 63) path
+  pub kept : IfSome query (All (IsKept SPECIAL_QUERY))
+  pub whole : text ≡ path ++ query_text query
+
+abbrev Split : Type 0
+Split = List ℕ × Option (List ℕ)
+
+pub splits : (last : ℕ) (text : List ℕ) → is_plain last text ≡ true → IsSplit last text (split_once 63 text).0 (split_once 63 text).1
+unfolding split_once
+splits last [] plain = record { plain = refl; none = All-nil (IsNot 63); kept = tt; whole = refl }
+splits last (b ∷ text) plain =
+    let parts = and_parts _ _ plain in
+    let later = splits b text parts.1 in
+    cond_both {A = Split} (b == 63) ([], Some text) (b ∷ (split_once 63 text).0, (split_once 63 text).1) (λ (r : Split). IsSplit last (b ∷ text) r.0 r.1)
+    (λ mark. at_mark last b text (eqb-true b 63 mark) parts.1)
+    (λ other. before_mark last b text (split_once 63 text).0 (split_once 63 text).1 parts.0 (λ same. true≢false (sym (eq-eqb b 63 same) ∙ other)) later)
+  where
+    at_mark : (last b : ℕ) (text : List ℕ) → b ≡ 63 → is_plain b text ≡ true → IsSplit last (b ∷ text) [] (Some text)
+    at_mark last b text mark plain = record {
+      plain = refl;
+      none = All-nil (IsNot 63);
+      kept = All-weaker (Passes is_kept) (IsKept SPECIAL_QUERY) query_byte text (all_kept b text plain);
+      whole = ap (λ x. x ∷ text) mark;
+    }
+
+    before_mark : (last b : ℕ) (text path : List ℕ) (query : Option (List ℕ)) → may_follow last b ≡ true → b ≢ 63 → IsSplit b text path query → IsSplit last (b ∷ text) (b ∷ path) query
+    before_mark last b text path query test other later = record {
+      plain = and_from _ _ test later.plain;
+      none = All-cons (IsNot 63) b path other later.none;
+      kept = later.kept;
+      whole = ap (λ l. b ∷ l) later.whole;
+    }
+
+-- ---- the table of bytes
+
+abbrev pub has_flag : List ℕ → ℕ → ℕ → Bool
+has_flag table flag b = not (nat_eq (bit_and (get_or table b 0) flag) 0)
+
+pub from_table : (table : List ℕ) (flag : ℕ) (test : ℕ → Bool) (b : ℕ) → b < 256 → agree_below (has_flag table flag) test 256 ≡ true → has_flag table flag b ≡ test b
+from_table table flag test b below all = agree_below_at (has_flag table flag) test 256 b all below

@@ -1,0 +1,413 @@
+-- Where plain links lead: the parser's relative state on texts that it leaves as they are.
+use Rattle.std.proofs.Common.{◌≡◌, ℕ, zero, suc, ◌+◌, ◌<◌, ◌==◌, true, false, not, List, [], ◌∷◌, ◌++◌, length, get_or, drop, reverse, refl, ap, sym, subst, ◌∙◌, inl, All, Some, None, Ok, IfSome, arith, append_assoc, append-nil, length-append, take_all, add-one}
+use Rattle.std.specs.Prelude.{Option, if◌then◌else◌}
+use Rattle.std.specs.List.{prefix_len}
+use Rattle.std.proofs.lemmas.Bool.{and_left, and_parts, cond-false, eqb-true, lt-leb, true≢false}
+use Rattle.std.proofs.lemmas.Bool.Decides.{nat_tests}
+use Rattle.std.proofs.lemmas.Grind.{flat_map-append}
+use Rattle.std.proofs.lemmas.List.{get_or-reverse, length-reverse}
+use Rattle.std.proofs.lemmas.List.Elements.{All-nil, All-cons, All-append, All-from_get_or, All-head, All-tail, All-weaker}
+use Rattle.percent_encoding.specs.Percent.{IsKept}
+use Rattle.url.specs.declared.scheme.SchemeType.{SchemeType}
+use Rattle.url.specs.declared.scheme.SchemeType.TheVariants.{SpecialNotFile}
+use Rattle.url.specs.declared.sets.TheConstants.{SPECIAL_QUERY}
+use Rattle.url.specs.declared.slicing.Position.TheVariants.{BeforeHost, AfterHost}
+use Rattle.url.specs.Head.{head_only}
+use Rattle.url.specs.Input.{is_c0_control_or_space, is_tab_or_new_line, split_once, strip_tabs_and_new_lines, trim_c0_control_and_space}
+use Rattle.url.specs.Parser.{Parsed, after_double_slash, after_slashes, and_then, before_tail, inherit, leading_slashes, parse_by_scheme, parse_parts, parse_relative, parse_url, parse_without_scheme, split_scheme, with_path, with_tail}
+use Rattle.url.specs.Parts.{Parts, IsValid, kind_of, offset, query_set, serialize}
+use Rattle.url.specs.Path.{IsSegment, IsSegmentList, dot_count, join_segments, parse_path, push_segment, shorten_path, without_last_segment}
+use Rattle.url.specs.Scheme.{is_file, is_slash, is_special, scheme_len}
+use Rattle.url.proofs.InputLemmas.{IsNot, Passes, StopsAt, filter_all, split_once_none}
+use Rattle.url.proofs.ParsedCanonical.{before_special}
+use Rattle.url.proofs.PathLemmas.{IsNoSlash, parse_path_more, without_last_valid}
+use Rattle.url.proofs.RoundTrip.{parse_after_slash, parse_own_segments, stays_unless_file}
+use Rattle.url.proofs.ValidLemmas.{base_from_authority, option_unchanged}
+use Rattle.crawl_keys.specs.CanonicalText.{IsPage, resolve, resolve_from, text_of, text_of_parse}
+use Rattle.crawl_keys.specs.Folders.{is_of_folder, root_text}
+use Rattle.crawl_keys.specs.Links.{IsInFolder, behind_ups, is_query, is_rooted, is_same}
+use Rattle.crawl_keys.specs.Plain.{is_kept, is_plain, may_follow}
+use Rattle.crawl_keys.specs.Spelled.{IsSpelled}
+use Rattle.crawl_keys.proofs.CanonicalLemmas.{text_of-web}
+use Rattle.crawl_keys.proofs.FolderLemmas.{IsWeb, NoScheme, begins-split, begins-strip, begins-trim, no_scheme, parse_body-web, parse_without_scheme-web, plain_text, shorten_web, web_url}
+use Rattle.crawl_keys.proofs.PlainLemmas.{all_kept, no_sign_byte, query_byte, query_text, run_segment, runs, splits, visible_byte}
+use Rattle.crawl_keys.proofs.SpelledLemmas.{IsRest, plain_rest, rest_text, spelled_at, spelled_rest, with_rest}
+
+-- ---- nothing is trimmed, stripped or cut
+
+abbrev Visible : ℕ → Type 0
+Visible b = 32 < b
+
+none_in_front : (xs : List ℕ) → All Visible xs → prefix_len is_c0_control_or_space xs ≡ 0
+none_in_front [] all = refl
+none_in_front (x ∷ xs) all = cond-false _ _ _ (lt-leb x 32 (All-head Visible x xs all))
+
+untrimmed : (xs : List ℕ) → All Visible xs → trim_c0_control_and_space xs ≡ xs
+unfolding trim_c0_control_and_space
+untrimmed xs all =
+    let len = length-reverse xs in
+    let turned = All-from_get_or Visible (reverse xs) 0 (λ i inside. rw (get_or-reverse xs i 0 (omega arith)) (all _ 0 (omega arith))) in
+    let start = none_in_front xs all in
+    let end = none_in_front (reverse xs) turned in
+    rw (start, end) (take_all _ xs (omega arith))
+
+unstripped : (xs : List ℕ) → All Visible xs → strip_tabs_and_new_lines xs ≡ xs
+unfolding strip_tabs_and_new_lines
+unstripped xs all =
+    filter_all _ xs (All-weaker Visible (Passes (λ b. not (is_tab_or_new_line b))) (λ b above. grind (arith, nat_tests)) xs all)
+
+-- the whole text is left
+uncut : (text : List ℕ) → All (Passes is_kept) text → split_once 35 (strip_tabs_and_new_lines (trim_c0_control_and_space text)) ≡ (text, None)
+uncut text kept =
+    let visible = All-weaker (Passes is_kept) Visible visible_byte text kept in
+    ap (λ t. split_once 35 (strip_tabs_and_new_lines t)) (untrimmed text visible)
+    ∙ ap (split_once 35) (unstripped text visible)
+    ∙ split_once_none 35 text (All-weaker (Passes is_kept) (IsNot 35) no_sign_byte text kept)
+
+abbrev Split : Type 0
+Split = List ℕ × Option (List ℕ)
+
+-- what the parser makes of a kept text with no scheme
+parse_url-kept : (base : Parts) (text body : List ℕ) (query : Option (List ℕ)) → All (Passes is_kept) text → split_once 63 text ≡ (body, query) → split_scheme body ≡ None
+    → parse_url (Some base) text ≡ parse_without_scheme (Some base) body query None
+unfolding parse_url
+parse_url-kept base text body query kept split none =
+    let parsed = λ (hash : Split). let question = split_once 63 hash.0 in parse_by_scheme (split_scheme question.0) (Some base) question.0 question.1 hash.1 in
+    ap parsed (uncut text kept)
+    ∙ ap (λ (q : Split). parse_by_scheme (split_scheme q.0) (Some base) q.0 q.1 None) split
+    ∙ ap (λ s. parse_by_scheme s (Some base) body query None) none
+
+-- the last step leaves a kept query as it is
+tail_of : (base : Parts) (path : List ℕ) (query : Option (List ℕ)) → kind_of base ≡ SpecialNotFile → IfSome query (All (IsKept SPECIAL_QUERY))
+    → with_tail (before_tail (with_path (head_only base) path) query None) query None ≡ with_rest base path query
+tail_of base path query kind kept =
+    let own = with_path (head_only base) path in
+    let same = option_unchanged (query_set (kind_of base)) query (subst (λ k. IfSome query (All (IsKept (query_set k)))) (sym kind) kept) in
+    ap (λ u. with_tail u query None) (before_special own query None (ap is_special kind))
+    ∙ (λ i. with_rest base path (same i))
+
+-- a kept text leads to the page's URL with this path, where the relative state gives that
+parse_url-path : (base : Parts) (text body path : List ℕ) (query : Option (List ℕ)) → IsWeb base → All (Passes is_kept) text → split_once 63 text ≡ (body, query) → split_scheme body ≡ None
+    → 0 < length body → IfSome query (All (IsKept SPECIAL_QUERY)) → parse_relative base body ≡ Ok (with_path (head_only base) path)
+    → parse_url (Some base) text ≡ Ok (with_rest base path query)
+parse_url-path base text body path query web kept split none some own relative =
+    parse_url-kept base text body query kept split none
+    ∙ parse_without_scheme-web base body query None web.authority some
+    ∙ ap (λ (r : Parsed Parts). and_then r (λ made. Ok (with_tail (before_tail made query None) query None))) (parse_body-web base body web.kind ∙ relative)
+    ∙ ap (λ u. Ok u) (tail_of base path query web.kind own)
+
+-- ---- `/path`
+
+-- no scheme ends in front of a slash
+rooted_scheme : (more : List ℕ) → split_scheme (47 ∷ more) ≡ None
+rooted_scheme more =
+    no_scheme 47 (47 ∷ more) (record { rest = more; is = refl; all = λ n d inside. inl refl })
+
+one_slash : (kind : SchemeType) (rest : List ℕ) → StopsAt (is_slash kind) rest → leading_slashes kind (47 ∷ rest) ≡ 1
+unfolding leading_slashes
+one_slash kind [] stops = refl
+one_slash kind (b ∷ rest) stops = rw stops refl
+
+-- a plain text behind a slash does not begin with one
+stops_plain : (text : List ℕ) → is_plain 47 text ≡ true → StopsAt (is_slash SpecialNotFile) text
+stops_plain [] plain = tt
+stops_plain (b ∷ text) plain = no_slash b (and_parts _ _ plain).0
+  where
+    no_slash : (b : ℕ) → may_follow 47 b ≡ true → is_slash SpecialNotFile b ≡ false
+    no_slash b test = grind (arith, nat_tests)
+
+-- the relative state, by the number of slashes in front
+abbrev relative_by : Parts → List ℕ → ℕ → Parsed Parts
+relative_by base body slashes =
+    let kind = kind_of base in
+    let start = inherit base (slashes == 0) in
+    if slashes == 2 then after_double_slash base.scheme (after_slashes kind body)
+    else Ok (with_path start (parse_path kind start.path (drop slashes body)))
+
+rooted_relative : (base : Parts) (more : List ℕ) → kind_of base ≡ SpecialNotFile → StopsAt (is_slash SpecialNotFile) more → IsSegmentList SpecialNotFile (47 ∷ more)
+    → parse_relative base (47 ∷ more) ≡ Ok (with_path (head_only base) (47 ∷ more))
+unfolding parse_relative
+rooted_relative base more kind stops list =
+    let own = subst (λ k. IsSegmentList k (47 ∷ more)) (sym kind) list in
+    ap (relative_by base (47 ∷ more)) (one_slash (kind_of base) more (subst (λ k. StopsAt (is_slash k) more) (sym kind) stops))
+    ∙ ap (λ p. Ok (with_path (head_only base) p)) (parse_after_slash (kind_of base) (47 ∷ more) (stays_unless_file (kind_of base) [] _ (ap is_file kind)) own (omega arith))
+
+rooted_more : (base : Parts) (more : List ℕ) → IsWeb base → is_plain 0 (47 ∷ more) ≡ true
+    → parse_url (Some base) (47 ∷ more) ≡ Ok (with_rest base (split_once 63 (47 ∷ more)).0 (split_once 63 (47 ∷ more)).1)
+unfolding split_once
+rooted_more base more web plain =
+    let body = (split_once 63 more).0 in
+    let split = splits 47 more (and_parts (may_follow 0 47) (is_plain 47 more) plain).1 in
+    let rest = plain_rest 0 (47 ∷ more) refl plain in
+    parse_url-path base (47 ∷ more) (47 ∷ body) (47 ∷ body) (split_once 63 more).1 web (all_kept 0 (47 ∷ more) plain) refl (rooted_scheme body) (omega arith) rest.kept
+    (rooted_relative base body web.kind (stops_plain body split.plain) rest.list)
+
+parse_url-rooted : (base : Parts) (text : List ℕ) → IsWeb base → get_or text 0 0 ≡ 47 → is_plain 0 text ≡ true
+    → parse_url (Some base) text ≡ Ok (with_rest base (split_once 63 text).0 (split_once 63 text).1)
+parse_url-rooted base [] web slash plain = absurd (omega arith)
+parse_url-rooted base (b ∷ more) web slash plain =
+    subst (λ x. is_plain 0 (x ∷ more) ≡ true → parse_url (Some base) (x ∷ more) ≡ Ok (with_rest base (split_once 63 (x ∷ more)).0 (split_once 63 (x ∷ more)).1))
+    (sym slash) (rooted_more base more web) plain
+
+-- where the page's URL with a rest leads
+resolve-rest : (base : Parts) (link text path : List ℕ) (query : Option (List ℕ)) → IsValid base → IsPage base → IsRest text path query
+    → parse_url (Some base) link ≡ Ok (with_rest base path query) → resolve (serialize base) link ≡ Ok (root_text base ++ text)
+resolve-rest base link text path query valid page rest parses =
+    let web = web_url base valid page.web in
+    ap (λ p. resolve_from p link) page.parses ∙ ap text_of_parse parses ∙ text_of-web (with_rest base path query) page.web
+    ∙ ap (λ t. Ok t) (rest_text base path query web.authority ∙ ap (λ t. root_text base ++ t) (sym rest.whole))
+
+-- where a link that begins with a slash leads
+pub resolve-rooted : (base : Parts) (text : List ℕ) → IsValid base → IsPage base → is_rooted text ≡ true → resolve (serialize base) text ≡ Ok (root_text base ++ text)
+resolve-rooted base text valid page rooted =
+    let parts = and_parts _ _ rooted in
+    let slash = eqb-true (get_or text 0 0) 47 parts.0 in
+    resolve-rest base text text _ _ valid page (plain_rest 0 text slash parts.1) (parse_url-rooted base text (web_url base valid page.web) slash parts.1)
+
+pub spelled_rooted : (base : Parts) (root text : List ℕ) (start end : ℕ) → IsValid base → IsPage base → is_rooted text ≡ true → root ≡ root_text base → start ≡ offset base BeforeHost → end ≡ offset base AfterHost → IsSpelled (root ++ text) start end
+spelled_rooted base root text start end valid page rooted is first last =
+    let parts = and_parts _ _ rooted in
+    let k = spelled_rest base text _ _ valid.head page.web (plain_rest 0 text (eqb-true (get_or text 0 0) 47 parts.0) parts.1) in
+    spelled_at (root ++ text) (offset base BeforeHost) (offset base AfterHost) start end (subst (λ r. IsSpelled (r ++ text) (offset base BeforeHost) (offset base AfterHost)) (sym is) k) first last
+
+-- ---- `path`, and `../path`
+
+no_slashes : (kind : SchemeType) (body : List ℕ) → StopsAt (is_slash kind) body → leading_slashes kind body ≡ 0
+unfolding leading_slashes
+no_slashes kind [] stops = refl
+no_slashes kind (b ∷ body) stops = rw stops refl
+
+stops_ups : (n : ℕ) (body : List ℕ) → StopsAt (is_slash SpecialNotFile) body → StopsAt (is_slash SpecialNotFile) (behind_ups n body)
+stops_ups zero body stops = stops
+stops_ups (suc n) body stops = refl
+
+kept_ups : (n : ℕ) (text : List ℕ) → All (Passes is_kept) text → All (Passes is_kept) (behind_ups n text)
+kept_ups zero text kept = kept
+kept_ups (suc n) text kept =
+    let P = Passes is_kept in
+    All-cons P 46 (46 ∷ 47 ∷ behind_ups n text) refl (All-cons P 46 (47 ∷ behind_ups n text) refl (All-cons P 47 (behind_ups n text) refl (kept_ups n text kept)))
+
+split_ups : (n : ℕ) (text : List ℕ) → split_once 63 (behind_ups n text) ≡ (behind_ups n (split_once 63 text).0, (split_once 63 text).1)
+unfolding split_once
+split_ups zero text = refl
+split_ups (suc n) text = ap (λ (r : Split). (46 ∷ 46 ∷ 47 ∷ r.0, r.1)) (split_ups n text)
+
+-- so many folders above
+abbrev pub up : ℕ → List ℕ → List ℕ
+up zero path = path
+up (suc n) path = without_last_segment (up n path)
+
+up_last : (n : ℕ) (path : List ℕ) → up n (without_last_segment path) ≡ without_last_segment (up n path)
+up_last zero path = refl
+up_last (suc n) path = ap without_last_segment (up_last n path)
+
+push_up : (path : List ℕ) → push_segment SpecialNotFile path (46 ∷ 46 ∷ []) false ≡ without_last_segment path
+unfolding push_segment dot_count shorten_path
+push_up path = append-nil (without_last_segment path)
+
+parse_ups : (path : List ℕ) (n : ℕ) (body : List ℕ) → parse_path SpecialNotFile path (behind_ups n body) ≡ parse_path SpecialNotFile (up n path) body
+parse_ups path zero body = refl
+parse_ups path (suc n) body =
+    let P = IsNoSlash SpecialNotFile in
+    parse_path_more SpecialNotFile path (46 ∷ 46 ∷ []) 47 (behind_ups n body) (All-cons P 46 (46 ∷ []) refl (All-cons P 46 [] refl (All-nil P))) refl
+    ∙ ap (λ p. parse_path SpecialNotFile p (behind_ups n body)) (push_up path)
+    ∙ parse_ups (without_last_segment path) n body
+    ∙ ap (λ p. parse_path SpecialNotFile p body) (up_last n path)
+
+-- the page's folder, or one above it, and a path behind it
+abbrev pub in_folder : Parts → ℕ → List ℕ → List ℕ
+in_folder base n body = up n (without_last_segment base.path) ++ 47 ∷ body
+
+parse_run : (path body : List ℕ) → is_plain 47 body ≡ true → All (IsNot 63) body → parse_path SpecialNotFile path body ≡ path ++ 47 ∷ body
+parse_run path body plain none =
+    let run = runs 47 body plain none in
+    ap (parse_path SpecialNotFile path) run.is
+    ∙ parse_own_segments SpecialNotFile path run.first run.others (stays_unless_file SpecialNotFile path run.first refl) (run_segment body run) run.each
+    ∙ ap (λ b. path ++ 47 ∷ b) (sym run.is)
+
+folder_relative : (base : Parts) (n : ℕ) (body : List ℕ) → IsWeb base → is_plain 47 body ≡ true → All (IsNot 63) body
+    → parse_relative base (behind_ups n body) ≡ Ok (with_path (head_only base) (in_folder base n body))
+unfolding parse_relative
+folder_relative base n body web plain none =
+    let kind = kind_of base in
+    let text = behind_ups n body in
+    let stops = subst (λ k. StopsAt (is_slash k) text) (sym web.kind) (stops_ups n body (stops_plain body plain)) in
+    let short = ap (λ k. shorten_path k base.path) web.kind ∙ shorten_web base.path in
+    let path = (λ i. parse_path (web.kind i) (short i) text) ∙ parse_ups (without_last_segment base.path) n body ∙ parse_run (up n (without_last_segment base.path)) body plain none in
+    ap (relative_by base text) (no_slashes kind text stops)
+    ∙ ap (λ p. Ok (with_path (head_only base) p)) path
+
+append_list : (kind : SchemeType) (path : List ℕ) (segments : List (List ℕ)) → IsSegmentList kind path → All (IsSegment kind) segments → IsSegmentList kind (path ++ join_segments segments)
+append_list kind path segments list each = record {
+  segments = list.segments ++ segments;
+  joined = ap (λ p. p ++ join_segments segments) list.joined ∙ sym (flat_map-append (λ s. 47 ∷ s) list.segments segments);
+  each = All-append (IsSegment kind) list.segments segments list.each each;
+}
+
+up_list : (kind : SchemeType) (n : ℕ) (path : List ℕ) → IsSegmentList kind path → IsSegmentList kind (up n path)
+up_list kind zero path list = list
+up_list kind (suc n) path list = without_last_valid kind (up n path) (up_list kind n path list)
+
+folder_list : (base : Parts) (n : ℕ) (body : List ℕ) → IsWeb base → is_plain 47 body ≡ true → All (IsNot 63) body → IsSegmentList SpecialNotFile (in_folder base n body)
+folder_list base n body web plain none =
+    let run = runs 47 body plain none in
+    let own = without_last_segment base.path in
+    let front = up_list SpecialNotFile n own (without_last_valid SpecialNotFile base.path (subst (λ k. IsSegmentList k base.path) web.kind web.list)) in
+    subst (λ b. IsSegmentList SpecialNotFile (up n own ++ 47 ∷ b)) (sym run.is)
+    (append_list SpecialNotFile (up n own) (run.first ∷ run.others) front
+    (All-cons (IsSegment SpecialNotFile) run.first run.others (run_segment body run) run.each))
+
+folder_rest : (base : Parts) (n : ℕ) (rest : List ℕ) → IsWeb base → is_plain 47 rest ≡ true → IsRest (in_folder base n rest) (in_folder base n (split_once 63 rest).0) (split_once 63 rest).1
+folder_rest base n rest web plain =
+    let split = splits 47 rest plain in
+    let front = up n (without_last_segment base.path) in
+    let body = (split_once 63 rest).0 in
+    record {
+      list = folder_list base n body web split.plain split.none;
+      some = omega (arith, length-append front (47 ∷ body));
+      kept = split.kept;
+      whole = ap (λ t. front ++ 47 ∷ t) split.whole ∙ sym (append_assoc front (47 ∷ body) (query_text (split_once 63 rest).1));
+    }
+
+-- a text of a folder has a path, and no scheme
+record HasPath (text : List ℕ) : Type 0 where
+  none : split_scheme (split_once 63 text).0 ≡ None
+  some : 0 < length (split_once 63 text).0
+
+has_path : (text : List ℕ) → is_of_folder text ≡ true → HasPath text
+has_path text folder =
+    let k = plain_text text folder in
+    let body = begins-split k.first 63 (NoScheme k.first) text k.no_query k.begins in
+    let len = ap length body.is in
+    record { none = no_scheme k.first (split_once 63 text).0 body; some = omega (arith, len) }
+
+parse_url-folder : (base : Parts) (n : ℕ) (rest : List ℕ) → IsWeb base → is_plain 47 rest ≡ true → is_of_folder (behind_ups n rest) ≡ true
+    → parse_url (Some base) (behind_ups n rest) ≡ Ok (with_rest base (in_folder base n (split_once 63 rest).0) (split_once 63 rest).1)
+parse_url-folder base n rest web plain folder =
+    let text = behind_ups n rest in
+    let split = splits 47 rest plain in
+    let body = (split_once 63 rest).0 in
+    let path = has_path text folder in
+    let at = split_ups n rest in
+    let none = subst (λ (r : Split). split_scheme r.0 ≡ None) at path.none in
+    let some = subst (λ (r : Split). 0 < length r.0) at path.some in
+    parse_url-path base text (behind_ups n body) (in_folder base n body) (split_once 63 rest).1 web (kept_ups n rest (all_kept 47 rest plain)) at none some split.kept
+    (folder_relative base n body web split.plain split.none)
+
+-- where a link to a path in the page's folder, or in one above it, leads
+pub resolve-in_folder : (base : Parts) (text : List ℕ) (n : ℕ) (rest : List ℕ) → IsValid base → IsPage base → IsInFolder text n rest → resolve (serialize base) text ≡ Ok (root_text base ++ in_folder base n rest)
+resolve-in_folder base text n rest valid page link =
+    let web = web_url base valid page.web in
+    let folder = subst (λ t. is_of_folder t ≡ true) link.is link.of_folder in
+    ap (resolve (serialize base)) link.is
+    ∙ resolve-rest base (behind_ups n rest) (in_folder base n rest) _ _ valid page (folder_rest base n rest web link.plain) (parse_url-folder base n rest web link.plain folder)
+
+pub spelled_in_folder : (base : Parts) (text : List ℕ) (n : ℕ) (rest own : List ℕ) (start end : ℕ) → IsValid base → IsPage base → IsInFolder text n rest → own ≡ root_text base ++ in_folder base n rest → start ≡ offset base BeforeHost → end ≡ offset base AfterHost → IsSpelled own start end
+spelled_in_folder base text n rest own start end valid page link is first last =
+    let web = web_url base valid page.web in
+    let k = spelled_rest base (in_folder base n rest) _ _ valid.head page.web (folder_rest base n rest web link.plain) in
+    spelled_at own (offset base BeforeHost) (offset base AfterHost) start end (subst (λ t. IsSpelled t (offset base BeforeHost) (offset base AfterHost)) (sym is) k) first last
+
+-- ---- `?query`
+
+no_text_scheme : split_scheme [] ≡ None
+unfolding split_scheme scheme_len
+no_text_scheme = refl
+
+query_parts : (base : Parts) (query : List ℕ) → IsWeb base → All (IsKept SPECIAL_QUERY) query → parse_without_scheme (Some base) [] (Some query) None ≡ Ok (with_rest base base.path (Some query))
+unfolding parse_parts
+query_parts base query web kept =
+    let own = subst (λ k. All (IsKept (query_set k)) query) (sym web.kind) kept in
+    let same = option_unchanged (query_set (kind_of base)) (Some query) own in
+    cond-false _ _ _ (and_left _ _ (base_from_authority base web.authority)) ∙ (λ i. Ok (with_rest base base.path (same i)))
+
+query_split : (query : List ℕ) → split_once 63 (63 ∷ query) ≡ ([], Some query)
+unfolding split_once
+query_split query = refl
+
+query_rest : (base : Parts) (query : List ℕ) → IsWeb base → All (IsKept SPECIAL_QUERY) query → IsRest (base.path ++ 63 ∷ query) base.path (Some query)
+query_rest base query web kept = record {
+  list = subst (λ k. IsSegmentList k base.path) web.kind web.list;
+  some = web.some;
+  kept = kept;
+  whole = refl;
+}
+
+query_kept : (query : List ℕ) → is_plain 0 (63 ∷ query) ≡ true → All (IsKept SPECIAL_QUERY) query
+query_kept query plain =
+    All-weaker (Passes is_kept) (IsKept SPECIAL_QUERY) query_byte query (All-tail (Passes is_kept) 63 query (all_kept 0 (63 ∷ query) plain))
+
+resolve_query : (base : Parts) (query : List ℕ) → IsValid base → IsPage base → is_plain 0 (63 ∷ query) ≡ true → resolve (serialize base) (63 ∷ query) ≡ Ok (root_text base ++ (base.path ++ 63 ∷ query))
+resolve_query base query valid page plain =
+    let web = web_url base valid page.web in
+    let kept = query_kept query plain in
+    resolve-rest base (63 ∷ query) (base.path ++ 63 ∷ query) base.path (Some query) valid page (query_rest base query web kept)
+    (parse_url-kept base (63 ∷ query) [] (Some query) (all_kept 0 (63 ∷ query) plain) (query_split query) no_text_scheme ∙ query_parts base query web kept)
+
+-- where a query alone leads
+pub resolve-query : (base : Parts) (text : List ℕ) → IsValid base → IsPage base → is_query text ≡ true → resolve (serialize base) text ≡ Ok (root_text base ++ (base.path ++ text))
+resolve-query base [] valid page query = absurd (true≢false (sym query))
+resolve-query base (b ∷ text) valid page query =
+    let parts = and_parts _ _ query in
+    subst (λ x. is_plain 0 (x ∷ text) ≡ true → resolve (serialize base) (x ∷ text) ≡ Ok (root_text base ++ (base.path ++ x ∷ text))) (sym (eqb-true b 63 parts.0)) (resolve_query base text valid page) parts.1
+
+spelled_alone : (base : Parts) (query : List ℕ) → IsValid base → IsPage base → is_plain 0 (63 ∷ query) ≡ true → IsSpelled (root_text base ++ (base.path ++ 63 ∷ query)) (offset base BeforeHost) (offset base AfterHost)
+spelled_alone base query valid page plain =
+    spelled_rest base (base.path ++ 63 ∷ query) base.path (Some query) valid.head page.web (query_rest base query (web_url base valid page.web) (query_kept query plain))
+
+spelled_any : (base : Parts) (text : List ℕ) → IsValid base → IsPage base → is_query text ≡ true → IsSpelled (root_text base ++ (base.path ++ text)) (offset base BeforeHost) (offset base AfterHost)
+spelled_any base [] valid page query = absurd (true≢false (sym query))
+spelled_any base (b ∷ text) valid page query =
+    let parts = and_parts _ _ query in
+    subst (λ x. is_plain 0 (x ∷ text) ≡ true → IsSpelled (root_text base ++ (base.path ++ x ∷ text)) (offset base BeforeHost) (offset base AfterHost)) (sym (eqb-true b 63 parts.0)) (spelled_alone base text valid page) parts.1
+
+pub spelled_query : (base : Parts) (own text : List ℕ) (start end : ℕ) → IsValid base → IsPage base → is_query text ≡ true → own ≡ root_text base ++ (base.path ++ text) → start ≡ offset base BeforeHost → end ≡ offset base AfterHost → IsSpelled own start end
+spelled_query base own text start end valid page query is first last =
+    spelled_at own (offset base BeforeHost) (offset base AfterHost) start end (subst (λ t. IsSpelled t (offset base BeforeHost) (offset base AfterHost)) (sym is) (spelled_any base text valid page query)) first last
+
+-- ---- nothing, or a fragment alone
+
+same_tail : (base : Parts) (fragment : Option (List ℕ)) → IsWeb base → IsPage base → text_of (with_tail base base.query fragment) ≡ Ok (serialize base)
+same_tail base fragment web page =
+    let same = option_unchanged (query_set (kind_of base)) base.query web.valid.query in
+    text_of-web (with_tail base base.query fragment) page.web
+    ∙ (λ i. Ok (serialize (record base { query = same i; fragment = sym page.bare i })))
+
+same_parts : (base : Parts) (fragment : Option (List ℕ)) → IsWeb base → IsPage base → text_of_parse (parse_without_scheme (Some base) [] None fragment) ≡ Ok (serialize base)
+unfolding parse_parts
+same_parts base fragment web page =
+    ap text_of_parse (cond-false _ _ _ (and_left _ _ (base_from_authority base web.authority))) ∙ same_tail base fragment web page
+
+same_empty : (base : Parts) → IsWeb base → IsPage base → text_of_parse (parse_url (Some base) []) ≡ Ok (serialize base)
+unfolding parse_url trim_c0_control_and_space strip_tabs_and_new_lines split_once
+same_empty base web page =
+    ap (λ s. text_of_parse (parse_by_scheme s (Some base) [] None None)) no_text_scheme ∙ same_parts base None web page
+
+same_fragment : (base : Parts) (text : List ℕ) → IsWeb base → IsPage base → text_of_parse (parse_url (Some base) (35 ∷ text)) ≡ Ok (serialize base)
+unfolding parse_url split_once
+same_fragment base text web page =
+    let P = λ (b : ℕ). Unit {0} in
+    let trimmed = begins-trim 35 P text (omega arith) (λ n d inside. tt) in
+    let begins = begins-strip 35 P (trim_c0_control_and_space (35 ∷ text)) (omega arith) trimmed in
+    let parsed = λ (t : List ℕ). let hash = split_once 35 t in let question = split_once 63 hash.0 in text_of_parse (parse_by_scheme (split_scheme question.0) (Some base) question.0 question.1 hash.1) in
+    ap parsed begins.is
+    ∙ ap (λ s. text_of_parse (parse_by_scheme s (Some base) [] None (Some begins.rest))) no_text_scheme
+    ∙ same_parts base (Some begins.rest) web page
+
+same_text : (base : Parts) (text : List ℕ) → IsWeb base → IsPage base → is_same text ≡ true → text_of_parse (parse_url (Some base) text) ≡ Ok (serialize base)
+same_text base [] web page same = same_empty base web page
+same_text base (b ∷ text) web page same =
+    subst (λ x. text_of_parse (parse_url (Some base) (x ∷ text)) ≡ Ok (serialize base)) (sym (eqb-true b 35 same)) (same_fragment base text web page)
+
+-- such a link leads to the page
+pub resolve-same : (base : Parts) (text : List ℕ) → IsValid base → IsPage base → is_same text ≡ true → resolve (serialize base) text ≡ Ok (serialize base)
+resolve-same base text valid page same =
+    ap (λ p. resolve_from p text) page.parses ∙ same_text base text (web_url base valid page.web) page same
+
+-- one `../` more
+pub behind_more : (n : ℕ) (text : List ℕ) → behind_ups n (46 ∷ 46 ∷ 47 ∷ text) ≡ behind_ups (n + 1) text
+behind_more n text = one_more n text ∙ ap (λ k. behind_ups k text) (sym (add-one n))
+  where
+    one_more : (n : ℕ) (text : List ℕ) → behind_ups n (46 ∷ 46 ∷ 47 ∷ text) ≡ behind_ups (suc n) text
+    one_more zero text = refl
+    one_more (suc n) text = ap (λ l. 46 ∷ 46 ∷ 47 ∷ l) (one_more n text)

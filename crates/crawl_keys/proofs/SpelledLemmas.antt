@@ -1,0 +1,275 @@
+-- Texts of web URLs that are made of a head, a path and a query.
+use Rattle.std.proofs.Common.{◌≡◌, ℕ, ◌+◌, ◌<◌, ◌==◌, true, false, not, ◌&&◌, ◌||◌, List, [], ◌∷◌, ◌++◌, length, get_or, take, drop, refl, ap, sym, subst, ◌∙◌, inl, All, Some, None, Ok, IfSome, arith, append_assoc, append-nil, length-append, length-take-le, take-append-drop, lit<}
+use Rattle.std.specs.Prelude.{Option, IsAscii, bytes_eq, codes}
+use Rattle.std.specs.Char.{is_ascii_digit, is_digit, to_ascii_lowercase}
+use Rattle.std.specs.List.{list_all}
+use Rattle.std.proofs.lemmas.Bool.{and_left, and_parts, and_right, cond-false, eqb-true, or_from, true≢false}
+use Rattle.std.proofs.lemmas.Bool.Decides.{nat_tests}
+use Rattle.std.proofs.lemmas.List.Elements.{All-nil, All-weaker}
+use Rattle.std.proofs.lemmas.List.Sums.{prefix_len-le-length}
+use Rattle.percent_encoding.specs.Percent.{IsKept}
+use Rattle.hash_order.specs.HashOrder.{hash_of}
+use Rattle.url.specs.declared.host.Host.TheVariants.{Domain}
+use Rattle.url.specs.declared.scheme.SchemeType.TheVariants.{SpecialNotFile}
+use Rattle.url.specs.declared.sets.TheConstants.{FORBIDDEN_DOMAIN, SPECIAL_QUERY, USERINFO}
+use Rattle.url.specs.declared.slicing.Position.TheVariants.{BeforeHost, AfterHost}
+use Rattle.url.specs.Host.{IsDomain, IsHostOf}
+use Rattle.url.specs.Input.{is_empty, rsplit_once, split_once}
+use Rattle.url.specs.Ipv4.{ends_in_a_number, is_number, last_label_of, parse_number}
+use Rattle.url.specs.Parser.{parse_url}
+use Rattle.url.specs.Parts.{Parts, IsValid, IsValidHead, has_authority, offset, query_set, serialize}
+use Rattle.url.specs.Path.{IsSegmentList}
+use Rattle.url.specs.Scheme.{IsScheme, is_special, scheme_len}
+use Rattle.url.proofs.InputLemmas.{Passes, All-take-prefix_len, is_empty_nonempty, lowercase_other, map_fixed}
+use Rattle.url.proofs.SetLemmas.{kept_from_passes}
+use Rattle.url.proofs.Theorems.{parse_url-serialize_special}
+use Rattle.url.proofs.ValidLemmas.{IsAscii-serialize, special_has_authority}
+use Rattle.crawl_keys.specs.declared.canon_url.Laid.TheInside.{Inside}
+use Rattle.crawl_keys.specs.CanonicalText.{IsCanonical, canonical, is_web, resolve, resolve_from, text_of_parse, without_fragment}
+use Rattle.crawl_keys.specs.Folders.{root_text}
+use Rattle.crawl_keys.specs.Layout.{IsLaidOut}
+use Rattle.crawl_keys.specs.Plain.{host_len, is_host_byte, is_lower, is_named, is_plain, is_plain_host}
+use Rattle.crawl_keys.specs.Spelled.{IsSpelled}
+use Rattle.crawl_keys.proofs.CanonicalLemmas.{canonical-canonical, web_kind, without_fragment_valid}
+use Rattle.crawl_keys.proofs.LaidLemmas.{laid_out}
+use Rattle.crawl_keys.proofs.PlainLemmas.{query_text, rooted_path, splits}
+
+-- ---- what a text that is spelled so parses to
+
+pub parse_spelled : (text : List ℕ) (start end : ℕ) (base : Option Parts) (k : IsSpelled text start end) → parse_url base text ≡ Ok k.url
+parse_spelled text start end base k =
+    ap (parse_url base) (sym k.spelled) ∙ parse_url-serialize_special k.url base k.valid (web_kind k.url k.web)
+
+pub canonical_spelled : (text : List ℕ) (start end : ℕ) → IsSpelled text start end → IsCanonical text
+canonical_spelled text start end k = record {
+  url = k.url;
+  valid = k.valid;
+  web = k.web;
+  bare = k.bare;
+  spelled = k.spelled;
+  parses = parse_spelled text start end None k;
+}
+
+-- its canonical text is the text
+pub canonical-spelled : (text : List ℕ) (start end : ℕ) → IsSpelled text start end → canonical text ≡ Ok text
+canonical-spelled text start end k = canonical-canonical text (canonical_spelled text start end k)
+
+-- against any page
+pub resolve-spelled : (base : Parts) (page text : List ℕ) (start end : ℕ) → parse_url None page ≡ Ok base → IsSpelled text start end → resolve page text ≡ Ok text
+resolve-spelled base page text start end parses k =
+    ap (λ p. resolve_from p text) parses
+    ∙ ap text_of_parse (parse_spelled text start end (Some base) k ∙ sym (parse_spelled text start end None k))
+    ∙ canonical-spelled text start end k
+
+-- it is laid out by the places of its host
+pub laid_spelled : (u : Inside) → IsSpelled u.text u.host_start u.host_end → u.hash ≡ hash_of u.text → IsLaidOut u
+laid_spelled u k hashed =
+    laid_out u k.url k.valid k.web (sym k.spelled ∙ (λ i. serialize (record k.url { fragment = k.bare i })))
+    (subst IsAscii k.spelled (IsAscii-serialize k.url k.valid)) (sym k.start) (sym k.end) hashed k
+
+-- the same by other numbers that are equal
+pub spelled_at : (text : List ℕ) (start end own its : ℕ) → IsSpelled text start end → own ≡ start → its ≡ end → IsSpelled text own its
+spelled_at text start end own its k first last = record {
+  url = k.url;
+  valid = k.valid;
+  web = k.web;
+  bare = k.bare;
+  spelled = k.spelled;
+  start = k.start ∙ sym first;
+  end = k.end ∙ sym last;
+}
+
+-- the text of a web URL without its fragment
+pub spelled_own : (url : Parts) (text : List ℕ) (start end : ℕ) → IsValid url → is_web url ≡ true → text ≡ serialize (without_fragment url) → start ≡ offset url BeforeHost → end ≡ offset url AfterHost → IsSpelled text start end
+spelled_own url text start end valid web spelled first last = record {
+  url = without_fragment url;
+  valid = without_fragment_valid url valid;
+  web = web;
+  bare = refl;
+  spelled = sym spelled;
+  start = sym first;
+  end = sym last;
+}
+
+-- ---- a head with a path and a query
+
+-- the URL with this path and this query
+abbrev pub with_rest : Parts → List ℕ → Option (List ℕ) → Parts
+with_rest head path query = record head { path = path; query = query; fragment = None }
+
+-- a path, and a query where there is one, of which the text is made
+pub record IsRest (text path : List ℕ) (query : Option (List ℕ)) : Type 0 where
+  pub list : IsSegmentList SpecialNotFile path
+  pub some : 0 < length path
+  pub kept : IfSome query (All (IsKept SPECIAL_QUERY))
+  pub whole : text ≡ path ++ query_text query
+
+pub rest_valid : (head : Parts) (text path : List ℕ) (query : Option (List ℕ)) → IsValidHead head → is_web head ≡ true → IsRest text path query → IsValid (with_rest head path query)
+rest_valid head text path query valid web rest =
+    let kind = web_kind head web in
+    record {
+      head = record {
+        scheme = valid.scheme;
+        username = valid.username;
+        password = valid.password;
+        host = valid.host;
+        port = valid.port;
+        bare = valid.bare;
+      };
+      path = inl (subst (λ k. IsSegmentList k path) (sym kind) rest.list, λ _. rest.some);
+      query = subst (λ k. IfSome query (All (IsKept (query_set k)))) (sym kind) rest.kept;
+      fragment = tt;
+    }
+
+pub rest_text : (head : Parts) (path : List ℕ) (query : Option (List ℕ)) → has_authority head ≡ true → serialize (with_rest head path query) ≡ root_text head ++ (path ++ query_text query)
+rest_text head path query authority = rw authority (simp (append_assoc, append-nil))
+
+pub spelled_rest : (head : Parts) (text path : List ℕ) (query : Option (List ℕ)) → IsValidHead head → is_web head ≡ true → IsRest text path query → IsSpelled (root_text head ++ text) (offset head BeforeHost) (offset head AfterHost)
+spelled_rest head text path query valid web rest =
+    let authority = special_has_authority head valid (ap is_special (web_kind head web)) in
+    record {
+      url = with_rest head path query;
+      valid = rest_valid head text path query valid web rest;
+      web = web;
+      bare = refl;
+      spelled = rest_text head path query authority ∙ ap (λ t. root_text head ++ t) (sym rest.whole);
+      start = refl;
+      end = refl;
+    }
+
+-- a plain text that begins with a slash is a path and a query
+rooted_rest : (last : ℕ) (more : List ℕ) → is_plain last (47 ∷ more) ≡ true → IsRest (47 ∷ more) (split_once 63 (47 ∷ more)).0 (split_once 63 (47 ∷ more)).1
+unfolding split_once
+rooted_rest last more plain =
+    let s = splits last (47 ∷ more) plain in
+    record {
+      list = rooted_path last 47 (split_once 63 more).0 refl s.plain s.none;
+      some = omega arith;
+      kept = s.kept;
+      whole = s.whole;
+    }
+
+pub plain_rest : (last : ℕ) (text : List ℕ) → get_or text 0 0 ≡ 47 → is_plain last text ≡ true → IsRest text (split_once 63 text).0 (split_once 63 text).1
+plain_rest last [] slash plain = absurd (omega arith)
+plain_rest last (b ∷ more) slash plain =
+    subst (λ x. is_plain last (x ∷ more) ≡ true → IsRest (x ∷ more) (split_once 63 (x ∷ more)).0 (split_once 63 (x ∷ more)).1) (sym slash) (rooted_rest last more) plain
+
+-- ---- a plain host
+
+last_of : (front : Option (List ℕ)) (last : List ℕ) → 0 < length last → last_label_of front last ≡ last
+last_of None last some = refl
+last_of (Some front) last some = cond-false _ _ _ (is_empty_nonempty last some)
+
+-- what begins with a letter is no number
+no_number : (b : ℕ) (last : List ℕ) → is_lower b ≡ true → ((not (is_empty (b ∷ last)) && list_all is_ascii_digit (b ∷ last)) || is_number (parse_number (b ∷ last))) ≡ false
+unfolding parse_number
+no_number b last letter =
+    let no_digit : is_ascii_digit b ≡ false = grind (arith, nat_tests) in
+    let no_zero : (b == 48) ≡ false = grind (arith, nat_tests) in
+    let no_ten : is_digit b 10 ≡ false = grind (arith, nat_tests) in
+    let no : is_number (parse_number (b ∷ last)) ≡ false = rw (is_empty_nonempty (b ∷ last) (omega arith), no_zero, no_ten) refl in
+    or_from _ _ (and_right _ _ (and_left _ _ no_digit)) no
+
+named_last : (front : Option (List ℕ)) (last : List ℕ) → is_lower (get_or last 0 0) ≡ true → ((not (is_empty (last_label_of front last)) && list_all is_ascii_digit (last_label_of front last)) || is_number (parse_number (last_label_of front last))) ≡ false
+named_last front [] letter = absurd (true≢false (sym letter))
+named_last front (b ∷ last) letter =
+    subst (λ l. ((not (is_empty l) && list_all is_ascii_digit l) || is_number (parse_number l)) ≡ false) (sym (last_of front (b ∷ last) (omega arith))) (no_number b last letter)
+
+pub named : (host : List ℕ) → is_named host ≡ true → ends_in_a_number host ≡ false
+unfolding ends_in_a_number
+named host letter = named_last (rsplit_once 46 host).0 (rsplit_once 46 host).1 letter
+
+named_some : (host : List ℕ) → is_named host ≡ true → 0 < length host
+unfolding rsplit_once
+named_some [] letter = absurd (true≢false (sym letter))
+named_some (b ∷ host) letter = omega arith
+
+host_below : (b : ℕ) → is_host_byte b ≡ true → b < 128
+host_below b host = grind (arith, nat_tests)
+
+host_kept : (b : ℕ) → Passes is_host_byte b → IsKept FORBIDDEN_DOMAIN b
+host_kept b host = kept_from_passes is_host_byte FORBIDDEN_DOMAIN refl b (host_below b host) host
+
+host_lower : (b : ℕ) → Passes is_host_byte b → to_ascii_lowercase b ≡ b
+host_lower b host = lowercase_other b (grind (arith, nat_tests))
+
+host_domain : (host : List ℕ) → All (Passes is_host_byte) host → is_named host ≡ true → IsDomain host
+host_domain host all letter = record {
+  allowed = All-weaker (Passes is_host_byte) (IsKept FORBIDDEN_DOMAIN) host_kept host all;
+  lower = map_fixed to_ascii_lowercase host (All-weaker (Passes is_host_byte) (λ b. to_ascii_lowercase b ≡ b) host_lower host all);
+  named = named host letter;
+}
+
+-- a scheme of the web
+pub record IsWebScheme (scheme : List ℕ) : Type 0 where
+  pub is : IsScheme scheme
+  pub web : (bytes_eq scheme (codes "http") || bytes_eq scheme (codes "https")) ≡ true
+
+pub http : IsWebScheme (codes "http")
+unfolding scheme_len
+http = record { is = record { nonempty = lit< tt; whole = refl; lower = refl }; web = refl }
+
+pub https : IsWebScheme (codes "https")
+unfolding scheme_len
+https = record { is = record { nonempty = lit< tt; whole = refl; lower = refl }; web = refl }
+
+-- a scheme and a domain
+abbrev host_only : List ℕ → List ℕ → Parts
+host_only scheme host = record {
+  scheme = scheme;
+  username = [];
+  password = [];
+  host = Some (Domain host);
+  port = None;
+  path = [];
+  query = None;
+  fragment = None;
+}
+
+host_head : (scheme host : List ℕ) → IsWebScheme scheme → IsDomain host → 0 < length host → IsValidHead (host_only scheme host)
+host_head scheme host k domain some = record {
+  scheme = k.is;
+  username = All-nil (IsKept USERINFO);
+  password = All-nil (IsKept USERINFO);
+  host = subst (λ kind. IsHostOf kind (Domain host)) (sym (web_kind (host_only scheme host) k.web)) (domain, some);
+  port = tt;
+  bare = λ _. (refl, refl, refl);
+}
+
+-- what stands behind the host
+record Behind (rest : List ℕ) : Type 0 where
+  slash : get_or (drop (host_len rest) rest) 0 0 ≡ 47
+  plain : is_plain 0 (drop (host_len rest) rest) ≡ true
+  named : is_named (take (host_len rest) rest) ≡ true
+
+behind : (rest : List ℕ) → is_plain_host rest ≡ true → Behind rest
+behind rest plain =
+    let parts = and_parts _ _ plain in
+    let tests = and_parts _ _ parts.0 in
+    record {
+      slash = eqb-true (get_or (drop (host_len rest) rest) 0 0) 47 tests.0;
+      plain = parts.1;
+      named = tests.1;
+    }
+
+-- a scheme, a plain host and what stands behind it are the text of a URL
+pub spelled_host : (scheme rest : List ℕ) → IsWebScheme scheme → is_plain_host rest ≡ true → IsSpelled (scheme ++ 58 ∷ 47 ∷ 47 ∷ rest) (length scheme + 3) (length scheme + 3 + host_len rest)
+spelled_host scheme rest k plain =
+    let b = behind rest plain in
+    let n = host_len rest in
+    let host = take n rest in
+    let tail = drop n rest in
+    let domain = host_domain host (All-take-prefix_len is_host_byte rest) b.named in
+    let head = host_only scheme host in
+    let made = spelled_rest head tail (split_once 63 tail).0 (split_once 63 tail).1 (host_head scheme host k domain (named_some host b.named)) k.web (plain_rest 0 tail b.slash b.plain) in
+    let text : root_text head ++ tail ≡ scheme ++ 58 ∷ 47 ∷ 47 ∷ (host ++ tail) = simp (append_assoc, append-nil) in
+    let all : length host ≡ n = length-take-le n rest (prefix_len-le-length is_host_byte rest) in
+    record {
+      url = made.url;
+      valid = made.valid;
+      web = made.web;
+      bare = made.bare;
+      spelled = made.spelled ∙ text ∙ ap (λ l. scheme ++ 58 ∷ 47 ∷ 47 ∷ l) (take-append-drop n rest);
+      start = made.start ∙ omega (arith, length-append scheme (58 ∷ 47 ∷ 47 ∷ []));
+      end = made.end ∙ omega (arith, all, length-append scheme (58 ∷ 47 ∷ 47 ∷ (host ++ [])), length-append host []);
+    }

@@ -1,0 +1,10 @@
+use Rattle.std.proofs.Common.{◌-◌, ◌≤◌, length}
+use Rattle.crawl_keys.specs.Lanes.{Follow}
+use Rattle.crawl_keys.proofs.plain.all_follow.Given as goal
+
+-- so far each byte may follow the one before it
+abbrev pub invariant-loop-at : goal.invariant-loop-at
+invariant-loop-at l = (l.at ≤ length l.text) × Follow l.text 0 l.at
+
+abbrev pub decreases-loop-at : goal.decreases-loop-at
+decreases-loop-at l = length l.text - l.at

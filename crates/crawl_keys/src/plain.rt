@@ -1,0 +1,244 @@
+//! Texts that the parser of URLs leaves as they are, told by a look at each byte.
+ghost use Rattle.std.specs.Prelude.{◌≡◌, ◌-◌, ◌<◌, ◌≤◌, ℕ, length, true, IfSome};
+ghost use Rattle.std.specs.List.{prefix_len};
+ghost use Rattle.crawl_keys.specs.Lanes.{Follow};
+ghost use Rattle.crawl_keys.specs.Links.{IsLink};
+ghost use Rattle.crawl_keys.specs.Links as links;
+ghost use Rattle.crawl_keys.specs.Plain as spec;
+ghost use Rattle.crawl_keys.specs.Spelled.{IsSpelled};
+
+use crate::lanes::{LANES, follow, host_run};
+
+/// Where the host stands in the text of a URL.
+#[derive(Clone, Copy)]
+pub struct HostPlace {
+    /// The place of its first byte.
+    pub start: usize,
+    /// The place behind its last byte.
+    pub end: usize,
+}
+
+/// A link, by how it is resolved.
+#[derive(Clone, Copy)]
+pub enum PlainLink {
+    /// It is a canonical URL as it is.
+    Absolute(HostPlace),
+    /// It stands behind what the page's text has before its path.
+    Rooted,
+    /// It stands behind the page's path.
+    Query,
+    /// It leads to the page.
+    Same,
+    /// It is another one.
+    Other,
+}
+
+/// How a link with this text is resolved.
+pub fn plain_link(text: &str) -> PlainLink
+    ensures { IsLink text.now result }
+{
+    match text.as_bytes() {
+        [] | [b'#', ..] => PlainLink::Same,
+        [b'/', ..] if is_plain(0, text.as_bytes()) => PlainLink::Rooted,
+        [b'?', ..] if is_plain(0, text.as_bytes()) => PlainLink::Query,
+        [b'h', ..] => match host_place(text) {
+            Some(host) => PlainLink::Absolute(host),
+            None => PlainLink::Other,
+        },
+        _ => PlainLink::Other,
+    }
+}
+
+/// How many times the text begins with `../`, and what stands behind that.
+pub fn behind_ups(text: &str) -> (usize, &str)
+    ensures { text.now ≡ links.behind_ups result.0 result.1.now }
+{
+    if !matches!(text.as_bytes(), [b'.', ..]) {
+        return (0, text);
+    }
+    let mut ups: usize = 0;
+    let mut rest = text;
+    while let Some(more) = rest.strip_prefix("../") {
+        rest = more;
+        ups += 1;
+    }
+    (ups, rest)
+}
+
+/// Where the host stands in a text that is a canonical URL as it is. `None` says nothing: the text may be canonical too.
+pub fn host_place(text: &str) -> Option<HostPlace>
+    ensures { IfSome result (λ place. IsSpelled text.now place.start place.end) }
+{
+    if let Some(rest) = text.strip_prefix("http://") {
+        let len = plain_host_len(rest.as_bytes())?;
+        return Some(HostPlace {
+            start: 7,
+            end: 7 + len,
+        });
+    }
+    if let Some(rest) = text.strip_prefix("https://") {
+        let len = plain_host_len(rest.as_bytes())?;
+        return Some(HostPlace {
+            start: 8,
+            end: 8 + len,
+        });
+    }
+    None
+}
+
+/// How long the host is at the front of what stands behind a scheme and its slashes, where all of that is plain.
+fn plain_host_len(rest: &[u8]) -> Option<usize>
+    ensures plain { IfSome result (λ len. spec.is_plain_host rest.now ≡ true) }
+    ensures len { IfSome result (λ len. len ≡ spec.host_len rest.now) }
+    ensures within { IfSome result (λ len. len ≤ length rest.now) }
+{
+    let len = host_len(rest);
+    let (host, tail) = rest.split_at(len);
+    if begins_path(tail) && is_named(host) && is_plain(0, tail) {
+        Some(len)
+    } else {
+        None
+    }
+}
+
+/// How long the host is that the bytes begin with.
+fn host_len(bytes: &[u8]) -> usize
+    ensures value { result ≡ spec.host_len bytes.now }
+    ensures within { result ≤ length bytes.now }
+{
+    let mut len = 0;
+    if bytes.len() >= LANES {
+        len = host_run(bytes, 0);
+    }
+    while len < bytes.len() && is_host_byte(bytes[len]) {
+        len += 1;
+    }
+    len
+}
+
+/// How many bytes stand before the first one that is this.
+pub fn len_before(bytes: &[u8], mark: u8) -> usize
+    ensures value { result ≡ prefix_len (spec.is_other mark) bytes.now }
+    ensures within { result ≤ length bytes.now }
+{
+    for (place, byte) in bytes.iter().enumerate() {
+        if *byte == mark {
+            return place;
+        }
+    }
+    bytes.len()
+}
+
+fn begins_path(tail: &[u8]) -> bool
+    ensures { result ≡ (spec.first_is_slash tail.now) }
+{
+    matches!(tail, [b'/', ..])
+}
+
+/// Whether the last label begins with a letter.
+fn is_named(host: &[u8]) -> bool
+    ensures { result ≡ spec.is_named host.now }
+{
+    match last_label(host) {
+        [first, ..] => first.is_ascii_lowercase(),
+        [] => false,
+    }
+}
+
+fn last_label(host: &[u8]) -> &[u8]
+    ensures { result.now ≡ spec.last_label host.now }
+{
+    match host.iter().rposition(|&byte| byte == b'.') {
+        Some(dot) => &host[dot + 1..],
+        None => host,
+    }
+}
+
+/// Whether the text of a path and a query, which stands behind this byte, stays as it is. `false` says nothing.
+pub fn is_plain(last: u8, text: &[u8]) -> bool
+    ensures { result ≡ true → spec.is_plain last text.now ≡ true }
+{
+    if text.len() <= LANES {
+        return is_plain_short(last, text);
+    }
+    may_follow(last, text[0]) && all_follow(text)
+}
+
+/// Whether each byte of a text of more than 16 may follow the one before it. `false` says nothing.
+fn all_follow(text: &[u8]) -> bool
+    requires { LANES < length text.now }
+    ensures { result ≡ true → Follow text.now 0 (length text.now - 1) }
+{
+    let last = text.len() - LANES - 1;
+    let mut at = 0;
+    while at < last {
+        if !follow(text, at) {
+            return false;
+        }
+        at += LANES;
+    }
+    // These may overlap those before.
+    follow(text, last)
+}
+
+/// The same, a byte at a time.
+fn is_plain_short(last: u8, text: &[u8]) -> bool
+    ensures { result ≡ spec.is_plain last text.now }
+{
+    let mut before = last;
+    for &byte in text {
+        if !may_follow(before, byte) {
+            return false;
+        }
+        before = byte;
+    }
+    true
+}
+
+fn may_follow(last: u8, byte: u8) -> bool
+    ensures { result ≡ spec.may_follow last byte }
+{
+    if last == b'/' {
+        may_begin(byte)
+    } else {
+        is_kept(byte)
+    }
+}
+
+/// Bytes that a path and a query keep as they are.
+const KEPT: u8 = 1;
+
+/// Those of them that may begin a segment.
+const FIRST: u8 = 2;
+
+/// Bytes that a domain keeps as they are.
+const HOST: u8 = 4;
+
+// For each byte a digit, whose low three bits are the flags above.
+static CLASS: [u8; 256] = *b"\
+    00000000000000000000000000000000\
+    03003130333337517777777777330303\
+    33333333333333333333333333330307\
+    07777777777777777777777777703030\
+    00000000000000000000000000000000\
+    00000000000000000000000000000000\
+    00000000000000000000000000000000\
+    00000000000000000000000000000000";
+
+fn is_kept(byte: u8) -> bool
+    ensures { result ≡ spec.is_kept byte }
+{
+    CLASS[byte as usize] & KEPT != 0
+}
+
+fn may_begin(byte: u8) -> bool
+    ensures { result ≡ spec.may_begin byte }
+{
+    CLASS[byte as usize] & FIRST != 0
+}
+
+fn is_host_byte(byte: u8) -> bool
+    ensures { result ≡ spec.is_host_byte byte }
+{
+    CLASS[byte as usize] & HOST != 0
+}
