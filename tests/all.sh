@@ -28,6 +28,8 @@ part docs/check.py
 part docs/definitions.py --check
 part tests/stress_crawl.py
 part tests/stress_threads.sh
+part tests/waiting.sh
+part tests/large_crawl.py
 part tests/real-site.sh
 part tests/refused-growths.sh
 part tests/refused-growths.sh tests

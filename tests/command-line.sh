@@ -99,6 +99,30 @@ got=0
 "${as[@]}" "$closed/program" crawl "$closed/closed.web" http://a.test/ < /dev/null > "$scratch/out" 2> "$scratch/err" || got=$?
 expect "a file that may not be read" 1 "" "mercator: cannot read $closed/closed.web"
 
+# run_limited COUNT WORD..: the program as a user without other processes, which may have COUNT, threads counted.
+run_limited() {
+    local count=$1
+    shift
+    got=0
+    : > "$scratch/out"
+    timeout 60 setpriv --reuid 54321 --regid 54321 --clear-groups prlimit --nproc="$count" \
+        "$closed/program" "$@" < "$data/ring.web" > "$scratch/out" 2> "$scratch/err" || got=$?
+}
+
+# Each of several workers has a thread: with one thread fewer, or with fewer still, none crawls.
+if [ "$(id -u)" -eq 0 ]; then
+    for workers in 2 3 8; do
+        run_limited $((workers + 1)) crawl --workers "$workers" - http://a.test/
+        expect "$workers workers and the thread that began" 0 "@$data/ring.report" ""
+        for ((count = workers; count >= 1; count--)); do
+            run_limited "$count" crawl --workers "$workers" - http://a.test/
+            expect "$workers workers where $count threads may run" 2 "" "mercator: incomplete: no thread"
+        done
+    done
+else
+    echo "not shown, because only root changes the user: how many threads a crawl has, and its end where one cannot be started"
+fi
+
 run crawl --sources --within site.test "$data/site.web" http://site.test/
 expect "the sources of missing URLs" 0 "@$data/site.broken" ""
 
@@ -122,6 +146,11 @@ expect "one input for two files" 3 "" "~cannot both be '-'"
 got=0
 "$program" replay - <&- > "$scratch/out" 2> "$scratch/err" || got=$?
 expect "a closed input" 1 "" "mercator: cannot read -"
+
+# Past 2^30 bytes no more is read. What was read, and once more half of it as it grows, has room in 3 GiB of addresses.
+got=0
+yes look | (ulimit -v $((3 << 20)); exec timeout 60 "$program" replay -) > "$scratch/out" 2> "$scratch/err" || got=$?
+expect "an input without an end" 1 "" "mercator: cannot read -"
 
 got=0
 : > "$scratch/out"

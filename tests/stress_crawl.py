@@ -119,4 +119,5 @@ def main():
     print(f"{runs} runs over {webs} webs of {pages} pages: each has the one report, in {time.monotonic() - start:.0f} s")
 
 
-main()
+if __name__ == "__main__":
+    main()
