@@ -25,7 +25,7 @@ use Rattle.url.proofs.RoundTrip.{parse_after_slash, parse_own_segments, stays_un
 use Rattle.url.proofs.ValidLemmas.{base_from_authority, option_unchanged}
 use Rattle.crawl_keys.specs.CanonicalText.{IsPage, resolve, resolve_from, text_of, text_of_parse}
 use Rattle.crawl_keys.specs.Folders.{is_of_folder, root_text}
-use Rattle.crawl_keys.specs.Links.{IsInFolder, behind_ups, is_query, is_rooted, is_same}
+use Rattle.crawl_keys.specs.Links.{IsInFolder, behind_ups, has_no_scheme, is_query, is_rooted, is_same}
 use Rattle.crawl_keys.specs.Plain.{is_kept, is_plain, may_follow}
 use Rattle.crawl_keys.specs.Spelled.{IsSpelled}
 use Rattle.crawl_keys.proofs.CanonicalLemmas.{text_of-web}
@@ -281,13 +281,26 @@ has_path text folder =
     let len = ap length body.is in
     record { none = no_scheme k.first (split_once 63 text).0 body; some = omega (arith, len) }
 
-parse_url-folder : (base : Parts) (n : ℕ) (rest : List ℕ) → IsWeb base → is_plain 47 rest ≡ true → is_of_folder (behind_ups n rest) ≡ true
+no_up_scheme : (text : List ℕ) → split_scheme (46 ∷ text) ≡ None
+unfolding split_scheme scheme_len
+no_up_scheme text = refl
+
+has_path_behind : (n : ℕ) (rest : List ℕ) → has_no_scheme n (behind_ups n rest) ≡ true → HasPath (behind_ups n rest)
+has_path_behind zero rest test = has_path rest test
+has_path_behind (suc n) rest test =
+    let at = split_ups (suc n) rest in
+    record {
+      none = ap (λ (r : Split). split_scheme r.0) at ∙ no_up_scheme (46 ∷ 47 ∷ behind_ups n (split_once 63 rest).0);
+      some = subst (λ (r : Split). 0 < length r.0) (sym at) (omega arith);
+    }
+
+parse_url-folder : (base : Parts) (n : ℕ) (rest : List ℕ) → IsWeb base → is_plain 47 rest ≡ true → has_no_scheme n (behind_ups n rest) ≡ true
     → parse_url (Some base) (behind_ups n rest) ≡ Ok (with_rest base (in_folder base n (split_once 63 rest).0) (split_once 63 rest).1)
-parse_url-folder base n rest web plain folder =
+parse_url-folder base n rest web plain test =
     let text = behind_ups n rest in
     let split = splits 47 rest plain in
     let body = (split_once 63 rest).0 in
-    let path = has_path text folder in
+    let path = has_path_behind n rest test in
     let at = split_ups n rest in
     let none = subst (λ (r : Split). split_scheme r.0 ≡ None) at path.none in
     let some = subst (λ (r : Split). 0 < length r.0) at path.some in
@@ -298,9 +311,9 @@ parse_url-folder base n rest web plain folder =
 pub resolve-in_folder : (base : Parts) (text : List ℕ) (n : ℕ) (rest : List ℕ) → IsValid base → IsPage base → IsInFolder text n rest → resolve (serialize base) text ≡ Ok (root_text base ++ in_folder base n rest)
 resolve-in_folder base text n rest valid page link =
     let web = web_url base valid page.web in
-    let folder = subst (λ t. is_of_folder t ≡ true) link.is link.of_folder in
+    let test = subst (λ t. has_no_scheme n t ≡ true) link.is link.no_scheme in
     ap (resolve (serialize base)) link.is
-    ∙ resolve-rest base (behind_ups n rest) (in_folder base n rest) _ _ valid page (folder_rest base n rest web link.plain) (parse_url-folder base n rest web link.plain folder)
+    ∙ resolve-rest base (behind_ups n rest) (in_folder base n rest) _ _ valid page (folder_rest base n rest web link.plain) (parse_url-folder base n rest web link.plain test)
 
 pub spelled_in_folder : (base : Parts) (text : List ℕ) (n : ℕ) (rest own : List ℕ) (start end : ℕ) → IsValid base → IsPage base → IsInFolder text n rest → own ≡ root_text base ++ in_folder base n rest → start ≡ offset base BeforeHost → end ≡ offset base AfterHost → IsSpelled own start end
 spelled_in_folder base text n rest own start end valid page link is first last =

@@ -1,5 +1,5 @@
 -- Links that are resolved without a parse.
-use Rattle.std.specs.Prelude.{◌≡◌, ◌+◌, ◌-◌, ℕ, zero, suc, Bool, true, ◌&&◌, ◌==◌, List, [], ◌∷◌, length, slice_index, slice_range, ⊤}
+use Rattle.std.specs.Prelude.{◌≡◌, ◌+◌, ◌-◌, ℕ, zero, suc, Bool, true, ◌&&◌, ◌||◌, ◌==◌, nat_lt, List, [], ◌∷◌, length, slice_index, slice_range, ⊤}
 use Rattle.url.specs.Ascii.{dot, number_sign, question_mark, slash}
 use Rattle.url.specs.Path.{without_last_segment}
 use Rattle.crawl_keys.specs.declared.plain.PlainLink.{PlainLink}
@@ -21,11 +21,15 @@ abbrev pub behind_ups : ℕ → List ℕ → List ℕ
 behind_ups zero text = text
 behind_ups (suc n) text = dot ∷ dot ∷ slash ∷ behind_ups n text
 
+-- behind `../` so many times, or with none of them, the text has no scheme
+abbrev pub has_no_scheme : ℕ → List ℕ → Bool
+has_no_scheme ups text = nat_lt 0 ups || is_of_folder text
+
 -- the text is `../` so many times, a path that begins with a segment, and a query; and it has no scheme
 pub record IsInFolder (text : List ℕ) (ups : ℕ) (rest : List ℕ) : Type 0 where
   pub is : text ≡ behind_ups ups rest
   pub plain : is_plain slash rest ≡ true
-  pub of_folder : is_of_folder text ≡ true
+  pub no_scheme : has_no_scheme ups text ≡ true
 
 -- Where so many folders above a folder end in the text of a page, whose path begins at the root. A folder ends behind its slash,
 -- and above the first one there is none.

@@ -8,7 +8,7 @@ ghost use Rattle.crawl_keys.specs.Outcome.{Gives};
 ghost use Rattle.crawl_keys.specs.Spelled.{IsSpelled};
 ghost use Rattle.url.specs.Parser.{parse_url};
 
-use crate::folder::{folder_above, folder_len};
+use crate::folder::{folder_above, folder_len, has_no_scheme};
 use crate::parsed::Parsed;
 use crate::plain::{HostPlace, PlainLink, behind_ups, is_plain, len_before, plain_link};
 use crate::{CanonUrl, KeyError, before_fragment};
@@ -161,7 +161,7 @@ impl Base {
         ensures { IfSome result (λ answer. Gives KeyError.NoMemory (λ url. url) answer (spec.resolve self.now text.now)) }
     {
         let (ups, rest) = behind_ups(text);
-        if is_plain(b'/', rest.as_bytes()) && crate::is_of_folder(text) {
+        if is_plain(b'/', rest.as_bytes()) && has_no_scheme(ups, text) {
             return Some(self.in_folder(alloc, text, ups, rest));
         }
         None

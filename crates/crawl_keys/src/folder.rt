@@ -23,6 +23,13 @@ pub fn is_of_folder(text: &str) -> bool
     }
 }
 
+/// Whether a text that begins with `../` so many times is seen to have no scheme.
+pub fn has_no_scheme(ups: usize, text: &str) -> bool
+    ensures { result ≡ links.has_no_scheme ups text.now }
+{
+    ups > 0 || is_of_folder(text)
+}
+
 fn has_colon(text: &str) -> bool
     ensures { result ≡ list_any spec.is_colon text.now }
 {

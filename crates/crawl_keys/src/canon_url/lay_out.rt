@@ -36,6 +36,7 @@ impl Laid {
     }
 
     /// Lays out the text that is made of these two, with the host at this place.
+    #[inline(always)]
     pub(super) fn join(
         alloc: Global,
         front: &str,
@@ -50,6 +51,7 @@ impl Laid {
     }
 
     /// Lays out a text with the host at this place.
+    #[inline(always)]
     fn lay_out(text: Text, host: HostPlace) -> Result<Laid, KeyError>
         requires { IsSpelled text host.start host.end }
         ensures { Gives KeyError.NoMemory (λ laid. laid) result (Ok text) }

@@ -47,15 +47,15 @@ impl Text {
     }
 
     /// The text that is made of these two. Only a long one wants memory.
+    #[inline(always)]
     pub(super) fn join(alloc: Global, front: &str, back: &str) -> Result<Text, AllocError>
         ensures { IfOk result (λ text. text ≡ front.now ++ back.now) }
     {
-        if let Ok(mut short) = ArrayString::from(front) {
-            if short.try_push_str(back).is_ok() {
-                return Ok(Text {
-                    kept: Kept::Short(short),
-                });
-            }
+        let mut short = ArrayString::new();
+        if short.try_push_str(front).is_ok() && short.try_push_str(back).is_ok() {
+            return Ok(Text {
+                kept: Kept::Short(short),
+            });
         }
         let mut long = String::from_str(alloc, front)?;
         long.push_str(back)?;
