@@ -393,6 +393,8 @@ def crawl_of(crawl: Crawl, workers: int) -> list[str]:
     web = read_web(crawl.web)
     seeds = read_seeds(crawl.listed or b"")
     seeds += [seed_of(text, f"seed {number}") for number, text in enumerate(crawl.seeds, 1)]
+    if not seeds:
+        raise Fault("seeds: no seed")
     found = search(web, crawl, seeds)
     links = [link for url in found if url in web for link in web[url].leads_to()]
     for urls, what in ((seeds, "seed"), (links, "link")):

@@ -107,6 +107,7 @@ COMMANDS = [
     (["crawl", "--seeds", "no/such.seeds", RING], None),
     (["crawl", f"{DATA}/two_urls.script", "http://a.test/"], None),
     (["crawl", "--seeds", RING, RING], None),
+    (["crawl", "--seeds", "/dev/null", RING], None),
     (["crawl", RING, "mailto:x"], None),
     (["crawl", "--max-pending", "1", RING, "http://a.test/"], None),
     (["replay", RING], None),

@@ -1,13 +1,13 @@
 -- What a crawl tells; and plans that ask for one text are told one.
-use Rattle.std.proofs.Common.{◌≡◌, ℕ, Bool, true, false, not, ◌&&◌, List, [], ◌∷◌, ◌++◌, Option, Some, None, Ok, String, Global, IfSome, ◌≤◌, length, map, string_bytes, refl, sym, ap, subst, ◌∙◌}
+use Rattle.std.proofs.Common.{◌≡◌, ℕ, Bool, true, false, not, ◌&&◌, List, [], ◌∷◌, ◌++◌, Option, Some, None, Result, Ok, Err, String, Vec, Global, IfOk, IfSome, ◌≤◌, length, map, string_bytes, refl, sym, ap, subst, ◌∙◌}
 use Rattle.std.specs.Bool.{if◌then◌else◌}
 use Rattle.crawl_certificate.specs.Certificate.{result_urls}
 use Rattle.mercator.specs.Crawls.{AreCounts}
 use Rattle.crawl_keys.specs.HostFilter.{filter_of, is_good}
 use Rattle.mercator.specs.Plans.{is_bad_suffix, is_input, known_bytes, known_seeds, lists_input, suffixes_of}
 use Rattle.mercator.specs.Limits.{most_input_bytes}
-use Rattle.mercator.specs.Told.{AskForOneText, FailsCrawl, Gains, OfFile, OfFiles}
-use Rattle.mercator.specs.WebCrawl.{IsCrawlText, IsFound, IsRefused, told_text}
+use Rattle.mercator.specs.Told.{AskForOneText, FailsCrawl, Gains, IsTold, OfFile, OfFiles}
+use Rattle.mercator.specs.WebCrawl.{IsBegun, IsCrawlText, IsFound, IsUnbegun, told_text}
 use Rattle.mercator.specs.declared.commands.fault.Fault.{Fault}
 use Rattle.mercator.specs.declared.commands.fault.Fault.TheVariants as wrong
 use Rattle.mercator.specs.declared.crawling.Crawled.{Crawled}
@@ -45,8 +45,8 @@ one_output (asks.Crawl workers max queues sources within file listed seeds) (ask
     let (own_input, other_input, own_none, other_none, seeded, filtered, sourced, queued, many) = ask in
     let texts = map string_bytes seeds.items in
     let suffixes = suffixes_of within in
-    let first : IsCrawlText workers queues sources bytes [] texts suffixes own.text = of_web (λ b l. IsCrawlText workers queues sources b l texts suffixes own.text) (string_bytes file) listed bytes own_input own_none own.told.1 in
-    let plain = of_web (λ b l. IsCrawlText others other_queues other_sources b l (map string_bytes other_seeds.items) (suffixes_of other_within) other.text) (string_bytes other_file) other_listed bytes other_input other_none other.told.1 in
+    let first : IsCrawlText workers queues sources bytes [] texts suffixes own.text = (of_web (λ b l. IsBegun b l texts × IsCrawlText workers queues sources b l texts suffixes own.text) (string_bytes file) listed bytes own_input own_none own.told.1).1 in
+    let plain = (of_web (λ b l. IsBegun b l (map string_bytes other_seeds.items) × IsCrawlText others other_queues other_sources b l (map string_bytes other_seeds.items) (suffixes_of other_within) other.text) (string_bytes other_file) other_listed bytes other_input other_none other.told.1).1 in
     let same_seeds = subst (λ t. IsCrawlText others other_queues other_sources bytes [] t (suffixes_of other_within) other.text) (sym seeded) plain in
     let same_filter = subst (λ s. IsCrawlText others other_queues other_sources bytes [] texts s other.text) (sym filtered) same_seeds in
     let same_sources = subst (λ s. IsCrawlText others other_queues s bytes [] texts suffixes other.text) (sym sourced) same_filter in
@@ -69,6 +69,40 @@ filter_is (Some suffix) filter is = single (string_bytes suffix) (not (is_good (
 -- what is found by the filter's suffixes is found by those that they are
 pub found_within : (workers : ℕ) (bytes listed : List ℕ) (texts filter suffixes : List (List ℕ)) (found : Crawled) → filter ≡ suffixes → IsFound workers bytes listed texts filter found → IsFound workers bytes listed texts suffixes found
 found_within workers bytes listed texts filter suffixes found is own = subst (λ s. IsFound workers bytes listed texts s found) is own
+
+-- what is written of what was found is the text of that crawl
+crawl_text : (workers : ℕ) (queues sources : Bool) (file : List ℕ) (listed : Option (String Global)) (texts suffixes : List (List ℕ)) (input : Option (List ℕ)) (found : Crawled) (text : List ℕ) → text ≡ told_text queues sources found.result found.counts.items
+    → OfFiles file listed input (λ bytes list. IsBegun bytes list texts × IsFound workers bytes list texts suffixes found)
+    → OfFiles file listed input (λ bytes list. IsBegun bytes list texts × IsCrawlText workers queues sources bytes list texts suffixes text)
+crawl_text workers queues sources file listed texts suffixes input found text written of = record {
+  bytes = of.bytes;
+  read = of.read;
+  few = of.few;
+  holds = record {
+    bytes = of.holds.bytes;
+    read = of.holds.read;
+    few = of.holds.few;
+    holds = (of.holds.holds.0, record {
+      pages = found.result;
+      crawl = of.holds.holds.1.crawl;
+      counts = found.counts.items;
+      counted = of.holds.holds.1.counted;
+      written = written;
+    });
+  };
+}
+
+-- so the text of what was found is the plan's, where there is one
+pub told_of : (workers max : ℕ) (queues sources : Bool) (within : Option (String Global)) (file : String Global) (listed : Option (String Global)) (seeds : Vec (String Global) Global) (input : Option (List ℕ)) (plan : Plan) (name : List ℕ) (given : List (String Global)) (found : Crawled) (result : Result (Vec ℕ Global) Fault)
+    → plan ≡ asks.Crawl workers max queues sources within file listed seeds → name ≡ string_bytes file → given ≡ seeds.items
+    → (is_bad_suffix within ≡ false) × OfFiles name listed input (λ bytes list. IsBegun bytes list (map string_bytes given) × IsFound workers bytes list (map string_bytes given) (suffixes_of within) found)
+    → IfOk result (λ text. text.items ≡ told_text queues sources found.result found.counts.items) → IfOk result (λ text. IsTold plan input text.items)
+told_of workers max queues sources within file listed seeds input plan name given found (Err fault) is named same crawl written = tt
+told_of workers max queues sources within file listed seeds input plan name given found (Ok text) is named same crawl written =
+    let of = crawl_text workers queues sources name listed (map string_bytes given) (suffixes_of within) input found text.items written crawl.1 in
+    let seeded = subst (λ ts. OfFiles name listed input (λ bytes list. IsBegun bytes list (map string_bytes ts) × IsCrawlText workers queues sources bytes list (map string_bytes ts) (suffixes_of within) text.items)) same of in
+    let filed = subst (λ f. OfFiles f listed input (λ bytes list. IsBegun bytes list (map string_bytes seeds.items) × IsCrawlText workers queues sources bytes list (map string_bytes seeds.items) (suffixes_of within) text.items)) named seeded in
+    subst (λ p. IsTold p input text.items) (sym is) (crawl.0, filed)
 
 -- by whether FILE and the file of seeds are the input
 by_name : (own its : Bool) (before after : Option (List ℕ)) (bytes : List ℕ) → (own && its) ≡ false → (own ≡ false → after ≡ before)
@@ -101,12 +135,13 @@ files_read file listed input after P bytes list given other one read few same se
 
 -- why nothing is found of them
 pub fails : (workers max : ℕ) (within : Option (String Global)) (file : List ℕ) (listed : Option (String Global)) (seeds : List (List ℕ)) (input : Option (List ℕ)) (fault : Fault) → is_bad_suffix within ≡ false
-    → OfFiles file listed input (λ bytes list. IsRefused workers max bytes list seeds fault) → FailsCrawl workers max within file listed seeds input fault
+    → OfFiles file listed input (λ bytes list. IsUnbegun workers max bytes list seeds fault) → FailsCrawl workers max within file listed seeds input fault
 fails workers max within file listed seeds input wrong.CannotRead good of = good
 fails workers max within file listed seeds input wrong.CannotReadSeeds good of = absurd of.holds.holds
 fails workers max within file listed seeds input (wrong.Script fault) good of = (good, of)
 fails workers max within file listed seeds input (wrong.Web fault) good of = (good, of)
 fails workers max within file listed seeds input (wrong.Seeds fault) good of = (good, of)
+fails workers max within file listed seeds input wrong.NoSeed good of = (good, of)
 fails workers max within file listed seeds input (wrong.Seed place refusal) good of = (good, of)
 fails workers max within file listed seeds input (wrong.Url refusal) good of = (good, of)
 fails workers max within file listed seeds input (wrong.Crawl error) good of = (good, of)

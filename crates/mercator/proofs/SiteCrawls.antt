@@ -1,6 +1,6 @@
 -- The pages of a saved web that can be reached are one list, and so its report is one text.
 use Rattle.std.proofs.Common.{◌≡◌, ℕ, Bool, List, [], ◌∷◌, map, ◌++◌, Result, Ok, refl, sym, ap, subst, ◌∙◌}
-use Rattle.crawl_certificate.specs.Certificate.{IsCrawl}
+use Rattle.crawl_certificate.specs.Certificate.{IsCrawl, result_urls}
 use Rattle.crawl_certificate.proofs.OneCrawl.{one_crawl}
 use Rattle.crawl_keys.specs.HostFilter.{allows}
 use Rattle.crawl_keys.specs.declared.error.KeyError.{KeyError}
@@ -10,7 +10,10 @@ use Rattle.crawl_web.specs.ReportText.{report}
 use Rattle.crawl_web.specs.declared.page.Page.{Page}
 use Rattle.crawl_web.specs.declared.page.PageResult.{PageResult}
 use Rattle.std.specs.Str.Lines.{lines}
-use Rattle.mercator.specs.WebCrawl.{AreAllSeeds, IsSiteCrawl, IsCrawlReport}
+use Rattle.crawl_web.specs.WebFaults.{IsSound}
+use Rattle.mercator.specs.Crawls.{AreCounts}
+use Rattle.mercator.specs.WebCrawl.{AreAllSeeds, IsFound, IsSiteCrawl, IsCrawlReport}
+use Rattle.mercator.specs.declared.crawling.Crawled.{Crawled}
 
 -- of texts that are all canonical, there is one list of URLs
 abbrev as_ok : List ℕ → Result (List ℕ) KeyError
@@ -30,6 +33,19 @@ pub crawl_of_same : (meaning other : List ℕ → Page) (allowed : List ℕ → 
 crawl_of_same meaning other allowed seeds pages same crawl =
     let both : meaning ≡ other = λ i url. same url i in
     subst (λ m. IsCrawl m allowed seeds pages) both crawl
+
+-- a crawl of a saved web by its pages is what is found of its bytes
+pub found_of : (workers : ℕ) (bytes listed : List ℕ) (texts suffixes : List (List ℕ)) (meaning : List ℕ → Page) (seeds : List (List ℕ)) (found : Crawled) → IsSound (lines bytes) → ((url : List ℕ) → meaning url ≡ page_of (lines bytes) url)
+    → AreAllSeeds listed texts seeds → IsCrawl meaning (allows suffixes) seeds found.result → AreCounts workers (result_urls found.result) found.counts.items → IsFound workers bytes listed texts suffixes found
+found_of workers bytes listed texts suffixes meaning seeds found sound same named crawl counted = record {
+  crawl = record {
+    sound = sound;
+    seeds = seeds;
+    named = named;
+    found = crawl_of_same meaning (page_of (lines bytes)) (allows suffixes) seeds found.result same crawl;
+  };
+  counted = counted;
+}
 
 -- a file of seeds and texts have one list of seeds
 one_seeds : (listed : List ℕ) (texts seeds others : List (List ℕ)) → AreAllSeeds listed texts seeds → AreAllSeeds listed texts others → seeds ≡ others

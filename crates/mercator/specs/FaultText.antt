@@ -74,6 +74,7 @@ fault_text file wrong.BadSuffix = codes "bad suffix"
 fault_text file (wrong.Url refusal) = codes "URL: " ++ message refusal
 fault_text file (wrong.Seed place refusal) = codes "seed " ++ decimal place ++ codes ": " ++ message refusal
 fault_text file (wrong.Seeds fault) = codes "seeds: " ++ seeds_text fault
+fault_text file wrong.NoSeed = codes "seeds: no seed"
 fault_text file (wrong.Web fault) = codes "saved web: " ++ web_text fault
 fault_text file (wrong.Script fault) = codes "script: " ++ script_text fault
 fault_text file (wrong.Crawl error) = codes "incomplete: " ++ crawl_text error

@@ -11,9 +11,11 @@ use Rattle.mercator.specs.Limits.{most_input_bytes}
 use Rattle.mercator.specs.Plans.{is_bad_suffix, is_input, known_bytes, known_seeds, suffixes_of, told_file}
 use Rattle.crawl_replay.specs.Replay.{IsReplay}
 use Rattle.crawl_replay.specs.Script.{script_of}
-use Rattle.mercator.specs.WebCrawl.{IsCrawlable, IsCrawlText, IsRefused}
+use Rattle.mercator.specs.WebCrawl.{IsBegun, IsCrawlText, IsUnbegun}
 use Rattle.mercator.specs.declared.commands.planned.Plan.{Plan}
 use Rattle.mercator.specs.declared.commands.planned.Plan.TheVariants as asks
+use Rattle.mercator.specs.declared.commands.words.PlanError.{PlanError}
+use Rattle.mercator.specs.declared.commands.words.PlanError.TheVariants as unplanned
 use Rattle.mercator.specs.declared.commands.fault.Fault.{Fault}
 use Rattle.mercator.specs.declared.commands.fault.Fault.TheVariants as wrong
 
@@ -32,7 +34,7 @@ OfFiles file listed input P = OfFile (known_bytes file input) (λ bytes. OfFile 
 abbrev pub IsTold : Plan → Option (List ℕ) → List ℕ → Type 0
 IsTold (asks.Crawl workers max queues sources within file listed seeds) input text =
     (is_bad_suffix within ≡ false)
-    × OfFiles (string_bytes file) listed input (λ bytes list. IsCrawlText workers queues sources bytes list (map string_bytes seeds.items) (suffixes_of within) text)
+    × OfFiles (string_bytes file) listed input (λ bytes list. IsBegun bytes list (map string_bytes seeds.items) × IsCrawlText workers queues sources bytes list (map string_bytes seeds.items) (suffixes_of within) text)
 IsTold (asks.Key url workers) input text = IsKeyLine (string_bytes url) workers text
 IsTold (asks.Replay file) input text = OfFile (known_bytes (string_bytes file) input) (λ bytes. IsReplay bytes text)
 
@@ -44,14 +46,14 @@ FailsReplay file input wrong.NoMemory = Unit {0}
 FailsReplay file input _ = ⊥
 
 -- why a crawl fails, in this order: the suffix is bad; the FILE cannot be read; a file of seeds cannot be; the web is refused, or
--- a seed is, or the crawl is incomplete; or want of memory
+-- a seed is, or there is none, or the crawl is incomplete; or want of memory
 abbrev pub FailsCrawl : ℕ → ℕ → Option (String Global) → List ℕ → Option (String Global) → List (List ℕ) → Option (List ℕ) → Fault → Type 0
 FailsCrawl workers max within file listed seeds input wrong.BadSuffix = is_bad_suffix within ≡ true
 FailsCrawl workers max within file listed seeds input wrong.CannotRead = is_bad_suffix within ≡ false
 FailsCrawl workers max within file listed seeds input wrong.CannotReadSeeds = (is_bad_suffix within ≡ false) × IsSome listed
 FailsCrawl workers max within file listed seeds input wrong.NoMemory = Unit {0}
 FailsCrawl workers max within file listed seeds input fault =
-    (is_bad_suffix within ≡ false) × OfFiles file listed input (λ bytes list. IsRefused workers max bytes list seeds fault)
+    (is_bad_suffix within ≡ false) × OfFiles file listed input (λ bytes list. IsUnbegun workers max bytes list seeds fault)
 
 -- why a key is not told: the text has no canonical URL, by this refusal; or want of memory
 abbrev pub FailsKey : List ℕ → Fault → Type 0
@@ -66,17 +68,17 @@ Fails (asks.Key url workers) input fault = FailsKey (string_bytes url) fault
 Fails (asks.Replay file) input fault = FailsReplay (string_bytes file) input fault
 
 -- there is nothing that the command could tell: the FILE is known and no script; whatever bytes the files of a crawl have, by
--- what is known of them, there is no web or a seed has no canonical URL; a suffix is bad; or the URL has no canonical URL
+-- what is known of them, there is no web, a seed has no canonical URL, or there is no seed; a suffix is bad; or the URL has no canonical URL
 abbrev pub CannotTell : Plan → Option (List ℕ) → Type 0
 CannotTell (asks.Crawl workers max queues sources within file listed seeds) input =
-    (is_bad_suffix within ≡ true) ⊎ (OfFiles (string_bytes file) listed input (λ bytes list. IsCrawlable bytes list (map string_bytes seeds.items)) → ⊥)
+    (is_bad_suffix within ≡ true) ⊎ (OfFiles (string_bytes file) listed input (λ bytes list. IsBegun bytes list (map string_bytes seeds.items)) → ⊥)
 CannotTell (asks.Key url workers) input = IsErr (canonical (string_bytes url))
 CannotTell (asks.Replay file) input = IsSomeAnd (known_bytes (string_bytes file) input) (λ bytes. IsErr (script_of bytes))
 
--- a crawl alone can be incomplete, and it is one of a saved web from seeds that have canonical URLs
+-- a crawl alone can be incomplete, and it is one of a saved web from seeds, one at least, that have canonical URLs
 abbrev pub MayLose : Plan → Option (List ℕ) → Type 0
 MayLose (asks.Crawl workers max queues sources within file listed seeds) input =
-    (is_bad_suffix within ≡ false) × OfFiles (string_bytes file) listed input (λ bytes list. IsCrawlable bytes list (map string_bytes seeds.items))
+    (is_bad_suffix within ≡ false) × OfFiles (string_bytes file) listed input (λ bytes list. IsBegun bytes list (map string_bytes seeds.items))
 MayLose _ input = ⊥
 
 -- a writer that held the old bytes gained the plan's text, where it says what it holds
@@ -101,6 +103,11 @@ AskForOneText (asks.Crawl workers max queues sources within file listed seeds) (
     × (map string_bytes seeds.items ≡ map string_bytes other_seeds.items) × (suffixes_of within ≡ suffixes_of other_within)
     × (sources ≡ other_sources) × (queues ≡ other_queues) × (queues ≡ true → workers ≡ others)
 AskForOneText _ _ = ⊥
+
+-- what is wrong with words is told: the writer for faults gained a beginning of the text, all of it unless it refused one
+abbrev pub TellsWords : PlanError → Option (List ℕ) → Option (List ℕ) → Type 0
+TellsWords (unplanned.Shown text status) old new = Begins old new (string_bytes text)
+TellsWords unplanned.NoMemory old new = ⊥
 
 -- words led to no plan, and the writer for faults was told why: help could not be written, or there was no memory and nothing
 -- is written

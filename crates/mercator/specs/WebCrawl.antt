@@ -1,5 +1,5 @@
 -- A crawl of a saved web, from its bytes to the report.
-use Rattle.std.specs.Prelude.{◌≡◌, ℕ, ◌+◌, Bool, if◌then◌else◌, List, [], ◌∷◌, ◌++◌, length, map, Ok, Err, IsOk}
+use Rattle.std.specs.Prelude.{◌≡◌, ℕ, ◌+◌, Bool, if◌then◌else◌, List, [], ◌∷◌, ◌++◌, ◌≤◌, length, map, Ok, Err, IsOk}
 use Rattle.std.specs.Str.Lines.{lines}
 use Rattle.crawl_keys.specs.CanonicalText.{canonical}
 use Rattle.crawl_sources.specs.Seeds.{seeds_in}
@@ -37,6 +37,13 @@ pub record IsCrawlable (bytes listed : List ℕ) (texts : List (List ℕ)) : Typ
   pub seeds : List (List ℕ)
   pub named : AreAllSeeds listed texts seeds
 
+-- those of a crawl of the program, which begins from one seed at least
+pub record IsBegun (bytes listed : List ℕ) (texts : List (List ℕ)) : Type 0 where
+  pub sound : IsSound (lines bytes)
+  pub seeds : List (List ℕ)
+  pub named : AreAllSeeds listed texts seeds
+  pub some : 1 ≤ length seeds
+
 -- the seed with this number, counted from 1, is the first that has no canonical URL, by this refusal
 pub record IsFirstBadSeed (texts : List (List ℕ)) (place : ℕ) (refusal : KeyError) : Type 0 where
   pub front : List (List ℕ)
@@ -54,16 +61,25 @@ IsSeedFault texts (wrong.Seed place refusal) = IsFirstBadSeed texts place refusa
 IsSeedFault texts wrong.NoMemory = Unit {0}
 IsSeedFault texts _ = ⊥
 
--- why a crawl with these numbers finds no pages, in this order: the bytes are no saved web, by this fault; those listed are no
--- seeds file, by this fault; the first text that has no canonical URL, by its refusal; the crawl fails, by its error; or want of
--- memory
+-- why there are no web and seeds, in this order: the bytes are no saved web, by this fault; those listed are no seeds file, by
+-- this fault; the first text that has no canonical URL, by its refusal; or want of memory
+abbrev pub IsUnread : List ℕ → List ℕ → List (List ℕ) → Fault → Type 0
+IsUnread bytes listed texts (wrong.Web fault) = IsWebFault (lines bytes) fault
+IsUnread bytes listed texts (wrong.Seeds fault) = IsSound (lines bytes) × (seeds_in (lines listed) ≡ Err fault)
+IsUnread bytes listed texts (wrong.Seed place refusal) = IsSound (lines bytes) × IsOk (seeds_in (lines listed)) × IsFirstBadSeed texts place refusal
+IsUnread bytes listed texts wrong.NoMemory = Unit {0}
+IsUnread bytes listed texts _ = ⊥
+
+-- why a crawl with these numbers finds no pages, in this order: there are no web and seeds; or the crawl fails, by its error
 abbrev pub IsRefused : ℕ → ℕ → List ℕ → List ℕ → List (List ℕ) → Fault → Type 0
-IsRefused workers max bytes listed texts (wrong.Web fault) = IsWebFault (lines bytes) fault
-IsRefused workers max bytes listed texts (wrong.Seeds fault) = IsSound (lines bytes) × (seeds_in (lines listed) ≡ Err fault)
-IsRefused workers max bytes listed texts (wrong.Seed place refusal) = IsSound (lines bytes) × IsOk (seeds_in (lines listed)) × IsFirstBadSeed texts place refusal
 IsRefused workers max bytes listed texts (wrong.Crawl error) = IsCrawlable bytes listed texts × CrawlFails workers max error
-IsRefused workers max bytes listed texts wrong.NoMemory = Unit {0}
-IsRefused workers max bytes listed texts _ = ⊥
+IsRefused workers max bytes listed texts fault = IsUnread bytes listed texts fault
+
+-- the same of a crawl of the program, where it is a fault that there is no seed
+abbrev pub IsUnbegun : ℕ → ℕ → List ℕ → List ℕ → List (List ℕ) → Fault → Type 0
+IsUnbegun workers max bytes listed texts wrong.NoSeed = IsSound (lines bytes) × AreAllSeeds listed texts []
+IsUnbegun workers max bytes listed texts (wrong.Crawl error) = IsBegun bytes listed texts × CrawlFails workers max error
+IsUnbegun workers max bytes listed texts fault = IsUnread bytes listed texts fault
 
 -- a fault of a crawl in this mode
 abbrev pub ComesOf : Mode → Fault → Type 0

@@ -5,8 +5,9 @@ ghost use Rattle.mercator.specs.Ending.{Begins};
 ghost use Rattle.mercator.specs.FaultText.{fault_line};
 ghost use Rattle.mercator.specs.Faults.{status_of_fault};
 ghost use Rattle.mercator.specs.Plans.{IsShown, IsWithinLimits, reads_input};
-ghost use Rattle.mercator.specs.Told.{CannotTell, EndsByFault, FailsWithoutPlan, Gains, MayLose};
+ghost use Rattle.mercator.specs.Told.{CannotTell, EndsByFault, FailsWithoutPlan, Gains, MayLose, TellsWords};
 ghost use Rattle.mercator.specs.declared.commands.planned.Plan.{Plan};
+ghost use Rattle.mercator.specs.declared.commands.words.PlanError.{PlanError};
 ghost use Rattle.mercator.specs.declared.commands.fault.Fault.TheVariants as wrong;
 
 mod command_line;
@@ -60,7 +61,10 @@ pub fn run_words<R: Files + Threads + Wait + Sync, I: Read, O: Write, E: Write>(
 
     // Only a crawl is incomplete, and nothing is written then.
     ensures incomplete { result ≡ 2 → (plan : Plan) × IsWithinLimits plan × EndsByFault plan result (I.remaining input.old) (E.contents err.old) (E.contents err.new) (out.new ≡ out.old) }
+
+    // A bad command line: what is wrong with it is told, and nothing else happens.
     ensures bad_command { result ≡ 3 → (input.new ≡ input.old) × (out.new ≡ out.old) }
+    ensures bad_words { result ≡ 3 → (error : PlanError) × TellsWords error (E.contents err.old) (E.contents err.new) }
 {
     match plan(alloc, words) {
         Ok(plan) => run_plan(rt, alloc, &plan, input, out, err),
@@ -117,6 +121,7 @@ fn show<O: Write, E: Write>(alloc: Global, error: PlanError, out: &mut O, err: &
     ensures silent { result ≡ 0 → err.new ≡ err.old }
     ensures fault { result ≡ 1 → FailsWithoutPlan (E.contents err.old) (E.contents err.new) (out.new ≡ out.old) }
     ensures bad_command { result ≡ 3 → out.new ≡ out.old }
+    ensures bad_words { result ≡ 3 → TellsWords error (E.contents err.old) (E.contents err.new) }
 {
     match error {
         PlanError::Shown { text, status: 0 } => show_help(alloc, text, out, err),

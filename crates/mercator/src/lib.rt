@@ -13,7 +13,9 @@ pub use commands::{
     crawl_saved_web, fault_line, plan, queue_text, read_input, report_of_saved_web, run_plan,
     run_words,
 };
+pub use crawl_certificate::{CertError, CrawlResult, certify};
 pub use crawl_replay::{Script, ScriptError, read_script, replay_text};
 pub use crawl_web::LINE_LIMIT;
+pub use crawl_workers::{RunError, WorkerEnd, run_threads, run_turns, run_worker};
 pub use crawling::{CrawlError, Crawled, Mode, crawl};
 pub use key::key_line;

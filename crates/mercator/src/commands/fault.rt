@@ -24,6 +24,8 @@ pub enum Fault {
     Web(WebError),
     /// The file of seeds is none, or one of its lines is no seed.
     Seeds(SeedsFault),
+    /// The file of seeds has none, and the command line gives none.
+    NoSeed,
     /// A seed of the command line has no canonical URL: the first such seed, counted from 1, and why.
     Seed(usize, KeyError),
     /// The URL whose key is asked for has no canonical URL.

@@ -39,6 +39,7 @@ impl fmt::Display for FaultText<'_> {
                 let text = SeedsText(fault);
                 write!(f, "seeds: {text}")
             }
+            Fault::NoSeed => f.write_str("seeds: no seed"),
             Fault::Web(fault) => {
                 let text = WebText(fault);
                 write!(f, "saved web: {text}")

@@ -8,7 +8,7 @@ ghost use Rattle.mercator.specs.Limits.{most_input_bytes};
 ghost use Rattle.mercator.specs.Plans.{IsWithinLimits, is_input, is_bad_suffix, known_bytes, known_seeds, lists_input, reads_input, suffixes_of};
 ghost use Rattle.crawl_replay.specs.Replay.{IsReplay};
 ghost use Rattle.mercator.specs.Told.{IsTold, Fails, FailsReplay, FailsCrawl, FailsKey, OfFile, OfFiles};
-ghost use Rattle.mercator.specs.WebCrawl.{IsFound, told_text};
+ghost use Rattle.mercator.specs.WebCrawl.{IsBegun, IsFound, told_text};
 ghost use Rattle.mercator.specs.declared.commands.fault.Fault.TheVariants as wrong;
 
 use crate::commands::fault::Fault;
@@ -34,7 +34,7 @@ use std::thread::Threads;
 ///
 /// # Errors
 /// `BadSuffix`; `CannotRead`; `CannotReadSeeds`; the faults of the script, of the saved web, of the file of seeds, of the first bad
-/// seed, of an incomplete crawl, or of the URL; `NoMemory`.
+/// seed; `NoSeed`; those of an incomplete crawl, or of the URL; `NoMemory`.
 pub fn tell<R: Files + Threads + Wait + Sync, I: Read>(
     rt: &R,
     alloc: Global,
@@ -97,7 +97,7 @@ fn crawl_files<R: Files + Threads + Wait + Sync, I: Read>(
     input: &mut I,
 ) -> Result<Crawled, Fault>
     requires one_input { (is_input file.now && lists_input listed.now) ≡ false }
-    ensures found { IfOk result (λ crawled. (is_bad_suffix within.now ≡ false) × OfFiles file.now listed.now (I.remaining input.old) (λ bytes list. IsFound workers bytes list (map string_bytes seeds.now) (suffixes_of within.now) crawled)) }
+    ensures found { IfOk result (λ crawled. (is_bad_suffix within.now ≡ false) × OfFiles file.now listed.now (I.remaining input.old) (λ bytes list. IsBegun bytes list (map string_bytes seeds.now) × IsFound workers bytes list (map string_bytes seeds.now) (suffixes_of within.now) crawled)) }
     ensures fault { IfErr result (FailsCrawl workers max within.now file.now listed.now (map string_bytes seeds.now) (I.remaining input.old)) }
     ensures unfiltered { is_bad_suffix within.now ≡ true → input.new ≡ input.old }
     ensures unread { (is_input file.now || lists_input listed.now) ≡ false → input.new ≡ input.old }

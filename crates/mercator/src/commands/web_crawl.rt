@@ -1,11 +1,15 @@
 //! A crawl of a saved web, from its bytes to the report.
-ghost use Rattle.std.specs.Prelude.{List, [], map, string_bytes, IfOk, IfErr};
+ghost use Rattle.std.specs.Prelude.{◌≡◌, ℕ, List, [], map, string_bytes, IfOk, IfErr};
+ghost use Rattle.std.specs.Str.Lines.{lines};
 ghost use Rattle.crawl_certificate.specs.Certificate.{result_urls};
 ghost use Rattle.crawl_frontier.specs.Limits.{IsWorkers};
 ghost use Rattle.crawl_gate.specs.GateError.{IsMaximum};
+ghost use Rattle.crawl_web.specs.KnownPages.{page_at};
+ghost use Rattle.crawl_web.specs.SavedWeb.{page_of};
+ghost use Rattle.crawl_web.specs.WebFaults.{IsSound};
 ghost use Rattle.crawl_web.specs.declared.page.PageResult.{PageResult};
 ghost use Rattle.mercator.specs.Crawls.{AreCounts};
-ghost use Rattle.mercator.specs.WebCrawl.{AreSeeds, ComesOf, IsFound, IsSiteCrawl, IsCrawlReport, IsRefused, IsSeedFault};
+ghost use Rattle.mercator.specs.WebCrawl.{AreAllSeeds, AreSeeds, ComesOf, IsBegun, IsFound, IsSiteCrawl, IsCrawlReport, IsRefused, IsSeedFault, IsUnbegun, IsUnread};
 
 use crate::commands::fault::Fault;
 use crate::crawling::{Crawled, Mode, crawl};
@@ -90,21 +94,15 @@ pub fn crawl_saved_web<R: Threads + Wait + Sync>(
     ensures numbers { IfOk result (λ _. IsWorkers workers × IsMaximum max_pending) }
     ensures mode { IfErr result (ComesOf mode) }
 {
-    let (_web, found) = crawl_with_web(
-        rt,
-        alloc,
-        bytes,
-        listed,
-        seeds,
-        filter,
-        workers,
-        max_pending,
-        mode,
-    )?;
+    let (web, urls) = read_site(alloc, bytes, listed, seeds)?;
+    let found = crawl(rt, alloc, &web, filter, &urls, workers, max_pending, mode)?;
     Ok(found)
 }
 
-/// As [`crawl_saved_web`], and the web that was crawled.
+/// As [`crawl_saved_web`], and the web that was crawled, from one seed at least.
+///
+/// # Errors
+/// `NoSeed` behind those of web and seeds; else those of [`crawl_saved_web`].
 pub(in crate::commands) fn crawl_with_web<'a, R: Threads + Wait + Sync>(
     rt: &R,
     alloc: Global,
@@ -117,16 +115,34 @@ pub(in crate::commands) fn crawl_with_web<'a, R: Threads + Wait + Sync>(
     mode: Mode,
 ) -> Result<(SavedWeb<'a>, Crawled), Fault>
     ensures found { IfOk result (λ r. IsFound workers bytes.now listed.now (map string_bytes seeds.now) filter.now r.1) }
-    ensures refused { IfErr result (λ fault. IsRefused workers max_pending bytes.now listed.now (map string_bytes seeds.now) fault) }
-    ensures numbers { IfOk result (λ _. IsWorkers workers × IsMaximum max_pending) }
-    ensures mode { IfErr result (ComesOf mode) }
+    ensures begun { IfOk result (λ _. IsBegun bytes.now listed.now (map string_bytes seeds.now)) }
+    ensures refused { IfErr result (λ fault. IsUnbegun workers max_pending bytes.now listed.now (map string_bytes seeds.now) fault) }
+{
+    let (web, urls) = read_site(alloc, bytes, listed, seeds)?;
+    if urls.is_empty() {
+        return Err(Fault::NoSeed);
+    }
+    let found = crawl(rt, alloc, &web, filter, &urls, workers, max_pending, mode)?;
+    Ok((web, found))
+}
+
+/// The saved web that the bytes are, and the seeds of the file with the bytes `listed` and then those given.
+fn read_site<'a>(
+    alloc: Global,
+    bytes: &'a [u8],
+    listed: &[u8],
+    seeds: &[String],
+) -> Result<(SavedWeb<'a>, Vec<CanonUrl>), Fault>
+    ensures sound { IfOk result (λ _. IsSound (lines bytes.now)) }
+    ensures pages { IfOk result (λ r. (url : List ℕ) → page_at r.0 url ≡ page_of (lines bytes.now) url) }
+    ensures named { IfOk result (λ r. AreAllSeeds listed.now (map string_bytes seeds.now) r.1.items) }
+    ensures unread { IfErr result (λ fault. IsUnread bytes.now listed.now (map string_bytes seeds.now) fault) }
 {
     let web = SavedWeb::read(alloc, bytes)?;
     let mut urls = read_seeds(alloc, listed)?;
     let mut others = seed_urls(alloc, seeds)?;
     urls.append(&mut others)?;
-    let found = crawl(rt, alloc, &web, filter, &urls, workers, max_pending, mode)?;
-    Ok((web, found))
+    Ok((web, urls))
 }
 
 /// The seeds' canonical URLs.

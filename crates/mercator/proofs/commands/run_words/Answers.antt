@@ -9,3 +9,6 @@ returns-in-Ok-clause-fault g c = λ one. inr (c.in-Ok.plan, c.in-Ok.ensures.limi
 
 pub returns-in-Ok-clause-incomplete : goal.returns-in-Ok-clause-incomplete
 returns-in-Ok-clause-incomplete g c = λ two. (c.in-Ok.plan, c.in-Ok.ensures.limits, c.run_plan.ensures.fault (omega (arith, two)))
+
+pub returns-in-Err-clause-bad_words : goal.returns-in-Err-clause-bad_words
+returns-in-Err-clause-bad_words g c = λ three. (c.in-Err.error, c.show.ensures.bad_words three)

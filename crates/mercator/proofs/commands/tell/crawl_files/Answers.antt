@@ -1,7 +1,7 @@
 use Rattle.std.proofs.Common.{rules, string_bytes, Global, map, ap}
 use Rattle.std.proofs.lemmas.Result.{err_from_is_err_and}
 use Rattle.mercator.specs.Plans.{suffixes_of}
-use Rattle.mercator.specs.WebCrawl.{IsFound, IsRefused}
+use Rattle.mercator.specs.WebCrawl.{IsBegun, IsFound, IsUnbegun}
 use Rattle.mercator.proofs.PlanTexts.{fails, files_read, filter_is, found_within}
 use Rattle.mercator.proofs.commands.tell.crawl_files.Goals as goal
 
@@ -11,9 +11,9 @@ returns-clause-found g c =
     let seeds = map (string_bytes {Z = Global}) c.args.seeds.now in
     let found = c.in_ok-web.found in (
       filter.0,
-      files_read c.args.file.now c.args.listed.now (g.I.Read.remaining c.args.input.now) (g.I.Read.remaining c.read_file.new.input) (λ bytes list. IsFound c.args.workers bytes list seeds (suffixes_of c.args.within.now) found) c.in_ok-bytes.bytes.items c.in_ok-list.list.items c.deref.result.now c.deref-2.result.now
+      files_read c.args.file.now c.args.listed.now (g.I.Read.remaining c.args.input.now) (g.I.Read.remaining c.read_file.new.input) (λ bytes list. IsBegun bytes list seeds × IsFound c.args.workers bytes list seeds (suffixes_of c.args.within.now) found) c.in_ok-bytes.bytes.items c.in_ok-list.list.items c.deref.result.now c.deref-2.result.now
           c.requires.one_input c.in_ok-bytes.ensures.whole (search rules) (λ no. ap (g.I.Read.remaining) (c.in_ok-bytes.ensures.unread no)) c.in_ok-list.ensures.whole (search rules) c.deref.ensures.value c.deref-2.ensures.value
-          (found_within c.args.workers c.deref.result.now c.deref-2.result.now seeds _ _ found filter.1 c.in_ok-web.ensures.found),
+          (c.in_ok-web.ensures.begun, found_within c.args.workers c.deref.result.now c.deref-2.result.now seeds _ _ found filter.1 c.in_ok-web.ensures.found),
     )
 
 pub returns-in_err-web-clause-fault : goal.returns-in_err-web-clause-fault
@@ -24,5 +24,5 @@ returns-in_err-web-clause-fault g c =
     let same = err_from_is_err_and r.result r.ensures.1 in
     let fault = c.in_err-web.field-0.0 in
     rw (same.1, same.2) (fails c.args.workers c.args.max c.args.within.now c.args.file.now c.args.listed.now seeds (g.I.Read.remaining c.args.input.now) fault filter.0
-    (files_read c.args.file.now c.args.listed.now (g.I.Read.remaining c.args.input.now) (g.I.Read.remaining c.read_file.new.input) (λ bytes list. IsRefused c.args.workers c.args.max bytes list seeds fault) c.in_ok-bytes.bytes.items c.in_ok-list.list.items c.deref.result.now c.deref-2.result.now
+    (files_read c.args.file.now c.args.listed.now (g.I.Read.remaining c.args.input.now) (g.I.Read.remaining c.read_file.new.input) (λ bytes list. IsUnbegun c.args.workers c.args.max bytes list seeds fault) c.in_ok-bytes.bytes.items c.in_ok-list.list.items c.deref.result.now c.deref-2.result.now
     c.requires.one_input c.in_ok-bytes.ensures.whole (search rules) (λ no. ap (g.I.Read.remaining) (c.in_ok-bytes.ensures.unread no)) c.in_ok-list.ensures.whole (search rules) c.deref.ensures.value c.deref-2.ensures.value c.in_err-web.ensures.refused))
