@@ -109,8 +109,11 @@ run_limited() {
         "$closed/program" "$@" < "$data/ring.web" > "$scratch/out" 2> "$scratch/err" || got=$?
 }
 
-# Each of several workers has a thread: with one thread fewer, or with fewer still, none crawls.
+# One worker has the thread that the program began with, and each of several has its own: with one thread fewer, or with fewer
+# still, none crawls.
 if [ "$(id -u)" -eq 0 ]; then
+    run_limited 1 crawl --workers 1 - http://a.test/
+    expect "one worker and no other thread" 0 "@$data/ring.report" ""
     for workers in 2 3 8; do
         run_limited $((workers + 1)) crawl --workers "$workers" - http://a.test/
         expect "$workers workers and the thread that began" 0 "@$data/ring.report" ""
