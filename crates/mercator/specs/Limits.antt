@@ -1,4 +1,4 @@
--- The limits and defaults of the program. Each is a number here, and nowhere else in the definitions.
+-- The limits of an input. Each is a number here, and nowhere else in the definitions.
 use Rattle.std.specs.Prelude.{ℕ, ◌^◌}
 
 -- the bytes of an input
