@@ -104,7 +104,7 @@ AskForOneText (asks.Crawl workers max queues sources within file listed seeds) (
     × (sources ≡ other_sources) × (queues ≡ other_queues) × (queues ≡ true → workers ≡ others)
 AskForOneText _ _ = ⊥
 
--- what is wrong with words is told: the writer for faults gained a beginning of the text, all of it unless it refused one
+-- what is wrong with words is told: the writer for faults gained a beginning of the text
 abbrev pub TellsWords : PlanError → Option (List ℕ) → Option (List ℕ) → Type 0
 TellsWords (unplanned.Shown text status) old new = Begins old new (string_bytes text)
 TellsWords unplanned.NoMemory old new = ⊥
