@@ -111,7 +111,7 @@ run_limited() {
 
 # One worker has the thread that the program began with, and each of several has its own: with one thread fewer, or with fewer
 # still, none crawls.
-if [ "$(id -u)" -eq 0 ]; then
+if setpriv --reuid 54321 --regid 54321 --clear-groups true 2> /dev/null; then
     run_limited 1 crawl --workers 1 - http://a.test/
     expect "one worker and no other thread" 0 "@$data/ring.report" ""
     for workers in 2 3 8; do
@@ -123,7 +123,7 @@ if [ "$(id -u)" -eq 0 ]; then
         done
     done
 else
-    echo "not shown, because only root changes the user: how many threads a crawl has, and its end where one cannot be started"
+    echo "not shown, because the user cannot be changed here: how many threads a crawl has, and its end where one cannot be started"
 fi
 
 run crawl --sources --within site.test "$data/site.web" http://site.test/

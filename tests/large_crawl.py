@@ -15,6 +15,7 @@ import subprocess
 import sys
 import tempfile
 import time
+from typing import Iterator, Optional, Tuple
 
 from stress_crawl import PROGRAM
 
@@ -27,11 +28,11 @@ SEED = 20_261_125
 TIME_LIMIT = 600  # seconds a run
 
 
-def url(page):
+def url(page: int) -> str:
     return f"http://host{page % HOSTS}.test/{page}"
 
 
-def gone(page):
+def gone(page: int) -> Optional[str]:
     """The URL without a page to which every fiftieth page links; two such pages share it."""
     return f"http://host{page // 100 % HOSTS}.test/gone/{page // 100}" if page % 50 == 0 else None
 
@@ -39,15 +40,15 @@ def gone(page):
 class Web:
     """Pages that link to the page STEP behind them, and each to a page that is drawn."""
 
-    def __init__(self):
+    def __init__(self) -> None:
         drawn = random.Random(SEED)
         self.far = [drawn.randrange(PAGES) for _ in range(PAGES + BESIDE)]
         self.seeds = [drawn.randrange(PAGES) for _ in range(SEEDS)]
 
-    def links(self, page):
+    def links(self, page: int) -> Tuple[int, int]:
         return (page + STEP) % PAGES, self.far[page]
 
-    def lines(self):
+    def lines(self) -> Iterator[str]:
         yield "savedweb 1\n"
         for page in range(PAGES + BESIDE):
             near, far = self.links(page)
@@ -55,7 +56,7 @@ class Web:
             if gone(page):
                 yield f"link {gone(page)}\n"
 
-    def reached(self):
+    def reached(self) -> bytearray:
         """A search through the graph from the seeds: for each page, whether it is found."""
         found = bytearray(PAGES + BESIDE)
         waiting = list(self.seeds)
@@ -68,7 +69,7 @@ class Web:
                     waiting.append(link)
         return found
 
-    def report(self):
+    def report(self) -> bytes:
         pages = [page for page, is_found in enumerate(self.reached()) if is_found]
         lines = [(url(page), f"ok {3 if gone(page) else 2} 0 ") for page in pages]
         missing = {gone(page) for page in pages if gone(page)}
@@ -78,7 +79,7 @@ class Web:
         return "".join([*(f"{front}{text}\n" for text, front in lines), total]).encode()
 
 
-def made(folder):
+def made(folder: str) -> Tuple[str, str, bytes]:
     """The names of a file with the web, of one with its seeds, and the report."""
     web = Web()
     names = os.path.join(folder, "large.web"), os.path.join(folder, "large.seeds")
@@ -89,7 +90,7 @@ def made(folder):
     return (*names, web.report())
 
 
-def main():
+def main() -> None:
     words = sys.argv[1:]
     if words[:1] in (["-h"], ["--help"]):
         print(__doc__)

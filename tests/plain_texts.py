@@ -6,7 +6,7 @@ the same by both ways: of an absolute text and the text with a space before it, 
 `Base::resolve` and by `resolve`, which always parses. Wants crates/crawl_keys_vectors/out/crawl_keys_vectors, as `rt run` of
 that crate leaves it.
 
-usage: tests/plain_texts.py [--count N] [--seed N]      100000 texts and seed 1 where none is given
+Usage: plain_texts.py [--count N] [--seed N]; 100000 texts and seed 1 where none is given
 """
 import argparse
 import os
@@ -14,6 +14,7 @@ import random
 import subprocess
 import sys
 import tempfile
+from typing import List
 
 PROGRAM = os.path.join(os.path.dirname(os.path.abspath(__file__)), "../crates/crawl_keys_vectors/out/crawl_keys_vectors")
 
@@ -40,27 +41,28 @@ QUERIES = ["", "", "?", "?q", "?a=b&c=d/../e", "?x?y"]
 FRAGMENTS = ["", "", "", "#", "#top", "#a?b/../c"]
 
 
-def path(draw):
+def path(draw: random.Random) -> str:
     return "/".join(draw.choice(SEGMENTS) for _ in range(draw.randint(1, 3))) + draw.choice(["", "/"])
 
 
-def tail(draw):
+def tail(draw: random.Random) -> str:
     return draw.choice(QUERIES) + draw.choice(FRAGMENTS)
 
 
-def absolute(draw):
+def absolute(draw: random.Random) -> str:
     head = draw.choice(SCHEMES) + draw.choice(HOSTS) + draw.choice(PORTS)
     return head + "/" + draw.choice(["", path(draw)]) + tail(draw)
 
 
-def link(draw):
+def link(draw: random.Random) -> str:
     kind = draw.randrange(6)
     if kind == 0:
         return "/" + path(draw) + tail(draw)
     if kind == 1:
         return path(draw) + tail(draw)
     if kind == 2:
-        return "".join(draw.choice(["../", "../", "./"]) for _ in range(draw.randint(1, 4))) + draw.choice(["", path(draw)]) + tail(draw)
+        ups = "".join(draw.choice(["../", "../", "./"]) for _ in range(draw.randint(1, 4)))
+        return ups + draw.choice(["", path(draw)]) + tail(draw)
     if kind == 3:
         return draw.choice(QUERIES) + draw.choice(FRAGMENTS)
     if kind == 4:
@@ -68,7 +70,7 @@ def link(draw):
     return absolute(draw)
 
 
-def one_away(draw, text):
+def one_away(draw: random.Random, text: str) -> str:
     place = draw.randint(0, len(text))
     kind = draw.randrange(4)
     if kind == 0:
@@ -79,12 +81,12 @@ def one_away(draw, text):
     return text[:place] + byte + text[place + (kind == 2):]
 
 
-def escape(text):
+def escape(text: str) -> str:
     # A line that begins with dashes would be a comment.
     return "".join(c if "!" <= c <= "~" and c not in "\\-" else "\\u%x;" % ord(c) for c in text)
 
 
-def ask(lines):
+def ask(lines: List[str]) -> List[str]:
     """The answers to vectors that expect nothing, a line each."""
     with tempfile.TemporaryDirectory() as folder:
         with open(os.path.join(folder, "vectors.txt"), "w") as vectors:
@@ -94,7 +96,7 @@ def ask(lines):
     return [line.rsplit(" => ", 1)[1].removesuffix(", and not ") for line in told]
 
 
-def main():
+def main() -> None:
     words = argparse.ArgumentParser(description=__doc__, formatter_class=argparse.RawDescriptionHelpFormatter)
     words.add_argument("--count", type=int, default=100000)
     words.add_argument("--seed", type=int, default=1)
@@ -113,13 +115,14 @@ def main():
             lines.append(escape(text) + " => ")
     told = ask(lines)
     if len(told) != 2 * len(texts):
-        sys.exit("%d answers to %d texts" % (len(told), len(texts)))
+        sys.exit(f"{len(told)} answers to {len(texts)} texts")
     differing = [(text, told[2 * n], told[2 * n + 1]) for n, text in enumerate(texts) if told[2 * n] != told[2 * n + 1]]
     for text, one, other in differing[:20]:
-        print("%r leads to %s, and to %s" % (text, one, other))
+        print(f"{text!r} leads to {one}, and to {other}")
     urls = sum("://" in answer for answer in told) // 2
-    print("%d texts, of which %d are URLs, %d differ" % (len(texts), urls, len(differing)))
+    print(f"{len(texts)} texts, of which {urls} are URLs, {len(differing)} differ")
     sys.exit(1 if differing else 0)
 
 
-main()
+if __name__ == "__main__":
+    main()
