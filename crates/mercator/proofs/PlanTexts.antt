@@ -82,13 +82,16 @@ crawl_text workers queues sources file listed texts suffixes input found text wr
     bytes = of.holds.bytes;
     read = of.holds.read;
     few = of.holds.few;
-    holds = (of.holds.holds.0, record {
-      pages = found.result;
-      crawl = of.holds.holds.1.crawl;
-      counts = found.counts.items;
-      counted = of.holds.holds.1.counted;
-      written = written;
-    });
+    holds = (
+      of.holds.holds.0,
+      record {
+        pages = found.result;
+        crawl = of.holds.holds.1.crawl;
+        counts = found.counts.items;
+        counted = of.holds.holds.1.counted;
+        written = written;
+      },
+    );
   };
 }
 
