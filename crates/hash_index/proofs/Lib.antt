@@ -1,0 +1,3 @@
+pub mod Taking
+pub mod Listed
+pub mod Keeping

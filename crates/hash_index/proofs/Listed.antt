@@ -1,0 +1,107 @@
+-- Texts of a list by their indices.
+use Rattle.std.proofs.Common.{◌≡◌, ◌⊎◌, inl, inr, ℕ, zero, suc, ◌<◌, Bool, ◌||◌, true, false, List, [], ◌∷◌, ◌++◌, length, take, slice_get, Option, Some, None, is_some, refl, sym, ap, subst, ◌∙◌, suc-le-suc, zero-le}
+use Rattle.std.specs.Bool.{if◌then◌else◌}
+use Rattle.std.specs.Option.{option_map}
+use Rattle.std.specs.List.{list_any}
+use Rattle.std.specs.Str.{bytes_eq}
+use Rattle.std.proofs.lemmas.Bool.{both_ways}
+use Rattle.std.proofs.lemmas.Slice.Eq.{bytes_eq-Decides}
+use Rattle.hash_index.specs.Lists.{index_of, is_this, stands_at, AreApart}
+
+pub same_text : (u v : List ℕ) → bytes_eq u v ≡ true → u ≡ v
+same_text u v e = (bytes_eq-Decides u v).0 e
+
+pub text_itself : (u : List ℕ) → bytes_eq u u ≡ true
+text_itself u = (bytes_eq-Decides u u).1 refl
+
+-- an element of a list with one more
+pub push_cases : {X : Type 0} (xs : List X) (y : X) (k : ℕ) (x : X) → slice_get (xs ++ y ∷ []) k ≡ Some x → ((k < length xs) × (slice_get xs k ≡ Some x)) ⊎ ((k ≡ length xs) × (y ≡ x))
+push_cases [] y zero x at = inr (refl, cc)
+push_cases [] y (suc k) x at = absurd (cc)
+push_cases (z ∷ zs) y zero x at = inl (suc-le-suc zero-le, at)
+push_cases (z ∷ zs) y (suc k) x at = elim (push_cases zs y k x at) [
+  | inl before ↦ inl (suc-le-suc before.0, before.1)
+  | inr last ↦ inr (ap suc last.0, last.1)
+]
+
+-- an element of the first so many
+pub slice_get_take : {X : Type 0} (n : ℕ) (xs : List X) (k : ℕ) (x : X) → slice_get (take n xs) k ≡ Some x → (k < n) × (slice_get xs k ≡ Some x)
+slice_get_take zero xs k x at = absurd (cc)
+slice_get_take (suc n) [] k x at = absurd (cc)
+slice_get_take (suc n) (y ∷ ys) zero x at = (suc-le-suc zero-le, at)
+slice_get_take (suc n) (y ∷ ys) (suc k) x at = let more = slice_get_take n ys k x at in (suc-le-suc more.0, more.1)
+
+pub at_index : (texts : List (List ℕ)) (k : ℕ) (key : List ℕ) → stands_at texts k key ≡ true → slice_get texts k ≡ Some key
+at_index texts k key stands = by_text (slice_get texts k) stands
+  where
+    by_text : (o : Option (List ℕ)) → is_this o key ≡ true → o ≡ Some key
+    by_text None is = absurd (cc)
+    by_text (Some text) is = ap Some (same_text text key is)
+
+pub stands_there : (texts : List (List ℕ)) (k : ℕ) (key : List ℕ) → slice_get texts k ≡ Some key → stands_at texts k key ≡ true
+stands_there texts k key at = ap (λ o. is_this o key) at ∙ text_itself key
+
+-- the text stands at the index that is answered
+pub found_at : (texts : List (List ℕ)) (key : List ℕ) (k : ℕ) → index_of texts key ≡ Some k → slice_get texts k ≡ Some key
+found_at [] key k found = absurd (cc)
+found_at (text ∷ texts) key k found = by_first (bytes_eq text key) refl found (index_of texts key) refl (found_at texts key)
+  where
+    by_first : (b : Bool) → bytes_eq text key ≡ b → (if b then Some 0 else option_map suc (index_of texts key)) ≡ Some k
+        → (o : Option ℕ) → index_of texts key ≡ o → ((j : ℕ) → index_of texts key ≡ Some j → slice_get texts j ≡ Some key) → slice_get (text ∷ texts) k ≡ Some key
+    by_first true is found o more rest =
+        let at : 0 ≡ k = cc in
+        subst (λ j. slice_get (text ∷ texts) j ≡ Some key) at (ap Some (same_text text key is))
+    by_first false is found None more rest = absurd (cc)
+    by_first false is found (Some j) more rest =
+        let at : suc j ≡ k = cc in
+        subst (λ i. slice_get (text ∷ texts) i ≡ Some key) at (rest j more)
+
+-- where none is answered, it stands nowhere
+pub absent_at : (texts : List (List ℕ)) (key : List ℕ) → index_of texts key ≡ None → (k : ℕ) → slice_get texts k ≡ Some key → ⊥
+absent_at [] key none k at = cc
+absent_at (text ∷ texts) key none k at = by_first (bytes_eq text key) refl none (index_of texts key) refl (λ nowhere j there. absent_at texts key nowhere j there) k at
+  where
+    by_first : (b : Bool) → bytes_eq text key ≡ b → (if b then Some 0 else option_map suc (index_of texts key)) ≡ None
+        → (o : Option ℕ) → index_of texts key ≡ o → (index_of texts key ≡ None → (j : ℕ) → slice_get texts j ≡ Some key → ⊥) → (k : ℕ) → slice_get (text ∷ texts) k ≡ Some key → ⊥
+    by_first true first none o found more k at = cc
+    by_first false first none (Some j) found more k at = cc
+    by_first false first none None found more zero at =
+        let same : text ≡ key = cc in
+        both_ways _ first (ap (λ u. bytes_eq u key) same ∙ text_itself key)
+    by_first false first none None found more (suc k) at = more found k at
+
+-- where it stands is what is answered
+pub stands_first : (texts : List (List ℕ)) (key : List ℕ) (k : ℕ) → AreApart texts → stands_at texts k key ≡ true → index_of texts key ≡ Some k
+stands_first texts key k apart stands = by_index (index_of texts key) refl
+  where
+    by_index : (o : Option ℕ) → index_of texts key ≡ o → o ≡ Some k
+    by_index None found = absurd (absent_at texts key found k (at_index texts k key stands))
+    by_index (Some j) found = ap Some (apart j k key (found_at texts key j found) (at_index texts k key stands))
+
+pub AreApart-push : (texts : List (List ℕ)) (key : List ℕ) → index_of texts key ≡ None → AreApart texts → AreApart (texts ++ key ∷ [])
+AreApart-push texts key none apart i k text at_i at_k =
+    elim (push_cases texts key i text at_i) [
+      | inl first ↦ elim (push_cases texts key k text at_k) [
+        | inl second ↦ apart i k text first.1 second.1
+        | inr last ↦ absurd (absent_at texts key none i (first.1 ∙ sym (ap Some last.1)))
+      ]
+      | inr own ↦ elim (push_cases texts key k text at_k) [
+        | inl second ↦ absurd (absent_at texts key none k (second.1 ∙ sym (ap Some own.1)))
+        | inr last ↦ own.0 ∙ sym last.0
+      ]
+    ]
+
+-- a text has an index where it is one of the list's
+pub has_index : (texts : List (List ℕ)) (key : List ℕ) → is_some (index_of texts key) ≡ list_any (λ text. bytes_eq text key) texts
+has_index [] key = refl
+has_index (text ∷ texts) key = by_first (bytes_eq text key) (index_of texts key) (has_index texts key)
+  where
+    by_first : (b : Bool) (o : Option ℕ) → is_some o ≡ list_any (λ text. bytes_eq text key) texts
+        → is_some (if b then Some 0 else option_map suc o) ≡ (b || list_any (λ text. bytes_eq text key) texts)
+    by_first true o more = refl
+    by_first false None more = more
+    by_first false (Some k) more = more
+
+pub none_there : {X : Type 0} (o : Option X) → is_some o ≡ false → o ≡ None
+none_there None e = refl
+none_there (Some x) e = absurd (cc)

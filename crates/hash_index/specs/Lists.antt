@@ -1,0 +1,22 @@
+-- Lists of texts, and the index at which a text stands.
+use Rattle.std.specs.Prelude.{◌≡◌, ℕ, suc, Bool, false, List, [], ◌∷◌, slice_get, Option, Some, None, if◌then◌else◌}
+use Rattle.std.specs.Option.{option_map}
+use Rattle.std.specs.Str.{bytes_eq}
+
+-- the index of the text, the first of them
+abbrev pub index_of : List (List ℕ) → List ℕ → Option ℕ
+index_of [] key = None
+index_of (text ∷ more) key = if bytes_eq text key then Some 0 else option_map suc (index_of more key)
+
+-- there is a text, and it is this one
+abbrev pub is_this : Option (List ℕ) → List ℕ → Bool
+is_this None key = false
+is_this (Some text) key = bytes_eq text key
+
+-- the text stands at the index
+abbrev pub stands_at : List (List ℕ) → ℕ → List ℕ → Bool
+stands_at texts index key = is_this (slice_get texts index) key
+
+-- no text stands at two indices
+abbrev pub AreApart : List (List ℕ) → Type 0
+AreApart texts = (i k : ℕ) (text : List ℕ) → slice_get texts i ≡ Some text → slice_get texts k ≡ Some text → i ≡ k

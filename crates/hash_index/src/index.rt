@@ -1,0 +1,173 @@
+//! The hash index.
+ghost use Rattle.std.specs.Prelude.{◌≡◌, ◌<◌, ◌≤◌, ◌^◌, ◌∷◌, ◌++◌, ℕ, List, [], Some, None, true, false, length, IfOk};
+ghost use Rattle.std.specs.Str.{bytes_eq};
+ghost use Rattle.hash_index.specs.Lists.{index_of};
+ghost use Rattle.hash_index.specs.Index.{IsKept, IsIndexOf, with_slots, capacity_of};
+
+use crate::keyed::Keyed;
+use crate::overflow::Overflow;
+use crate::slots::{INDEX_LIMIT, Search, Slots};
+use crate::text_list::TextList;
+use std::alloc::{AllocError, Global};
+
+/// For how many texts there are slots at the first.
+const FIRST_TEXTS: usize = 16;
+
+/// Where the texts of a list stand. The list is the caller's, who lends it to each call; no text of it stands twice.
+///
+/// A search looks at the slots of the text's hash, which lie side by side, and mostly at one text. Nothing rests on hashes: an
+/// answer is what the list has at an index. It is a list of at most 2^31 texts, with some 6 to 12 bytes for each.
+#[derive(Debug, Drop)]
+pub struct HashIndex {
+    pub(crate) slots: Slots,
+    pub(crate) overflow: Overflow,
+}
+
+impl HashIndex {
+    /// The index of a list with no text. It takes no memory.
+    pub fn new(alloc: Global) -> HashIndex {
+        HashIndex {
+            slots: Slots::none(alloc),
+            overflow: Overflow::new(alloc),
+        }
+    }
+
+    /// The index of a list with no text, with slots for so many: it takes no more of them before there are as many texts.
+    pub fn with_capacity(alloc: Global, count: usize) -> Result<HashIndex, AllocError>
+        ensures { IfOk result (λ index. count ≤ capacity_of index) }
+    {
+        Ok(HashIndex {
+            slots: Slots::new(alloc, count)?,
+            overflow: Overflow::new(alloc),
+        })
+    }
+
+    /// For how many texts there are slots.
+    pub fn capacity(&self) -> usize
+        ensures { result ≡ capacity_of self.now }
+    {
+        self.slots.capacity()
+    }
+
+    /// The index at which the key's text stands in the list.
+    pub fn find<L: TextList, K: Keyed>(&self, list: &L, key: &K) -> Option<usize>
+        requires index { IsIndexOf L.hash (L.texts list.now) self.now }
+        requires hash { K.hash (K.text key.now) ≡ L.hash (K.text key.now) }
+        ensures { result ≡ index_of (L.texts list.now) (K.text key.now) }
+    {
+        self.find_text(list, key.text(), key.text_hash())
+    }
+
+    fn find_text<L: TextList>(&self, list: &L, text: &str, hash: u64) -> Option<usize>
+        requires index { IsIndexOf L.hash (L.texts list.now) self.now }
+        requires hash { hash ≡ L.hash text.now }
+        ensures { result ≡ index_of (L.texts list.now) text.now }
+    {
+        match self.slots.search(list, text, hash) {
+            Search::Found(index) => Some(index),
+            Search::Vacant(_) => None,
+            Search::Full => self.overflow.find(list, text, hash),
+        }
+    }
+
+    /// The index at which the key's text stands in the list. Where it stands nowhere, the text has the list's next index from
+    /// now on: the caller pushes it or not, and nothing has to be undone. The only error is out of memory, or 2^31 texts.
+    pub fn find_or_insert<L: TextList, K: Keyed>(
+        &mut self,
+        list: &L,
+        key: &K,
+    ) -> Result<Option<usize>, AllocError>
+        requires index { IsIndexOf L.hash (L.texts list.now) self.old }
+        requires hash { K.hash (K.text key.now) ≡ L.hash (K.text key.now) }
+        ensures found { IfOk result (λ found. found ≡ index_of (L.texts list.now) (K.text key.now)) }
+        // It is the index of the list still, whatever comes of it, and of the list with the text.
+        ensures before { IsIndexOf L.hash (L.texts list.now) self.new }
+        ensures pushed { IfOk result (λ found. found ≡ None → IsIndexOf L.hash (L.texts list.now ++ K.text key.now ∷ []) self.new) }
+        // No slots are made while there are slots for one text more.
+        ensures capacity { length (L.texts list.now) < capacity_of self.old → capacity_of self.new ≡ capacity_of self.old }
+    {
+        self.make_room(list)?;
+        self.find_text_or_insert(list, key.text(), key.text_hash())
+    }
+
+    fn find_text_or_insert<L: TextList>(
+        &mut self,
+        list: &L,
+        text: &str,
+        hash: u64,
+    ) -> Result<Option<usize>, AllocError>
+        requires index { IsIndexOf L.hash (L.texts list.now) self.old }
+        requires hash { hash ≡ L.hash text.now }
+        requires few { length (L.texts list.now) < 2 ^ 31 }
+        ensures found { IfOk result (λ found. found ≡ index_of (L.texts list.now) text.now) }
+        ensures before { IsIndexOf L.hash (L.texts list.now) self.new }
+        ensures pushed { IfOk result (λ found. found ≡ None → IsIndexOf L.hash (L.texts list.now ++ text.now ∷ []) self.new) }
+        ensures capacity { capacity_of self.new ≡ capacity_of self.old }
+    {
+        match self.slots.search(list, text, hash) {
+            Search::Found(index) => Ok(Some(index)),
+            Search::Vacant(slot) => {
+                self.slots.put_at(slot, hash, list.text_count());
+                Ok(None)
+            }
+            Search::Full => {
+                let alloc = self.slots.allocator();
+                self.overflow.find_or_insert(alloc, list, text, hash)
+            }
+        }
+    }
+
+    /// Makes slots for one text more, where there are none.
+    fn make_room<L: TextList>(&mut self, list: &L) -> Result<(), AllocError>
+        requires { IsIndexOf L.hash (L.texts list.now) self.old }
+        ensures index { IsIndexOf L.hash (L.texts list.now) self.new }
+        ensures few { IfOk result (λ _. length (L.texts list.now) < 2 ^ 31) }
+        ensures capacity { length (L.texts list.now) < capacity_of self.old → capacity_of self.new ≡ capacity_of self.old }
+    {
+        let count = list.text_count();
+        if INDEX_LIMIT <= count {
+            return Err(AllocError);
+        }
+        if self.slots.capacity() <= count {
+            self.grow(list, count.saturating_mul(2).max(FIRST_TEXTS))?;
+        }
+        Ok(())
+    }
+
+    /// Makes slots for so many texts. The maps beside them stay: texts that were picked to collide are nearly all there, and would
+    /// else be sorted at each growth.
+    fn grow<L: TextList>(&mut self, list: &L, count: usize) -> Result<(), AllocError>
+        requires index { IsIndexOf L.hash (L.texts list.now) self.old }
+        requires few { length (L.texts list.now) < 2 ^ 31 }
+        ensures { IsIndexOf L.hash (L.texts list.now) self.new }
+    {
+        let mut slots = Slots::new(self.slots.allocator(), count)?;
+        for index in 0..list.text_count() {
+            self.put_anew(&mut slots, list.text_at(index), list.hash_at(index), index)?;
+        }
+        self.slots = slots;
+        Ok(())
+    }
+
+    /// Puts the index into other slots, which are to come in place of these, or where all of its hash are taken, beside them.
+    /// What is not in these slots is there already.
+    fn put_anew(
+        &mut self,
+        slots: &mut Slots,
+        text: &str,
+        hash: u64,
+        index: usize,
+    ) -> Result<(), AllocError>
+        requires { index < 2 ^ 31 }
+        ensures own { IfOk result (λ _. IsKept self.old hash text.now index → IsKept (with_slots self.new slots.new) hash text.now index) }
+        ensures others { (other : List ℕ) (h k : ℕ) → bytes_eq text.now other ≡ false → IsKept (with_slots self.old slots.old) h other k → IsKept (with_slots self.new slots.new) h other k }
+        // By the slots that are there too each index stays kept, whatever comes of it.
+        ensures own_before { IsKept self.old hash text.now index → IsKept self.new hash text.now index }
+        ensures others_before { (other : List ℕ) (h k : ℕ) → bytes_eq text.now other ≡ false → IsKept self.old h other k → IsKept self.new h other k }
+    {
+        if slots.put(hash, index) || !self.slots.has(hash, index) {
+            return Ok(());
+        }
+        self.overflow.put(self.slots.allocator(), text, hash, index)
+    }
+}

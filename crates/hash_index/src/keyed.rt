@@ -1,0 +1,33 @@
+//! What has a text to be found by.
+ghost use Rattle.std.specs.Prelude.{◌≡◌, ℕ, List};
+
+/// A value that is found by its text. The hash of the text stands beside it, or is made of the text at each call.
+///
+/// Equal texts have one hash. Nothing else rests on it: texts that differ may have one hash too.
+pub trait Keyed {
+    // The bytes of the value's text.
+    ghost text: { Self → List ℕ };
+
+    // The hash of a text.
+    ghost hash: { List ℕ → ℕ };
+
+    fn text(&self) -> &str
+        ensures { result.now ≡ text self.now };
+
+    fn text_hash(&self) -> u64
+        ensures { result ≡ hash (text self.now) };
+}
+
+impl<T: Keyed> Keyed for &T {
+    ghost text = { λ item. T.text item.now };
+
+    ghost hash = { T.hash };
+
+    fn text(&self) -> &str {
+        (*self).text()
+    }
+
+    fn text_hash(&self) -> u64 {
+        (*self).text_hash()
+    }
+}

@@ -1,0 +1,12 @@
+//! A hash index: where the texts of a list stand, by their hashes. Its caller keeps the list, and lends it to each call.
+#![tactic(auto)]
+
+mod index;
+mod keyed;
+mod overflow;
+mod slots;
+mod text_list;
+
+pub use index::HashIndex;
+pub use keyed::Keyed;
+pub use text_list::TextList;

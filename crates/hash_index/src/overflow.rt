@@ -1,0 +1,170 @@
+//! The indices of texts whose hash has no vacant slot.
+ghost use Rattle.std.specs.Prelude.{◌≡◌, ◌⊎◌, ℕ, List, Some, None, true, false, length, unwrap_or, IfOk, IfSome};
+ghost use Rattle.std.specs.BTreeMap.{get, get_by_text};
+ghost use Rattle.std.specs.Ordering.{nat_cmp};
+ghost use Rattle.std.specs.Str.{bytes_eq};
+ghost use Rattle.hash_index.specs.Lists.{stands_at};
+ghost use Rattle.hash_index.specs.Overflow.{IsBeside};
+
+use crate::text_list::{TextList, stands_at};
+use std::alloc::{AllocError, Global};
+use std::collections::BTreeMap;
+
+/// Two ordered maps. Whoever picks the texts can make them want the same slots, and even have one hash. Then they are put here,
+/// and n of them are found in n log n steps, whatever they are.
+///
+/// An index only says where to look, and the list which text stands there. So one that was put for a text that did not come
+/// means nothing.
+#[derive(Debug, Drop)]
+pub struct Overflow {
+    /// By the hash: the first text of each.
+    pub by_hash: BTreeMap<u64, usize>,
+    /// By the text: those whose hash is there for another.
+    pub by_text: BTreeMap<String, usize>,
+}
+
+impl Overflow {
+    /// It takes no memory.
+    pub fn new(alloc: Global) -> Overflow {
+        Overflow {
+            by_hash: BTreeMap::new(alloc),
+            by_text: BTreeMap::new(alloc),
+        }
+    }
+
+    /// An index at which the text stands, which has this hash.
+    pub fn find<L: TextList>(&self, list: &L, text: &str, hash: u64) -> Option<usize>
+        ensures found { IfSome result (λ index. stands_at (L.texts list.now) index text.now ≡ true) }
+        ensures missing { result ≡ None → (k : ℕ) → IsBeside self.now hash text.now k → stands_at (L.texts list.now) k text.now ≡ false }
+    {
+        let first = *self.by_hash.get(&hash)?;
+        if stands_at(list, first, text) {
+            return Some(first);
+        }
+        find_text(list, &self.by_text, text)
+    }
+
+    /// The same. Where there is none, the text has the list's next index from now on.
+    pub fn find_or_insert<L: TextList>(
+        &mut self,
+        alloc: Global,
+        list: &L,
+        text: &str,
+        hash: u64,
+    ) -> Result<Option<usize>, AllocError>
+        ensures found { IfOk result (λ found. IfSome found (λ index. stands_at (L.texts list.now) index text.now ≡ true)) }
+        ensures missing { IfOk result (λ found. found ≡ None → (k : ℕ) → IsBeside self.old hash text.now k → stands_at (L.texts list.now) k text.now ≡ false) }
+        ensures own { IfOk result (λ found. found ≡ None → IsBeside self.new hash text.now (length (L.texts list.now))) }
+        // An index stays kept for the text that stands there, whatever comes of it.
+        ensures stay { (other : List ℕ) (h k : ℕ) → IsBeside self.old h other k → stands_at (L.texts list.now) k other ≡ true → IsBeside self.new h other k }
+    {
+        let index = list.text_count();
+        let first = hash_or_insert(&mut self.by_hash, hash, index)?;
+        if stands_at(list, first, text) {
+            return Ok(Some(first));
+        }
+        if first == index {
+            // Of nearly all texts the only one of the hash.
+            return Ok(find_text(list, &self.by_text, text));
+        }
+        find_text_or_insert(alloc, &mut self.by_text, list, text)
+    }
+
+    /// Puts the index for a text, which has this hash.
+    pub fn put(
+        &mut self,
+        alloc: Global,
+        text: &str,
+        hash: u64,
+        index: usize,
+    ) -> Result<(), AllocError>
+        ensures own { IfOk result (λ _. IsBeside self.new hash text.now index) }
+        // What was kept stays kept, whatever comes of it.
+        ensures again { IsBeside self.old hash text.now index → IsBeside self.new hash text.now index }
+        ensures others { (other : List ℕ) (h k : ℕ) → bytes_eq text.now other ≡ false → IsBeside self.old h other k → IsBeside self.new h other k }
+    {
+        if hash_or_insert(&mut self.by_hash, hash, index)? == index {
+            return Ok(());
+        }
+        put_text(alloc, &mut self.by_text, text, index)
+    }
+}
+
+/// The index that is kept for the hash: this one from now on, where there was none.
+fn hash_or_insert(
+    by_hash: &mut BTreeMap<u64, usize>,
+    hash: u64,
+    index: usize,
+) -> Result<usize, AllocError>
+    ensures own { IfOk result (λ kept. get nat_cmp by_hash.new hash ≡ Some kept) }
+    ensures kept { IfOk result (λ kept. kept ≡ unwrap_or (get nat_cmp by_hash.old hash) index) }
+    ensures others { (other k : ℕ) → get nat_cmp by_hash.old other ≡ Some k → get nat_cmp by_hash.new other ≡ Some k }
+{
+    Ok(*by_hash.entry(hash)?.or_insert(index))
+}
+
+/// An index at which the text stands, by the texts.
+fn find_text<L: TextList>(list: &L, by_text: &BTreeMap<String, usize>, text: &str) -> Option<usize>
+    ensures found { IfSome result (λ index. stands_at (L.texts list.now) index text.now ≡ true) }
+    ensures missing { result ≡ None → (k : ℕ) → get_by_text by_text.now text.now ≡ Some k → stands_at (L.texts list.now) k text.now ≡ false }
+{
+    match by_text.get(text) {
+        Some(index) if stands_at(list, *index, text) => Some(*index),
+        _ => None,
+    }
+}
+
+/// The same. Where there is none, the text has the list's next index from now on: one search for both.
+fn find_text_or_insert<L: TextList>(
+    alloc: Global,
+    by_text: &mut BTreeMap<String, usize>,
+    list: &L,
+    text: &str,
+) -> Result<Option<usize>, AllocError>
+    ensures found { IfOk result (λ found. IfSome found (λ index. stands_at (L.texts list.now) index text.now ≡ true)) }
+    ensures missing { IfOk result (λ found. found ≡ None → (k : ℕ) → get_by_text by_text.old text.now ≡ Some k → stands_at (L.texts list.now) k text.now ≡ false) }
+    ensures own { IfOk result (λ found. found ≡ None → get_by_text by_text.new text.now ≡ Some (length (L.texts list.now))) }
+    ensures stay { (other : List ℕ) (k : ℕ) → get_by_text by_text.old other ≡ Some k → stands_at (L.texts list.now) k other ≡ true → get_by_text by_text.new other ≡ Some k }
+{
+    let index = list.text_count();
+    let kept = text_or_insert(alloc, by_text, text, index)?;
+    if stands_at(list, kept, text) {
+        return Ok(Some(kept));
+    }
+    if kept != index {
+        // It was put for a text that did not come.
+        put_text(alloc, by_text, text, index)?;
+    }
+    Ok(None)
+}
+
+/// The index that is kept for the text: this one from now on, where there was none.
+fn text_or_insert(
+    alloc: Global,
+    by_text: &mut BTreeMap<String, usize>,
+    text: &str,
+    index: usize,
+) -> Result<usize, AllocError>
+    ensures kept { IfOk result (λ kept. kept ≡ unwrap_or (get_by_text by_text.old text.now) index) }
+    ensures own { IfOk result (λ kept. get_by_text by_text.new text.now ≡ Some kept) }
+    ensures others { (other : List ℕ) (k : ℕ) → get_by_text by_text.old other ≡ Some k → get_by_text by_text.new other ≡ Some k }
+{
+    let key = String::from_str(alloc, text)?;
+    Ok(*by_text.entry(key)?.or_insert(index))
+}
+
+/// Puts the index under the text.
+fn put_text(
+    alloc: Global,
+    by_text: &mut BTreeMap<String, usize>,
+    text: &str,
+    index: usize,
+) -> Result<(), AllocError>
+    ensures own { IfOk result (λ _. get_by_text by_text.new text.now ≡ Some index) }
+    ensures again { get_by_text by_text.old text.now ≡ Some index → get_by_text by_text.new text.now ≡ Some index }
+    ensures others { (other : List ℕ) (k : ℕ) → bytes_eq text.now other ≡ false → get_by_text by_text.old other ≡ Some k → get_by_text by_text.new other ≡ Some k }
+{
+    let key = String::from_str(alloc, text)?;
+    by_text.insert(key, index)?;
+    Ok(())
+}

@@ -1,0 +1,203 @@
+//! A table of indices in a list, four bytes each, by the hashes of the texts that stand there.
+ghost use Rattle.std.specs.Prelude.{◌≡◌, ◌≢◌, ◌<◌, ◌≤◌, ◌^◌, ℕ, true, false, length, set, IfOk, IfSome, IfNone};
+ghost use Rattle.hash_index.specs.Lists.{stands_at};
+ghost use Rattle.hash_index.specs.Slots as spec;
+ghost use Rattle.hash_index.specs.Slots.{slot_of, word_at, capacity_with, AreTaken, IsFirstVacant, IsInSlots, Misses};
+
+use crate::text_list::{TextList, stands_at};
+use std::alloc::{AllocError, Global};
+use std::marker::Model;
+
+/// How many slots a hash has, side by side: 32 bytes.
+const BUCKET: usize = 8;
+
+/// What a slot has that is not taken.
+const VACANT: u32 = 0;
+
+/// What is read past the end of the table.
+const NO_SLOT: u32 = u32::MAX;
+
+/// How many indices a slot can tell apart.
+pub const INDEX_LIMIT: usize = 1 << 31;
+
+/// A table of slots. A hash has a bucket of them, and takes the first that is vacant, for good.
+///
+/// A taken slot has the exclusive or of an index and the mark of its hash. So read by another hash it mostly says a number past
+/// the list's end, and no text is compared in vain.
+#[derive(Debug, Drop)]
+pub struct Slots {
+    words: Vec<u32>,
+}
+
+// Contracts see the words.
+impl Model for Slots {
+    ghost use Rattle.std.specs.Prelude.{List, ℕ};
+
+    ghost Value = { List ℕ };
+
+    ghost view = { λ slots. slots.words.items };
+}
+
+/// What a search of the slots came to.
+pub enum Search {
+    /// The text stands at this index.
+    Found(usize),
+    /// None of the hash's slots leads to the text, and this is the first that is vacant.
+    Vacant(usize),
+    /// None leads to the text, and all are taken.
+    Full,
+}
+
+impl Slots {
+    /// No slot. It takes no memory.
+    pub fn none(alloc: Global) -> Slots {
+        Slots {
+            words: Vec::new(alloc),
+        }
+    }
+
+    /// Vacant slots for so many texts.
+    pub fn new(alloc: Global, count: usize) -> Result<Slots, AllocError>
+        ensures { IfOk result (λ slots. count ≤ capacity_with (length slots)) }
+    {
+        // A third stays vacant, so few texts find all slots of their hashes taken.
+        let wanted = count.saturating_add(count.div_ceil(2)).max(BUCKET);
+        let Some(length) = wanted.checked_next_power_of_two() else {
+            return Err(AllocError);
+        };
+        Ok(Slots {
+            words: vec![in alloc; VACANT; length]?,
+        })
+    }
+
+    /// For how many texts the slots are: all but a third of them.
+    pub fn capacity(&self) -> usize
+        ensures { result ≡ capacity_with (length self.now) }
+    {
+        let count = self.words.len();
+        count - count.div_ceil(3)
+    }
+
+    pub fn allocator(&self) -> Global {
+        *self.words.allocator()
+    }
+
+    /// Looks for the text, which has this hash, where the slots of the hash lead.
+    pub fn search<L: TextList>(&self, list: &L, text: &str, hash: u64) -> Search
+        ensures found { (index : ℕ) → result ≡ Search.Found index → stands_at (L.texts list.now) index text.now ≡ true }
+        ensures vacant { (slot : ℕ) → result ≡ Search.Vacant slot → IsFirstVacant self.now hash slot × Misses (λ index. stands_at (L.texts list.now) index text.now) self.now hash }
+        ensures full { result ≡ Search.Full → AreTaken self.now hash 8 × Misses (λ index. stands_at (L.texts list.now) index text.now) self.now hash }
+    {
+        for number in 0..BUCKET {
+            let word = self.word(hash, number);
+            if word == VACANT {
+                return Search::Vacant(self.slot(hash, number));
+            }
+            let index = index_in(hash, word);
+            if stands_at(list, index, text) {
+                return Search::Found(index);
+            }
+        }
+        Search::Full
+    }
+
+    /// Whether a slot of the hash has the index.
+    pub fn has(&self, hash: u64, index: usize) -> bool
+        requires { index < 2 ^ 31 }
+        ensures { result ≡ false → IsInSlots self.now hash index → ⊥ }
+    {
+        let word = word_of(hash, index);
+        for number in 0..BUCKET {
+            if self.word(hash, number) == word {
+                return true;
+            }
+        }
+        false
+    }
+
+    /// Puts the index into the first vacant slot of the hash, and tells whether there was one.
+    pub fn put(&mut self, hash: u64, index: usize) -> bool
+        requires { index < 2 ^ 31 }
+        ensures own { result ≡ true → IsInSlots self.new hash index }
+        ensures full { result ≡ false → AreTaken self.new hash 8 }
+        ensures others { (other k : ℕ) → IsInSlots self.old other k → IsInSlots self.new other k }
+        ensures taken { (other : ℕ) → AreTaken self.old other 8 → AreTaken self.new other 8 }
+    {
+        match self.first_vacant(hash) {
+            Some(slot) => {
+                self.put_at(slot, hash, index);
+                true
+            }
+            None => false,
+        }
+    }
+
+    fn first_vacant(&self, hash: u64) -> Option<usize>
+        ensures vacant { IfSome result (λ slot. IsFirstVacant self.now hash slot) }
+        ensures full { IfNone result (AreTaken self.now hash 8) }
+    {
+        for number in 0..BUCKET {
+            if self.word(hash, number) == VACANT {
+                return Some(self.slot(hash, number));
+            }
+        }
+        None
+    }
+
+    /// Puts the index into the slot, which is the first vacant one of the hash.
+    pub fn put_at(&mut self, slot: usize, hash: u64, index: usize)
+        requires few { index < 2 ^ 31 }
+        requires vacant { IsFirstVacant self.old hash slot }
+        ensures length { length self.new ≡ length self.old }
+        ensures own { IsInSlots self.new hash index }
+        ensures others { (other k : ℕ) → IsInSlots self.old other k → IsInSlots self.new other k }
+        ensures taken { (other : ℕ) → AreTaken self.old other 8 → AreTaken self.new other 8 }
+    {
+        let word = word_of(hash, index);
+        // It always is.
+        if slot < self.words.len() {
+            self.words[slot] = word;
+        }
+    }
+
+    /// What a slot of the hash has.
+    fn word(&self, hash: u64, number: usize) -> u32
+        ensures { result ≡ word_at self.now hash number }
+    {
+        match self.words.get(self.slot(hash, number)) {
+            Some(word) => *word,
+            None => NO_SLOT,
+        }
+    }
+
+    /// Where a slot of the hash is.
+    fn slot(&self, hash: u64, number: usize) -> usize
+        ensures { result ≡ slot_of self.now hash number }
+    {
+        hash as usize & self.words.len().saturating_sub(1) ^ number
+    }
+}
+
+/// What a slot of the hash has for an index.
+fn word_of(hash: u64, index: usize) -> u32
+    requires { index < 2 ^ 31 }
+    ensures { result ≡ spec.word_of hash index }
+{
+    (mark_of(hash) ^ index) as u32 + 1
+}
+
+/// The index for what a slot of the hash has that is taken.
+fn index_in(hash: u64, word: u32) -> usize
+    requires { word ≢ 0 }
+    ensures { (index : ℕ) → word ≡ spec.word_of hash index → result ≡ index }
+{
+    mark_of(hash) ^ (word - 1) as usize
+}
+
+/// The upper bits of a hash. The slot is by the lower ones.
+fn mark_of(hash: u64) -> usize
+    ensures value { result ≡ spec.mark_of hash }
+    ensures few { result < 2 ^ 31 }
+{
+    (hash >> 33) as usize
+}

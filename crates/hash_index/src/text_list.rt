@@ -1,0 +1,70 @@
+//! A list of texts, as a hash index is lent it.
+ghost use Rattle.std.specs.Prelude.{◌≡◌, ◌<◌, ℕ, List, [], length, map, get_or};
+ghost use Rattle.hash_index.specs.Lists.{stands_at};
+
+use crate::keyed::Keyed;
+
+/// A list of texts by their indices, from 0: items that have texts, or an arena of texts.
+pub trait TextList {
+    // The bytes of each text, in the list's order.
+    ghost texts: { Self → List (List ℕ) };
+
+    // The hash of a text.
+    ghost hash: { List ℕ → ℕ };
+
+    /// How many texts there are.
+    fn text_count(&self) -> usize
+        ensures { result ≡ length (texts self.now) };
+
+    fn text_at(&self, index: usize) -> &str
+        requires { index < length (texts self.now) }
+        ensures { result.now ≡ get_or (texts self.now) index [] };
+
+    /// The hash of the text at the index.
+    fn hash_at(&self, index: usize) -> u64
+        requires { index < length (texts self.now) }
+        ensures { result ≡ hash (get_or (texts self.now) index []) };
+}
+
+impl<T: Keyed> TextList for Vec<T> {
+    ghost texts = { λ list. map T.text list.items };
+
+    ghost hash = { T.hash };
+
+    fn text_count(&self) -> usize {
+        self.len()
+    }
+
+    fn text_at(&self, index: usize) -> &str {
+        self[index].text()
+    }
+
+    fn hash_at(&self, index: usize) -> u64 {
+        self[index].text_hash()
+    }
+}
+
+impl<T: Keyed> TextList for &[T] {
+    ghost texts = { λ list. map T.text list.now };
+
+    ghost hash = { T.hash };
+
+    fn text_count(&self) -> usize {
+        self.len()
+    }
+
+    fn text_at(&self, index: usize) -> &str {
+        self[index].text()
+    }
+
+    fn hash_at(&self, index: usize) -> u64 {
+        self[index].text_hash()
+    }
+}
+
+/// Whether the text stands at the index.
+pub(crate) fn stands_at<L: TextList>(list: &L, index: usize, text: &str) -> bool
+    ensures { result ≡ stands_at (L.texts list.now) index text.now }
+{
+    index < list.text_count() && list.text_at(index) == text
+}
