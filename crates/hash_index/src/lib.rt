@@ -5,6 +5,8 @@ mod index;
 mod keyed;
 mod overflow;
 mod slots;
+#[cfg(test)]
+mod tests;
 mod text_list;
 
 pub use index::HashIndex;
