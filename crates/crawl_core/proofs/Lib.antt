@@ -2,13 +2,13 @@ pub mod Counts
 pub mod Effects
 pub mod GateHistory
 pub mod Holders
-pub mod Knowing
 pub mod Leaving
 pub mod Places
 pub mod QueueHistory
 pub mod RunLaws
 pub mod RunParts
 pub mod RunSteps
+pub mod SenderCounts
 pub mod Sets
 pub mod Simulation
 pub mod Sound

@@ -4,7 +4,6 @@ pub mod GateSide
 pub mod History
 pub mod Invariants
 pub mod Kept
-pub mod Known
 pub mod Limits
 pub mod Messages
 pub mod Moves

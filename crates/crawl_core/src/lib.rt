@@ -10,7 +10,6 @@ mod machine;
 mod reply;
 mod runs;
 mod text;
-mod url_places;
 mod url_queue;
 mod url_queues;
 mod word;

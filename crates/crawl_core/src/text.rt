@@ -3,10 +3,10 @@ ghost use Rattle.std.specs.Prelude.{◌≡◌, Some, refl, IfOk};
 ghost use Rattle.std.specs.Str.{bytes_eq};
 ghost use Rattle.std.specs.Cmp.{partial_equiv_from_equiv};
 ghost use Rattle.std.specs.Cmp.Lexicographic.{nat_list_eq_equiv};
-ghost use Rattle.hash_order.specs.HashOrder as spec;
 ghost use Rattle.hash_order.specs.HashOrder.{by_hash, by_hash_total, by_hash_ties, by_hash_po};
 
 use crate::error::NoMemory;
+use hash_index::Keyed;
 use hash_order::hash_of;
 use std::alloc::Global;
 use std::cmp::Ordering;
@@ -49,18 +49,27 @@ impl Text {
         })
     }
 
-    /// The hash of the text, which is kept beside it.
-    pub(crate) fn hash(&self) -> u64
-        ensures { result ≡ spec.hash_of self.now }
-    {
-        self.hash
-    }
-
     /// The text itself.
     pub fn as_str(&self) -> &str
         ensures { result.now ≡ self.now }
     {
         self.text.as_str()
+    }
+}
+
+impl Keyed for Text {
+    ghost use Rattle.hash_order.specs.HashOrder.{hash_of};
+
+    ghost text = { λ text. text };
+
+    ghost hash = { hash_of };
+
+    fn text(&self) -> &str {
+        self.as_str()
+    }
+
+    fn text_hash(&self) -> u64 {
+        self.hash
     }
 }
 

@@ -5,7 +5,7 @@ ghost use Rattle.crawl_core.specs.Moves.{accepting};
 
 use crate::error::NoMemory;
 use crate::text::Text;
-use crate::url_places::UrlPlaces;
+use hash_index::HashIndex;
 use std::alloc::Global;
 use std::collections::{BTreeMap, VecDeque};
 use std::marker::Model;
@@ -18,7 +18,7 @@ pub struct UrlQueue {
     /// All that were ever accepted, oldest first.
     seen: Vec<Text>,
     /// Where each of these stands.
-    places: UrlPlaces,
+    index: HashIndex,
     /// How many of each sender were accepted.
     numbers: BTreeMap<u64, u64>,
     /// The one taken last is not done yet.
@@ -27,13 +27,15 @@ pub struct UrlQueue {
 
 impl Model for UrlQueue {
     ghost use Rattle.crawl_core.specs.Kept.{KeptQueue, AreFew};
-    ghost use Rattle.crawl_core.specs.Known.{KnowsEach};
+    ghost use Rattle.std.specs.Prelude.{map};
+    ghost use Rattle.hash_order.specs.HashOrder.{hash_of};
+    ghost use Rattle.hash_index.specs.Index.{IsIndexOf};
 
     ghost Value = { KeptQueue };
 
     ghost view = { λ q. record { waiting = q.waiting.items; seen = q.seen.items; numbers = q.numbers.entries; busy = q.busy } };
 
-    ghost invariant = { λ q. AreFew (record { waiting = q.waiting.items; seen = q.seen.items; numbers = q.numbers.entries; busy = q.busy }) × KnowsEach q.places q.seen.items };
+    ghost invariant = { λ q. AreFew (record { waiting = q.waiting.items; seen = q.seen.items; numbers = q.numbers.entries; busy = q.busy }) × IsIndexOf hash_of (map (λ text. text) q.seen.items) q.index };
 }
 
 impl UrlQueue {
@@ -44,7 +46,7 @@ impl UrlQueue {
         UrlQueue {
             waiting: VecDeque::new(alloc),
             seen: Vec::new(alloc),
-            places: UrlPlaces::new(alloc),
+            index: HashIndex::new(alloc),
             numbers: BTreeMap::new(alloc),
             busy: false,
         }
@@ -60,7 +62,7 @@ impl UrlQueue {
     pub fn has_seen(&self, url: &Text) -> bool
         ensures { result ≡ has_seen self.now url.now }
     {
-        self.places.has(&self.seen, url)
+        self.index.find(&self.seen, url).is_some()
     }
 
     /// Puts a URL that was never accepted here to the end, and answers how many of the sender came before it.
@@ -74,8 +76,7 @@ impl UrlQueue {
         let known = url.clone()?;
         self.waiting.reserve(1)?;
         self.seen.reserve(1)?;
-        let alloc = *self.seen.allocator();
-        self.places.note(alloc, &self.seen, url)?;
+        let _ = self.index.find_or_insert(&self.seen, url)?;
         let number = self.numbers.get(&sender).copied().unwrap_or(0);
         self.numbers.insert(sender, number + 1)?;
         self.seen.push_reserved(known);

@@ -1,23 +1,30 @@
-use Rattle.std.proofs.Common.{rules, ◌≡◌, ℕ, ◌+◌, ◌≤◌, [], ◌∷◌, ◌++◌, length, sym, subst}
-use Rattle.std.proofs.lemmas.List.{length_push}
+use Rattle.std.proofs.Common.{rules, ◌≡◌, ℕ, ◌+◌, ◌≤◌, false, List, [], ◌∷◌, ◌++◌, length, map, is_some, sym, subst, ◌∙◌}
+use Rattle.std.proofs.lemmas.List.{length_push, map-id}
+use Rattle.hash_order.specs.HashOrder.{hash_of}
+use Rattle.hash_index.specs.Lists.{index_of}
+use Rattle.hash_index.specs.Index.{IsIndexOf}
+use Rattle.hash_index.proofs.Listed.{has_index, none_there}
+use Rattle.hash_index.proofs.Keeping.{pushed_item}
 use Rattle.crawl_core.specs.Kept.{number_at}
-use Rattle.crawl_core.specs.Known.{IsKnown, KnowsEach}
-use Rattle.crawl_core.proofs.Knowing.{knows_next, few_after}
+use Rattle.crawl_core.proofs.SenderCounts.{few_after}
 use Rattle.crawl_core.proofs.url_queue.UrlQueue.accept.Goals as goal
 
 pub invariant_of-self-2 : goal.invariant_of-self-2
 invariant_of-self-2 c =
     let before = c.self.inside.seen.items in
+    let seen = c.reserve-2.new.self.items in
     let url = c.args.url.now in
-    let places = c.note.new.self in
     let number = c.unwrap_or-number.result in
+    let same : seen ≡ before = search rules in
     let items : c.push_reserved.new.self.items ≡ before ++ url ∷ [] = search rules in
-    let lent : c.deref.result.now ≡ before = search rules in
-    let known : KnowsEach places before = subst (KnowsEach places) lent c.note.ensures.known in
-    let noted : IsKnown places url (length before) = search rules in
     let is : number ≡ number_at c.self.inside.numbers.entries c.args.sender = search rules in
     let few : (s : ℕ) → number_at c.insert.new.self.entries s ≤ length before + 1 =
     few_after c.self.inside.numbers c.insert.new.self c.args.sender number (length before) c.in_ok-insert.ensures.updates is c.self.invariant.0 in
-    let longer : length (before ++ url ∷ []) ≡ length before + 1 = length_push before url in
-    subst (λ texts. ((s : ℕ) → number_at c.insert.new.self.entries s ≤ length texts) × KnowsEach places texts) (sym items)
-    (subst (λ n. (s : ℕ) → number_at c.insert.new.self.entries s ≤ n) (sym longer) few, knows_next places places before url known noted (λ other k differs is. is))
+    let absent : is_some (index_of before url) ≡ false = has_index before url ∙ search rules in
+    let found : c.in_ok-find_or_insert.field-0 ≡ index_of before url =
+    subst (λ texts. c.in_ok-find_or_insert.field-0 ≡ index_of texts url) (map-id seen ∙ same) c.in_ok-find_or_insert.ensures.found in
+    let known : IsIndexOf hash_of (map (λ (text : List ℕ). text) before ++ url ∷ []) c.find_or_insert.new.self =
+    subst (λ xs. IsIndexOf hash_of (map (λ (text : List ℕ). text) xs ++ url ∷ []) c.find_or_insert.new.self) same (c.in_ok-find_or_insert.ensures.pushed (found ∙ none_there _ absent)) in (
+      subst (λ xs. (s : ℕ) → number_at c.insert.new.self.entries s ≤ length xs) (sym items) (subst (λ n. (s : ℕ) → number_at c.insert.new.self.entries s ≤ n) (sym (length_push before url)) few),
+      pushed_item (λ text. text) hash_of c.find_or_insert.new.self before c.push_reserved.new.self.items url items known,
+    )

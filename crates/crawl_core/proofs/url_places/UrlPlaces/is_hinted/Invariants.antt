@@ -1,9 +1,0 @@
-use Rattle.std.proofs.Common.{◌≡◌, ◌<◌, ℕ, false}
-use Rattle.hash_order.specs.HashOrder.{hash_of}
-use Rattle.hash_order.specs.Hints.{hint_at}
-use Rattle.crawl_core.specs.Known.{leads_to}
-use Rattle.crawl_core.proofs.url_places.UrlPlaces.is_hinted.Given as goal
-
--- no hint so far leads there
-abbrev pub invariant-loop-number : goal.invariant-loop-number
-invariant-loop-number l = (i : ℕ) → i < l.number → leads_to l.list (hint_at l.self.hints (hash_of l.url) i) l.url ≡ false
