@@ -1,6 +1,7 @@
 pub mod ErrorText
 pub mod Flags
 pub mod GateSide
+pub mod Growth
 pub mod History
 pub mod Invariants
 pub mod Kept

@@ -1,5 +1,7 @@
 //! The machine: what it keeps, how it begins, and one step of it.
-ghost use Rattle.std.specs.Prelude.{◌≡◌, ◌<◌, ◌≤◌, ◌⊎◌, ◌↔◌, Err, IfOk, OnOk, OnErr};
+ghost use Rattle.std.specs.Prelude.{◌≡◌, ◌<◌, ◌≤◌, ◌⊎◌, ◌↔◌, false, Err, IfOk, OnOk, OnErr};
+ghost use Rattle.std.specs.Result.{IsOk};
+ghost use Rattle.crawl_core.specs.Growth.{needs_memory};
 ghost use Rattle.crawl_core.specs.Limits.{AreLimits, worker_limit, pending_limit};
 ghost use Rattle.crawl_core.specs.State.{start};
 ghost use Rattle.crawl_core.specs.Shows.{Shows, Makes};
@@ -76,9 +78,10 @@ impl Core {
     /// One step: the reply to the event.
     ///
     /// # Errors
-    /// Want of memory, where a growth was refused; the machine is then as it was.
+    /// Out of memory, where a growth was refused; the machine is then as it was. Only `Look`, `Enter` and `Admit` need memory.
     pub fn step(&mut self, event: &Event) -> Result<Reply, NoMemory>
         ensures step { IfOk result (λ reply. Makes self.old event.now reply self.new) }
+        ensures succeeds { needs_memory event.now ≡ false → IsOk result }
         ensures err { OnErr result (self.new ≡ self.old) }
     {
         self.advance(event)
@@ -86,6 +89,7 @@ impl Core {
 
     fn advance(&mut self, event: &Event) -> Result<Reply, NoMemory>
         ensures moves { IfOk result (λ reply. Moves self.old event.now reply self.new) }
+        ensures succeeds { needs_memory event.now ≡ false → IsOk result }
         ensures err { OnErr result (self.new ≡ self.old) }
     {
         match event {

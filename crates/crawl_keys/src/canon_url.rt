@@ -11,6 +11,7 @@ ghost use Rattle.crawl_keys.specs.Spelled.{IsSpelled};
 
 use crate::plain::HostPlace;
 use crate::{KeyError, assign};
+use hash_index::Keyed;
 use hash_order::HashedText;
 use std::alloc::{AllocError, Global};
 use std::marker::Model;
@@ -169,6 +170,22 @@ impl CanonUrl {
     {
         let copy = self.clone()?;
         Ok(copy)
+    }
+}
+
+impl Keyed for CanonUrl {
+    ghost use Rattle.hash_order.specs.HashOrder.{hash_of};
+
+    ghost text = { λ url. url };
+
+    ghost hash = { hash_of };
+
+    fn text(&self) -> &str {
+        self.as_str()
+    }
+
+    fn text_hash(&self) -> u64 {
+        CanonUrl::text_hash(self)
     }
 }
 
