@@ -1,2 +1,1 @@
 pub mod HashOrder
-pub mod Hints

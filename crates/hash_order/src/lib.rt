@@ -2,9 +2,5 @@
 #![tactic(auto)]
 
 mod hashed_text;
-mod hints;
-#[cfg(test)]
-mod tests;
 
 pub use hashed_text::{HashedText, hash_of};
-pub use hints::{HINTS, Hints};
