@@ -12,7 +12,6 @@ mod lanes;
 mod parsed;
 mod plain;
 mod read;
-mod url_key;
 
 pub use assignment::{SUBQUEUES_LIMIT, assign, can_assign, hash};
 pub use base::Base;
@@ -22,4 +21,3 @@ pub use filter::{Filter, FilterError};
 pub use folder::is_of_folder;
 pub use fragment::before_fragment;
 pub use read::{canonical, resolve};
-pub use url_key::UrlKey;

@@ -38,17 +38,10 @@ fn is_host(alloc: Global, row: &Host) -> bool {
     }
 }
 
-// Whether a copy is equal, and a key of maps with its copy.
+// Whether a copy is equal, also as a key of maps.
 fn is_copied(url: &CanonUrl) -> bool {
     match url.copy() {
-        Ok(copy) => copy == *url && is_key(UrlKey::from(copy), url),
-        Err(_) => false,
-    }
-}
-
-fn is_key(key: UrlKey, url: &CanonUrl) -> bool {
-    match key.copy() {
-        Ok(copy) => copy == key && copy.url() == url,
+        Ok(copy) => copy == *url && copy.hashed() == url.hashed(),
         Err(_) => false,
     }
 }
