@@ -3,16 +3,18 @@
 
     scrapy_site.py [--program PROGRAM] [--keep]
 
-A server of this script counts what it is asked for, on seven addresses of the loopback. The sites are
-the shipped one and a generated one, with links in several spellings, redirects, pages that fail for
-a while or for good, and pages that a middleware answers or drops. Each is crawled with Scrapy's own
-scheduler and with this one. Every URL is to be asked for once, but for retries, and never two at a
-time of one host; the URLs are to be those of an own search and of Scrapy's scheduler; and the spider
-is to end by itself.
+A server of this script counts what it is asked for, on seven addresses of the loopback. The sites
+are the shipped one and generated ones. Those have links in several spellings, redirects, pages that
+fail for a while or for good, and pages that a middleware answers or drops. Each is crawled with
+Scrapy's own scheduler and with this one, which have to ask for the same URLs. With this one,
 
-PROGRAM is the environment's MERCATOR, or `mercator` in PATH, where it is not given. It wants Scrapy;
-Debian's package `python3-scrapy` is for /usr/bin/python3. `--keep` leaves the logs of the crawls.
-The last line is `N passed, M failed`.
+- each URL is asked for once, but for retries, as an own search finds it;
+- never are two requests of one host out at a time;
+- the spider ends by itself, and the frontier has closed.
+
+PROGRAM is the environment's MERCATOR, or `mercator` in PATH, where it is not given. The script
+wants Scrapy; Debian's package `python3-scrapy` is for /usr/bin/python3. `--keep` leaves the logs of
+the crawls. The last line is `N passed, M failed`.
 """
 
 from __future__ import annotations
@@ -57,7 +59,8 @@ WORK = 0.003  # seconds that the server takes for an answer, in which a second r
 LONGEST = 240  # seconds for a crawl
 TOLD = 600  # characters that a failure tells
 
-Asked = Tuple[str, str]  # what a server is asked for: its host and the path
+Asked = Tuple[str, str]  # what a server is asked for: its address and the path
+Told = Dict[str, Any]  # what a crawl is to do, or what came of it
 
 
 def name_of(number: int) -> str:
@@ -116,10 +119,16 @@ def spelled(rand: Random, port: int, asked: Asked) -> str:
     return f"{scheme}://{host}:{zeros}{port}{path}{fragment}"
 
 
+def page_of(links: Iterable[str]) -> str:
+    return "".join(f'<p><a href="{html.escape(link)}">x</a>' for link in links)
+
+
 def drawn_site(rand: Random, port: int, pages: int) -> Site:
     """A generated site over all hosts."""
     kinds = ["200"] * 14 + ["302", "301", "flaky", "500", "404", "dropped", "made", "raises"]
-    paths = [(address_of(rand.randrange(HOSTS)), f"/{rand.choice('pqr')}/{number}") for number in range(pages)]
+    paths = []
+    for number in range(pages):
+        paths.append((address_of(rand.randrange(HOSTS)), f"/{rand.choice('pqr')}/{number}"))
     site = Site(paths[0])
     for number, asked in enumerate(paths):
         kind = "200" if number == 0 else rand.choice(kinds)
@@ -129,8 +138,9 @@ def drawn_site(rand: Random, port: int, pages: int) -> Site:
             links = [rand.choice(paths)]
             body = spelled(rand, port, links[0])
         elif kind in ("200", "flaky", "made", "raises"):
-            links = [rand.choice(paths) for _ in range(rand.randrange(9))] + paths[number + 1:number + 2]
-            body = "".join(f'<p><a href="{html.escape(spelled(rand, port, link))}">x</a>' for link in links)
+            links = [rand.choice(paths) for _ in range(rand.randrange(9))]
+            links += paths[number + 1:number + 2]
+            body = page_of(spelled(rand, port, link) for link in links)
         if kind == "raises":
             links = []  # its callback gives up before the links
         # A scheduler of Scrapy's drops a redirect to what was seen before, as this one does.
@@ -215,7 +225,7 @@ class Handler(BaseHTTPRequestHandler):
 
     def serve(self, method: str) -> None:
         count: Count = self.server.count  # type: ignore[attr-defined]
-        asked = (self.server.server_address[0], without_dots(self.path))
+        asked = (str(self.server.server_address[0]), without_dots(self.path))  # type: ignore[index]
         tries = count.begins(method, asked)
         time.sleep(WORK)
         page = count.site.answer(asked)
@@ -256,7 +266,7 @@ def free_port() -> int:
     for _ in range(100):
         with socket.socket() as first:
             first.bind((address_of(0), 0))
-            port = first.getsockname()[1]
+            port = int(first.getsockname()[1])
         try:
             for number in range(HOSTS):
                 with socket.socket() as other:
@@ -283,7 +293,7 @@ class Servers:
         return count
 
 
-# ---------------------------------------------------------------- the crawl, in a process of its own
+# ---------------------------------------------------------------- a crawl, a process of its own
 
 
 class Resolver(CachingThreadedResolver):
@@ -325,22 +335,21 @@ class Spider(scrapy.Spider):
         self.failed: List[str] = []
 
     def start_requests(self) -> Iterable[scrapy.Request]:
-        for number, seed in enumerate(self.asked["seeds"]):
-            yield scrapy.Request(seed, self.parse, errback=self.fail, meta={"number": number}, dont_filter=True)
+        for seed in self.asked["seeds"]:
+            yield scrapy.Request(seed, self.parse, errback=self.fail, dont_filter=True)
         for kind, url, extra in self.asked.get("extra", ()):
             if kind == "post":
                 yield scrapy.Request(url, self.parse, method="POST", body=extra, errback=self.fail)
             elif kind == "again":
                 yield scrapy.Request(url, self.parse, dont_filter=True, errback=self.fail)
-            elif kind == "first":
-                yield scrapy.Request(url, self.parse, priority=int(extra), errback=self.fail)
             else:
                 yield scrapy.Request(url, self.parse, errback=self.fail)
 
     def parse(self, response: Any, **rest: Any) -> Iterable[scrapy.Request]:
         self.parsed.append(response.url)
         if len(self.parsed) == self.asked.get("kill_after"):
-            os.kill(self.crawler.engine.slot.scheduler._frontier._process.pid, signal.SIGKILL)
+            children = Path(f"/proc/self/task/{os.getpid()}/children").read_text(encoding="ascii")
+            os.kill(int(children.split()[0]), signal.SIGKILL)
         if without_dots(urlsplit(response.url).path) in self.raising:
             raise RuntimeError("a callback gives up")
         if not isinstance(response, HtmlResponse):
@@ -354,7 +363,8 @@ class Spider(scrapy.Spider):
                 url = urljoin(base, link)
             except ValueError:
                 continue
-            yield scrapy.Request(url, self.parse, errback=self.fail)
+            priority = int(url.rsplit("/", 1)[1]) if self.asked.get("by_number") else 0
+            yield scrapy.Request(url, self.parse, errback=self.fail, priority=priority)
 
     def fail(self, failure: Any) -> None:
         self.failed.append(failure.request.url)
@@ -384,7 +394,8 @@ def crawl(asked: Dict[str, Any]) -> None:
     process.crawl(crawler, asked=asked)
     process.start()
     told["parsed"], told["failed"] = crawler.spider.parsed, crawler.spider.failed
-    told["stats"] = {name: value for name, value in crawler.stats.get_stats().items() if isinstance(value, (int, str))}
+    stats = crawler.stats.get_stats()
+    told["stats"] = {name: stats[name] for name in stats if isinstance(stats[name], (int, str))}
     Path(asked["told"]).write_text(json.dumps(told), encoding="utf-8")
 
 
@@ -410,14 +421,14 @@ class Tests:
         host = asked[0] if number == HOSTS - 1 else name_of(number)
         return f"http://{host}:{self.servers.port}{asked[1]}"
 
-    def crawl(self, site: Site, scheduler: str, asked: Dict[str, Any]) -> Tuple[Count, Dict[str, Any]]:
+    def crawl(self, site: Site, scheduler: str, asked: Told) -> Tuple[Count, Told]:
         """Crawls a site in a process of its own, and checks that it ends by itself."""
         self.crawls += 1
         count = self.servers.counts(site)
-        settings = {"SCHEDULER": scheduler, **asked.get("settings", {})}
-        if scheduler == MERCATOR:
-            settings["MERCATOR_PROGRAM"] = self.program
-        files = {name: str(self.kept / f"{self.crawls}.{name}") for name in ("log", "told", "asked")}
+        settings = {"SCHEDULER": scheduler, "MERCATOR_PROGRAM": self.program}
+        settings.update(asked.get("settings", {}))
+        name = str(self.kept / str(self.crawls))
+        files = {kind: f"{name}.{kind}" for kind in ("log", "told", "asked")}
         asked = {"seeds": [self.url(site.seed)], **asked, **files, "settings": settings}
         Path(files["asked"]).write_text(json.dumps(asked), encoding="utf-8")
         try:
@@ -433,23 +444,29 @@ class Tests:
             return count, {"stats": {}, "parsed": [], "failed": [], "dropped": 0}
         return count, json.loads(Path(files["told"]).read_text(encoding="utf-8"))
 
-    def check_mercator(self, what: str, count: Count, told: Dict[str, Any], wanted: Optional[Dict[Asked, int]]) -> None:
+    def check_mercator(
+        self, what: str, count: Count, told: Told, wanted: Optional[Dict[Asked, int]]
+    ) -> None:
         """Checks what holds for every crawl with this scheduler that comes to its end."""
         stats = told["stats"]
         if wanted is not None:
-            differ = {asked: (count.asked[asked], wanted.get(asked, 0)) for asked in {*wanted, *count.asked}}
-            differ = {asked: both for asked, both in differ.items() if both[0] != both[1]}
+            differ = {
+                asked: (count.asked[asked], wanted.get(asked, 0))
+                for asked in {*wanted, *count.asked}
+                if count.asked[asked] != wanted.get(asked, 0)
+            }
             self.check(f"{what}: each URL once, but for retries", not differ, differ)
         self.check(f"{what}: one request of a host at a time", count.most == 1, count.most)
-        self.check(f"{what}: finished", stats.get("finish_reason") == "finished", stats.get("finish_reason"))
+        self.check(f"{what}: finished", stats.get("finish_reason") == "finished", stats)
         self.check(f"{what}: the frontier closed", stats.get("mercator/closed") is True, stats)
-        self.check(f"{what}: nothing is left", stats.get("mercator/pending") == 0, stats.get("mercator/pending"))
+        self.check(f"{what}: nothing is left", stats.get("mercator/pending") == 0, stats)
         inwards, outwards = stats.get("scheduler/enqueued"), stats.get("scheduler/dequeued")
-        self.check(f"{what}: all that was stored went out", inwards == outwards, (inwards, outwards))
+        self.check(f"{what}: all that came in went out", inwards == outwards, (inwards, outwards))
         parts = sum(stats.get(f"scheduler/enqueued/{place}", 0) for place in ("mercator", "memory"))
         self.check(f"{what}: the parts of enqueued", parts == inwards, (parts, inwards))
         dropped = stats.get("dupefilter/filtered", 0) + stats.get("mercator/filtered", 0)
-        self.check(f"{what}: what is dropped is counted", dropped == told["dropped"], (dropped, told["dropped"]))
+        counts = (dropped, told["dropped"])
+        self.check(f"{what}: what is dropped is counted", counts[0] == counts[1], counts)
 
     # ---- each test
 
@@ -463,8 +480,9 @@ class Tests:
         self.check("shipped site: each URL once", not twice, twice)
         differ = {*own.asked} ^ {*count.asked}
         self.check("shipped site: the URLs of Scrapy's scheduler", not differ, differ)
-        self.check("shipped site: a host without a server fails", "http://cogs.test/wheels" in told["failed"], told["failed"])
-        self.check("shipped site: seen URLs", told["stats"].get("dupefilter/filtered", 0) > 5, told["stats"])
+        failed, seen = told["failed"], told["stats"].get("dupefilter/filtered", 0)
+        self.check("shipped site: no such host", "http://cogs.test/wheels" in failed, failed)
+        self.check("shipped site: seen URLs", seen > 5, seen)
 
     def drawn_sites(self) -> None:
         for number, (pages, workers) in enumerate(((40, 1), (150, 4), (250, 64))):
@@ -479,26 +497,27 @@ class Tests:
             differ = {*own.asked} ^ {*count.asked}
             self.check(f"{what}: the URLs of Scrapy's scheduler", not differ, differ)
             if pages > 100:
-                # The counts of the server would show it if two requests met.
-                self.check(f"{what}: Scrapy's asks a host for several at a time", own.most > 1, own.most)
-                self.check(f"{what}: Scrapy's asks twice by spelling", sum(own.asked.values()) > sum(wanted.values()), "")
+                # So the server sees it where two requests of a host meet, and the spellings tell.
+                self.check(f"{what}: Scrapy's meet at a host", own.most > 1, own.most)
+                totals = (sum(own.asked.values()), sum(wanted.values()))
+                self.check(f"{what}: Scrapy's come by each spelling", totals[0] > totals[1], totals)
 
     @staticmethod
     def answers(site: Site) -> Dict[str, Any]:
         """What the middleware and the spider have to know of a drawn site."""
-        return {
-            "answers": {path: page.kind if page.kind == "dropped" else page.body
-                        for (_, path), page in site.pages.items() if page.kind in ("dropped", "made")},
-            "raising": [path for (_, path), page in site.pages.items() if page.kind == "raises"],
-        }
+        answers = {}
+        for (_, path), page in site.pages.items():
+            if page.kind in ("dropped", "made"):
+                answers[path] = page.body if page.kind == "made" else page.kind
+        raising = [path for (_, path), page in site.pages.items() if page.kind == "raises"]
+        return {"answers": answers, "raising": raising}
 
     def odd_requests(self) -> None:
         """Requests that are not the frontier's, beside some that are."""
         host, other = address_of(0), address_of(1)
         site = Site((host, "/"))
         links = tuple((host, f"/p/{number}") for number in range(20))
-        body = "".join(f'<a href="{path}">x</a>' for _, path in links)
-        site.pages[site.seed] = Page("200", body, links)
+        site.pages[site.seed] = Page("200", page_of(path for _, path in links), links)
         for asked in links + ((other, "/form"), (host, "/form"), (host, "/" + "x" * 5000)):
             site.pages[asked] = Page("200")
         site.pages[(other, "/failing")] = Page("500")
@@ -516,7 +535,8 @@ class Tests:
         self.check_mercator("odd requests", count, told, wanted)
         posted = {(host, "/form"): 2, (other, "/form"): 1, (other, "/failing"): RETRIES + 1}
         self.check("odd requests: posts", dict(count.posted) == posted, count.posted)
-        self.check("odd requests: data", told["parsed"].count("data:text/html,text") == 1, told["parsed"])
+        data = told["parsed"].count("data:text/html,text")
+        self.check("odd requests: data", data == 1, data)
         missing = set(failing_urls) - set(told["failed"])
         self.check("odd requests: errbacks", not missing, missing)
 
@@ -535,37 +555,47 @@ class Tests:
     def within(self) -> None:
         site = Site((address_of(0), "/"))
         links = tuple((address_of(number), f"/p/{number}") for number in range(HOSTS - 1))
-        site.pages[site.seed] = Page("200", "".join(f'<a href="{self.url(link)}">x</a>' for link in links), links)
+        site.pages[site.seed] = Page("200", page_of(map(self.url, links)), links)
         for link in links:
             site.pages[link] = Page("200")
         count, told = self.crawl(site, MERCATOR, {"settings": {"MERCATOR_WITHIN": "h0.test"}})
         self.check_mercator("within", count, told, {site.seed: 1, links[0]: 1})
-        self.check("within: kept out", told["stats"].get("mercator/filtered") == HOSTS - 2, told["stats"])
+        filtered = told["stats"].get("mercator/filtered")
+        self.check("within: kept out", filtered == HOSTS - 2, filtered)
 
     def priorities(self) -> None:
-        """Hosts are asked by the priority of what waits for them."""
+        """Of requests that wait for several hosts the one with the highest priority goes first."""
         site = Site((address_of(0), "/"))
-        order = [4, 2, 5, 1, 3]
-        extra = [["first", self.url((address_of(number), f"/{number}")), str(number)] for number in order]
-        for number in order:
-            site.pages[(address_of(number), f"/{number}")] = Page("200")
-        site.pages[site.seed] = Page("200")
+        links = tuple((address_of(number), f"/{number}") for number in (4, 2, 5, 1, 3))
+        site.pages[site.seed] = Page("200", page_of(map(self.url, links)), links)
+        for link in links:
+            site.pages[link] = Page("200")
         settings = {"CONCURRENT_REQUESTS": 1, "MERCATOR_WORKERS": 512}
-        count, told = self.crawl(site, MERCATOR, {"extra": extra, "settings": settings})
+        count, told = self.crawl(site, MERCATOR, {"by_number": True, "settings": settings})
         self.check_mercator("priorities", count, told, {asked: 1 for asked in site.pages})
-        # One start request goes out before the next is asked for, so all but the first are in order.
-        self.check("priorities: each went out", len(count.order) == len(order) + 1, count.order)
+        order = [site.seed, *sorted(links, reverse=True)]
+        self.check("priorities: the highest first", count.order == order, count.order)
 
     def lost_frontier(self) -> None:
         """The program is killed: the spider is closed and says so."""
         site = drawn_site(Random(1), self.servers.port, 150)
         count, told = self.crawl(site, MERCATOR, {"kill_after": 10, **self.answers(site)})
-        self.check("lost frontier: told", told["stats"].get("finish_reason") == "mercator_ended", told["stats"])
-        self.check("lost frontier: not closed", "mercator/closed" not in told["stats"], told["stats"])
+        stats = told["stats"]
+        self.check("lost frontier: told", stats.get("finish_reason") == "mercator_ended", stats)
+        self.check("lost frontier: not closed", "mercator/closed" not in stats, stats)
+
+
+    def missing_program(self) -> None:
+        site = Site((address_of(0), "/"))
+        settings = {"MERCATOR_PROGRAM": "/no/such/program"}
+        count, _ = self.crawl(site, MERCATOR, {"settings": settings})
+        self.check("missing program: nothing is asked for", not count.asked, count.asked)
 
 
 def main() -> int:
-    parser = argparse.ArgumentParser(description=__doc__, formatter_class=argparse.RawDescriptionHelpFormatter)
+    parser = argparse.ArgumentParser(
+        description=__doc__, formatter_class=argparse.RawDescriptionHelpFormatter
+    )
     parser.add_argument("--program", help="the program mercator")
     parser.add_argument("--keep", action="store_true", help="keep the logs of the crawls")
     parser.add_argument("--crawl", help=argparse.SUPPRESS)
@@ -579,7 +609,7 @@ def main() -> int:
     kept = Path(tempfile.mkdtemp(prefix="scrapy_site."))
     tests = Tests(str(Path(program).resolve()), kept)
     for test in (tests.shipped_site, tests.drawn_sites, tests.odd_requests, tests.small_frontier,
-                 tests.within, tests.priorities, tests.lost_frontier):
+                 tests.within, tests.priorities, tests.lost_frontier, tests.missing_program):
         test()
     if asked.keep or tests.failed:
         print(f"the logs of the crawls are in {kept}")

@@ -20,15 +20,15 @@ What goes where:
 
 - A GET of an http or https URL without a body goes to the frontier. One that it has seen is dropped
   and counted under `dupefilter/filtered`.
-- A `dont_filter` request is offered too, so that a later link to its URL is known. Where the URL was
-  seen the request goes out all the same, from a plain queue of this scheduler.
+- A `dont_filter` request is offered too, so that a later link to its URL is known. Where the URL
+  was seen the request goes out all the same, from a plain queue of this scheduler.
 - A retry of a URL that is out goes out again without a new offer, before its queue goes on.
 - All other requests, and URLs that the frontier cannot read, go to the plain queue. Scrapy's own
   `DUPEFILTER_CLASS` filters them, and their host is asked for one thing at a time too.
 
 The request with the highest priority goes first among the queues. Within one queue the frontier's
-order holds, which is that of the offers. What does not pass a scheduler is not held back: robots.txt,
-media pipelines and `engine.download`. `JOBDIR` keeps no requests.
+order holds, which is that of the offers. What does not pass a scheduler is not held back, as
+robots.txt, media pipelines and `engine.download`. `JOBDIR` keeps no requests.
 
 It needs Python 3.9 and Scrapy 2.6.
 """
@@ -36,7 +36,6 @@ It needs Python 3.9 and Scrapy 2.6.
 from __future__ import annotations
 
 import logging
-import os
 from collections import deque
 from heapq import heappop, heappush
 from typing import Any, Deque, Dict, List, Optional, Set, Tuple
@@ -49,7 +48,7 @@ from scrapy.utils.httpobj import urlparse_cached
 from scrapy.utils.misc import load_object
 from twisted.internet.defer import Deferred
 
-from mercator_frontier import CLOSED, Accepted, Frontier, FrontierError, Refusal
+from mercator_frontier import Accepted, Closed, Frontier, FrontierError, Refusal
 
 __all__ = ["MercatorScheduler"]
 
@@ -109,7 +108,7 @@ class MercatorScheduler(BaseScheduler):
         self._queues: List[_Queue] = []
         # Those that the frontier had no room for.
         self._overflow: Deque[Request] = deque()
-        # A heap of what may go out: each plain request, and for each queue that waits its first one.
+        # A heap of what may go out: each plain request, and the first one of each queue that waits.
         self._ready: List[_Entry] = []
         # By host that is asked for something, the entries that met that; a heap for each.
         self._blocked: Dict[str, List[_Entry]] = {}
@@ -128,7 +127,7 @@ class MercatorScheduler(BaseScheduler):
         return cls(
             crawler,
             _dupefilter_of(crawler),
-            program=settings.get("MERCATOR_PROGRAM") or os.environ.get("MERCATOR"),
+            program=settings.get("MERCATOR_PROGRAM"),
             workers=settings.getint("MERCATOR_WORKERS", DEFAULT_WORKERS),
             max_pending=None if max_pending is None else int(max_pending),
             within=settings.get("MERCATOR_WITHIN"),
@@ -136,7 +135,7 @@ class MercatorScheduler(BaseScheduler):
 
     # ---- what the engine asks
 
-    def open(self, spider: Spider) -> Optional[Deferred]:
+    def open(self, spider: Spider) -> Optional[Deferred[Any]]:
         """Starts the frontier."""
         self.spider = spider
         if self.crawler.settings.get("JOBDIR"):
@@ -148,24 +147,28 @@ class MercatorScheduler(BaseScheduler):
             within=self._within,
             program=self._program,
         )
-        return self.df.open()
+        opened: Optional[Deferred[Any]] = self.df.open()
+        return opened
 
-    def close(self, reason: str) -> Optional[Deferred]:
+    def close(self, reason: str) -> Optional[Deferred[Any]]:
         """Ends the frontier.
 
-        `mercator/pending` in the statistics counts the URLs that are not done, and `mercator/closed`
+        `mercator/pending` in the statistics counts the URLs that are not done. `mercator/closed`
         tells whether the frontier closed, which it does only where none is left.
         """
         if self._frontier is not None:
             try:
                 self._finish_fetches(self._frontier)
-                self.stats.set_value("mercator/pending", self._frontier.end_seeds())
-                self.stats.set_value("mercator/closed", self._frontier.next(0) is CLOSED)
+                pending = self._frontier.end_seeds()
+                is_closed = pending == 0 and self._frontier.try_take(0) is Closed.CLOSED
+                self.stats.set_value("mercator/pending", pending)
+                self.stats.set_value("mercator/closed", is_closed)
             except FrontierError as error:
                 logger.error("The frontier ended before the spider: %s", error)
             self._frontier.close()
             self._frontier = None
-        return self.df.close(reason)
+        closed: Optional[Deferred[Any]] = self.df.close(reason)
+        return closed
 
     def has_pending_requests(self) -> bool:
         """Whether requests wait here or in the frontier."""
@@ -301,8 +304,7 @@ class MercatorScheduler(BaseScheduler):
         if state.retries:
             state.retries.popleft()
         else:
-            taken = frontier.next(queue)
-            if not isinstance(taken, str):
+            if not isinstance(frontier.try_take(queue), str):
                 raise FrontierError(f"queue {queue} has no URL for {request}")
             state.waiting.popleft()
         state.out = request
@@ -350,8 +352,8 @@ class MercatorScheduler(BaseScheduler):
     def _free(self, host: str) -> None:
         """A host is asked for nothing now.
 
-        One of the entries that it blocked is ready again. The next follows when that one is over, so
-        that a host with many requests does not move all of them each time.
+        One of the entries that it blocked is ready again. The next follows when that one is over,
+        so that a host with many requests does not move all of them each time.
         """
         self._busy.discard(host)
         blocked = self._blocked.get(host)
@@ -371,7 +373,7 @@ class MercatorScheduler(BaseScheduler):
                 return
 
     def _give_up(self, frontier: Frontier, error: FrontierError) -> None:
-        """Closes the spider where the frontier is lost, since no request can be told from another."""
+        """Closes the spider, since without the frontier no URL can be told from another."""
         logger.critical("The frontier ended: %s", error)
         self._frontier = None
         frontier.close()
@@ -379,7 +381,8 @@ class MercatorScheduler(BaseScheduler):
 
 
 def _is_web(request: Request) -> bool:
-    return request.url[:8].lower().startswith(("http://", "https://"))
+    scheme, _, _ = str(request.url).partition(":")
+    return scheme.lower() in ("http", "https")
 
 
 def _host_of(request: Request) -> str:
