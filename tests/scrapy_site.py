@@ -514,7 +514,7 @@ class Tests:
 
     def odd_requests(self) -> None:
         """Requests that are not the frontier's, beside some that are."""
-        host, other = address_of(0), address_of(1)
+        host, other, numeric = address_of(0), address_of(1), address_of(HOSTS - 1)
         site = Site((host, "/"))
         links = tuple((host, f"/p/{number}") for number in range(20))
         site.pages[site.seed] = Page("200", page_of(path for _, path in links), links)
@@ -524,6 +524,12 @@ class Tests:
         form, failing = self.url((host, "/form")), self.url((other, "/failing"))
         extra = [["post", form, body] for body in ("a", "b", "a")]  # one of them is a duplicate
         extra += [["post", self.url((other, "/form")), "a"], ["post", failing, ""]]
+        for number, alias in enumerate((numeric, "127.0.263", "0x7f000107", "2130706695")):
+            asked = (numeric, f"/n/{number}")
+            links += (asked,)
+            site.pages[asked] = Page("200")
+            extra += [["get", self.url(asked), ""]]
+            extra += [["post", f"http://{alias}:{self.servers.port}/form/{number}", "a"]]
         extra += [["again", self.url((host, "/p/3")), ""]] * 3
         extra += [["get", self.url((host, "/" + "x" * 5000)), ""]] * 2
         extra += [["get", "data:text/html,text", ""]] * 2
@@ -534,6 +540,7 @@ class Tests:
         wanted[(host, "/p/3")] = 3  # three that are not to be filtered; the link is seen
         self.check_mercator("odd requests", count, told, wanted)
         posted = {(host, "/form"): 2, (other, "/form"): 1, (other, "/failing"): RETRIES + 1}
+        posted.update({(numeric, f"/form/{number}"): 1 for number in range(4)})
         self.check("odd requests: posts", dict(count.posted) == posted, count.posted)
         data = told["parsed"].count("data:text/html,text")
         self.check("odd requests: data", data == 1, data)
@@ -541,7 +548,7 @@ class Tests:
         self.check("odd requests: errbacks", not missing, missing)
 
     def small_frontier(self) -> None:
-        """More URLs than the frontier holds, with and without a suffix."""
+        """More URLs than the frontier holds: the rest waits in the scheduler."""
         rand = Random(99)
         site = drawn_site(rand, self.servers.port, 120)
         wanted = {one: times for one, times in site.wanted().items() if times}

@@ -36,9 +36,13 @@ It needs Python 3.9 and Scrapy 2.6.
 from __future__ import annotations
 
 import logging
+import re
+import socket
 from collections import deque
+from functools import lru_cache
 from heapq import heappop, heappush
 from typing import Any, Deque, Dict, List, Optional, Set, Tuple
+from urllib.parse import unquote
 
 from scrapy.core.scheduler import BaseScheduler
 from scrapy.crawler import Crawler
@@ -55,6 +59,9 @@ __all__ = ["MercatorScheduler"]
 logger = logging.getLogger(__name__)
 
 DEFAULT_WORKERS = 64
+
+# What the last part of a host is where the host is an IPv4 address.
+_NUMBER_LAST = re.compile(r"(^|\.)([0-9]+|0x[0-9a-f]*)$")
 
 # The queue of a request that the frontier does not have.
 _PLAIN = -1
@@ -386,11 +393,27 @@ def _is_web(request: Request) -> bool:
 
 
 def _host_of(request: Request) -> str:
-    """The host of a request, as it is spelled, or nothing where it has none."""
+    """The host of a request, or nothing where it has none."""
     try:
-        return urlparse_cached(request).hostname or ""
+        return _known_as(urlparse_cached(request).hostname or "")
     except ValueError:
         return ""
+
+
+@lru_cache(maxsize=4_096)
+def _known_as(host: str) -> str:
+    """A host as the URL Standard writes it, as far as the standard library does.
+
+    The frontier's queues go by its own text. This one tells only whether a plain request has the
+    host of another request.
+    """
+    host = unquote(host)
+    try:
+        host = host.encode("idna").decode("ascii").lower()
+        # `127.1`, `0x7f000001` and `2130706433` are one address.
+        return socket.inet_ntoa(socket.inet_aton(host)) if _NUMBER_LAST.search(host) else host
+    except (OSError, UnicodeError):
+        return host
 
 
 def _dupefilter_of(crawler: Crawler) -> Any:
