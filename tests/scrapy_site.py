@@ -42,7 +42,7 @@ from urllib.parse import unquote, urljoin, urlsplit
 import scrapy
 from scrapy import signals
 from scrapy.crawler import CrawlerProcess
-from scrapy.exceptions import IgnoreRequest
+from scrapy.exceptions import DontCloseSpider, IgnoreRequest
 from scrapy.http import HtmlResponse
 from scrapy.resolver import CachingThreadedResolver
 from scrapy.utils.response import get_base_url
@@ -366,6 +366,12 @@ class Spider(scrapy.Spider):
             priority = int(url.rsplit("/", 1)[1]) if self.asked.get("by_number") else 0
             yield scrapy.Request(url, self.parse, errback=self.fail, priority=priority)
 
+    def idle(self) -> None:
+        """Finds more to do, as spiders do that are fed from outside."""
+        if self.asked.get("when_idle"):
+            self.crawler.engine.crawl(scrapy.Request(self.asked["when_idle"].pop(), self.parse))
+            raise DontCloseSpider
+
     def fail(self, failure: Any) -> None:
         self.failed.append(failure.request.url)
 
@@ -390,7 +396,11 @@ def crawl(asked: Dict[str, Any]) -> None:
     def drop(request: Any, spider: Any) -> None:
         told["dropped"] += 1
 
+    def idle(spider: Any) -> None:
+        spider.idle()
+
     crawler.signals.connect(drop, signal=signals.request_dropped)
+    crawler.signals.connect(idle, signal=signals.spider_idle)
     process.crawl(crawler, asked=asked)
     process.start()
     told["parsed"], told["failed"] = crawler.spider.parsed, crawler.spider.failed
@@ -583,6 +593,27 @@ class Tests:
         order = [site.seed, *sorted(links, reverse=True)]
         self.check("priorities: the highest first", count.order == order, count.order)
 
+    def idle_spider(self) -> None:
+        """A spider that finds more to do when it is idle, twice a URL that was seen."""
+        site = drawn_site(Random(5), self.servers.port, 30)
+        more = [(address_of(number), f"/more/{number}") for number in range(3)]
+        urls = [self.url(asked) for asked in [*more, more[0], site.seed]]
+        count, told = self.crawl(site, MERCATOR, {"when_idle": urls, **self.answers(site)})
+        wanted = {one: times for one, times in site.wanted().items() if times}
+        self.check_mercator("idle spider", count, told, {**wanted, **{asked: 1 for asked in more}})
+
+    def closed_spider(self) -> None:
+        """A spider that is closed before its end."""
+        site = drawn_site(Random(1), self.servers.port, 150)
+        settings = {"CLOSESPIDER_PAGECOUNT": 10}
+        count, told = self.crawl(site, MERCATOR, {"settings": settings, **self.answers(site)})
+        stats = told["stats"]
+        reason = stats.get("finish_reason")
+        self.check("closed spider: why", reason == "closespider_pagecount", reason)
+        self.check("closed spider: more was left", stats.get("mercator/pending", 0) > 0, stats)
+        self.check("closed spider: not closed", stats.get("mercator/closed") is False, stats)
+        self.check("closed spider: one request of a host at a time", count.most == 1, count.most)
+
     def lost_frontier(self) -> None:
         """The program is killed: the spider is closed and says so."""
         site = drawn_site(Random(1), self.servers.port, 150)
@@ -616,7 +647,8 @@ def main() -> int:
     kept = Path(tempfile.mkdtemp(prefix="scrapy_site."))
     tests = Tests(str(Path(program).resolve()), kept)
     for test in (tests.shipped_site, tests.drawn_sites, tests.odd_requests, tests.small_frontier,
-                 tests.within, tests.priorities, tests.lost_frontier, tests.missing_program):
+                 tests.within, tests.priorities, tests.idle_spider, tests.closed_spider,
+                 tests.lost_frontier, tests.missing_program):
         test()
     if asked.keep or tests.failed:
         print(f"the logs of the crawls are in {kept}")

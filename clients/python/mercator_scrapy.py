@@ -30,7 +30,7 @@ The request with the highest priority goes first among the queues. Within one qu
 order holds, which is that of the offers. What does not pass a scheduler is not held back, as
 robots.txt, media pipelines and `engine.download`. `JOBDIR` keeps no requests.
 
-It needs Python 3.9 and Scrapy 2.6.
+It needs Python 3.9, and is tested with Scrapy 2.8.
 """
 
 from __future__ import annotations
@@ -325,10 +325,10 @@ class MercatorScheduler(BaseScheduler):
         No signal tells when a fetch is over. `request_left_downloader` is not sent for a request
         that a downloader middleware answers or drops (a cache, robots.txt), `response_received` not
         for a failure, a retry or a redirect, and `spider_idle` not while requests wait behind this
-        one. The downloader's set of active requests has each request from the moment that the
-        engine takes it until its last middleware is through, however that ends. The engine calls
-        `next_request` right after each such end. A retry has come by then, since the engine
-        schedules what a middleware returned in the same breath.
+        one. The downloader's set of active requests, by which the engine itself sees whether a
+        spider is idle, has each request from the moment that the engine takes it until its last
+        middleware is through, however that ends. The engine calls `next_request` after each such
+        end. A retry has come by then, since the engine stores what a middleware returned before.
 
         So a URL is done before its callback has run, and before its links come. The frontier closes
         only once the seeds have ended, and those end in `close`, where Scrapy has found the spider
