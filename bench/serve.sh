@@ -73,10 +73,11 @@ rate "new offers, one by one" single "$few" "$least_single"
 "$made/serve_client" print "$counted" > "$made/new"
 : > "$made/none"
 cat "$made/new" "$made/new" > "$made/seen"
-none=$(instructions "$made/none")
-new=$(instructions "$made/new")
-seen=$(instructions "$made/seen")
-echo "instructions of a new offer: $(((new - none) / counted)), of an offer that is seen: $(((seen - new) / counted))"
+if none=$(instructions "$made/none") && new=$(instructions "$made/new") && seen=$(instructions "$made/seen"); then
+    echo "instructions of a new offer: $(((new - none) / counted)), of an offer that is seen: $(((seen - new) / counted))"
+else
+    echo "callgrind does not run this program: its instructions are not counted"
+fi
 
 read -r _ _ full < <("$made/serve_client" new "$many" "${serve[@]}")
 read -r _ _ empty < <("$made/serve_client" new 1 "${serve[@]}")
