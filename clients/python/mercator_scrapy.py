@@ -2,6 +2,8 @@
 
     SCHEDULER = "mercator_scrapy.MercatorScheduler"
 
+The folder of this file has to be in PYTHONPATH.
+
 Each URL is fetched once, whatever its spelling, and each host is asked for one URL at a time. The
 program `mercator` decides both, by the canonical form of the URL Standard. This module, the client
 `mercator_frontier` and what a spider does with a response are not proved.
@@ -58,6 +60,7 @@ __all__ = ["MercatorScheduler"]
 
 logger = logging.getLogger(__name__)
 
+# Some times Scrapy's 16 concurrent requests, so that hosts seldom wait for one another.
 DEFAULT_WORKERS = 64
 
 # What the last part of a host is where the host is an IPv4 address.
@@ -66,8 +69,8 @@ _NUMBER_LAST = re.compile(r"(^|\.)([0-9]+|0x[0-9a-f]*)$")
 # The queue of a request that the frontier does not have.
 _PLAIN = -1
 
-# A request that may go out: less its priority, which came first, its queue, and itself. The second
-# part differs, so that two requests are never compared.
+# A request that may go out: its priority, negated; a number that rises with each entry, so that two
+# requests are never compared; its queue; and itself.
 _Entry = Tuple[int, int, int, Request]
 
 
