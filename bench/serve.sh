@@ -1,0 +1,209 @@
+#!/bin/bash
+# Measures `mercator serve` on pipes: new offers and offers that are seen, sent ahead of their answers; offers one by one,
+# each answer awaited; bytes that a URL keeps; the memory of a line of 10^9 bytes; and offers by the Python client. Beside
+# it, in the same run, what a crawler in Python would take else: a set and a queue with URLs normalised by urllib.parse,
+# and Scrapy's own scheduler with its fingerprints; and the scheduler for Scrapy over the frontier. It prints the rate by the
+# clock, and the program's own processor time and instructions, which other work on the machine changes less or not at
+# all. It fails where a target is missed. Wants a C compiler, valgrind and Python 3.9; Scrapy where it is there.
+#
+# usage: bench/serve.sh [--program PROGRAM] [URLS]      1000000 URLs where no number is given
+#
+# PROGRAM is MERCATOR of the environment, or `mercator` in PATH, where it is not given. PYTHON of the environment runs the
+# Python part; else it is /usr/bin/python3, for which Debian's python3-scrapy is.
+set -euo pipefail
+
+program=${MERCATOR:-mercator}
+if [ "${1:-}" = --program ]; then
+    program=$2
+    shift 2
+fi
+program=$(realpath "$(type -P "$program")")
+many=${1:-1000000}
+few=$((many / 5))        # offers one by one, and by Python
+counted=$((many / 50))   # under callgrind, which is slow
+line=$((many * 1000))    # bytes of the long line
+runs=3
+least_new=1000000    # new offers a second
+least_seen=1500000   # offers that are seen, a second
+least_single=120000  # offers one by one, a second
+least_client=250000  # offers of the Python client, a second
+most_bytes=200       # of a URL that was offered
+most_line=8192       # KiB that the program takes for the long line
+python=${PYTHON:-/usr/bin/python3}
+
+cd "$(dirname "$0")/.."
+made=$PWD/bench/out
+mkdir -p "$made"
+cc -O2 -std=c11 -Wall -o "$made/serve_client" bench/serve_client.c
+serve=("$program" serve --workers 4 --max-pending 1000000000)
+status=0
+
+# the fastest of some runs of the client in a mode: nanoseconds, those of the program's processor, its peak memory in bytes
+best() {
+    for _ in $(seq "$runs"); do "$made/serve_client" "$1" "$2" "${serve[@]}"; done | sort -n | head -n 1
+}
+
+# a figure that a target bounds: what it is, the figure, `least` or `most`, the target
+bounded() {
+    echo "$1: $2 (at $3 $4)"
+    if ! awk -v is="$2" -v side="$3" -v target="$4" 'BEGIN { exit side == "least" ? is < target : is > target }'; then
+        echo "  missed"
+        status=1
+    fi
+}
+
+# a rate of the program in a mode: what it is, the mode, how many, the target
+rate() {
+    local spent worked
+    read -r spent worked _ < <(best "$2" "$3")
+    bounded "$1, a second" $(($3 * 1000000000 / spent)) least "$4"
+    echo "  processor time of the program: $((worked / $3)) ns each, $(($3 * 1000000000 / worked)) a second"
+}
+
+# the instructions that the program takes for the requests of a file
+instructions() {
+    valgrind --tool=callgrind --callgrind-out-file="$made/callgrind" "${serve[@]}" < "$1" 2>&1 > /dev/null |
+        awk '/Collected/ { print $NF }'
+}
+
+rate "new offers, ahead of their answers" new "$many" "$least_new"
+rate "offers that are seen, ahead of their answers" seen "$many" "$least_seen"
+rate "new offers, one by one" single "$few" "$least_single"
+
+"$made/serve_client" print "$counted" > "$made/new"
+: > "$made/none"
+cat "$made/new" "$made/new" > "$made/seen"
+if none=$(instructions "$made/none") && new=$(instructions "$made/new") && seen=$(instructions "$made/seen"); then
+    echo "instructions of a new offer: $(((new - none) / counted)), of an offer that is seen: $(((seen - new) / counted))"
+else
+    echo "callgrind does not run this program: its instructions are not counted"
+fi
+
+read -r _ _ full < <("$made/serve_client" new "$many" "${serve[@]}")
+read -r _ _ empty < <("$made/serve_client" new 1 "${serve[@]}")
+bounded "bytes that a URL keeps, its text of 35 among them" $(((full - empty) / many)) most "$most_bytes"
+
+read -r spent _ peak < <("$made/serve_client" line "$line" "${serve[@]}")
+bounded "KiB of memory at a line of $line bytes" $((peak / 1024)) most "$most_line"
+echo "  read in $((spent / 1000000)) ms"
+
+# offers.py KIND COUNT PROGRAM: the nanoseconds of so many new offers by the clock and of this process, those of as many
+# that are seen, and the bytes that this process took for each URL. Scrapy's requests are made beforehand.
+cat > "$made/offers.py" <<'PY'
+import queue
+import resource
+import sys
+import time
+from urllib.parse import urlsplit, urlunsplit
+
+HOSTS = 997
+PORTS = {"http": 80, "https": 443}
+
+
+def normalised(url):
+    """A URL as a crawler that has only the standard library would compare it; dots in paths stay."""
+    parts = urlsplit(url)
+    host = parts.hostname
+    if parts.port is not None and parts.port != PORTS.get(parts.scheme):
+        host = f"{host}:{parts.port}"
+    return urlunsplit((parts.scheme, host, parts.path or "/", parts.query, ""))
+
+
+def by_client(program):
+    from mercator_frontier import Frontier
+
+    return list, Frontier(4, max_pending=10**9, program=program).offer_all
+
+
+def by_set(program):
+    seen, waiting = set(), queue.Queue()
+
+    def offer_all(urls):
+        for url in urls:
+            url = normalised(url)
+            if url not in seen:
+                seen.add(url)
+                waiting.put(url)
+
+    return list, offer_all
+
+
+def by_scheduler(name, program):
+    import scrapy
+    from scrapy.utils.misc import load_object
+    from scrapy.utils.test import get_crawler
+
+    crawler = get_crawler(
+        scrapy.Spider,
+        {
+            "MERCATOR_MAX_PENDING": 10**9,
+            "MERCATOR_PROGRAM": program,
+            "REQUEST_FINGERPRINTER_IMPLEMENTATION": "2.7",
+        },
+    )
+    crawler.spider = crawler._create_spider("bench")
+    scheduler = load_object(name).from_crawler(crawler)
+    scheduler.open(crawler.spider)
+
+    def offer_all(requests):
+        for request in requests:
+            scheduler.enqueue_request(request)
+
+    return lambda urls: [scrapy.Request(url) for url in urls], offer_all
+
+
+KINDS = {
+    "client": by_client,
+    "set": by_set,
+    "scrapy": lambda program: by_scheduler("scrapy.core.scheduler.Scheduler", program),
+    "mercator_scrapy": lambda program: by_scheduler("mercator_scrapy.MercatorScheduler", program),
+}
+
+
+def spent(offer_all, offers):
+    passed, worked = time.perf_counter_ns(), time.process_time_ns()
+    offer_all(offers)
+    return time.perf_counter_ns() - passed, time.process_time_ns() - worked
+
+
+def resident():
+    return resource.getrusage(resource.RUSAGE_SELF).ru_maxrss * 1024
+
+
+def main():
+    kind, count, program = sys.argv[1], int(sys.argv[2]), sys.argv[3]
+    prepare, offer_all = KINDS[kind](program)
+    urls = [f"http://h{number % HOSTS:03}.example.test/p{number:09}" for number in range(count)]
+    before = resident()
+    new = spent(offer_all, prepare(urls))
+    after = resident()
+    seen = spent(offer_all, prepare(urls))
+    print(*new, *seen, (after - before) // count)
+
+
+main()
+PY
+
+# a row of the Python part: what it is, the kind, how many; leaves the new offers a second in `python_rate`
+python_row() {
+    local new worked seen seen_worked bytes
+    read -r new worked seen seen_worked bytes < <(
+        for _ in $(seq "$runs"); do
+            PYTHONPATH=clients/python PYTHONDONTWRITEBYTECODE=1 "$python" "$made/offers.py" "$2" "$3" "$program"
+        done | sort -n | head -n 1
+    )
+    python_rate=$(($3 * 1000000000 / new))
+    echo "$1: $python_rate new offers a second, $(($3 * 1000000000 / seen)) that are seen"
+    echo "  processor time of Python: $((worked / $3)) ns and $((seen_worked / $3)) ns each; it takes $bytes bytes a URL"
+}
+
+python_row "Python client, offer_all" client "$few"
+bounded "offers of the Python client, a second" "$python_rate" least "$least_client"
+python_row "set, queue.Queue and urllib.parse" set "$few"
+if "$python" -c 'import scrapy' 2> "$made/no_scrapy"; then
+    python_row "Scrapy's scheduler with its fingerprints" scrapy $((few / 4))
+    python_row "MercatorScheduler" mercator_scrapy $((few / 4))
+else
+    echo "Scrapy is not there for $python: not measured"
+fi
+exit $status

@@ -1,0 +1,232 @@
+/* A client of `mercator serve` on pipes, for bench/serve.sh.
+ *
+ *     serve_client new COUNT PROGRAM WORD..     offers COUNT URLs, ahead of their answers
+ *     serve_client seen COUNT PROGRAM WORD..    offers them, and measures offering them again
+ *     serve_client single COUNT PROGRAM WORD..  offers COUNT URLs, each once the last is answered
+ *     serve_client line COUNT PROGRAM WORD..    sends a line of COUNT bytes
+ *     serve_client print COUNT                  writes the requests of `new`
+ *
+ * It writes the nanoseconds that passed, those of processor time that the program took meanwhile,
+ * and the program's greatest resident memory at its end, in bytes. Every answer is read, and one
+ * that is not as it has to be ends the client with status 1. URLs have 35 bytes and 997 hosts. */
+
+#define _GNU_SOURCE
+#include <errno.h>
+#include <fcntl.h>
+#include <poll.h>
+#include <signal.h>
+#include <stdio.h>
+#include <stdlib.h>
+#include <string.h>
+#include <sys/resource.h>
+#include <sys/types.h>
+#include <sys/wait.h>
+#include <time.h>
+#include <unistd.h>
+
+enum { LINE = 6 + 35 + 1, HOSTS = 997, CHUNK = 65536 };
+
+struct server {
+    pid_t pid;
+    int requests; /* what it reads */
+    int answers;  /* what it writes */
+};
+
+static void fail(const char *what)
+{
+    fprintf(stderr, "serve_client: %s\n", what);
+    exit(1);
+}
+
+/* The program with both pipes. It starts before this client takes memory, which would count as the
+ * program's own until it runs. */
+static struct server start(char **words)
+{
+    int in[2], out[2];
+    if (pipe2(in, O_CLOEXEC) != 0 || pipe2(out, O_CLOEXEC) != 0)
+        fail("no pipe");
+    pid_t pid = fork();
+    if (pid < 0)
+        fail("no process");
+    if (pid == 0) {
+        dup2(in[0], STDIN_FILENO);
+        dup2(out[1], STDOUT_FILENO);
+        execvp(words[0], words);
+        _exit(127);
+    }
+    close(in[0]);
+    close(out[1]);
+    return (struct server){pid, in[1], out[0]};
+}
+
+static void write_all(int file, const char *bytes, size_t count)
+{
+    while (count > 0) {
+        ssize_t written = write(file, bytes, count);
+        if (written < 0 && errno == EINTR)
+            continue;
+        if (written <= 0)
+            fail("the program reads no more");
+        bytes += written;
+        count -= written;
+    }
+}
+
+/* One answer without its end, of at most 79 bytes. */
+static void read_answer(int file, char *answer)
+{
+    size_t count = 0;
+    while (count == 0 || answer[count - 1] != '\n') {
+        ssize_t got = count < 79 ? read(file, answer + count, 79 - count) : 0;
+        if (got < 0 && errno == EINTR)
+            continue;
+        if (got <= 0)
+            fail("no answer");
+        count += got;
+    }
+    answer[count - 1] = 0;
+}
+
+static void expect(struct server *server, const char *start)
+{
+    char answer[80];
+    read_answer(server->answers, answer);
+    if (strncmp(answer, start, strlen(start)) != 0)
+        fail(answer);
+}
+
+/* The requests that offer so many URLs. */
+static char *offers(size_t count)
+{
+    char *lines = malloc(count * LINE + 1);
+    if (lines == NULL)
+        fail("out of memory");
+    for (size_t number = 0; number < count; number++)
+        sprintf(lines + number * LINE, "offer http://h%03zu.example.test/p%09zu\n",
+                number % HOSTS, number);
+    return lines;
+}
+
+/* Counts the answers in what was read; each has to begin with a letter. `begins`: whether the next
+ * byte begins one. */
+static size_t answers_in(const char *bytes, size_t count, char letter, int *begins)
+{
+    size_t ended = 0;
+    for (size_t at = 0; at < count; at++) {
+        if (*begins && bytes[at] != letter)
+            fail("an answer of another kind");
+        *begins = bytes[at] == '\n';
+        ended += *begins;
+    }
+    return ended;
+}
+
+/* Sends so many requests ahead of their answers, as far as the pipes hold, and reads those. */
+static void pipeline(struct server *server, const char *lines, size_t count, char letter)
+{
+    static char read_bytes[CHUNK];
+    size_t size = count * LINE, sent = 0, answered = 0;
+    int begins = 1;
+    fcntl(server->requests, F_SETFL, O_NONBLOCK);
+    while (answered < count) {
+        struct pollfd files[2] = {{server->answers, POLLIN, 0}, {server->requests, POLLOUT, 0}};
+        if (poll(files, sent < size ? 2 : 1, -1) < 0 && errno != EINTR)
+            fail("no poll");
+        if (files[1].revents != 0) {
+            size_t most = size - sent < CHUNK ? size - sent : CHUNK;
+            ssize_t written = write(server->requests, lines + sent, most);
+            if (written < 0 && errno != EAGAIN && errno != EINTR)
+                fail("the program reads no more");
+            sent += written > 0 ? written : 0;
+        }
+        if (files[0].revents != 0) {
+            ssize_t got = read(server->answers, read_bytes, CHUNK);
+            if (got <= 0)
+                fail("no answer");
+            answered += answers_in(read_bytes, got, letter, &begins);
+        }
+    }
+    fcntl(server->requests, F_SETFL, 0);
+}
+
+static void one_by_one(struct server *server, const char *lines, size_t count)
+{
+    for (size_t number = 0; number < count; number++) {
+        write_all(server->requests, lines + number * LINE, LINE);
+        expect(server, "accepted");
+    }
+}
+
+static void long_line(struct server *server, size_t count)
+{
+    static char bytes[CHUNK];
+    memset(bytes, 'x', CHUNK);
+    for (size_t left = count; left > 0;) {
+        size_t most = left < CHUNK ? left : CHUNK;
+        write_all(server->requests, bytes, most);
+        left -= most;
+    }
+    write_all(server->requests, "\n", 1);
+    expect(server, "line too long");
+}
+
+static long long nanoseconds(clockid_t clock)
+{
+    struct timespec now;
+    if (clock_gettime(clock, &now) != 0)
+        fail("no clock");
+    return now.tv_sec * 1000000000LL + now.tv_nsec;
+}
+
+/* Ends the program by the end of its input, and answers its greatest resident memory. */
+static long long peak_at_end(struct server *server)
+{
+    int status;
+    struct rusage usage;
+    close(server->requests);
+    if (wait4(server->pid, &status, 0, &usage) != server->pid || status != 0)
+        fail("the program did not end well");
+    return usage.ru_maxrss * 1024LL;
+}
+
+static void measure(struct server *server, const char *mode, const char *lines, size_t count)
+{
+    if (strcmp(mode, "new") == 0)
+        pipeline(server, lines, count, 'a');
+    else if (strcmp(mode, "seen") == 0)
+        pipeline(server, lines, count, 's');
+    else if (strcmp(mode, "single") == 0)
+        one_by_one(server, lines, count);
+    else if (strcmp(mode, "line") == 0)
+        long_line(server, count);
+    else
+        fail("no such mode");
+}
+
+int main(int argc, char **argv)
+{
+    if (argc < 3 || (argc < 4 && strcmp(argv[1], "print") != 0))
+        fail("usage: serve_client new|seen|single|line|print COUNT PROGRAM WORD..");
+    const char *mode = argv[1];
+    size_t count = strtoull(argv[2], NULL, 10);
+    if (strcmp(mode, "print") == 0) {
+        write_all(STDOUT_FILENO, offers(count), count * LINE);
+        return 0;
+    }
+    signal(SIGPIPE, SIG_IGN);
+    struct server server = start(argv + 3);
+    char *lines = strcmp(mode, "line") == 0 ? NULL : offers(count);
+    write_all(server.requests, "done 0\n", 7); /* once it is answered the program has started */
+    expect(&server, "refused nothing");
+    if (strcmp(mode, "seen") == 0)
+        pipeline(&server, lines, count, 'a');
+    clockid_t processor;
+    if (clock_getcpuclockid(server.pid, &processor) != 0)
+        fail("no clock of the program");
+    long long began = nanoseconds(CLOCK_MONOTONIC), worked = nanoseconds(processor);
+    measure(&server, mode, lines, count);
+    long long passed = nanoseconds(CLOCK_MONOTONIC) - began;
+    worked = nanoseconds(processor) - worked;
+    printf("%lld %lld %lld\n", passed, worked, peak_at_end(&server));
+    return 0;
+}

@@ -1,0 +1,662 @@
+#!/usr/bin/python3
+"""Crawls sites by Scrapy with the scheduler `clients/python/mercator_scrapy.py`, outside the gate.
+
+    scrapy_site.py [--program PROGRAM] [--keep]
+
+A server of this script counts what it is asked for, on seven addresses of the loopback. The sites
+are the shipped one and generated ones. Those have links in several spellings, redirects, pages that
+fail for a while or for good, and pages that a middleware answers or drops. Each is crawled with
+Scrapy's own scheduler and with this one, which have to ask for the same URLs. With this one,
+
+- each URL is asked for once, but for retries, as an own search finds it;
+- never are two requests of one host out at a time;
+- the spider ends by itself, and the frontier has closed.
+
+PROGRAM is the environment's MERCATOR, or `mercator` in PATH, where it is not given. The script
+wants Scrapy; Debian's package `python3-scrapy` is for /usr/bin/python3. `--keep` leaves the logs of
+the crawls. The last line is `N passed, M failed`.
+"""
+
+from __future__ import annotations
+
+import argparse
+import html
+import json
+import os
+import re
+import shutil
+import signal
+import socket
+import subprocess
+import sys
+import tempfile
+import threading
+import time
+from collections import Counter, deque
+from http.server import BaseHTTPRequestHandler, ThreadingHTTPServer
+from pathlib import Path
+from random import Random
+from typing import Any, Dict, Iterable, List, NamedTuple, Optional, Set, Tuple
+from urllib.parse import unquote, urljoin, urlsplit
+
+import scrapy
+from scrapy import signals
+from scrapy.crawler import CrawlerProcess
+from scrapy.exceptions import DontCloseSpider, IgnoreRequest
+from scrapy.http import HtmlResponse
+from scrapy.resolver import CachingThreadedResolver
+from scrapy.utils.response import get_base_url
+from twisted.internet.defer import succeed
+
+ROOT = Path(__file__).resolve().parent.parent
+CLIENTS = str(ROOT / "clients" / "python")
+SITE = ROOT / "examples" / "site"
+OWN = "scrapy.core.scheduler.Scheduler"
+MERCATOR = "mercator_scrapy.MercatorScheduler"
+HOSTS = 7
+RETRIES = 2
+WORK = 0.003  # seconds that the server takes for an answer, in which a second request would be seen
+LONGEST = 240  # seconds for a crawl
+TOLD = 600  # characters that a failure tells
+
+Asked = Tuple[str, str]  # what a server is asked for: its address and the path
+Told = Dict[str, Any]  # what a crawl is to do, or what came of it
+
+
+def name_of(number: int) -> str:
+    return f"h{number}.test"
+
+
+def address_of(number: int) -> str:
+    return f"127.0.1.{number + 1}"
+
+
+# ---------------------------------------------------------------- the sites
+
+
+class Page(NamedTuple):
+    """What a path answers: a status, or `flaky` once and then 200; a body or a target."""
+
+    kind: str
+    body: str = ""
+    links: Tuple[Asked, ...] = ()
+
+
+class Site:
+    """Pages by host and path, and what the crawl of them has to ask for."""
+
+    def __init__(self, seed: Asked) -> None:
+        self.seed = seed
+        self.pages: Dict[Asked, Page] = {}
+
+    def answer(self, asked: Asked) -> Page:
+        return self.pages.get(asked, Page("404"))
+
+    def wanted(self) -> Dict[Asked, int]:
+        """How often each URL has to be asked for, by a search of this script's own."""
+        found, todo = {self.seed}, deque([self.seed])
+        while todo:
+            for link in self.answer(todo.popleft()).links:
+                if link not in found:
+                    found.add(link)
+                    todo.append(link)
+        tries = {"500": RETRIES + 1, "flaky": 2, "dropped": 0, "made": 0}
+        return {asked: tries.get(self.answer(asked).kind, 1) for asked in found}
+
+
+def spelled(rand: Random, port: int, asked: Asked) -> str:
+    """A URL in one of its spellings. All of them are the same URL by the URL Standard."""
+    host, path = asked
+    number = int(host.rsplit(".", 1)[1]) - 1
+    if number == HOSTS - 1:  # this host is known by its address
+        host = rand.choice((host, f"127.0.{256 + number + 1}", f"0x7f0001{number + 1:02x}"))
+    else:
+        host = rand.choice((name_of(number), name_of(number).upper()))
+    scheme = rand.choice(("http", "http", "HTTP"))
+    zeros = rand.choice(("", "", "0"))
+    path = rand.choice((path, path, "/." + path, "/x/.." + path, "/%2e" + path, "/y/%2E%2e" + path))
+    fragment = rand.choice(("", "", "#part", "#"))
+    return f"{scheme}://{host}:{zeros}{port}{path}{fragment}"
+
+
+def page_of(links: Iterable[str]) -> str:
+    return "".join(f'<p><a href="{html.escape(link)}">x</a>' for link in links)
+
+
+def drawn_site(rand: Random, port: int, pages: int) -> Site:
+    """A generated site over all hosts."""
+    kinds = ["200"] * 14 + ["302", "301", "flaky", "500", "404", "dropped", "made", "raises"]
+    paths = []
+    for number in range(pages):
+        paths.append((address_of(rand.randrange(HOSTS)), f"/{rand.choice('pqr')}/{number}"))
+    site = Site(paths[0])
+    for number, asked in enumerate(paths):
+        kind = "200" if number == 0 else rand.choice(kinds)
+        links: List[Asked] = []
+        body = ""
+        if kind in ("301", "302"):
+            links = [rand.choice(paths)]
+            body = spelled(rand, port, links[0])
+        elif kind in ("200", "flaky", "made", "raises"):
+            links = [rand.choice(paths) for _ in range(rand.randrange(9))]
+            links += paths[number + 1:number + 2]
+            body = page_of(spelled(rand, port, link) for link in links)
+        if kind == "raises":
+            links = []  # its callback gives up before the links
+        # A scheduler of Scrapy's drops a redirect to what was seen before, as this one does.
+        site.pages[asked] = Page(kind, body, tuple(links))
+    return site
+
+
+class FolderSite(Site):
+    """The files of a folder, at the root of a host."""
+
+    def __init__(self, folder: Path, host: str) -> None:
+        super().__init__((host, "/"))
+        self.folder = folder
+
+    def answer(self, asked: Asked) -> Page:
+        path = unquote(urlsplit(asked[1]).path)
+        file = self.folder / path.lstrip("/")
+        if file.is_dir() and not path.endswith("/"):
+            return Page("301", asked[1] + "/")
+        if file.is_dir():
+            file = file / "index.html"
+        if not file.is_file():
+            return Page("404")
+        return Page("200" if file.suffix == ".html" else "file", file.read_text(encoding="utf-8"))
+
+
+# ---------------------------------------------------------------- the server
+
+
+def without_dots(target: str) -> str:
+    """A path of a request line without its dot segments, as the URL Standard removes them."""
+    path, mark, query = target.partition("?")
+    kept: List[str] = []
+    segments = path.split("/")[1:]
+    for number, segment in enumerate(segments):
+        plain = re.sub("%2e", ".", segment, flags=re.IGNORECASE)
+        if plain == "..":
+            del kept[-1:]
+        elif plain != ".":
+            kept.append(segment)
+            continue
+        if number == len(segments) - 1:
+            kept.append("")
+    return "/" + "/".join(kept) + mark + query
+
+
+class Count:
+    """What the servers were asked for."""
+
+    def __init__(self, site: Site) -> None:
+        self.site = site
+        self.lock = threading.Lock()
+        self.asked: Counter[Asked] = Counter()
+        self.posted: Counter[Asked] = Counter()
+        self.active: Counter[str] = Counter()
+        self.most = 0  # requests at a time of one host
+        self.order: List[Asked] = []
+
+    def begins(self, method: str, asked: Asked) -> int:
+        with self.lock:
+            counts = self.asked if method == "GET" else self.posted
+            counts[asked] += 1
+            self.order.append(asked)
+            self.active[asked[0]] += 1
+            self.most = max(self.most, self.active[asked[0]])
+            return counts[asked]
+
+    def ends(self, asked: Asked) -> None:
+        with self.lock:
+            self.active[asked[0]] -= 1
+
+
+class Handler(BaseHTTPRequestHandler):
+    protocol_version = "HTTP/1.1"
+
+    def do_GET(self) -> None:
+        self.serve("GET")
+
+    def do_POST(self) -> None:
+        self.rfile.read(int(self.headers.get("Content-Length", 0)))
+        self.serve("POST")
+
+    def serve(self, method: str) -> None:
+        count: Count = self.server.count  # type: ignore[attr-defined]
+        asked = (str(self.server.server_address[0]), without_dots(self.path))  # type: ignore[index]
+        tries = count.begins(method, asked)
+        time.sleep(WORK)
+        page = count.site.answer(asked)
+        status, headers = 200, {"Content-Type": "text/html; charset=utf-8"}
+        if page.kind in ("301", "302"):
+            status, headers["Location"] = int(page.kind), page.body
+        elif page.kind == "404" or page.kind == "500":
+            status = int(page.kind)
+        elif page.kind == "flaky" and tries == 1:
+            status = 503
+        elif page.kind == "file":
+            headers["Content-Type"] = "application/octet-stream"
+        body = page.body.encode() if status == 200 else b""
+        # A client that waits for this answer sends nothing before it, so what comes from here on
+        # would not be beside this request.
+        count.ends(asked)
+        self.send_response(status)
+        for name, value in headers.items():
+            self.send_header(name, value)
+        self.send_header("Content-Length", str(len(body)))
+        self.end_headers()
+        self.wfile.write(body)
+
+    def log_message(self, *args: Any) -> None:
+        pass
+
+
+class Server(ThreadingHTTPServer):
+    daemon_threads = True
+    request_queue_size = 128
+
+    def handle_error(self, *args: Any) -> None:
+        """A connection that a crawl leaves when it ends is no error."""
+
+
+def free_port() -> int:
+    """A port that is free on all addresses."""
+    for _ in range(100):
+        with socket.socket() as first:
+            first.bind((address_of(0), 0))
+            port = int(first.getsockname()[1])
+        try:
+            for number in range(HOSTS):
+                with socket.socket() as other:
+                    other.bind((address_of(number), port))
+            return port
+        except OSError:
+            continue
+    raise OSError("no port is free on all addresses")
+
+
+class Servers:
+    """A server for each address, on one port."""
+
+    def __init__(self) -> None:
+        self.port = free_port()
+        self.servers = [Server((address_of(number), self.port), Handler) for number in range(HOSTS)]
+        for server in self.servers:
+            threading.Thread(target=server.serve_forever, args=(0.05,), daemon=True).start()
+
+    def counts(self, site: Site) -> Count:
+        count = Count(site)
+        for server in self.servers:
+            server.count = count  # type: ignore[attr-defined]
+        return count
+
+
+# ---------------------------------------------------------------- a crawl, a process of its own
+
+
+class Resolver(CachingThreadedResolver):
+    """Leads the names of the sites to the addresses of the servers."""
+
+    def getHostByName(self, name: str, timeout: Any = None) -> Any:
+        number = re.fullmatch(r"h(\d+)\.test", name)
+        if number:
+            return succeed(address_of(int(number[1])))
+        try:
+            return succeed(socket.inet_ntoa(socket.inet_aton(name)))
+        except OSError:
+            return succeed("127.0.1.200")  # where nothing listens
+
+
+class Answers:
+    """A downloader middleware that answers and drops requests before they reach the downloader."""
+
+    def process_request(self, request: Any, spider: Any) -> Any:
+        answer = spider.answers.get(without_dots(urlsplit(request.url).path))
+        if answer == "dropped":
+            raise IgnoreRequest("dropped")
+        if answer is not None:
+            return HtmlResponse(request.url, body=answer, encoding="utf-8", request=request)
+        return None
+
+
+class Spider(scrapy.Spider):
+    """Follows all links."""
+
+    name = "site"
+
+    def __init__(self, asked: Dict[str, Any], **rest: Any) -> None:
+        super().__init__(**rest)
+        self.asked = asked
+        self.answers = asked.get("answers", {})
+        self.raising = set(asked.get("raising", ()))
+        self.parsed: List[str] = []
+        self.failed: List[str] = []
+
+    def start_requests(self) -> Iterable[scrapy.Request]:
+        for seed in self.asked["seeds"]:
+            yield scrapy.Request(seed, self.parse, errback=self.fail, dont_filter=True)
+        for kind, url, extra in self.asked.get("extra", ()):
+            if kind == "post":
+                yield scrapy.Request(url, self.parse, method="POST", body=extra, errback=self.fail)
+            elif kind == "again":
+                yield scrapy.Request(url, self.parse, dont_filter=True, errback=self.fail)
+            else:
+                yield scrapy.Request(url, self.parse, errback=self.fail)
+
+    def parse(self, response: Any, **rest: Any) -> Iterable[scrapy.Request]:
+        self.parsed.append(response.url)
+        if len(self.parsed) == self.asked.get("kill_after"):
+            children = Path(f"/proc/self/task/{os.getpid()}/children").read_text(encoding="ascii")
+            os.kill(int(children.split()[0]), signal.SIGKILL)
+        if without_dots(urlsplit(response.url).path) in self.raising:
+            raise RuntimeError("a callback gives up")
+        if not isinstance(response, HtmlResponse):
+            return
+        links = response.xpath(
+            "//a/@href | //area/@href | //link/@href | //img/@src | //script/@src | //iframe/@src"
+        ).getall()
+        base = get_base_url(response)
+        for link in links:
+            try:
+                url = urljoin(base, link)
+            except ValueError:
+                continue
+            priority = int(url.rsplit("/", 1)[1]) if self.asked.get("by_number") else 0
+            yield scrapy.Request(url, self.parse, errback=self.fail, priority=priority)
+
+    def idle(self) -> None:
+        """Finds more to do, as spiders do that are fed from outside."""
+        if self.asked.get("when_idle"):
+            self.crawler.engine.crawl(scrapy.Request(self.asked["when_idle"].pop(), self.parse))
+            raise DontCloseSpider
+
+    def fail(self, failure: Any) -> None:
+        self.failed.append(failure.request.url)
+
+
+def crawl(asked: Dict[str, Any]) -> None:
+    """Crawls as the object says, and writes what came of it to its file."""
+    sys.path.insert(0, CLIENTS)
+    settings = {
+        "DNS_RESOLVER": "__main__.Resolver",
+        "DOWNLOADER_MIDDLEWARES": {"__main__.Answers": 50},
+        "LOG_FILE": asked["log"],
+        "LOG_LEVEL": "DEBUG",
+        "REQUEST_FINGERPRINTER_IMPLEMENTATION": "2.7",
+        "RETRY_TIMES": RETRIES,
+        "TELNETCONSOLE_ENABLED": False,
+        **asked["settings"],
+    }
+    process = CrawlerProcess(settings, install_root_handler=True)
+    crawler = process.create_crawler(Spider)
+    told: Dict[str, Any] = {"dropped": 0}
+
+    def drop(request: Any, spider: Any) -> None:
+        told["dropped"] += 1
+
+    def idle(spider: Any) -> None:
+        spider.idle()
+
+    crawler.signals.connect(drop, signal=signals.request_dropped)
+    crawler.signals.connect(idle, signal=signals.spider_idle)
+    process.crawl(crawler, asked=asked)
+    process.start()
+    told["parsed"], told["failed"] = crawler.spider.parsed, crawler.spider.failed
+    stats = crawler.stats.get_stats()
+    told["stats"] = {name: stats[name] for name in stats if isinstance(stats[name], (int, str))}
+    Path(asked["told"]).write_text(json.dumps(told), encoding="utf-8")
+
+
+# ---------------------------------------------------------------- the tests
+
+
+class Tests:
+    def __init__(self, program: str, kept: Path) -> None:
+        self.program = program
+        self.kept = kept
+        self.servers = Servers()
+        self.passed = self.failed = self.crawls = 0
+
+    def check(self, what: str, is_so: bool, told: Any = "") -> None:
+        if is_so:
+            self.passed += 1
+        else:
+            self.failed += 1
+            print(f"FAILED {what}: {str(told)[:TOLD]}", flush=True)
+
+    def url(self, asked: Asked) -> str:
+        number = int(asked[0].rsplit(".", 1)[1]) - 1
+        host = asked[0] if number == HOSTS - 1 else name_of(number)
+        return f"http://{host}:{self.servers.port}{asked[1]}"
+
+    def crawl(self, site: Site, scheduler: str, asked: Told) -> Tuple[Count, Told]:
+        """Crawls a site in a process of its own, and checks that it ends by itself."""
+        self.crawls += 1
+        count = self.servers.counts(site)
+        settings = {"SCHEDULER": scheduler, "MERCATOR_PROGRAM": self.program}
+        settings.update(asked.get("settings", {}))
+        name = str(self.kept / str(self.crawls))
+        files = {kind: f"{name}.{kind}" for kind in ("log", "told", "asked")}
+        asked = {"seeds": [self.url(site.seed)], **asked, **files, "settings": settings}
+        Path(files["asked"]).write_text(json.dumps(asked), encoding="utf-8")
+        try:
+            done = subprocess.run(
+                [sys.executable, __file__, "--crawl", files["asked"]],
+                capture_output=True, text=True, timeout=LONGEST, check=False,
+            )
+        except subprocess.TimeoutExpired:
+            self.check(f"crawl {self.crawls} ends by itself", False, f"see {files['log']}")
+            return count, {"stats": {}, "parsed": [], "failed": [], "dropped": 0}
+        self.check(f"crawl {self.crawls} ends well", done.returncode == 0, done.stderr[-2000:])
+        if done.returncode != 0:
+            return count, {"stats": {}, "parsed": [], "failed": [], "dropped": 0}
+        return count, json.loads(Path(files["told"]).read_text(encoding="utf-8"))
+
+    def check_mercator(
+        self, what: str, count: Count, told: Told, wanted: Optional[Dict[Asked, int]]
+    ) -> None:
+        """Checks what holds for every crawl with this scheduler that comes to its end."""
+        stats = told["stats"]
+        if wanted is not None:
+            differ = {
+                asked: (count.asked[asked], wanted.get(asked, 0))
+                for asked in {*wanted, *count.asked}
+                if count.asked[asked] != wanted.get(asked, 0)
+            }
+            self.check(f"{what}: each URL once, but for retries", not differ, differ)
+        self.check(f"{what}: one request of a host at a time", count.most == 1, count.most)
+        self.check(f"{what}: finished", stats.get("finish_reason") == "finished", stats)
+        self.check(f"{what}: the frontier closed", stats.get("mercator/closed") is True, stats)
+        self.check(f"{what}: nothing is left", stats.get("mercator/pending") == 0, stats)
+        inwards, outwards = stats.get("scheduler/enqueued"), stats.get("scheduler/dequeued")
+        self.check(f"{what}: all that came in went out", inwards == outwards, (inwards, outwards))
+        parts = sum(stats.get(f"scheduler/enqueued/{place}", 0) for place in ("mercator", "memory"))
+        self.check(f"{what}: the parts of enqueued", parts == inwards, (parts, inwards))
+        dropped = stats.get("dupefilter/filtered", 0) + stats.get("mercator/filtered", 0)
+        counts = (dropped, told["dropped"])
+        self.check(f"{what}: what is dropped is counted", counts[0] == counts[1], counts)
+
+    # ---- each test
+
+    def shipped_site(self) -> None:
+        site = FolderSite(SITE, address_of(0))
+        own, _ = self.crawl(site, OWN, {})
+        count, told = self.crawl(site, MERCATOR, {})
+        self.check_mercator("shipped site", count, told, None)
+        self.check("shipped site: pages", len(count.asked) > 15, len(count.asked))
+        twice = [asked for asked, times in count.asked.items() if times > 1]
+        self.check("shipped site: each URL once", not twice, twice)
+        differ = {*own.asked} ^ {*count.asked}
+        self.check("shipped site: the URLs of Scrapy's scheduler", not differ, differ)
+        failed, seen = told["failed"], told["stats"].get("dupefilter/filtered", 0)
+        self.check("shipped site: no such host", "http://cogs.test/wheels" in failed, failed)
+        self.check("shipped site: seen URLs", seen > 5, seen)
+
+    def drawn_sites(self) -> None:
+        for number, (pages, workers) in enumerate(((40, 1), (150, 4), (250, 64))):
+            rand = Random(number)
+            site = drawn_site(rand, self.servers.port, pages)
+            asked = {"settings": {"MERCATOR_WORKERS": workers}, **self.answers(site)}
+            what = f"drawn site {number}"
+            own, _ = self.crawl(site, OWN, asked)
+            count, told = self.crawl(site, MERCATOR, asked)
+            wanted = {one: times for one, times in site.wanted().items() if times}
+            self.check_mercator(what, count, told, wanted)
+            differ = {*own.asked} ^ {*count.asked}
+            self.check(f"{what}: the URLs of Scrapy's scheduler", not differ, differ)
+            if pages > 100:
+                # So the server sees it where two requests of a host meet, and the spellings tell.
+                self.check(f"{what}: Scrapy's meet at a host", own.most > 1, own.most)
+                totals = (sum(own.asked.values()), sum(wanted.values()))
+                self.check(f"{what}: Scrapy's come by each spelling", totals[0] > totals[1], totals)
+
+    @staticmethod
+    def answers(site: Site) -> Dict[str, Any]:
+        """What the middleware and the spider have to know of a drawn site."""
+        answers = {}
+        for (_, path), page in site.pages.items():
+            if page.kind in ("dropped", "made"):
+                answers[path] = page.body if page.kind == "made" else page.kind
+        raising = [path for (_, path), page in site.pages.items() if page.kind == "raises"]
+        return {"answers": answers, "raising": raising}
+
+    def odd_requests(self) -> None:
+        """Requests that are not the frontier's, beside some that are."""
+        host, other, numeric = address_of(0), address_of(1), address_of(HOSTS - 1)
+        site = Site((host, "/"))
+        links = tuple((host, f"/p/{number}") for number in range(20))
+        site.pages[site.seed] = Page("200", page_of(path for _, path in links), links)
+        for asked in links + ((other, "/form"), (host, "/form"), (host, "/" + "x" * 5000)):
+            site.pages[asked] = Page("200")
+        site.pages[(other, "/failing")] = Page("500")
+        form, failing = self.url((host, "/form")), self.url((other, "/failing"))
+        extra = [["post", form, body] for body in ("a", "b", "a")]  # one of them is a duplicate
+        extra += [["post", self.url((other, "/form")), "a"], ["post", failing, ""]]
+        for number, alias in enumerate((numeric, "127.0.263", "0x7f000107", "2130706695")):
+            asked = (numeric, f"/n/{number}")
+            links += (asked,)
+            site.pages[asked] = Page("200")
+            extra += [["get", self.url(asked), ""]]
+            extra += [["post", f"http://{alias}:{self.servers.port}/form/{number}", "a"]]
+        extra += [["again", self.url((host, "/p/3")), ""]] * 3
+        extra += [["get", self.url((host, "/" + "x" * 5000)), ""]] * 2
+        extra += [["get", "data:text/html,text", ""]] * 2
+        failing_urls = ["http://1.2.3.4.5:1/", "http://nowhere.test:1/", "ftp://nowhere.test/file"]
+        extra += [["get", url, ""] for url in failing_urls]
+        count, told = self.crawl(site, MERCATOR, {"extra": extra})
+        wanted = {site.seed: 1, (host, "/" + "x" * 5000): 1, **{asked: 1 for asked in links}}
+        wanted[(host, "/p/3")] = 3  # three that are not to be filtered; the link is seen
+        self.check_mercator("odd requests", count, told, wanted)
+        posted = {(host, "/form"): 2, (other, "/form"): 1, (other, "/failing"): RETRIES + 1}
+        posted.update({(numeric, f"/form/{number}"): 1 for number in range(4)})
+        self.check("odd requests: posts", dict(count.posted) == posted, count.posted)
+        data = told["parsed"].count("data:text/html,text")
+        self.check("odd requests: data", data == 1, data)
+        missing = set(failing_urls) - set(told["failed"])
+        self.check("odd requests: errbacks", not missing, missing)
+
+    def small_frontier(self) -> None:
+        """More URLs than the frontier holds: the rest waits in the scheduler."""
+        rand = Random(99)
+        site = drawn_site(rand, self.servers.port, 120)
+        wanted = {one: times for one, times in site.wanted().items() if times}
+        for most in (2, 8):
+            settings = {"MERCATOR_WORKERS": 4, "MERCATOR_MAX_PENDING": most}
+            count, told = self.crawl(site, MERCATOR, {"settings": settings, **self.answers(site)})
+            # A URL of which two wait outside is stored twice, and dropped by the scheduler itself.
+            told["dropped"] = told["stats"].get("dupefilter/filtered", 0)
+            self.check_mercator(f"{most} pending", count, told, wanted)
+
+    def within(self) -> None:
+        site = Site((address_of(0), "/"))
+        links = tuple((address_of(number), f"/p/{number}") for number in range(HOSTS - 1))
+        site.pages[site.seed] = Page("200", page_of(map(self.url, links)), links)
+        for link in links:
+            site.pages[link] = Page("200")
+        count, told = self.crawl(site, MERCATOR, {"settings": {"MERCATOR_WITHIN": "h0.test"}})
+        self.check_mercator("within", count, told, {site.seed: 1, links[0]: 1})
+        filtered = told["stats"].get("mercator/filtered")
+        self.check("within: kept out", filtered == HOSTS - 2, filtered)
+
+    def priorities(self) -> None:
+        """Of requests that wait for several hosts the one with the highest priority goes first."""
+        site = Site((address_of(0), "/"))
+        links = tuple((address_of(number), f"/{number}") for number in (4, 2, 5, 1, 3))
+        site.pages[site.seed] = Page("200", page_of(map(self.url, links)), links)
+        for link in links:
+            site.pages[link] = Page("200")
+        settings = {"CONCURRENT_REQUESTS": 1, "MERCATOR_WORKERS": 512}
+        count, told = self.crawl(site, MERCATOR, {"by_number": True, "settings": settings})
+        self.check_mercator("priorities", count, told, {asked: 1 for asked in site.pages})
+        order = [site.seed, *sorted(links, reverse=True)]
+        self.check("priorities: the highest first", count.order == order, count.order)
+
+    def idle_spider(self) -> None:
+        """A spider that finds more to do when it is idle, twice a URL that was seen."""
+        site = drawn_site(Random(5), self.servers.port, 30)
+        more = [(address_of(number), f"/more/{number}") for number in range(3)]
+        urls = [self.url(asked) for asked in [*more, more[0], site.seed]]
+        count, told = self.crawl(site, MERCATOR, {"when_idle": urls, **self.answers(site)})
+        wanted = {one: times for one, times in site.wanted().items() if times}
+        self.check_mercator("idle spider", count, told, {**wanted, **{asked: 1 for asked in more}})
+
+    def closed_spider(self) -> None:
+        """A spider that is closed before its end."""
+        site = drawn_site(Random(1), self.servers.port, 150)
+        settings = {"CLOSESPIDER_PAGECOUNT": 10}
+        count, told = self.crawl(site, MERCATOR, {"settings": settings, **self.answers(site)})
+        stats = told["stats"]
+        reason = stats.get("finish_reason")
+        self.check("closed spider: why", reason == "closespider_pagecount", reason)
+        self.check("closed spider: more was left", stats.get("mercator/pending", 0) > 0, stats)
+        self.check("closed spider: not closed", stats.get("mercator/closed") is False, stats)
+        self.check("closed spider: one request of a host at a time", count.most == 1, count.most)
+
+    def lost_frontier(self) -> None:
+        """The program is killed: the spider is closed and says so."""
+        site = drawn_site(Random(1), self.servers.port, 150)
+        count, told = self.crawl(site, MERCATOR, {"kill_after": 10, **self.answers(site)})
+        stats = told["stats"]
+        self.check("lost frontier: told", stats.get("finish_reason") == "mercator_ended", stats)
+        self.check("lost frontier: not closed", "mercator/closed" not in stats, stats)
+
+
+    def missing_program(self) -> None:
+        site = Site((address_of(0), "/"))
+        settings = {"MERCATOR_PROGRAM": "/no/such/program"}
+        count, _ = self.crawl(site, MERCATOR, {"settings": settings})
+        self.check("missing program: nothing is asked for", not count.asked, count.asked)
+
+
+def main() -> int:
+    parser = argparse.ArgumentParser(
+        description=__doc__, formatter_class=argparse.RawDescriptionHelpFormatter
+    )
+    parser.add_argument("--program", help="the program mercator")
+    parser.add_argument("--keep", action="store_true", help="keep the logs of the crawls")
+    parser.add_argument("--crawl", help=argparse.SUPPRESS)
+    asked = parser.parse_args()
+    if asked.crawl:
+        crawl(json.loads(Path(asked.crawl).read_text(encoding="utf-8")))
+        return 0
+    program = asked.program or os.environ.get("MERCATOR") or shutil.which("mercator")
+    if program is None:
+        parser.error("no program: give --program, MERCATOR or mercator in PATH")
+    kept = Path(tempfile.mkdtemp(prefix="scrapy_site."))
+    tests = Tests(str(Path(program).resolve()), kept)
+    for test in (tests.shipped_site, tests.drawn_sites, tests.odd_requests, tests.small_frontier,
+                 tests.within, tests.priorities, tests.idle_spider, tests.closed_spider,
+                 tests.lost_frontier, tests.missing_program):
+        test()
+    if asked.keep or tests.failed:
+        print(f"the logs of the crawls are in {kept}")
+    else:
+        shutil.rmtree(kept)
+    print(f"{tests.passed} passed, {tests.failed} failed")
+    return 1 if tests.failed else 0
+
+
+if __name__ == "__main__":
+    sys.exit(main())
