@@ -1,0 +1,223 @@
+#!/usr/bin/env python3
+"""A crawler over `mercator serve`: fetches pages by HTTP in N threads, each host by one of them.
+
+Usage: crawl_http.py [--workers N] [--within SUFFIX] [--log FILE] [--delay S] [--largest BYTES]
+                     [--pages N] [--agent NAME] [--program FILE] SEED..
+
+It writes a line for each URL that it has fetched: the status, how many of its links are new, the
+URL. The status is `robots` where robots.txt forbids the URL, and `failed` where there is no answer.
+
+- It keeps to robots.txt, and waits between two requests to a host: --delay seconds, or the
+  Crawl-delay of robots.txt where that is longer.
+- It reads --largest bytes of a page at most, in at most SECONDS.
+- It offers where a redirect leads to, and does not follow it.
+- With --log it goes on where it was ended, by Ctrl-C, `kill -9` or a crash: give the same words.
+
+Status 0: no URL is left; 1: the frontier failed; 2: Ctrl-C, or --pages URLs were fetched.
+"""
+
+from __future__ import annotations
+
+import argparse
+import http.client
+import sys
+import threading
+import time
+from html.parser import HTMLParser
+from pathlib import Path
+from typing import Dict, List, NamedTuple, Optional, Tuple
+from urllib.parse import urljoin, urlsplit
+from urllib.robotparser import RobotFileParser
+
+sys.path.insert(0, str(Path(__file__).resolve().parent.parent / "clients" / "python"))
+from mercator_frontier import Frontier, FrontierError, Refusal
+
+SECONDS = 30
+REDIRECTS = (301, 302, 303, 307, 308)
+LINKS = {
+    ("a", "href"), ("area", "href"), ("frame", "src"), ("iframe", "src"), ("img", "src"), ("link", "href"),
+    ("script", "src"),
+}
+
+
+class Reply(NamedTuple):
+    """What a host answers; the status is `failed` where it does not."""
+
+    status: str
+    leads_to: Optional[str] = None
+    text: str = ""
+
+
+class Links(HTMLParser):
+    """The texts of the links of a page, and the base that they are read by."""
+
+    def __init__(self, url: str, text: str) -> None:
+        super().__init__()
+        self.base = url
+        self.texts: List[str] = []
+        try:
+            self.feed(text)
+            self.close()
+        except AssertionError:
+            pass  # at markup that the parser gives up on, so far as it came
+
+    def handle_starttag(self, tag: str, attrs: List[Tuple[str, Optional[str]]]) -> None:
+        for name, value in attrs:
+            if value is not None and (tag, name) in LINKS:
+                self.texts.append(value)
+            elif value is not None and (tag, name) == ("base", "href"):
+                self.base = joined(self.base, value)
+
+
+def joined(base: str, text: str) -> str:
+    """The URL of a base, or of a redirect of robots.txt. Links are resolved by the frontier."""
+    try:
+        return urljoin(base, text)
+    except ValueError:
+        return base
+
+
+def fetch(url: str, agent: str, largest: int) -> Reply:
+    parts = urlsplit(url)
+    kind = http.client.HTTPSConnection if parts.scheme == "https" else http.client.HTTPConnection
+    connection = kind(parts.hostname or "", parts.port, timeout=SECONDS)
+    try:
+        target = parts.path + ("?" + parts.query if parts.query else "")
+        connection.request("GET", target, headers={"User-Agent": agent})
+        answer = connection.getresponse()
+        if answer.status in REDIRECTS:
+            return Reply(str(answer.status), answer.getheader("Location"))
+        if answer.status != 200 or answer.headers.get_content_maintype() != "text":
+            return Reply(str(answer.status))
+        charset = answer.headers.get_content_charset() or "utf-8"
+        return Reply("200", None, body_of(answer, largest).decode(charset, "replace"))
+    except (OSError, ValueError, LookupError, http.client.HTTPException):
+        return Reply("failed")
+    finally:
+        connection.close()
+
+
+def body_of(answer: http.client.HTTPResponse, largest: int) -> bytes:
+    """The first bytes of a page, as far as they come in time."""
+    body = b""
+    end = time.monotonic() + SECONDS
+    while len(body) < largest and time.monotonic() < end:
+        some = answer.read1(min(65_536, largest - len(body)))
+        if not some:
+            break
+        body += some
+    return body
+
+
+class Host:
+    """What a fetcher knows of a host that it visits: its robots.txt, and when it was asked last."""
+
+    def __init__(self, site: str, agent: str, delay: float) -> None:
+        self.agent, self.delay = agent, delay
+        self.asked = time.monotonic() - delay
+        self.robots = RobotFileParser()
+        reply = Reply("301", site + "/robots.txt")
+        for _ in range(6):
+            if reply.leads_to is None:
+                break
+            reply = self.fetch(joined(site, reply.leads_to), 500_000)
+        # No answer, or that of a broken host, may hide a robots.txt that forbids all.
+        is_hidden = reply.status == "failed" or reply.status.startswith("5")
+        self.robots.parse(["User-agent: *", "Disallow: /"] if is_hidden else reply.text.splitlines())
+        self.delay = max(delay, float(self.robots.crawl_delay(agent) or 0))
+
+    def fetch(self, url: str, largest: int) -> Reply:
+        """Fetches, once the delay since the last request is over."""
+        time.sleep(max(0.0, self.asked + self.delay - time.monotonic()))
+        try:
+            return fetch(url, self.agent, largest)
+        finally:
+            self.asked = time.monotonic()
+
+
+class Crawl:
+    """What the fetchers share."""
+
+    def __init__(self, frontier: Frontier, words: argparse.Namespace) -> None:
+        self.frontier, self.words = frontier, words
+        self.lock = threading.Lock()
+        self.left: int = words.pages
+        self.stopped = threading.Event()
+        self.failed: Optional[FrontierError] = None
+
+    def run(self) -> None:
+        """Crawls until no URL is left, or until the crawl is stopped."""
+        queues = range(self.words.workers)
+        fetchers = [threading.Thread(target=self.work, args=(queue,), daemon=True) for queue in queues]
+        for fetcher in fetchers:
+            fetcher.start()
+        try:
+            while any(fetcher.is_alive() for fetcher in fetchers) and not self.stopped.wait(0.1):
+                pass
+        except KeyboardInterrupt:
+            self.stopped.set()
+
+    def work(self, queue: int) -> None:
+        hosts: Dict[str, Host] = {}
+        try:
+            while (url := self.frontier.take(queue)) is not None:
+                self.visit(url, hosts)
+                self.frontier.done(queue)
+                self.count()
+        except FrontierError as error:
+            if not self.stopped.is_set():
+                self.failed = error
+            self.stopped.set()
+
+    def visit(self, url: str, hosts: Dict[str, Host]) -> None:
+        """Fetches the URL, offers its links, and tells of it."""
+        site = "{0.scheme}://{0.netloc}".format(urlsplit(url))
+        if site not in hosts:
+            hosts[site] = Host(site, self.words.agent, self.words.delay)
+        reply = Reply("robots")
+        if hosts[site].robots.can_fetch(self.words.agent, url):
+            reply = hosts[site].fetch(url, self.words.largest)
+        links = Links(url, reply.text)
+        texts = links.texts if reply.leads_to is None else [reply.leads_to]
+        new = sum(map(bool, self.frontier.links(links.base, texts)))
+        with self.lock:
+            print(reply.status, new, url, flush=True)
+
+    def count(self) -> None:
+        with self.lock:
+            self.left -= 1
+            if self.left == 0:
+                self.stopped.set()
+
+
+def main() -> int:
+    parser = argparse.ArgumentParser(description=__doc__, formatter_class=argparse.RawDescriptionHelpFormatter)
+    parser.add_argument("--workers", type=int, default=4, metavar="N", help="fetchers; 4")
+    parser.add_argument("--within", metavar="SUFFIX", help="only hosts that are SUFFIX, or end with a dot and it")
+    parser.add_argument("--log", metavar="FILE", help="what the crawl goes on from")
+    parser.add_argument("--delay", type=float, default=1, metavar="S", help="seconds between two requests to a host; 1")
+    parser.add_argument("--largest", type=int, default=5_000_000, metavar="BYTES", help="of a page; 5000000")
+    parser.add_argument("--pages", type=int, default=0, metavar="N", help="stops after so many URLs")
+    parser.add_argument("--agent", default="crawl_http", metavar="NAME", help="User-Agent: name yourself")
+    parser.add_argument("--program", metavar="FILE", help="mercator; else what MERCATOR names, else `mercator`")
+    parser.add_argument("seed", nargs="+", metavar="SEED")
+    words = parser.parse_args()
+    try:
+        with Frontier(words.workers, within=words.within, log=words.log, program=words.program) as frontier:
+            for seed, offer in zip(words.seed, frontier.offer_all(words.seed)):
+                if isinstance(offer, Refusal) and offer is not Refusal.SEEN:
+                    print(f"crawl_http: {seed}: {offer.value}", file=sys.stderr)
+            frontier.end_seeds()
+            crawl = Crawl(frontier, words)
+            crawl.run()
+    except FrontierError as error:
+        print(f"crawl_http: {error}", file=sys.stderr)
+        return 1
+    if crawl.failed:
+        print(f"crawl_http: {crawl.failed}", file=sys.stderr)
+        return 1
+    return 2 if crawl.stopped.is_set() else 0
+
+
+if __name__ == "__main__":
+    sys.exit(main())
