@@ -126,6 +126,12 @@ class Host:
         self.robots.parse(["User-agent: *", "Disallow: /"] if is_hidden else reply.text.splitlines())
         self.delay = max(delay, float(self.robots.crawl_delay(agent) or 0))
 
+    def allows(self, url: str) -> bool:
+        try:
+            return self.robots.can_fetch(self.agent, url)
+        except ValueError:
+            return False  # urllib cannot read the URL
+
     def fetch(self, url: str, largest: int) -> Reply:
         """Fetches, once the delay since the last request is over."""
         time.sleep(max(0.0, self.asked + self.delay - time.monotonic()))
@@ -143,7 +149,7 @@ class Crawl:
         self.lock = threading.Lock()
         self.left: int = words.pages
         self.stopped = threading.Event()
-        self.failed: Optional[FrontierError] = None
+        self.failed: Optional[Exception] = None
 
     def run(self) -> None:
         """Crawls until no URL is left, or until the crawl is stopped."""
@@ -164,7 +170,7 @@ class Crawl:
                 self.visit(url, hosts)
                 self.frontier.done(queue)
                 self.count()
-        except FrontierError as error:
+        except Exception as error:  # whatever it is, the other fetchers would wait for this one
             if not self.stopped.is_set():
                 self.failed = error
             self.stopped.set()
@@ -175,13 +181,15 @@ class Crawl:
         if site not in hosts:
             hosts[site] = Host(site, self.words.agent, self.words.delay)
         reply = Reply("robots")
-        if hosts[site].robots.can_fetch(self.words.agent, url):
+        if hosts[site].allows(url):
             reply = hosts[site].fetch(url, self.words.largest)
         links = Links(url, reply.text)
         texts = links.texts if reply.leads_to is None else [reply.leads_to]
-        new = sum(map(bool, self.frontier.links(links.base, texts)))
+        offers = self.frontier.links(links.base, texts)
         with self.lock:
-            print(reply.status, new, url, flush=True)
+            print(reply.status, sum(map(bool, offers)), url, flush=True)
+            if Refusal.FULL in offers:
+                print(f"crawl_http: {url}: the frontier has no room for all its links", file=sys.stderr)
 
     def count(self) -> None:
         with self.lock:
@@ -214,7 +222,7 @@ def main() -> int:
         print(f"crawl_http: {error}", file=sys.stderr)
         return 1
     if crawl.failed:
-        print(f"crawl_http: {crawl.failed}", file=sys.stderr)
+        print(f"crawl_http: {crawl.failed!r}", file=sys.stderr)
         return 1
     return 2 if crawl.stopped.is_set() else 0
 

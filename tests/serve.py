@@ -234,6 +234,7 @@ class Serve:
             count -= some.count(b"\n")
         expect(count == 0, "it answers more lines than it was asked")
         sender.join(SECONDS)
+        expect(not sender.is_alive(), f"it does not read for {SECONDS} s")
         return self.memory()
 
     def told(self) -> str:
@@ -335,6 +336,19 @@ def drawn_sessions(trial: Trial) -> None:
         compare(data, wanted, session.exchange(random_pieces(draw, data)))
         expect(session.end() == (0, ""), "its end is not that of an input that ended")
     expect(set(came) == ANSWERS, f"these answers never came: {ANSWERS - set(came)}")
+
+
+def transcript(trial: Trial) -> None:
+    """The session that docs/SESSION.md shows."""
+    trial.want_link()
+    text = (ROOT / "docs/SESSION.md").read_text("utf-8")
+    shown = re.findall(r"^> (.*)\n(.*?)(?:  .*)?$", text.partition("```text\n")[2].partition("```")[0], re.M)
+    expect(len(shown) > 10, "no transcript")
+    session = Serve(trial.program, ("--workers", "2"))
+    for request, answer in shown:
+        told = session.ask(request.encode())
+        expect(told == answer, f"{request}: {told!r}, {answer!r} shown")
+    expect(session.end() == (0, ""), "its end")
 
 
 def all_at_once(trial: Trial) -> None:
@@ -913,7 +927,7 @@ def polite_crawler(trial: Trial) -> None:
 # ---------------------------------------------------------------- all parts
 
 PARTS: Tuple[Callable[[Trial], None], ...] = (
-    drawn_sessions, all_at_once, byte_by_byte, stopped_between, dying_client, closed_output, memory, long_line, client_values,
+    transcript, drawn_sessions, all_at_once, byte_by_byte, stopped_between, dying_client, closed_output, memory, long_line, client_values,
     client_ends, client_small_pipes, crawls, killed_crawls, log_in_use, full_disk, crawler, killed_crawler, polite_crawler,
 )
 

@@ -33,9 +33,7 @@ import tempfile
 import threading
 import time
 from types import TracebackType
-from typing import (
-    Dict, Iterable, List, NamedTuple, NoReturn, Optional, Sequence, Type, Union,
-)
+from typing import Dict, Iterable, List, NamedTuple, NoReturn, Optional, Sequence, Type, Union
 
 __all__ = [
     "Accepted", "Closed", "Frontier", "FrontierEnded", "FrontierError", "LogInUse", "NoSuchQueue", "NothingTaken",
@@ -249,7 +247,7 @@ class Frontier:
             return count
 
     def close(self) -> None:
-        """Ends the program. What it has not in a log is lost. Each later call, and each that waits, raises `FrontierEnded`."""
+        """Ends the program; what no log has is lost. A call that waits, or that comes later, raises `FrontierEnded`."""
         with self._lock:
             self._channel.close()
             self._wake(range(self.workers))
@@ -373,6 +371,7 @@ class _Channel:
         """Sends so many lines, and answers the lines that they are answered, without their ends."""
         if self._end:
             raise FrontierEnded(str(self._end), self._end.status, self._end.told)
+        self._received.clear()
         try:
             self._send_all(memoryview(requests), requests)
         except OSError as error:
@@ -384,7 +383,6 @@ class _Channel:
                 self._ended("a call was interrupted, which ended the frontier")
             raise
         answers = b"".join(self._received).split(b"\n")
-        self._received.clear()
         if answers.pop() or len(answers) != count:
             self._ended("the program did not answer line by line")
             raise UnknownAnswer(f"{count} requests had {len(answers)} answers")
@@ -480,7 +478,7 @@ def _lines(word: str, texts: List[str]) -> bytes:
 
 
 def _link_word(base: str) -> str:
-    """What stands before the text of a link. A base ends at its first space, so its own are written as the URL Standard writes them."""
+    """What stands before the text of a link. A base ends at its first space, so its own are escaped as in a URL."""
     return f"link {base.strip(_TRIMMED).translate(_IN_BASE)} "
 
 
