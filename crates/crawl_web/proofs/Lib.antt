@@ -1,7 +1,8 @@
 pub mod CutLines
 pub mod FirstVersion
-pub mod KeptPlaces
 pub mod LeastLine
+pub mod LinkIndex
+pub mod PageIndex
 pub mod PageLinks
 pub mod PassedLines
 pub mod ReadWeb

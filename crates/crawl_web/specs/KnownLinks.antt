@@ -1,5 +1,5 @@
 -- What is known of links by their texts.
-use Rattle.std.specs.Prelude.{◌≡◌, ◌⊎◌, ◌++◌, ℕ, true, List, [], ◌∷◌, All, Option}
+use Rattle.std.specs.Prelude.{◌≡◌, ℕ, true, List, All, Option}
 use Rattle.crawl_keys.specs.Folders.{is_of_folder}
 use Rattle.crawl_web.specs.SavedWeb.{link_url}
 
@@ -14,7 +14,3 @@ AreLinks base known = All (λ x. x.1 ≡ link_url base x.0) known
 -- links with the texts of the list lead to the same URLs from all pages of a folder
 abbrev pub AreOfFolder : List TextLink → Type 0
 AreOfFolder known = All (λ x. is_of_folder x.0 ≡ true) known
-
--- the list is as it was, or has one text more
-abbrev pub MayAdd : List TextLink → List TextLink → List ℕ → Option (List ℕ) → Type 0
-MayAdd old new text link = (new ≡ old) ⊎ (new ≡ old ++ (text, link) ∷ [])

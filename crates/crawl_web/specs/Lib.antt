@@ -4,7 +4,6 @@ pub mod LeastFault
 pub mod Limits
 pub mod Lines
 pub mod PageLists
-pub mod PagePlaces
 pub mod Pages
 pub mod Parts
 pub mod ReportText

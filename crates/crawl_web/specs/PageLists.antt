@@ -1,5 +1,5 @@
 -- The pages of a saved web as a list, in the order in which they were read.
-use Rattle.std.specs.Prelude.{◌≡◌, ℕ, Bool, List, [], ◌∷◌, if◌then◌else◌, slice_get, Option, Some, None, is_some, refl}
+use Rattle.std.specs.Prelude.{ℕ, Bool, List, [], ◌∷◌, if◌then◌else◌, Option, Some, None, is_some, refl}
 use Rattle.std.specs.Coded.{Coded, code_by, coded×, coded_list, coded_ℕ}
 use Rattle.std.specs.Str.{bytes_eq}
 
@@ -20,8 +20,3 @@ page_with (page ∷ more) url = if bytes_eq page.url url then Some page else pag
 -- some page has this URL
 abbrev pub has : List PageRead → List ℕ → Bool
 has pages url = is_some (page_with pages url)
-
--- pages at two places have different URLs
-abbrev pub AreApart : List PageRead → Type 0
-AreApart pages =
-    (i k : ℕ) (x y : PageRead) → slice_get pages i ≡ Some x → slice_get pages k ≡ Some y → x.url ≡ y.url → i ≡ k

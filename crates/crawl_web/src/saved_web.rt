@@ -13,10 +13,10 @@ mod known_link;
 mod known_links;
 mod known_page;
 mod line;
+mod link_text;
 mod links;
 mod memory;
 mod pages;
-mod places;
 
 use crate::fetch::{Fetch, FetchError};
 use crate::lines::first_line;

@@ -134,7 +134,7 @@ fn add_page<'a>(
         Err(KeyError::NoMemory) => return Err(WebError::NoMemory),
         Err(KeyError::NotUrl | KeyError::NotHttp) => return Err(WebError::BadPageUrl(number)),
     };
-    if pages.add(alloc, page, behind)? {
+    if pages.add(page, behind)? {
         Ok(())
     } else {
         Err(WebError::PageTwice(number))

@@ -4,8 +4,8 @@ ghost use Rattle.crawl_keys.specs.Folders as spec;
 ghost use Rattle.crawl_web.specs.SavedWeb.{link_url};
 
 use crate::fetch::FetchError;
-use crate::saved_web::known_link::known_link;
 use crate::saved_web::known_links::KnownLinks;
+use crate::saved_web::link_text::LinkText;
 use crawl_keys::{Base, CanonUrl};
 use std::alloc::Global;
 use std::marker::Model;
@@ -64,25 +64,24 @@ impl<'a> Folder<'a> {
         self.known.len()
     }
 
-    /// Where a link with this text, which has this hash, leads, if that is known.
-    pub fn find(&self, text: &'a str, hash: u64) -> Option<&Option<CanonUrl>>
+    /// Where a link with this text leads, if that is known.
+    pub fn find(&self, text: &LinkText<'a>) -> Option<&Option<CanonUrl>>
         ensures { IfSome result (λ link. link.now ≡ link_url self.now text.now) }
     {
-        self.known.find(text, hash)
+        self.known.find(text)
     }
 
-    /// Where a link with this text, which has this hash, leads, which is known from now on.
+    /// Where a link with this text leads, which is known from now on.
     pub fn link(
         &mut self,
         alloc: Global,
-        text: &'a str,
-        hash: u64,
+        text: &LinkText<'a>,
     ) -> Result<Option<CanonUrl>, FetchError>
         requires { spec.is_of_folder text.now ≡ true }
         ensures link { IfOk result (λ link. link ≡ link_url self.old text.now) }
         ensures page { self.new ≡ self.old }
         ensures refused { IfErr result (λ e. e ≡ FetchError.NoMemory) }
     {
-        known_link(alloc, &self.page, &mut self.known, text, hash)
+        self.known.link(alloc, &self.page, text)
     }
 }

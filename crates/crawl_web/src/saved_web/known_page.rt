@@ -1,8 +1,8 @@
 //! A page of a saved web, as it is kept.
 ghost use Rattle.std.specs.Prelude.{◌≡◌, IfOk};
-ghost use Rattle.hash_order.specs.HashOrder as spec;
 
 use crawl_keys::Base;
+use hash_index::Keyed;
 use hash_order::hash_of;
 use std::alloc::AllocError;
 use std::marker::Model;
@@ -10,7 +10,7 @@ use std::marker::Model;
 /// A page of a saved web: its URL, parsed once, when the web is read, and the bytes behind its line.
 #[derive(Drop)]
 pub struct KnownPage<'a> {
-    /// The hash of the URL's text, since its place is kept anew where the table of places grows.
+    /// The hash of the URL's text, which the index of pages asks for as it grows.
     hash: u64,
     base: Base,
     behind: &'a [u8],
@@ -43,20 +43,6 @@ impl<'a> KnownPage<'a> {
         }
     }
 
-    /// The text of its URL.
-    pub fn url(&self) -> &str
-        ensures { result.now ≡ self.now.url }
-    {
-        self.base.as_str()
-    }
-
-    /// The hash of that text.
-    pub fn hash(&self) -> u64
-        ensures { result ≡ spec.hash_of self.now.url }
-    {
-        self.hash
-    }
-
     /// The base for its links: a copy, so nothing is parsed.
     pub fn base(&self) -> Result<Base, AllocError>
         ensures { IfOk result (λ base. base ≡ self.now.url) }
@@ -69,5 +55,21 @@ impl<'a> KnownPage<'a> {
         ensures { result.now ≡ self.now.behind }
     {
         self.behind
+    }
+}
+
+impl Keyed for KnownPage<'_> {
+    ghost use Rattle.hash_order.specs.HashOrder.{hash_of};
+
+    ghost text = { λ page. page.url };
+
+    ghost hash = { hash_of };
+
+    fn text(&self) -> &str {
+        self.base.as_str()
+    }
+
+    fn text_hash(&self) -> u64 {
+        self.hash
     }
 }

@@ -10,12 +10,12 @@ use crate::fetch::FetchError;
 use crate::lines::first_line;
 use crate::page::{Links, Page};
 use crate::saved_web::folder::Folder;
-use crate::saved_web::known_link::{copy_of, known_link, link_of};
+use crate::saved_web::known_link::{copy_of, link_of};
 use crate::saved_web::known_links::KnownLinks;
 use crate::saved_web::line::{Line, line_of};
+use crate::saved_web::link_text::LinkText;
 use crate::saved_web::memory::{Memories, Memory, place_of};
-use crawl_keys::{Base, CanonUrl, before_fragment, is_of_folder};
-use hash_order::hash_of;
+use crawl_keys::{Base, CanonUrl, is_of_folder};
 use std::alloc::Global;
 
 /// The page of this URL, with its base, whose line these bytes follow, up to the next page or to the end.
@@ -107,20 +107,15 @@ fn link_on<'a>(
     ensures refused { IfErr result (λ e. e ≡ FetchError.NoMemory) }
 {
     // Most texts are known as they stand, so nothing is searched for in them.
-    let hash = hash_of(text);
-    if let Some(link) = folder.find(text, hash) {
+    let whole = LinkText::new(text);
+    if let Some(link) = folder.find(&whole) {
         return Ok(copy_of(link)?);
     }
-    let front = before_fragment(text);
-    let hash = if front.len() == text.len() {
-        hash
+    let front = whole.before_fragment();
+    if is_of_folder(front.as_str()) {
+        folder.link(alloc, &front)
     } else {
-        hash_of(front)
-    };
-    if is_of_folder(front) {
-        folder.link(alloc, front, hash)
-    } else {
-        known_link(alloc, folder.page(), known, front, hash)
+        known.link(alloc, folder.page(), &front)
     }
 }
 

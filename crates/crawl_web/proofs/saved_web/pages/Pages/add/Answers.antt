@@ -1,17 +1,17 @@
-use Rattle.std.proofs.Common.{rules, ◌≡◌, true, not}
-use Rattle.crawl_web.specs.PageLists.{has}
-use Rattle.crawl_web.proofs.KeptPlaces.{absent, keeps_more}
+use Rattle.std.proofs.Common.{rules, ◌≡◌, false, [], ◌∷◌, ◌++◌, is_some}
+use Rattle.hash_order.specs.HashOrder.{hash_of}
+use Rattle.hash_index.proofs.Listed.{none_there}
+use Rattle.hash_index.proofs.Keeping.{pushed_item}
+use Rattle.crawl_web.specs.PageLists.{PageRead}
 use Rattle.crawl_web.proofs.saved_web.pages.Pages.add.Goals as goal
 
 pub invariant_of-self-2 : goal.invariant_of-self-2
 invariant_of-self-2 c =
-    let list = c.self.inside.list.items in
+    let pages = c.self.inside.list.items in
     let page = c.new-page.result in
-    let told : true ≡ not (has list page.url) = search rules in
-    rw c.in_ok-push.ensures.items
-    (keeps_more list page c.keep_if_new.new.places c.len-place.result (search rules) (absent (has list page.url) told)
-    (search rules) c.self.invariant.0 (rw c.deref.ensures.value at c.keep_if_new.ensures.kept))
+    let longer : c.push.new.self.items ≡ pages ++ page ∷ [] = search rules in
+    let absent : is_some c.in_ok-found.found ≡ false = search rules in
+    pushed_item (λ (one : PageRead). one.url) hash_of c.find_or_insert.new.self pages c.push.new.self.items page longer (c.in_ok-found.ensures.pushed (none_there c.in_ok-found.found absent))
 
 pub invariant_of-self-in_err-push : goal.invariant_of-self-in_err-push
-invariant_of-self-in_err-push c =
-    rw c.in_err-push.ensures.items (c.self.invariant.0, rw c.deref.ensures.value at c.keep_if_new.ensures.kept)
+invariant_of-self-in_err-push c = rw c.in_err-push.ensures.items c.find_or_insert.ensures.before
