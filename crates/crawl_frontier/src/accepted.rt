@@ -1,5 +1,5 @@
 //! What one subqueue accepted, once its shard is out of its lock.
-ghost use Rattle.std.specs.Prelude.{◌≡◌, ℕ, true, false, map};
+ghost use Rattle.std.specs.Prelude.{◌≡◌, ◌≢◌, ℕ, true, false, map};
 ghost use Rattle.hash_order.specs.HashOrder.{hash_of};
 ghost use Rattle.hash_index.specs.Lists.{index_of};
 ghost use Rattle.hash_index.specs.Index.{IsIndexOf};
@@ -38,6 +38,14 @@ impl Model for AcceptedList {
         × ((id : ℕ) → count_in s.counts id ≡ count_of id s.sent.items) };
 }
 
+// Whether two entries with one URL are equal.
+fn agree(found: &Entry, entry: &Entry) -> bool
+    ensures equal { result ≡ true → found.now.url ≡ entry.now.url → found.now ≡ entry.now }
+    ensures other { result ≡ false → found.now ≢ entry.now }
+{
+    found.sender == entry.sender && found.number == entry.number && found.hops == entry.hops
+}
+
 impl AcceptedList {
     pub(crate) fn new(sent: Vec<Entry>, index: HashIndex, counts: Counts) -> AcceptedList
         requires index { IsIndexOf hash_of (map (λ e. e.url) sent.items) index }
@@ -70,11 +78,10 @@ impl AcceptedList {
         ensures there { result ≡ true → (k : ℕ) × At self.now k entry.now }
         ensures absent { result ≡ false → (k : ℕ) → ¬ At self.now k entry.now }
     {
-        let Some(index) = self.index_of(&entry.url) else {
-            return false;
-        };
-        let found = &self.sent[index];
-        found.sender == entry.sender && found.number == entry.number && found.hops == entry.hops
+        match self.index_of(&entry.url) {
+            Some(index) => agree(&self.sent[index], entry),
+            None => false,
+        }
     }
 
     /// Whether the URL stands in the list.

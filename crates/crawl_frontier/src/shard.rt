@@ -14,7 +14,7 @@ use crate::rights::PushRight;
 use crate::subqueue::Subqueue;
 use crate::tables::{Counts, count, enter_sender, raise};
 use crawl_gate::Unit;
-use crawl_keys::{CanonUrl, KeyError, UrlKey};
+use crawl_keys::{CanonUrl, KeyError};
 use hash_index::HashIndex;
 use std::alloc::Global;
 use std::marker::{Model, PhantomData};
@@ -83,11 +83,11 @@ fn seen(there: &Entry, unit: Unit) -> Admit
 }
 
 // What a push needs: the message's entry, and the list's.
-fn copies(url: &UrlKey, sender: u64, number: u64, hops: u32) -> Result<(Entry, Entry), KeyError>
+fn copies(url: &CanonUrl, sender: u64, number: u64, hops: u32) -> Result<(Entry, Entry), KeyError>
     ensures { IfOk result (λ r. (r.0 ≡ entry url.now sender number hops) × (r.1 ≡ entry url.now sender number hops)) }
 {
-    let sent = Entry::of_copy(url.url(), sender, number, hops)?;
-    let listed = Entry::of_copy(url.url(), sender, number, hops)?;
+    let sent = Entry::of_copy(url, sender, number, hops)?;
+    let listed = Entry::of_copy(url, sender, number, hops)?;
     Ok((sent, listed))
 }
 
@@ -136,7 +136,7 @@ impl<K: Name> Shard<K> {
         &mut self,
         rt: &R,
         queue: &Subqueue,
-        url: &UrlKey,
+        url: &CanonUrl,
         sender: u64,
         own: u64,
         hops: u64,
@@ -154,7 +154,7 @@ impl<K: Name> Shard<K> {
         if hops <= HOPS_LIMIT {
             return self.send(rt, queue, url, sender, own, hops as u32, unit);
         }
-        match self.index.find(&self.sent, url.url()) {
+        match self.index.find(&self.sent, url) {
             Some(index) => seen(&self.sent[index], unit),
             None => Admit::TooFar(unit),
         }
@@ -166,7 +166,7 @@ impl<K: Name> Shard<K> {
         &mut self,
         rt: &R,
         queue: &Subqueue,
-        url: &UrlKey,
+        url: &CanonUrl,
         sender: u64,
         own: u64,
         hops: u32,
@@ -178,7 +178,7 @@ impl<K: Name> Shard<K> {
         requires own { count_of sender self.old.sent ≡ own }
         ensures { Admits self.old self.new url.now sender own hops unit result }
     {
-        let Ok(found) = self.index.find_or_insert(&self.sent, url.url()) else {
+        let Ok(found) = self.index.find_or_insert(&self.sent, url) else {
             return Admit::NoMemory(unit);
         };
         if let Some(index) = found {
