@@ -268,6 +268,7 @@ class Trial:
         self.program = program_of(words.program)
         said = subprocess.run([self.program, "serve", "--help"], capture_output=True, check=False, stdin=subprocess.DEVNULL)
         self.has_log = b"--log" in said.stdout
+        self.has_sync = b"--sync" in said.stdout
         session = Serve(self.program)
         self.has_link = session.ask(b"again 0") != "bad line"
         session.end()
@@ -544,23 +545,43 @@ def client_ends(trial: Trial) -> None:
             raise Differs("513 workers are not refused")
         except FrontierEnded as error:
             expect(error.status == 3 and "513" in error.told and "513" in str(error), f"{error}")
-    with Frontier(2, program=trial.program) as frontier:
-        ends: List[BaseException] = []
+    for is_killed in (True, False):
+        with Frontier(2, program=trial.program) as frontier:
+            ends: List[FrontierEnded] = []
+            fetchers = [threading.Thread(target=wait, args=(frontier, queue, ends)) for queue in range(2)]
+            for fetcher in fetchers:
+                fetcher.start()
+            time.sleep(0.1)
+            if is_killed:
+                os.kill(pid_of(frontier), signal.SIGKILL)
+            else:
+                frontier.close()
+            expect_error(FrontierEnded, lambda: frontier.offer("http://a.test/"))
+            for fetcher in fetchers:
+                fetcher.join(SECONDS)
+            status = -9 if is_killed else 0
+            expect([end.status for end in ends] == [status] * 2, f"what the fetchers are told: {ends}")
 
-        def wait(queue: int) -> None:
-            try:
-                frontier.take(queue)
-            except FrontierEnded as error:
-                ends.append(error)
-        fetchers = [threading.Thread(target=wait, args=(queue,)) for queue in range(2)]
-        for fetcher in fetchers:
-            fetcher.start()
-        time.sleep(0.1)
-        os.kill(pid_of(frontier), signal.SIGKILL)
-        expect_error(FrontierEnded, lambda: frontier.offer("http://a.test/"))
-        for fetcher in fetchers:
-            fetcher.join(SECONDS)
-        expect([getattr(end, "status", 0) for end in ends] == [-9, -9], f"what the fetchers are told: {ends}")
+
+def wait(frontier: Frontier, queue: int, ends: List[FrontierEnded]) -> None:
+    try:
+        frontier.take(queue)
+    except FrontierEnded as error:
+        ends.append(error)
+
+
+def interrupted_call(trial: Trial) -> None:
+    """Ctrl-C in the midst of a call, whose answers nobody reads, ends the frontier."""
+    with Frontier(2, program=trial.program) as frontier:
+        os.kill(pid_of(frontier), signal.SIGSTOP)
+        threading.Timer(0.2, signal.pthread_kill, (threading.get_ident(), signal.SIGINT)).start()
+        try:
+            frontier.offer("http://a.test/")
+        except KeyboardInterrupt:
+            pass
+        else:
+            raise Differs("the call was not interrupted")
+        expect_error(FrontierEnded, lambda: frontier.offer("http://b.test/"))
 
 
 def pid_of(frontier: Frontier) -> int:
@@ -727,9 +748,10 @@ def killed_crawls(trial: Trial) -> None:
 
 
 def log_in_use(trial: Trial) -> None:
+    """One program has a log at a time; what it had given out is given out again by the next one."""
     trial.want_log()
     log = trial.folder / "used.log"
-    with Frontier(1, log=log, program=trial.program) as frontier:
+    with Frontier(1, log=log, sync=trial.has_sync, program=trial.program) as frontier:
         frontier.offer("http://a.test/")
         expect(frontier.take(0) == "http://a.test/", "take")
         expect_error(LogInUse, lambda: Frontier(1, log=log, program=trial.program))
@@ -927,8 +949,9 @@ def polite_crawler(trial: Trial) -> None:
 # ---------------------------------------------------------------- all parts
 
 PARTS: Tuple[Callable[[Trial], None], ...] = (
-    transcript, drawn_sessions, all_at_once, byte_by_byte, stopped_between, dying_client, closed_output, memory, long_line, client_values,
-    client_ends, client_small_pipes, crawls, killed_crawls, log_in_use, full_disk, crawler, killed_crawler, polite_crawler,
+    transcript, drawn_sessions, all_at_once, byte_by_byte, stopped_between, dying_client, closed_output, memory, long_line,
+    client_values, client_ends, interrupted_call, client_small_pipes, crawls, killed_crawls, log_in_use, full_disk, crawler,
+    killed_crawler, polite_crawler,
 )
 
 
