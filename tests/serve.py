@@ -5,8 +5,9 @@ Usage: serve.py [--program FILE] [--part NAME].. [--lines N] [--requests N] [--l
 
 PROGRAM is --program, else what MERCATOR of the environment names, else `mercator` of PATH, else the
 built program. A part that wants `--log` or the requests `link` and `again` is skipped, and said to
-be, where the program has them not. Drawn sessions are compared with a reckoning of this script,
-over that of drawn.py for URLs and the machine. At last it prints `N passed, M failed`.
+be, where the program has them not; so is a full disk where the user may mount none. Drawn sessions
+are compared with a reckoning of this script, over that of drawn.py for URLs and the machine.
+SECONDS of the environment is the time limit of each wait. At last it prints `N passed, M failed`.
 """
 
 from __future__ import annotations
