@@ -34,6 +34,7 @@ from mercator_frontier import Frontier, FrontierError, Refusal
 
 SECONDS = 30
 REDIRECTS = (301, 302, 303, 307, 308)
+PAGES = ("text/html", "application/xhtml+xml")
 LINKS = {
     ("a", "href"), ("area", "href"), ("frame", "src"), ("iframe", "src"), ("img", "src"),
     ("link", "href"), ("script", "src"),
@@ -45,6 +46,7 @@ class Reply(NamedTuple):
 
     status: str
     leads_to: Optional[str] = None
+    kind: str = ""
     text: str = ""
 
 
@@ -87,10 +89,11 @@ def fetch(url: str, agent: str, largest: int) -> Reply:
         answer = connection.getresponse()
         if answer.status in REDIRECTS:
             return Reply(str(answer.status), answer.getheader("Location"))
-        if answer.status != 200 or answer.headers.get_content_maintype() != "text":
+        kind = answer.headers.get_content_type()
+        if answer.status != 200 or kind not in (*PAGES, "text/plain"):
             return Reply(str(answer.status))
         charset = answer.headers.get_content_charset() or "utf-8"
-        return Reply("200", None, body_of(answer, largest).decode(charset, "replace"))
+        return Reply("200", None, kind, body_of(answer, largest).decode(charset, "replace"))
     except (OSError, ValueError, LookupError, http.client.HTTPException):
         return Reply("failed")
     finally:
@@ -186,7 +189,7 @@ class Crawl:
         reply = Reply("robots")
         if hosts[site].allows(url):
             reply = hosts[site].fetch(url, self.words.largest)
-        links = Links(url, reply.text)
+        links = Links(url, reply.text if reply.kind in PAGES else "")
         texts = links.texts if reply.leads_to is None else [reply.leads_to]
         offers = self.frontier.links(links.base, texts)
         with self.lock:
