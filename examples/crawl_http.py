@@ -81,8 +81,9 @@ def joined(base: str, text: str) -> str:
 
 def fetch(url: str, agent: str, largest: int) -> Reply:
     parts = urlsplit(url)
-    kind = http.client.HTTPSConnection if parts.scheme == "https" else http.client.HTTPConnection
-    connection = kind(parts.hostname or "", parts.port, timeout=SECONDS)
+    is_secret = parts.scheme == "https"
+    connect = http.client.HTTPSConnection if is_secret else http.client.HTTPConnection
+    connection = connect(parts.hostname or "", parts.port, timeout=SECONDS)
     try:
         target = parts.path + ("?" + parts.query if parts.query else "")
         connection.request("GET", target, headers={"User-Agent": agent})
