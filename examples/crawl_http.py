@@ -34,9 +34,10 @@ from mercator_frontier import Frontier, FrontierError, Refusal
 
 SECONDS = 30
 REDIRECTS = (301, 302, 303, 307, 308)
+PAGES = ("text/html", "application/xhtml+xml")
 LINKS = {
-    ("a", "href"), ("area", "href"), ("frame", "src"), ("iframe", "src"), ("img", "src"), ("link", "href"),
-    ("script", "src"),
+    ("a", "href"), ("area", "href"), ("frame", "src"), ("iframe", "src"), ("img", "src"),
+    ("link", "href"), ("script", "src"),
 }
 
 
@@ -45,6 +46,7 @@ class Reply(NamedTuple):
 
     status: str
     leads_to: Optional[str] = None
+    kind: str = ""
     text: str = ""
 
 
@@ -79,18 +81,20 @@ def joined(base: str, text: str) -> str:
 
 def fetch(url: str, agent: str, largest: int) -> Reply:
     parts = urlsplit(url)
-    kind = http.client.HTTPSConnection if parts.scheme == "https" else http.client.HTTPConnection
-    connection = kind(parts.hostname or "", parts.port, timeout=SECONDS)
+    is_secret = parts.scheme == "https"
+    connect = http.client.HTTPSConnection if is_secret else http.client.HTTPConnection
+    connection = connect(parts.hostname or "", parts.port, timeout=SECONDS)
     try:
         target = parts.path + ("?" + parts.query if parts.query else "")
         connection.request("GET", target, headers={"User-Agent": agent})
         answer = connection.getresponse()
         if answer.status in REDIRECTS:
             return Reply(str(answer.status), answer.getheader("Location"))
-        if answer.status != 200 or answer.headers.get_content_maintype() != "text":
+        kind = answer.headers.get_content_type()
+        if answer.status != 200 or kind not in (*PAGES, "text/plain"):
             return Reply(str(answer.status))
         charset = answer.headers.get_content_charset() or "utf-8"
-        return Reply("200", None, body_of(answer, largest).decode(charset, "replace"))
+        return Reply("200", None, kind, body_of(answer, largest).decode(charset, "replace"))
     except (OSError, ValueError, LookupError, http.client.HTTPException):
         return Reply("failed")
     finally:
@@ -123,7 +127,8 @@ class Host:
             reply = self.fetch(joined(site, reply.leads_to), 500_000)
         # No answer, or that of a broken host, may hide a robots.txt that forbids all.
         is_hidden = reply.status == "failed" or reply.status.startswith("5")
-        self.robots.parse(["User-agent: *", "Disallow: /"] if is_hidden else reply.text.splitlines())
+        text = "User-agent: *\nDisallow: /" if is_hidden else reply.text
+        self.robots.parse(text.splitlines())
         self.delay = max(delay, float(self.robots.crawl_delay(agent) or 0))
 
     def allows(self, url: str) -> bool:
@@ -153,8 +158,10 @@ class Crawl:
 
     def run(self) -> None:
         """Crawls until no URL is left, or until the crawl is stopped."""
-        queues = range(self.words.workers)
-        fetchers = [threading.Thread(target=self.work, args=(queue,), daemon=True) for queue in queues]
+        fetchers = [
+            threading.Thread(target=self.work, args=(queue,), daemon=True)
+            for queue in range(self.words.workers)
+        ]
         for fetcher in fetchers:
             fetcher.start()
         try:
@@ -183,13 +190,13 @@ class Crawl:
         reply = Reply("robots")
         if hosts[site].allows(url):
             reply = hosts[site].fetch(url, self.words.largest)
-        links = Links(url, reply.text)
+        links = Links(url, reply.text if reply.kind in PAGES else "")
         texts = links.texts if reply.leads_to is None else [reply.leads_to]
         offers = self.frontier.links(links.base, texts)
         with self.lock:
             print(reply.status, sum(map(bool, offers)), url, flush=True)
             if Refusal.FULL in offers:
-                print(f"crawl_http: {url}: the frontier has no room for all its links", file=sys.stderr)
+                print(f"crawl_http: no room for all links of {url}", file=sys.stderr)
 
     def count(self) -> None:
         with self.lock:
@@ -198,20 +205,28 @@ class Crawl:
                 self.stopped.set()
 
 
+def words_of_command_line() -> argparse.Namespace:
+    parser = argparse.ArgumentParser(
+        description=__doc__, formatter_class=argparse.RawDescriptionHelpFormatter
+    )
+    option = parser.add_argument
+    option("--workers", type=int, default=4, metavar="N", help="fetchers; 4")
+    option("--within", metavar="SUFFIX", help="only this host and those that end with a dot and it")
+    option("--log", metavar="FILE", help="what the crawl goes on from")
+    option("--delay", type=float, default=1, metavar="S", help="between two requests to a host; 1")
+    option("--largest", type=int, default=5_000_000, metavar="BYTES", help="of a page; 5000000")
+    option("--pages", type=int, default=0, metavar="N", help="stops after so many URLs")
+    option("--agent", default="crawl_http", metavar="NAME", help="User-Agent: name yourself")
+    option("--program", metavar="FILE", help="mercator; else what MERCATOR names, else `mercator`")
+    option("seed", nargs="+", metavar="SEED")
+    return parser.parse_args()
+
+
 def main() -> int:
-    parser = argparse.ArgumentParser(description=__doc__, formatter_class=argparse.RawDescriptionHelpFormatter)
-    parser.add_argument("--workers", type=int, default=4, metavar="N", help="fetchers; 4")
-    parser.add_argument("--within", metavar="SUFFIX", help="only hosts that are SUFFIX, or end with a dot and it")
-    parser.add_argument("--log", metavar="FILE", help="what the crawl goes on from")
-    parser.add_argument("--delay", type=float, default=1, metavar="S", help="seconds between two requests to a host; 1")
-    parser.add_argument("--largest", type=int, default=5_000_000, metavar="BYTES", help="of a page; 5000000")
-    parser.add_argument("--pages", type=int, default=0, metavar="N", help="stops after so many URLs")
-    parser.add_argument("--agent", default="crawl_http", metavar="NAME", help="User-Agent: name yourself")
-    parser.add_argument("--program", metavar="FILE", help="mercator; else what MERCATOR names, else `mercator`")
-    parser.add_argument("seed", nargs="+", metavar="SEED")
-    words = parser.parse_args()
+    words = words_of_command_line()
+    options = {"within": words.within, "log": words.log, "program": words.program}
     try:
-        with Frontier(words.workers, within=words.within, log=words.log, program=words.program) as frontier:
+        with Frontier(words.workers, **options) as frontier:
             for seed, offer in zip(words.seed, frontier.offer_all(words.seed)):
                 if isinstance(offer, Refusal) and offer is not Refusal.SEEN:
                     print(f"crawl_http: {seed}: {offer.value}", file=sys.stderr)

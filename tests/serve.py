@@ -5,8 +5,9 @@ Usage: serve.py [--program FILE] [--part NAME].. [--lines N] [--requests N] [--l
 
 PROGRAM is --program, else what MERCATOR of the environment names, else `mercator` of PATH, else the
 built program. A part that wants `--log` or the requests `link` and `again` is skipped, and said to
-be, where the program has them not. Drawn sessions are compared with a reckoning of this script,
-over that of drawn.py for URLs and the machine. At last it prints `N passed, M failed`.
+be, where the program has them not; so is a full disk where the user may mount none. Drawn sessions
+are compared with a reckoning of this script, over that of drawn.py for URLs and the machine.
+SECONDS of the environment is the time limit of each wait. At last it prints `N passed, M failed`.
 """
 
 from __future__ import annotations
@@ -844,6 +845,13 @@ def crawler_words(trial: Trial, *words: str) -> List[str]:
     return [sys.executable, str(CRAWLER), "--program", trial.program, *words]
 
 
+def run_crawler(words: List[str]) -> subprocess.CompletedProcess[bytes]:
+    try:
+        return subprocess.run(words, capture_output=True, timeout=SECONDS, check=False)
+    except subprocess.TimeoutExpired as late:
+        raise Differs(f"the crawler runs on for {SECONDS} s: {late.stdout!r} {late.stderr!r}") from None
+
+
 def told_by_crawler(output: bytes) -> List[Tuple[str, str]]:
     """The URL and status of each whole line."""
     lines = [line.split(" ") for line in output.decode().split("\n")[:-1]]
@@ -856,7 +864,7 @@ def crawler(trial: Trial) -> None:
     with Folder(ROOT / "examples/site") as folder:
         wanted = found_by_search(folder.url)
         words = crawler_words(trial, "--delay", "0", "--within", "127.0.0.1", folder.url)
-        done = subprocess.run(words, capture_output=True, timeout=SECONDS, check=False)
+        done = run_crawler(words)
         told = told_by_crawler(done.stdout)
         expect(done.returncode == 0 and not done.stderr, f"status {done.returncode}: {done.stderr.decode()}")
         expect(len(told) == len(wanted) and dict(told) == wanted, f"other URLs: {set(told) ^ set(wanted.items())}")
@@ -934,7 +942,7 @@ def polite_crawler(trial: Trial) -> None:
     threading.Thread(target=server.serve_forever, daemon=True).start()
     site = f"http://127.0.0.1:{server.server_port}"
     words = crawler_words(trial, "--delay", "0.2", "--largest", "100000", "--agent", "bell", "--within", "127.0.0.1", f"{site}/")
-    done = subprocess.run(words, capture_output=True, timeout=SECONDS, check=False)
+    done = run_crawler(words)
     server.shutdown()
     wanted = {"/": "200", "/private/x": "robots", "/d/moved": "404", "/d/endless": "200", "/d/y&z": "404", "/n": "404"}
     told = {url[len(site):]: status for url, status in told_by_crawler(done.stdout)}

@@ -16,9 +16,9 @@ at a time. It fetches the URL, offers the links of the page, and is done with it
 - `take` answers None when every accepted URL is done, and then for good.
 - With `log=`, a crawl that was cut off goes on: start it again with the same words.
 
-The frontier itself is proved; this client, and what a fetcher does with a URL, is not. All calls may
-come from any threads. The client needs Linux and Python 3.9, and nothing else. `docs/SESSION.md` has
-the protocol.
+The frontier itself is proved; this client, and what a fetcher does with a URL, is not. All calls
+may come from any threads. The client needs Linux and Python 3.9, and nothing else.
+`docs/SESSION.md` has the protocol.
 """
 
 from __future__ import annotations
@@ -36,8 +36,8 @@ from types import TracebackType
 from typing import Dict, Iterable, List, NamedTuple, NoReturn, Optional, Sequence, Type, Union
 
 __all__ = [
-    "Accepted", "Closed", "Frontier", "FrontierEnded", "FrontierError", "LogInUse", "NoSuchQueue", "NothingTaken",
-    "Offer", "Pending", "ProgramMissing", "QueueBusy", "Refusal", "UnknownAnswer",
+    "Accepted", "Closed", "Frontier", "FrontierEnded", "FrontierError", "LogInUse", "NoSuchQueue",
+    "NothingTaken", "Offer", "Pending", "ProgramMissing", "QueueBusy", "Refusal", "UnknownAnswer",
 ]
 
 # So many bytes of requests are sent at a time. The next piece goes out while the answers to the one
@@ -76,7 +76,7 @@ class FrontierEnded(FrontierError):
     """The program has ended, or was closed, so that no request is answered any more."""
 
     def __init__(self, why: str, status: Optional[int] = None, told: str = "") -> None:
-        """`status` is its exit status, or less a signal's number; `told` is what it wrote to standard error."""
+        """`status` is its exit status, or less a signal's number; `told` is what it told of it."""
         super().__init__(why)
         self.status = status
         self.told = told
@@ -115,7 +115,7 @@ class Refusal(enum.Enum):
     TOO_LONG = "line too long"  # the request has more than 4,096 bytes
     NOT_TEXT = "not UTF-8"  # it has half of a surrogate pair
     CLOSED = "refused closed"  # the crawl is over
-    FULL = "refused full"  # as many URLs are not done as the frontier allows: lost, or to be offered later
+    FULL = "refused full"  # too many URLs are not done: it is lost, or is to be offered later
 
     def __bool__(self) -> bool:
         return False
@@ -131,7 +131,7 @@ _ERRORS: Dict[bytes, Type[FrontierError]] = {
 class Pending(NamedTuple):
     """No URL waits in the queue now. It is false, where a URL is true."""
 
-    left: int  # how many URLs wait elsewhere or are being fetched; the seeds count as one until they end
+    left: int  # how many URLs are not done; the seeds count as one until they end
 
     def __bool__(self) -> bool:
         return False
@@ -164,12 +164,13 @@ class Frontier:
         workers      how many fetchers, and so queues: 1 to 512
         max_pending  the most URLs that are not done at one time
         within       keeps the crawl to hosts that are this suffix, or end with a dot and it
-        log          a file that each request is appended to before it is answered. A frontier that is
-                     started with it goes on where it ends; the options above must then be the same
+        log          a file that each request is appended to before it is answered. A frontier that
+                     is started with it goes on where it ends, by the same options
         sync         the log outlives the machine too, and each answer waits for the disk
         program      the program; else it is what MERCATOR of the environment names, else `mercator`
         """
-        command = [os.fspath(program or os.environ.get("MERCATOR") or "mercator"), "serve", "--workers", str(workers)]
+        command = [os.fspath(program or os.environ.get("MERCATOR") or "mercator"), "serve"]
+        command += ["--workers", str(workers)]
         command += [] if max_pending is None else ["--max-pending", str(max_pending)]
         command += [] if within is None else ["--within", within]
         command += [] if log is None else ["--log", os.fspath(log)]
@@ -209,16 +210,18 @@ class Frontier:
     def end_seeds(self) -> Optional[int]:
         """No more seeds come, so that the crawl may end.
 
-        Answers how many URLs are not done; or None where the seeds had ended before, as after a restart.
+        Answers how many URLs are not done; or None where the seeds had ended before, as they may
+        have after a restart.
         """
         with self._lock:
             answer = self._ask(b"endseeds\n")
             return None if answer == b"refused nothing" else self._count_in(answer)
 
     def take(self, queue: int) -> Optional[str]:
-        """The URL that has waited longest in the queue, or None when the crawl is over. Waits for one of both.
+        """The URL that has waited longest in the queue, or None when the crawl is over.
 
-        A queue whose URL was cut off gives that URL first: one that a fetcher had when its frontier ended.
+        It waits until there is one of both. A queue gives first what its fetcher had in hand when
+        the frontier ended that wrote the log.
         """
         with self._lock:
             while True:
@@ -239,7 +242,10 @@ class Frontier:
             return self._next(queue)
 
     def done(self, queue: int) -> int:
-        """The queue's URL was fetched, well or not, and its links were offered. Answers how many are not done."""
+        """The queue's URL was fetched, well or not, and its links were offered.
+
+        Answers how many URLs are not done.
+        """
         with self._lock:
             self._check(queue)
             count = self._count_in(self._ask(b"done %d\n" % queue))
@@ -247,7 +253,10 @@ class Frontier:
             return count
 
     def close(self) -> None:
-        """Ends the program; what no log has is lost. A call that waits, or that comes later, raises `FrontierEnded`."""
+        """Ends the program; what no log has is lost.
+
+        A call that waits, or that comes later, raises `FrontierEnded`.
+        """
         with self._lock:
             self._channel.close()
             self._wake(range(self.workers))
@@ -342,15 +351,15 @@ class _Channel:
 
     def __init__(self, command: Sequence[str], log: Union[str, os.PathLike[str], None]) -> None:
         self._program = command[0]
-        # The program inherits the lock of its log, which so lasts until the program has ended, and no longer.
+        # The program inherits the lock of its log, so that the lock lasts as long as the program.
         locks = [] if log is None else [_locked(log)]
         # A file, since a pipe that nobody reads might fill.
         self._told = tempfile.TemporaryFile()
         try:
             # In a session of its own, so that Ctrl-C reaches the crawler alone, which then ends it.
             self._process = subprocess.Popen(
-                command, bufsize=0, stdin=subprocess.PIPE, stdout=subprocess.PIPE, stderr=self._told,
-                pass_fds=locks, start_new_session=True,
+                command, bufsize=0, stdin=subprocess.PIPE, stdout=subprocess.PIPE,
+                stderr=self._told, pass_fds=locks, start_new_session=True,
             )
         except OSError as error:
             self._told.close()
@@ -397,7 +406,8 @@ class _Channel:
         """Sends piece by piece, each once every answer is read but those to the piece before it."""
         begin = before = 0
         while begin < len(requests):
-            end = requests.rfind(b"\n", begin, begin + _PIECE) + 1 or requests.index(b"\n", begin) + 1
+            end = requests.rfind(b"\n", begin, begin + _PIECE) + 1
+            end = end or requests.index(b"\n", begin) + 1
             self._receive_until(before)
             before = requests.count(b"\n", begin, end)
             self._owed += before
@@ -445,12 +455,13 @@ class _Channel:
         told = self._told.read().decode("utf-8", "replace").strip()
         self._told.close()
         how = f"by signal {-status}" if status < 0 else f"with status {status}"
-        self._end = FrontierEnded(why or f"{self._program} ended {how}" + (f": {told}" if told else ""), status, told)
+        why = why or f"{self._program} ended {how}"
+        self._end = FrontierEnded(f"{why}: {told}" if told else why, status, told)
         return self._end
 
 
 def _locked(log: Union[str, os.PathLike[str]]) -> int:
-    """The log, open and locked. The program of a crawler that was killed may have it for a moment more."""
+    """The log, open and locked. The program of a crawler that was killed may have it a moment."""
     file = os.open(log, os.O_RDONLY | os.O_CREAT, 0o666)
     end = time.monotonic() + _SECONDS_TO_END
     while True:
@@ -478,7 +489,7 @@ def _lines(word: str, texts: List[str]) -> bytes:
 
 
 def _link_word(base: str) -> str:
-    """What stands before the text of a link. A base ends at its first space, so its own are escaped as in a URL."""
+    """What stands before a link's text. A base ends at its first space, so its own are escaped."""
     return f"link {base.strip(_TRIMMED).translate(_IN_BASE)} "
 
 
