@@ -1,18 +1,15 @@
 -- When the books of a part agree with the list of a subqueue.
 use Rattle.std.proofs.Common.{◌≡◌, ℕ, zero, suc, ◌+◌, ◌<◌, ◌≤◌, Bool, true, false, true≢false, cond, eqb, List, [], ◌∷◌, ◌++◌, length, Some, refl, sym, ap, ◌∙◌, subst, ⊎_elim, arith}
-use Rattle.std.proofs.lemmas.Bool.{cases_lt, or_left, or_right}
-use Rattle.std.proofs.lemmas.Slice.Eq.{bytes_eq-Decides}
-use Rattle.std.specs.Prelude.{bytes_eq}
+use Rattle.std.proofs.lemmas.Bool.{cases_lt}
 use Rattle.std.proofs.lemmas.Bool.Decides.{nat_tests}
 use Rattle.crawl_frontier.specs.declared.entry.Entry.{Entry}
 use Rattle.crawl_frontier.specs.declared.book.Logged.{Logged}
 use Rattle.crawl_frontier.specs.declared.book.Logged.TheVariants.{Accepted, Seen}
-use Rattle.crawl_frontier.specs.Entries.{KeepsRule, has_url, count_of, entries_of, HasNoUrlTwice}
+use Rattle.crawl_frontier.specs.Entries.{KeepsRule, count_of, entries_of}
 use Rattle.crawl_frontier.specs.Books.{BookId, sent_to, Numbered, IsBook, place_of}
 use Rattle.crawl_frontier.specs.Accounts.{At}
 use Rattle.crawl_frontier.specs.Finishing.{Stands, LogStands, LogFails, CountsStand, CountFails, AgreesBelow, DisagreesAt, KeepRuleBelow}
 use Rattle.crawl_frontier.proofs.Entries.{count_of-snoc}
-use Rattle.crawl_frontier.proofs.Gets.{same_at}
 
 -- the k-th entry of a numbered list has the k-th number
 numbered_at : (id n : ℕ) (xs : List Entry) (k : ℕ) (x : Entry) → Numbered id n xs → At xs k x → (x.sender ≡ id) × (x.number ≡ n + k)
@@ -168,20 +165,3 @@ count_disagrees workers q lists b is lt (es, n, here, counted, differs) = (
 -- a bound that falls to a place where something fails
 pub fails_next : (P : ℕ → Type 0) (first old new : ℕ) → new ≤ old → (old < first → P old) → (new < old → P new) → new < first → P new
 fails_next P first old new le before now lt = ⊎_elim now (λ not. let same : old ≡ new = omega (arith, le, not) in subst P same (before (omega (arith, lt, same)))) (cases_lt new old)
-
--- ---- one entry of a list
-
-has_url-at : (es : List Entry) (k : ℕ) (e : Entry) → At es k e → has_url e.url es ≡ true
-has_url-at [] k e at = absurd (cc (at))
-has_url-at (x ∷ xs) zero e at =
-    let same : x ≡ e = cc in
-    or_left (bytes_eq x.url e.url) (has_url e.url xs) ((bytes_eq-Decides x.url e.url).1 (ap (λ z. z.url) same))
-has_url-at (x ∷ xs) (suc k) e at = or_right (bytes_eq x.url e.url) (has_url e.url xs) (has_url-at xs k e at)
-
--- a list that does not have the URL
-pub not_there : (es : List Entry) (e : Entry) → has_url e.url es ≡ false → (k : ℕ) → ¬ At es k e
-not_there es e none k at = true≢false (sym (has_url-at es k e at) ∙ none)
-
--- a list that has the URL once
-pub is_that : (es : List Entry) (found e : Entry) (j k : ℕ) → HasNoUrlTwice es → At es j found → found.url ≡ e.url → At es k e → found ≡ e
-is_that es found e j k once here url at = let same : j ≡ k = once j k found e here at url in same_at es k found e (subst (λ i. At es i found) same here) at

@@ -8,7 +8,7 @@ use lib.ListN.{get_elem?}
 use Rattle.crawl_frontier.specs.declared.entry.Entry.{Entry}
 use Rattle.crawl_frontier.specs.declared.entry.Message.{Message}
 use Rattle.crawl_frontier.specs.declared.rule.PassView.{PassView}
-use Rattle.crawl_frontier.specs.Entries.{MayFollow, KeepsRule, has_url, HasNoUrlTwice}
+use Rattle.crawl_frontier.specs.Entries.{MayFollow, KeepsRule, has_url}
 use Rattle.crawl_frontier.specs.Rule.{SubqueueInvariant, pushing, popping, undivided, reunited, plain}
 use Rattle.crawl_frontier.specs.History.{IsAcceptedList, Moment, SubqueueStep, ListsMove, settles, divides, pushes, pops, finds_nothing, takes_in, IsHistory, first_moment, AllKept}
 use Rattle.crawl_frontier.proofs.Agreeing.{rule-numbered}
@@ -50,9 +50,6 @@ accepted_lists workers q es rule = record {
   where
     twice : (j k : ℕ) (a b : Entry) → j < k → slice_get es j ≡ Some a → slice_get es k ≡ Some b → a.url ≡ b.url → ⊥
     twice j k a b lt at there same = true≢false (sym (has_url-get es j k a lt at) ∙ (ap (λ u. has_url u (take k es)) same ∙ (rule-get workers q [] es k b rule there).new))
-
-pub no_url_twice : (workers q : ℕ) (es : List Entry) → KeepsRule workers q [] es → HasNoUrlTwice es
-no_url_twice workers q es rule = (accepted_lists workers q es rule).differ
 
 set_apart : (views : List PassView) (i j : ℕ) (w : PassView) → j ≢ i → get_elem? (set views i w) j ≡ get_elem? views j
 set_apart [] i j w ne = refl

@@ -1,5 +1,5 @@
 -- Lists of entries: which subqueue a URL has, and what is true of the entries that one subqueue accepted.
-use Rattle.std.specs.Prelude.{◌≡◌, ℕ, ◌+◌, ◌==◌, ◌||◌, Bool, false, List, [], ◌∷◌, ◌++◌, Some, slice_get, if◌then◌else◌}
+use Rattle.std.specs.Prelude.{◌≡◌, ℕ, ◌+◌, ◌==◌, ◌||◌, Bool, false, List, [], ◌∷◌, ◌++◌, if◌then◌else◌}
 use Rattle.std.specs.Prelude.{bytes_eq}
 use Rattle.crawl_keys.specs.Assignment.{subqueue_of}
 use Rattle.crawl_frontier.specs.declared.entry.Entry.{Entry}
@@ -18,10 +18,6 @@ count_of s (e ∷ es) = (if e.sender == s then 1 else 0) + count_of s es
 abbrev pub entries_of : ℕ → List Entry → List Entry
 entries_of s [] = []
 entries_of s (e ∷ es) = if e.sender == s then e ∷ entries_of s es else entries_of s es
-
--- no two places have one URL
-abbrev pub HasNoUrlTwice : List Entry → Type 0
-HasNoUrlTwice es = (j k : ℕ) (a b : Entry) → slice_get es j ≡ Some a → slice_get es k ≡ Some b → a.url ≡ b.url → j ≡ k
 
 -- the entry may follow these: its URL is new, it belongs to the subqueue, and its number is how many of its sender came before
 pub record MayFollow (workers place : ℕ) (before : List Entry) (e : Entry) : Type 0 where

@@ -1,39 +1,64 @@
 //! What one subqueue accepted, once its shard is out of its lock.
-ghost use Rattle.std.specs.Prelude.{◌≡◌, ℕ, true, false};
+ghost use Rattle.std.specs.Prelude.{◌≡◌, ◌≢◌, ℕ, true, false, map};
+ghost use Rattle.hash_order.specs.HashOrder.{hash_of};
+ghost use Rattle.hash_index.specs.Lists.{index_of};
+ghost use Rattle.hash_index.specs.Index.{IsIndexOf};
 ghost use Rattle.crawl_frontier.specs.Entries.{has_url, count_of};
+ghost use Rattle.crawl_frontier.specs.Tables.{count_in};
 ghost use Rattle.crawl_frontier.specs.Accounts.{At};
 
 use crate::entry::Entry;
-use crate::places::Places;
 use crate::tables::{Counts, count};
-use crawl_keys::UrlKey;
+use crawl_keys::CanonUrl;
+use hash_index::HashIndex;
 use std::marker::Model;
 
-/// The list sent, with the two tables that look it up. To a contract it is the list.
+/// The list sent, with the index of its URLs and each sender's count. To a contract it is the list.
 #[derive(Drop)]
 pub struct AcceptedList {
-    pub(crate) sent: Vec<Entry>,
-    pub(crate) places: Places,
-    pub(crate) counts: Counts,
+    sent: Vec<Entry>,
+    index: HashIndex,
+    counts: Counts,
 }
 
 impl Model for AcceptedList {
-    ghost use Rattle.std.specs.Prelude.{◌≡◌, ℕ, List};
+    ghost use Rattle.std.specs.Prelude.{◌≡◌, ℕ, List, map};
+    ghost use Rattle.hash_order.specs.HashOrder.{hash_of};
+    ghost use Rattle.hash_index.specs.Index.{IsIndexOf};
     ghost use Rattle.crawl_frontier.specs.declared.entry.Entry.{Entry};
-    ghost use Rattle.crawl_frontier.specs.Entries.{count_of, HasNoUrlTwice};
-    ghost use Rattle.crawl_frontier.specs.Tables.{count_in, KnowsEach};
+    ghost use Rattle.crawl_frontier.specs.Entries.{count_of};
+    ghost use Rattle.crawl_frontier.specs.Tables.{count_in};
 
     ghost Value = { List Entry };
 
     ghost view = { λ s. s.sent.items };
 
     ghost invariant = { λ s.
-        KnowsEach s.places s.sent.items
-        × ((id : ℕ) → count_in s.counts id ≡ count_of id s.sent.items)
-        × HasNoUrlTwice s.sent.items };
+        IsIndexOf hash_of (map (λ e. e.url) s.sent.items) s.index
+        × ((id : ℕ) → count_in s.counts id ≡ count_of id s.sent.items) };
+}
+
+// Whether two entries with one URL are equal.
+fn agree(found: &Entry, entry: &Entry) -> bool
+    ensures equal { result ≡ true → found.now.url ≡ entry.now.url → found.now ≡ entry.now }
+    ensures other { result ≡ false → found.now ≢ entry.now }
+{
+    found.sender == entry.sender && found.number == entry.number && found.hops == entry.hops
 }
 
 impl AcceptedList {
+    pub(crate) fn new(sent: Vec<Entry>, index: HashIndex, counts: Counts) -> AcceptedList
+        requires index { IsIndexOf hash_of (map (λ e. e.url) sent.items) index }
+        requires counts { (id : ℕ) → count_in counts id ≡ count_of id sent.items }
+        ensures { result ≡ sent.items }
+    {
+        AcceptedList {
+            sent,
+            index,
+            counts,
+        }
+    }
+
     /// The entries, oldest first.
     pub fn entries(&self) -> &[Entry]
         ensures { result.now ≡ self.now }
@@ -41,29 +66,29 @@ impl AcceptedList {
         self.sent.as_slice()
     }
 
-    /// Whether an equal entry stands in the list; its URL leads to it.
-    pub fn has_entry(&self, entry: Entry) -> bool
-        ensures there { result ≡ true → (k : ℕ) × At self.now k entry }
-        ensures absent { result ≡ false → (k : ℕ) → ¬ At self.now k entry }
+    /// The index of the entry that has the URL.
+    pub fn index_of(&self, url: &CanonUrl) -> Option<usize>
+        ensures { result ≡ index_of (map (λ e. e.url) self.now) url.now }
     {
-        let Entry {
-            url,
-            sender,
-            number,
-            hops,
-        } = entry;
-        let url = UrlKey::from(url);
-        match self.places.find(self.sent.as_slice(), &url) {
-            Some(found) => found.sender == sender && found.number == number && found.hops == hops,
+        self.index.find(&self.sent, url)
+    }
+
+    /// Whether an equal entry stands in the list; its URL leads to it.
+    pub fn has_entry(&self, entry: &Entry) -> bool
+        ensures there { result ≡ true → (k : ℕ) × At self.now k entry.now }
+        ensures absent { result ≡ false → (k : ℕ) → ¬ At self.now k entry.now }
+    {
+        match self.index_of(&entry.url) {
+            Some(index) => agree(&self.sent[index], entry),
             None => false,
         }
     }
 
     /// Whether the URL stands in the list.
-    pub fn has_url(&self, url: &UrlKey) -> bool
+    pub fn has_url(&self, url: &CanonUrl) -> bool
         ensures { result ≡ has_url url.now self.now }
     {
-        self.places.find(self.sent.as_slice(), url).is_some()
+        self.index_of(url).is_some()
     }
 
     /// How many entries are of this sender.

@@ -1,10 +1,13 @@
 //! The account of a run.
-ghost use Rattle.std.specs.Prelude.{◌≡◌, ◌<◌, [], Some, slice_get, length};
+ghost use Rattle.std.specs.Prelude.{◌≡◌, ◌<◌, List, [], Some, slice_get, length, map};
+ghost use Rattle.hash_index.specs.Lists.{index_of};
+ghost use Rattle.crawl_frontier.specs.declared.entry.Entry.{Entry};
 ghost use Rattle.crawl_frontier.specs.Entries.{KeepsRule};
 ghost use Rattle.crawl_frontier.specs.Accounts.{AllKeepRule};
 
 use crate::accepted::AcceptedList;
 use crate::entry::Entry;
+use crawl_keys::CanonUrl;
 use std::marker::Model;
 
 /// What each subqueue accepted, which is what its worker took. Only [`crate::Frontier::finish`] makes one.
@@ -48,5 +51,13 @@ impl Account {
         ensures rule { KeepsRule self.now.workers q [] result.now }
     {
         self.queues[q as usize].entries()
+    }
+
+    /// The index of the entry that has the URL, in what subqueue q accepted.
+    pub fn index_of(&self, q: u32, url: &CanonUrl) -> Option<usize>
+        requires { q < self.now.workers }
+        ensures { (es : List Entry) → slice_get self.now.queues q ≡ Some es → result ≡ index_of (map (λ e. e.url) es) url.now }
+    {
+        self.queues[q as usize].index_of(url)
     }
 }

@@ -14,7 +14,7 @@ use crate::offer::{Offer, deliver, give_back};
 use crate::rights::PopRight;
 use crate::worker::Worker;
 use crawl_gate::{Enter, Pass};
-use crawl_keys::{CanonUrl, UrlKey};
+use crawl_keys::CanonUrl;
 use std::marker::{Model, PhantomData};
 use std::mem;
 use std::sync::Wait;
@@ -89,7 +89,6 @@ impl<K: Name> BusyWorker<K> {
         let Ok(()) = self.book.reserve() else {
             return Err(OfferError::NoMemory);
         };
-        let url = UrlKey::from(url);
         let hops = u64::from(self.message.entry.hops) + 1;
         let gate = frontier.gate();
         let spare = gate.split_unit(&mut self.message.unit);

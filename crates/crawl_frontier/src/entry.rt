@@ -1,9 +1,11 @@
 //! What lies in a subqueue.
 ghost use Rattle.std.specs.Prelude.{◌≡◌, IfOk};
 ghost use Rattle.crawl_frontier.specs.Entries.{entry};
+ghost use Rattle.hash_order.specs.HashOrder.{hash_of};
 
 use crawl_gate::Unit;
 use crawl_keys::{CanonUrl, KeyError};
+use hash_index::Keyed;
 
 /// An accepted URL.
 #[derive(Debug, Drop)]
@@ -41,5 +43,22 @@ impl Entry {
             number,
             hops,
         })
+    }
+}
+
+// A list of entries is searched for a URL.
+impl Keyed for Entry {
+    ghost use Rattle.hash_order.specs.HashOrder.{hash_of};
+
+    ghost text = { λ e. e.url };
+
+    ghost hash = { hash_of };
+
+    fn text(&self) -> &str {
+        self.url.as_str()
+    }
+
+    fn text_hash(&self) -> u64 {
+        self.url.text_hash()
     }
 }

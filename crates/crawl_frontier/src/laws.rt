@@ -10,7 +10,6 @@ pub use crate::rights::{PopRight, PushRight};
 pub use crate::rule::{Home, PassView, SubqueueRule};
 pub use crate::shard::{Admit, Shard};
 pub use crate::subqueue::Subqueue;
-pub use crawl_keys::UrlKey;
 
 /// Of a list that keeps the rule of a subqueue, as each list of an account does: URLs differ, each belongs to the
 /// subqueue, and each sender's entries are numbered 0, 1, 2, .. in order.

@@ -18,7 +18,6 @@ pub mod laws;
 mod log;
 mod name;
 mod offer;
-mod places;
 mod rights;
 mod rule;
 mod seeder;

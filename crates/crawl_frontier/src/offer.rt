@@ -12,7 +12,7 @@ use crate::frontier::Frontier;
 use crate::name::Name;
 use crate::shard::Admit;
 use crawl_gate::{Pass, Unit};
-use crawl_keys::UrlKey;
+use crawl_keys::CanonUrl;
 use std::sync::Wait;
 
 /// What became of a URL that an offer was not refused.
@@ -43,7 +43,7 @@ pub(crate) fn give_back<K: Name>(frontier: &Frontier<K>, unit: Unit) -> Pass
 fn admit_at<K: Name, R: Wait>(
     rt: &R,
     frontier: &Frontier<K>,
-    url: &UrlKey,
+    url: &CanonUrl,
     place: u32,
     id: u64,
     own: u64,
@@ -72,7 +72,7 @@ pub(crate) fn deliver<K: Name, R: Wait>(
     frontier: &Frontier<K>,
     book: &mut Book,
     pass: &mut Pass,
-    url: UrlKey,
+    url: CanonUrl,
     hops: u64,
     unit: Unit,
 ) -> Result<Offer, OfferError>
@@ -85,13 +85,12 @@ pub(crate) fn deliver<K: Name, R: Wait>(
     ensures pass { IsSeatOf K.gate pass.new }
     ensures delivers { Delivers pass.old pass.new unit result }
 {
-    let known = url.url();
-    let place = known.subqueue(frontier.workers());
+    let place = url.subqueue(frontier.workers());
     let own = book.counts[place as usize];
     match admit_at(rt, frontier, &url, place, book.id, own, hops, unit) {
         Admit::Admitted(number) => {
             frontier.subqueue(place).ring();
-            book.accept(url.into_url(), place, number, hops as u32);
+            book.accept(url, place, number, hops as u32);
             Ok(Offer::Accepted(place, number))
         }
         Admit::Seen(there, unit) => {

@@ -14,7 +14,7 @@ use crate::name::Name;
 use crate::offer::{Offer, deliver, give_back};
 use crate::sender::Sender;
 use crawl_gate::{Enter, Pass, Unit};
-use crawl_keys::{CanonUrl, UrlKey};
+use crawl_keys::CanonUrl;
 use std::alloc::Global;
 use std::marker::{Model, PhantomData};
 use std::mem;
@@ -79,7 +79,6 @@ impl<K: Name> Seeder<K> {
         let Ok(()) = self.book.reserve() else {
             return Err(OfferError::NoMemory);
         };
-        let url = UrlKey::from(url);
         let gate = frontier.gate();
         let spare = gate.split_unit(&mut self.opening);
         let pass = mem::replace(&mut self.pass, spare);

@@ -13,7 +13,7 @@ use crate::frontier::Frontier;
 use crate::name::Name;
 use crate::offer::{Offer, deliver};
 use crawl_gate::{Enter, Pass};
-use crawl_keys::{CanonUrl, UrlKey};
+use crawl_keys::CanonUrl;
 use std::marker::{Model, PhantomData};
 use std::mem;
 use std::sync::Wait;
@@ -89,7 +89,6 @@ impl<K: Name> Sender<K> {
         let Ok(()) = self.book.reserve() else {
             return Err(OfferError::NoMemory);
         };
-        let url = UrlKey::from(url);
         let gate = frontier.gate();
         let spare = gate.split(&mut self.pass);
         let pass = mem::replace(&mut self.pass, spare);

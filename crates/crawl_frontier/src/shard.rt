@@ -10,35 +10,37 @@ ghost use Rattle.crawl_frontier.specs.Rule.{pushing, home};
 use crate::accepted::AcceptedList;
 use crate::entry::{Entry, Message};
 use crate::name::Name;
-use crate::places::Places;
 use crate::rights::PushRight;
 use crate::subqueue::Subqueue;
 use crate::tables::{Counts, count, enter_sender, raise};
 use crawl_gate::Unit;
-use crawl_keys::{CanonUrl, KeyError, UrlKey};
+use crawl_keys::{CanonUrl, KeyError};
+use hash_index::HashIndex;
 use std::alloc::Global;
 use std::marker::{Model, PhantomData};
 use std::sync::Wait;
 
-/// What a subqueue accepted, oldest first, with the two tables that look it up, and the right to push.
+/// What a subqueue accepted, oldest first, with the index of its URLs, each sender's count, and the right to push.
 ///
 /// To a contract it is its place and the list sent. Whenever its lock is free, the tables say what the list says.
 #[derive(Drop)]
 pub struct Shard<K: Name> {
     place: u32,
     sent: Vec<Entry>,
-    places: Places,
+    index: HashIndex,
     counts: Counts,
     right: PushRight,
     of: PhantomData<K>,
 }
 
 impl<K: Name> Model for Shard<K> {
-    ghost use Rattle.std.specs.Prelude.{◌≡◌, ℕ, List, [], Some, slice_get};
+    ghost use Rattle.std.specs.Prelude.{◌≡◌, ℕ, List, [], Some, slice_get, map};
+    ghost use Rattle.hash_order.specs.HashOrder.{hash_of};
+    ghost use Rattle.hash_index.specs.Index.{IsIndexOf};
     ghost use Rattle.crawl_frontier.specs.Parts.{ShardId};
     ghost use Rattle.crawl_frontier.specs.Rule.{pushing, home};
     ghost use Rattle.crawl_frontier.specs.Entries.{KeepsRule, count_of};
-    ghost use Rattle.crawl_frontier.specs.Tables.{count_in, KnowsEach};
+    ghost use Rattle.crawl_frontier.specs.Tables.{count_in};
 
     ghost Value = { ShardId };
 
@@ -48,7 +50,7 @@ impl<K: Name> Model for Shard<K> {
         (s.right.view ≡ pushing (home K.gate K.workers s.place) s.sent.items)
         × (slice_get K.queues s.place ≡ Some s.right.queue)
         × KeepsRule K.workers s.place [] s.sent.items
-        × KnowsEach s.places s.sent.items
+        × IsIndexOf hash_of (map (λ e. e.url) s.sent.items) s.index
         × ((id : ℕ) → count_in s.counts id ≡ count_of id s.sent.items) };
 }
 
@@ -81,11 +83,11 @@ fn seen(there: &Entry, unit: Unit) -> Admit
 }
 
 // What a push needs: the message's entry, and the list's.
-fn copies(url: &UrlKey, sender: u64, number: u64, hops: u32) -> Result<(Entry, Entry), KeyError>
+fn copies(url: &CanonUrl, sender: u64, number: u64, hops: u32) -> Result<(Entry, Entry), KeyError>
     ensures { IfOk result (λ r. (r.0 ≡ entry url.now sender number hops) × (r.1 ≡ entry url.now sender number hops)) }
 {
-    let sent = Entry::of_copy(url.url(), sender, number, hops)?;
-    let listed = Entry::of_copy(url.url(), sender, number, hops)?;
+    let sent = Entry::of_copy(url, sender, number, hops)?;
+    let listed = Entry::of_copy(url, sender, number, hops)?;
     Ok((sent, listed))
 }
 
@@ -98,7 +100,7 @@ impl<K: Name> Shard<K> {
         Shard {
             place,
             sent: Vec::new(alloc),
-            places: Places::new(alloc),
+            index: HashIndex::new(alloc),
             counts: Counts::new(alloc),
             right,
             of: PhantomData,
@@ -114,17 +116,12 @@ impl<K: Name> Shard<K> {
         let Shard {
             place: _,
             sent,
-            places,
+            index,
             counts,
             right,
             of: _,
         } = self;
-        let list = AcceptedList {
-            sent,
-            places,
-            counts,
-        };
-        (list, right)
+        (AcceptedList::new(sent, index, counts), right)
     }
 
     /// Which subqueue it is.
@@ -139,7 +136,7 @@ impl<K: Name> Shard<K> {
         &mut self,
         rt: &R,
         queue: &Subqueue,
-        url: &UrlKey,
+        url: &CanonUrl,
         sender: u64,
         own: u64,
         hops: u64,
@@ -157,19 +154,19 @@ impl<K: Name> Shard<K> {
         if hops <= HOPS_LIMIT {
             return self.send(rt, queue, url, sender, own, hops as u32, unit);
         }
-        match self.places.find(self.sent.as_slice(), url) {
-            Some(there) => seen(there, unit),
+        match self.index.find(&self.sent, url) {
+            Some(index) => seen(&self.sent[index], unit),
             None => Admit::TooFar(unit),
         }
     }
 
-    // Sends the URL, unless it is there: to look and to note its place is one search. All that grows comes before the push.
-    // Where something is refused after that search, the noted place is one at which no entry stands.
+    // Sends the URL, unless it is there: one search finds it, or gives it the list's next index. All that grows comes before
+    // the push. Where something is refused after that search, no entry stands at that index.
     fn send<R: Wait>(
         &mut self,
         rt: &R,
         queue: &Subqueue,
-        url: &UrlKey,
+        url: &CanonUrl,
         sender: u64,
         own: u64,
         hops: u32,
@@ -181,12 +178,11 @@ impl<K: Name> Shard<K> {
         requires own { count_of sender self.old.sent ≡ own }
         ensures { Admits self.old self.new url.now sender own hops unit result }
     {
-        let alloc = *self.sent.allocator();
-        let Ok(found) = self.places.find_or_note(alloc, self.sent.as_slice(), url) else {
+        let Ok(found) = self.index.find_or_insert(&self.sent, url) else {
             return Admit::NoMemory(unit);
         };
-        if let Some(there) = found {
-            return seen(there, unit);
+        if let Some(index) = found {
+            return seen(&self.sent[index], unit);
         }
         let Ok((sent, listed)) = copies(url, sender, own, hops) else {
             return Admit::NoMemory(unit);

@@ -1,7 +1,7 @@
 //! What only tests call.
 ghost use Rattle.std.specs.Prelude.{◌≡◌};
 
-use crate::laws::{Admit, UrlKey};
+use crate::laws::Admit;
 use crate::{Frontier, Name, Worker};
 use crawl_gate::Enter;
 use crawl_keys::CanonUrl;
@@ -22,7 +22,6 @@ pub fn admit<K: Name, R: Wait>(
     if url.subqueue(frontier.workers()) != 0 {
         return None;
     }
-    let key = UrlKey::from(url.copy().ok()?);
     let Enter::Entered(unit) = frontier.gate().enter(rt, worker.pass) else {
         return None;
     };
@@ -30,5 +29,5 @@ pub fn admit<K: Name, R: Wait>(
     if shard.place() != 0 {
         return None;
     }
-    Some(shard.admit(rt, frontier.subqueue(0), &key, 9, own, hops, unit))
+    Some(shard.admit(rt, frontier.subqueue(0), url, 9, own, hops, unit))
 }

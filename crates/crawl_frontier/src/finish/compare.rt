@@ -13,7 +13,6 @@ use crate::accepted::AcceptedList;
 use crate::book::{Book, Logged};
 use crate::entry::Entry;
 use crate::log::Log;
-use crawl_keys::UrlKey;
 use std::alloc::{AllocError, Global};
 use std::collections::BTreeSet;
 
@@ -61,11 +60,8 @@ fn stands(lists: &[AcceptedList], logged: Logged) -> bool
     ensures fails { result ≡ false → FailsAt lists.now logged }
 {
     match logged {
-        Logged::Accepted(entry, place) => lists[place as usize].has_entry(entry),
-        Logged::Seen(url, place) => {
-            let url = UrlKey::from(url);
-            lists[place as usize].has_url(&url)
-        }
+        Logged::Accepted(entry, place) => lists[place as usize].has_entry(&entry),
+        Logged::Seen(url, place) => lists[place as usize].has_url(&url),
     }
 }
 

@@ -2,7 +2,7 @@ use Rattle.std.proofs.Common.{◌≡◌, ◌<◌, ◌∙◌, ap, sym, refl, Some
 use Rattle.std.proofs.lemmas.Option.{slice_get_read}
 use Rattle.crawl_keys.specs.Assignment.{subqueue_of}
 use Rattle.crawl_frontier.specs.Entries.{entry}
-use Rattle.crawl_frontier.specs.Books.{IsBook, book_of, book_accepting}
+use Rattle.crawl_frontier.specs.Books.{IsBook, book_of}
 use Rattle.crawl_frontier.proofs.BookKeeping.{book_accepts, book_sees}
 use Rattle.crawl_frontier.proofs.offer.deliver.Goals as goal
 
@@ -13,12 +13,12 @@ returns-in-Admitted-clause-books g c =
     let own = c.index-own.result.now in
     let below : place < g.K.Name.workers = omega (arith, c.subqueue-place.ensures.below, c.workers.ensures.0) in
     let get : slice_get b.counts place ≡ Some own = slice_get_read b.counts (length b.counts) place own refl (omega (arith, below, c.requires.book.len)) c.index-own.ensures in
-    let at : place ≡ subqueue_of c.args.url g.K.Name.workers = c.subqueue-place.ensures.value ∙ (λ i. subqueue_of (c.url-known.ensures i) (c.workers.ensures.0 i)) in
+    let at : place ≡ subqueue_of c.args.url g.K.Name.workers = c.subqueue-place.ensures.value ∙ ap (subqueue_of c.args.url) c.workers.ensures.0 in
     let number : c.in-Admitted.number ≡ own = c.in-Admitted.ensures.0 in (
       at,
       get ∙ ap Some (sym number),
       c.in-Admitted.ensures.2,
-      c.accept.ensures ∙ (λ i. book_accepting b place c.in-Admitted.number (entry (c.into_url.ensures i) b.id c.in-Admitted.number c.args.hops)),
+      c.accept.ensures,
     )
 
 pub returns-in-Admitted-clause-book : goal.returns-in-Admitted-clause-book
@@ -31,7 +31,7 @@ returns-in-Admitted-clause-book g c =
     let get : slice_get b.counts place ≡ Some own = slice_get_read b.counts (length b.counts) place own refl (omega (arith, below, is.len)) c.index-own.ensures in
     let number : c.in-Admitted.number ≡ own = c.in-Admitted.ensures.0 in
     let n = c.in-Admitted.number in
-    let e = entry c.into_url.result b.id n c.args.hops in
+    let e = entry c.args.url b.id n c.args.hops in
     subst (IsBook g.K.Name.workers) (sym c.accept.ensures) (book_accepts g.K.Name.workers b place n e is below (get ∙ ap Some (sym number)) refl refl)
 
 pub returns-in-Seen-clause-book : goal.returns-in-Seen-clause-book
@@ -46,5 +46,5 @@ returns-in-Crossed-clause-books g c =
     let own = c.index-own.result.now in
     let below : place < g.K.Name.workers = omega (arith, c.subqueue-place.ensures.below, c.workers.ensures.0) in
     let get : slice_get b.counts place ≡ Some own = slice_get_read b.counts (length b.counts) place own refl (omega (arith, below, c.requires.book.len)) c.index-own.ensures in
-    let at : place ≡ subqueue_of c.args.url g.K.Name.workers = c.subqueue-place.ensures.value ∙ (λ i. subqueue_of (c.url-known.ensures i) (c.workers.ensures.0 i)) in
+    let at : place ≡ subqueue_of c.args.url g.K.Name.workers = c.subqueue-place.ensures.value ∙ ap (subqueue_of c.args.url) c.workers.ensures.0 in
     (refl, subst (λ k. slice_get b.counts k ≡ Some own) at get, c.in-Crossed.ensures.0)

@@ -1,10 +1,14 @@
-use Rattle.std.proofs.Common.{rules, ◌≡◌, ◌+◌, ◌<◌, ◌∙◌, ◌++◌, ◌∷◌, [], List, length, false, None, cond, eqb, ap, sym, subst, arith}
+use Rattle.std.proofs.Common.{rules, ◌≡◌, ◌+◌, ◌<◌, ◌∙◌, ◌++◌, ◌∷◌, [], List, length, map, slice_get, true, false, Some, None, cond, eqb, ap, refl, sym, subst, arith}
 use Rattle.std.specs.Prelude.{is_some}
+use Rattle.std.proofs.lemmas.Option.{slice_get_read}
+use Rattle.hash_order.specs.HashOrder.{hash_of}
+use Rattle.hash_index.specs.Lists.{index_of}
+use Rattle.hash_index.specs.Index.{IsIndexOf}
+use Rattle.hash_index.proofs.Keeping.{pushed_item}
 use Rattle.crawl_frontier.specs.declared.entry.Entry.{Entry}
 use Rattle.crawl_frontier.specs.Entries.{MayFollow, KeepsRule, has_url, count_of, entry}
 use Rattle.crawl_frontier.proofs.Entries.{rule-snoc, count_of-le}
-use Rattle.crawl_frontier.specs.Tables.{IsKnown, KnowsEach}
-use Rattle.crawl_frontier.proofs.Knowing.{knows_next}
+use Rattle.crawl_frontier.proofs.Urls.{has_index, index_within, url_there}
 use Rattle.crawl_frontier.proofs.Undo.{raised}
 use Rattle.crawl_frontier.proofs.shard.Shard.send.Goals as goal
 
@@ -13,6 +17,24 @@ overflow_add-own g c =
     let v = c.self.inside.sent in
     let is : count_of c.args.sender v.items ≡ c.args.own = search rules in
     omega (arith, is, count_of-le c.args.sender v.items, v.ok.0, v.ok.1, v.small)
+
+pub index-requires : goal.index-requires
+index-requires g c =
+    let es = c.self.inside.sent.items in
+    let is : index_of (map (λ e. e.url) es) c.args.url.now ≡ Some c.in-Some.index = search rules in
+    omega (arith, index_within es c.args.url.now c.in-Some.index is, c.self.inside.sent.ok.0)
+
+pub returns-in-Some : goal.returns-in-Some
+returns-in-Some g c =
+    let es = c.self.inside.sent.items in
+    let url = c.args.url.now in
+    let k = c.in-Some.index in
+    let there = c.index.result.now in
+    let is : index_of (map (λ e. e.url) es) url ≡ Some k = search rules in
+    let here : slice_get es k ≡ Some there = slice_get_read es (length es) k there refl (index_within es url k is) c.index.ensures in
+    let same : there.url ≡ url = url_there es url k there is here in
+    let has : has_url url es ≡ true = sym (has_index es url) ∙ ap is_some is in
+    search (rules, same, has)
 
 pub invariant_of-self-in-Ok-push : goal.invariant_of-self-in-Ok-push
 invariant_of-self-in-Ok-push g c =
@@ -23,18 +45,15 @@ invariant_of-self-in-Ok-push g c =
     let listed : c.in-Ok-copies.listed ≡ e = search rules in
     let all : c.push_reserved.new.self.items ≡ before ++ e ∷ [] = c.push_reserved.ensures.items ∙ (λ i. items i ++ listed i ∷ []) in
     let own : count_of c.args.sender before ≡ c.args.own = search rules in
-    let places = c.find_or_note.new.self in
-    let lent : c.as_slice.result.now ≡ before = search rules in
     let none : c.in-Ok.found ≡ None = search rules in
-    let new : has_url url before ≡ false = ap (λ (es : List Entry). has_url url es) (sym lent) ∙ sym c.in-Ok.ensures.there ∙ ap is_some none in
-    let known : KnowsEach places before = subst (KnowsEach places) lent c.find_or_note.ensures.known in
-    let noted : IsKnown places url (length before) = subst (λ (es : List Entry). IsKnown places url (length es)) lent (c.in-Ok.ensures.noted none) in
+    let new : has_url url before ≡ false = sym (has_index before url) ∙ ap is_some (sym c.in-Ok.ensures.found ∙ none) in
+    let known : IsIndexOf hash_of (map (λ e. e.url) before ++ url ∷ []) c.find_or_insert.new.self = c.in-Ok.ensures.pushed none in
     let pushed = c.in-Ok-push.ensures.sent in
     let may : MayFollow g.K.Name.workers c.self.inside.place before e = record { new = new; here = search rules; number = sym own } in (
       search (rules, c.self.invariant.0),
       search rules,
       subst (KeepsRule g.K.Name.workers c.self.inside.place []) (sym all) (rule-snoc g.K.Name.workers c.self.inside.place [] before e c.self.invariant.2 may),
-      subst (KnowsEach places) (sym all) (knows_next places places before e known noted (λ other k differs is. is)),
+      pushed_item (λ e. e.url) hash_of c.find_or_insert.new.self before c.push_reserved.new.self.items e all known,
       λ id.
           c.raise.ensures id
           ∙ (ap (λ n. cond (eqb c.args.sender id) (c.args.own + 1) n) (c.in-Ok-enter_sender.ensures.same id ∙ c.self.invariant.4 id)

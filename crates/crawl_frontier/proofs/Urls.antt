@@ -1,0 +1,52 @@
+-- Entries by the indices of their URLs.
+use Rattle.std.proofs.Common.{◌≡◌, ℕ, suc, ◌<◌, Bool, true, false, List, [], ◌∷◌, map, slice_get, Option, Some, None, is_some, refl, sym, ap, subst, ◌∙◌}
+use Rattle.std.specs.Prelude.{length, bytes_eq, ◌||◌}
+use Rattle.std.specs.Bool.{if◌then◌else◌}
+use Rattle.std.specs.Option.{option_map}
+use Rattle.std.proofs.lemmas.Option.{slice_get-map, slice_get_within}
+use Rattle.hash_index.specs.Lists.{index_of, AreApart}
+use Rattle.hash_index.proofs.Listed.{found_at, absent_at}
+use Rattle.crawl_frontier.specs.declared.entry.Entry.{Entry}
+use Rattle.crawl_frontier.specs.Entries.{has_url}
+
+-- the list has a URL where that has an index
+pub has_index : (es : List Entry) (url : List ℕ) → is_some (index_of (map (λ e. e.url) es) url) ≡ has_url url es
+has_index [] url = refl
+has_index (e ∷ es) url = by_first (bytes_eq e.url url) (index_of (map (λ e. e.url) es) url) (has_index es url)
+  where
+    by_first : (b : Bool) (o : Option ℕ) → is_some o ≡ has_url url es → is_some (if b then Some 0 else option_map suc o) ≡ (b || has_url url es)
+    by_first true o more = refl
+    by_first false None more = more
+    by_first false (Some k) more = more
+
+-- the URL of the entry at an index
+pub url_at : (es : List Entry) (k : ℕ) (e : Entry) → slice_get es k ≡ Some e → slice_get (map (λ e. e.url) es) k ≡ Some e.url
+url_at es k e at = slice_get-map (λ e. e.url) es k ∙ ap (option_map (λ e. e.url)) at
+
+-- the entry at a URL's index
+pub entry_there : (es : List Entry) (url : List ℕ) (k : ℕ) → index_of (map (λ e. e.url) es) url ≡ Some k → (e : Entry) × ((slice_get es k ≡ Some e) × (e.url ≡ url))
+entry_there es url k found = by_entry (slice_get es k) refl
+  where
+    by_entry : (o : Option Entry) → slice_get es k ≡ o → (e : Entry) × ((slice_get es k ≡ Some e) × (e.url ≡ url))
+    by_entry None none = let both : Some url ≡ None = sym (found_at _ url k found) ∙ slice_get-map (λ e. e.url) es k ∙ ap (option_map (λ e. e.url)) none in absurd (cc)
+    by_entry (Some e) at = let both : Some e.url ≡ Some url = sym (url_at es k e at) ∙ found_at _ url k found in (e, (at, cc))
+
+pub index_within : (es : List Entry) (url : List ℕ) (k : ℕ) → index_of (map (λ e. e.url) es) url ≡ Some k → k < length es
+index_within es url k found = let there = entry_there es url k found in slice_get_within es k there.0 there.1.0
+
+-- it has the URL
+pub url_there : (es : List Entry) (url : List ℕ) (k : ℕ) (e : Entry) → index_of (map (λ e. e.url) es) url ≡ Some k → slice_get es k ≡ Some e → e.url ≡ url
+url_there es url k e found at =
+    let both : Some e.url ≡ Some url = sym (url_at es k e at) ∙ found_at _ url k found in
+    cc
+
+-- no entry has a URL without an index
+pub not_there : (es : List Entry) (e : Entry) → index_of (map (λ e. e.url) es) e.url ≡ None → (k : ℕ) → ¬ (slice_get es k ≡ Some e)
+not_there es e none k at = absent_at _ e.url none k (url_at es k e at)
+
+-- an entry stands at its URL's index alone
+pub is_that : (es : List Entry) (found e : Entry) (j k : ℕ) → AreApart (map (λ e. e.url) es) → index_of (map (λ e. e.url) es) e.url ≡ Some j → slice_get es j ≡ Some found → slice_get es k ≡ Some e → found ≡ e
+is_that es found e j k apart is here at =
+    let same : j ≡ k = apart j k e.url (found_at _ e.url j is) (url_at es k e at) in
+    let both : Some found ≡ Some e = sym here ∙ ap (slice_get es) same ∙ at in
+    cc

@@ -1,0 +1,25 @@
+use Rattle.std.proofs.Common.{rules, ◌≡◌, ◌<◌, ◌∙◌, List, true, Some, refl, sym, ap, arith, length, map, slice_get}
+use Rattle.std.specs.Prelude.{is_some}
+use Rattle.std.proofs.lemmas.Option.{slice_get_read}
+use Rattle.hash_index.specs.Lists.{index_of}
+use Rattle.crawl_frontier.specs.Entries.{has_url}
+use Rattle.crawl_frontier.proofs.Urls.{has_index, index_within, url_there}
+use Rattle.crawl_frontier.proofs.shard.Shard.admit.Goals as goal
+
+pub index-requires : goal.index-requires
+index-requires g c =
+    let es = c.self.inside.sent.items in
+    let is : index_of (map (λ e. e.url) es) c.args.url.now ≡ Some c.in-Some.index = search rules in
+    omega (arith, index_within es c.args.url.now c.in-Some.index is, c.self.inside.sent.ok.0)
+
+pub returns-in-Some : goal.returns-in-Some
+returns-in-Some g c =
+    let es = c.self.inside.sent.items in
+    let url = c.args.url.now in
+    let k = c.in-Some.index in
+    let there = c.index.result.now in
+    let is : index_of (map (λ e. e.url) es) url ≡ Some k = search rules in
+    let here : slice_get es k ≡ Some there = slice_get_read es (length es) k there refl (index_within es url k is) c.index.ensures in
+    let same : there.url ≡ url = url_there es url k there is here in
+    let has : has_url url es ≡ true = sym (has_index es url) ∙ ap is_some is in
+    search (rules, same, has)
