@@ -103,7 +103,8 @@ in_account : (account : AccountId) (all : List Entry) (firsts : List ℕ) → Ar
 in_account account all firsts are url queue own below o told =
     let there = are.first queue below in
     let queues = take account.workers account.queues in
-    let place : subqueue_of url account.workers ≡ 0 + queue = omega (arith, own) in
+    let from_zero : queue ≡ 0 + queue = omega arith in
+    let place : subqueue_of url account.workers ≡ 0 + queue = sym own ∙ from_zero in
     let whole = in_queues (λ u. subqueue_of u account.workers) 0 queues (from_first (λ u. subqueue_of u account.workers) queues are.queues) url queue there.0 place (at_whole account.workers account.queues queue there.0 below there.1) in
     let first : length (entries_in (take queue queues)) ≡ get_or firsts queue 0 =
     ap (λ (qs : List (List Entry)). length (entries_in qs)) (take_less account.workers queue account.queues below) ∙ sym (get_or_from_slice_get firsts queue (length (entries_in (take queue account.queues))) 0 there.2) in
