@@ -13,6 +13,7 @@ use Rattle.hash_index.proofs.Listed.{found_at, absent_at, has_index}
 use Rattle.crawl_keys.specs.Assignment.{subqueue_of}
 use Rattle.crawl_frontier.specs.declared.entry.Entry.{Entry}
 use Rattle.crawl_frontier.specs.Accounts.{AccountId}
+use Rattle.crawl_frontier.proofs.Urls.{entry_there, url_at}
 use Rattle.crawl_certificate.specs.AccountEntries.{entries_in, DifferByUrl}
 use Rattle.crawl_certificate.specs.CertFaults.{is_accepted}
 use Rattle.crawl_certificate.specs.Certificate.{entry_urls}
@@ -164,20 +165,9 @@ finds_entry entries apart url k e at is = (
   λ i x here same. same_index entries apart i k x e here at (sym (same_text url x.url same) ∙ sym is),
 )
 
--- the entry whose URL stands at the index among their URLs
-entry_at : (entries : List Entry) (k : ℕ) (url : List ℕ) → slice_get (entry_urls entries) k ≡ Some url → (e : Entry) × (slice_get entries k ≡ Some e) × (e.url ≡ url)
-entry_at [] k url at = absurd (cc)
-entry_at (e ∷ es) zero url at = let same : e.url ≡ url = cc in (e, refl, same)
-entry_at (e ∷ es) (suc k) url at = entry_at es k url at
-
-url_at : (entries : List Entry) (k : ℕ) (e : Entry) → slice_get entries k ≡ Some e → slice_get (entry_urls entries) k ≡ Some e.url
-url_at [] k e at = absurd (cc)
-url_at (x ∷ es) zero e at = let same : x ≡ e = cc in ap (λ (z : Entry). Some z.url) same
-url_at (x ∷ es) (suc k) e at = url_at es k e at
-
 finds_of : (entries : List Entry) → DifferByUrl entries → (url : List ℕ) (o : Option ℕ) → index_of (entry_urls entries) url ≡ o → Finds entries url o
 finds_of entries apart url None found = λ k e at. false_from_ne_true _ (λ same. absent_at (entry_urls entries) url found k (url_at entries k e at ∙ ap Some (sym (same_text url e.url same))))
-finds_of entries apart url (Some k) found = let e = entry_at entries k url (found_at (entry_urls entries) url k found) in finds_entry entries apart url k e.0 e.1 e.2
+finds_of entries apart url (Some k) found = let there = entry_there entries url k found in finds_entry entries apart url k there.0 there.1.0 there.1.1
 
 has_entry : (entries : List Entry) (url : List ℕ) → is_some (index_of (entry_urls entries) url) ≡ is_accepted entries url
 has_entry entries url = has_index (entry_urls entries) url ∙ any_map (λ text. bytes_eq text url) (λ (e : Entry). e.url) entries

@@ -36,6 +36,7 @@ impl<'a> Model for Accepted<'a> {
 }
 
 impl<'a> Accepted<'a> {
+    /// All that the account lists.
     pub fn of(alloc: Global, account: &'a Account) -> Result<Accepted<'a>, AllocError>
         ensures all { IfOk result (λ all. all ≡ entries_of account.now) }
         ensures apart { IfOk result (λ all. DifferByUrl all) }
@@ -78,6 +79,7 @@ impl<'a> Accepted<'a> {
         ensures within { IfSome result (λ index. index < length self.now) }
     {
         let account = self.account;
+        // As `CanonUrl::subqueue`, which wants 1 to 512 of them: an account does not say so.
         let workers = account.workers();
         if workers == 0 {
             return None;
