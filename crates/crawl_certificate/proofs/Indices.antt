@@ -173,12 +173,12 @@ has_entry : (entries : List Entry) (url : List ℕ) → is_some (index_of (entry
 has_entry entries url = has_index (entry_urls entries) url ∙ any_map (λ text. bytes_eq text url) (λ (e : Entry). e.url) entries
 
 -- what is answered, by the index in the URL's own queue
-pub record Answers (all : List Entry) (url : List ℕ) (o : Option ℕ) : Type 0 where
+pub record IsAnswer (all : List Entry) (url : List ℕ) (o : Option ℕ) : Type 0 where
   pub found : Finds all url o
   pub accepted : is_some o ≡ is_accepted all url
 
 pub answers : (account : AccountId) (all : List Entry) (firsts : List ℕ) → AreLaidOut account all firsts → (url : List ℕ) (queue : ℕ) → queue ≡ subqueue_of url account.workers → queue < account.workers
-    → (o : Option ℕ) → ((es : List Entry) → slice_get account.queues queue ≡ Some es → o ≡ index_of (entry_urls es) url) → Answers all url (option_map (λ i. get_or firsts queue 0 + i) o)
+    → (o : Option ℕ) → ((es : List Entry) → slice_get account.queues queue ≡ Some es → o ≡ index_of (entry_urls es) url) → IsAnswer all url (option_map (λ i. get_or firsts queue 0 + i) o)
 answers account all firsts are url queue own below o told =
     let is = in_account account all firsts are url queue own below o told in
     record {
@@ -187,16 +187,16 @@ answers account all firsts are url queue own below o told =
     }
 
 -- with no queue there is no entry
-pub answers_none : (account : AccountId) (all : List Entry) (firsts : List ℕ) → AreLaidOut account all firsts → (url : List ℕ) → account.workers ≡ 0 → Answers all url None
+pub answers_none : (account : AccountId) (all : List Entry) (firsts : List ℕ) → AreLaidOut account all firsts → (url : List ℕ) → account.workers ≡ 0 → IsAnswer all url None
 answers_none account all firsts are url is =
     let empty : all ≡ [] = are.whole ∙ ap (λ n. entries_in (take n account.queues)) is in
-    subst (λ es. Answers es url None) (sym empty) (record { found = λ k e at. absurd (cc); accepted = refl })
+    subst (λ es. IsAnswer es url None) (sym empty) (record { found = λ k e at. absurd (cc); accepted = refl })
 
 -- what stands at a guess
-pub answers_guess : (account : AccountId) (all : List Entry) (firsts : List ℕ) → AreLaidOut account all firsts → (url : List ℕ) (k : ℕ) → stands_at all k url ≡ true → Answers all url (Some k)
+pub answers_guess : (account : AccountId) (all : List Entry) (firsts : List ℕ) → AreLaidOut account all firsts → (url : List ℕ) (k : ℕ) → stands_at all k url ≡ true → IsAnswer all url (Some k)
 answers_guess account all firsts are url k stands = of_this (slice_get all k) refl stands
   where
-    of_this : (o : Option Entry) → slice_get all k ≡ o → at_this o url ≡ true → Answers all url (Some k)
+    of_this : (o : Option Entry) → slice_get all k ≡ o → at_this o url ≡ true → IsAnswer all url (Some k)
     of_this None at this = absurd (cc)
     of_this (Some e) at this =
         let is : e.url ≡ url = same_text e.url url this in
