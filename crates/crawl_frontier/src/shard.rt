@@ -154,10 +154,11 @@ impl<K: Name> Shard<K> {
         if hops <= HOPS_LIMIT {
             return self.send(rt, queue, url, sender, own, hops as u32, unit);
         }
-        match self.index.find(&self.sent, url) {
-            Some(index) => seen(&self.sent[index], unit),
-            None => Admit::TooFar(unit),
+        let known = self.index.find(&self.sent, url);
+        if let Some(index) = known {
+            return seen(&self.sent[index], unit);
         }
+        Admit::TooFar(unit)
     }
 
     // Sends the URL, unless it is there: one search finds it, or gives it the list's next index. All that grows comes before

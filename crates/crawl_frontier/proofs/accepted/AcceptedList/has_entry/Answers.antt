@@ -1,4 +1,4 @@
-use Rattle.std.proofs.Common.{rules, ◌≡◌, ◌<◌, ◌∙◌, List, Some, None, refl, sym, ap, subst, arith, length, map, slice_get}
+use Rattle.std.proofs.Common.{rules, ◌≡◌, ◌∙◌, List, Some, None, refl, sym, ap, subst, arith, length, map, slice_get}
 use Rattle.std.proofs.lemmas.Option.{slice_get_read}
 use Rattle.hash_index.specs.Lists.{index_of}
 use Rattle.crawl_frontier.specs.declared.entry.Entry.{Entry}

@@ -1,8 +1,10 @@
-use Rattle.std.proofs.Common.{rules, ◌≡◌, ◌<◌, ◌∙◌, List, true, Some, refl, sym, ap, arith, length, map, slice_get}
+use Rattle.std.proofs.Common.{rules, ◌≡◌, ◌∙◌, List, true, false, Some, None, refl, sym, ap, subst, arith, length, map, slice_get}
 use Rattle.std.specs.Prelude.{is_some}
 use Rattle.std.proofs.lemmas.Option.{slice_get_read}
 use Rattle.hash_index.specs.Lists.{index_of}
+use Rattle.crawl_frontier.specs.declared.entry.Entry.{Entry}
 use Rattle.crawl_frontier.specs.Entries.{has_url}
+use Rattle.crawl_frontier.specs.Parts.{ShardId}
 use Rattle.crawl_frontier.proofs.Urls.{has_index, index_within, url_there}
 use Rattle.crawl_frontier.proofs.shard.Shard.admit.Goals as goal
 
@@ -23,3 +25,16 @@ returns-in-Some g c =
     let same : there.url ≡ url = url_there es url k there is here in
     let has : has_url url es ≡ true = sym (has_index es url) ∙ ap is_some is in
     search (rules, same, has)
+
+pub returns : goal.returns
+returns g c =
+    let es = c.self.inside.sent.items in
+    let url = c.args.url.now in
+    let none : index_of (map (λ e. e.url) es) url ≡ None = search rules in
+    let new : has_url url es ≡ false = sym (has_index es url) ∙ ap is_some none in (
+      search rules,
+      subst (λ (xs : List Entry). has_url url xs ≡ false) (ap (λ (s : ShardId). s.sent) c.self.view_is) new,
+      search rules,
+      search rules,
+      search rules,
+    )

@@ -6,6 +6,8 @@ use Rattle.hash_index.specs.Lists.{index_of}
 use Rattle.hash_index.specs.Index.{IsIndexOf}
 use Rattle.hash_index.proofs.Keeping.{pushed_item}
 use Rattle.crawl_frontier.specs.declared.entry.Entry.{Entry}
+use Rattle.crawl_frontier.specs.declared.rule.PassView.{PassView}
+use Rattle.crawl_frontier.specs.Parts.{ShardId}
 use Rattle.crawl_frontier.specs.Entries.{MayFollow, KeepsRule, has_url, count_of, entry}
 use Rattle.crawl_frontier.proofs.Entries.{rule-snoc, count_of-le}
 use Rattle.crawl_frontier.proofs.Urls.{has_index, index_within, url_there}
@@ -36,6 +38,49 @@ returns-in-Some g c =
     let has : has_url url es ≡ true = sym (has_index es url) ∙ ap is_some is in
     search (rules, same, has)
 
+pub push-requires-clause-follows : goal.push-requires-clause-follows
+push-requires-clause-follows g c =
+    let before = c.self.inside.sent.items in
+    let url = c.args.url.now in
+    let e : Entry = entry url c.args.sender c.args.own c.args.hops in
+    let sent : c.in-Ok-copies.sent ≡ e = search rules in
+    let own : count_of c.args.sender before ≡ c.args.own = search rules in
+    let none : c.in-Ok.found ≡ None = search rules in
+    let new : has_url url before ≡ false = sym (has_index before url) ∙ ap is_some (sym c.in-Ok.ensures.found ∙ none) in
+    let may : MayFollow g.K.Name.workers c.self.inside.place before e = record { new = new; here = search rules; number = sym own } in
+    subst (λ (v : PassView). MayFollow v.home.workers v.home.place v.sent c.in-Ok-copies.sent) (sym c.self.invariant.0)
+    (subst (MayFollow g.K.Name.workers c.self.inside.place before) (sym sent) may)
+
+pub invariant_of-self-in_default-reserve : goal.invariant_of-self-in_default-reserve
+invariant_of-self-in_default-reserve g c =
+    let items : c.reserve.new.self.items ≡ c.self.inside.sent.items = c.reserve.ensures.items in (
+      search (rules, c.self.invariant.0),
+      c.self.invariant.1,
+      subst (KeepsRule g.K.Name.workers c.self.inside.place []) (sym items) c.self.invariant.2,
+      subst (λ (es : List Entry). IsIndexOf hash_of (map (λ e. e.url) es) c.find_or_insert.new.self) (sym items) c.find_or_insert.ensures.before,
+      λ id. c.self.invariant.4 id ∙ ap (count_of id) (sym items),
+    )
+
+pub invariant_of-self-in_default-enter_sender : goal.invariant_of-self-in_default-enter_sender
+invariant_of-self-in_default-enter_sender g c =
+    let items : c.reserve.new.self.items ≡ c.self.inside.sent.items = c.reserve.ensures.items in (
+      search (rules, c.self.invariant.0),
+      c.self.invariant.1,
+      subst (KeepsRule g.K.Name.workers c.self.inside.place []) (sym items) c.self.invariant.2,
+      subst (λ (es : List Entry). IsIndexOf hash_of (map (λ e. e.url) es) c.find_or_insert.new.self) (sym items) c.find_or_insert.ensures.before,
+      λ id. c.enter_sender.ensures.same id ∙ c.self.invariant.4 id ∙ ap (count_of id) (sym items),
+    )
+
+pub invariant_of-self-in-Err-push : goal.invariant_of-self-in-Err-push
+invariant_of-self-in-Err-push g c =
+    let items : c.reserve.new.self.items ≡ c.self.inside.sent.items = c.reserve.ensures.items in (
+      search (rules, c.self.invariant.0),
+      search rules,
+      subst (KeepsRule g.K.Name.workers c.self.inside.place []) (sym items) c.self.invariant.2,
+      subst (λ (es : List Entry). IsIndexOf hash_of (map (λ e. e.url) es) c.find_or_insert.new.self) (sym items) c.find_or_insert.ensures.before,
+      λ id. c.in-Ok-enter_sender.ensures.same id ∙ c.self.invariant.4 id ∙ ap (count_of id) (sym items),
+    )
+
 pub invariant_of-self-in-Ok-push : goal.invariant_of-self-in-Ok-push
 invariant_of-self-in-Ok-push g c =
     let before = c.self.inside.sent.items in
@@ -63,12 +108,15 @@ invariant_of-self-in-Ok-push g c =
 pub returns-in-Ok-push : goal.returns-in-Ok-push
 returns-in-Ok-push g c =
     let v = c.self.inside.sent in
+    let url = c.args.url.now in
     let is : count_of c.args.sender v.items ≡ c.args.own = search rules in
-    let small : c.args.own < 9223372036854775808 = omega (arith, is, count_of-le c.args.sender v.items, v.ok.0, v.ok.1, v.small) in (
+    let small : c.args.own < 9223372036854775808 = omega (arith, is, count_of-le c.args.sender v.items, v.ok.0, v.ok.1, v.small) in
+    let none : c.in-Ok.found ≡ None = search rules in
+    let new : has_url url v.items ≡ false = sym (has_index v.items url) ∙ ap is_some (sym c.in-Ok.ensures.found ∙ none) in (
       search rules,
       small,
       search rules,
-      search rules,
+      subst (λ (es : List Entry). has_url url es ≡ false) (ap (λ (s : ShardId). s.sent) c.self.view_is) new,
       search rules,
       search rules,
     )
