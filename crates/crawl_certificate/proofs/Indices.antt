@@ -99,19 +99,21 @@ take_less zero (suc k) xs below = absurd (omega (arith, below))
 take_less (suc n) (suc k) [] below = refl
 take_less (suc n) (suc k) (x ∷ xs) below = ap (λ ys. x ∷ ys) (take_less n k xs (omega (arith, below)))
 
-in_account : (account : AccountId) (all : List Entry) (firsts : List ℕ) → AreLaidOut account all firsts → (url : List ℕ) (queue : ℕ) → queue ≡ subqueue_of url account.workers → queue < account.workers
-    → (o : Option ℕ) → ((es : List Entry) → slice_get account.queues queue ≡ Some es → o ≡ index_of (entry_urls es) url) → index_of (entry_urls all) url ≡ option_map (λ i. get_or firsts queue 0 + i) o
-in_account account all firsts are url queue own below o told =
-    let there = are.first queue below in
-    let queues = take account.workers account.queues in
-    let from_zero : queue ≡ 0 + queue = omega arith in
-    let place : subqueue_of url account.workers ≡ 0 + queue = sym own ∙ from_zero in
-    let whole = in_queues (λ u. subqueue_of u account.workers) 0 queues (from_first (λ u. subqueue_of u account.workers) queues are.queues) url queue there.0 place (at_whole account.workers account.queues queue there.0 below there.1) in
-    let first : length (entries_in (take queue queues)) ≡ get_or firsts queue 0 =
-    ap (λ (qs : List (List Entry)). length (entries_in qs)) (take_less account.workers queue account.queues below) ∙ sym (get_or_from_slice_get firsts queue (length (entries_in (take queue account.queues))) 0 there.2) in
-    ap (λ (es : List Entry). index_of (entry_urls es) url) are.whole ∙ whole
-    ∙ ap (λ n. option_map (λ i. n + i) (index_of (entry_urls there.0) url)) first
-    ∙ ap (option_map (λ i. get_or firsts queue 0 + i)) (sym (told there.0 there.1))
+module _ (account : AccountId) (all : List Entry) (firsts : List ℕ) (are : AreLaidOut account all firsts) (url : List ℕ) (queue : ℕ) (own : queue ≡ subqueue_of url account.workers) (below : queue < account.workers) where
+  abbrev before : ℕ
+  before = length (entries_in (take queue account.queues))
+
+  in_account : (o : Option ℕ) → ((es : List Entry) → slice_get account.queues queue ≡ Some es → o ≡ index_of (entry_urls es) url) → index_of (entry_urls all) url ≡ option_map (λ i. before + i) o
+  in_account o told =
+      let there = are.first queue below in
+      let queues = take account.workers account.queues in
+      let from_zero : queue ≡ 0 + queue = omega arith in
+      let here : subqueue_of url account.workers ≡ 0 + queue = sym own ∙ from_zero in
+      let whole = in_queues (λ u. subqueue_of u account.workers) 0 queues (from_first (λ u. subqueue_of u account.workers) queues are.queues) url queue there.0 here (at_whole account.workers account.queues queue there.0 below there.1) in
+      let first : length (entries_in (take queue queues)) ≡ before = ap (λ (qs : List (List Entry)). length (entries_in qs)) (take_less account.workers queue account.queues below) in
+      ap (λ (es : List Entry). index_of (entry_urls es) url) are.whole ∙ whole
+      ∙ ap (λ n. option_map (λ i. n + i) (index_of (entry_urls there.0) url)) first
+      ∙ ap (option_map (λ i. before + i)) (sym (told there.0 there.1))
 
 pub no_firsts : (queues : List (List Entry)) (firsts : List ℕ) → AreFirsts 0 queues firsts
 no_firsts queues firsts = λ queue below. absurd (nothing queue below)
@@ -177,14 +179,21 @@ pub record IsAnswer (all : List Entry) (url : List ℕ) (o : Option ℕ) : Type 
   pub found : Finds all url o
   pub accepted : is_some o ≡ is_accepted all url
 
-pub answers : (account : AccountId) (all : List Entry) (firsts : List ℕ) → AreLaidOut account all firsts → (url : List ℕ) (queue : ℕ) → queue ≡ subqueue_of url account.workers → queue < account.workers
-    → (o : Option ℕ) → ((es : List Entry) → slice_get account.queues queue ≡ Some es → o ≡ index_of (entry_urls es) url) → IsAnswer all url (option_map (λ i. get_or firsts queue 0 + i) o)
-answers account all firsts are url queue own below o told =
-    let is = in_account account all firsts are url queue own below o told in
-    record {
-      found = finds_of all (laid_apart account all firsts are) url _ is;
-      accepted = ap is_some (sym is) ∙ has_entry all url;
-    }
+answer : (all : List Entry) → DifferByUrl all → (url : List ℕ) (o : Option ℕ) → index_of (entry_urls all) url ≡ o → IsAnswer all url o
+answer all apart url o is = record { found = finds_of all apart url o is; accepted = ap is_some (sym is) ∙ has_entry all url }
+
+module _ (account : AccountId) (all : List Entry) (firsts : List ℕ) (are : AreLaidOut account all firsts) (url : List ℕ) (queue : ℕ) (own : queue ≡ subqueue_of url account.workers) (below : queue < account.workers) where
+  pub answers_absent : ((es : List Entry) → slice_get account.queues queue ≡ Some es → None ≡ index_of (entry_urls es) url) → IsAnswer all url None
+  answers_absent told = answer all (laid_apart account all firsts are) url None (in_account account all firsts are url queue own below None told)
+
+  pub queue_within : queue < length firsts
+  queue_within = let there = are.first queue below in slice_get_within firsts queue (before account all firsts are url queue own below) there.2
+
+  pub answers_there : (first i : ℕ) → first ≡ get_or firsts queue first → ((es : List Entry) → slice_get account.queues queue ≡ Some es → Some i ≡ index_of (entry_urls es) url) → IsAnswer all url (Some (first + i))
+  answers_there first i at told =
+      let there = are.first queue below in
+      let is : before account all firsts are url queue own below ≡ first = sym (at ∙ get_or_from_slice_get firsts queue (before account all firsts are url queue own below) first there.2) in
+      answer all (laid_apart account all firsts are) url (Some (first + i)) (in_account account all firsts are url queue own below (Some i) told ∙ ap (λ n. Some (n + i)) is)
 
 -- with no queue there is no entry
 pub answers_none : (account : AccountId) (all : List Entry) (firsts : List ℕ) → AreLaidOut account all firsts → (url : List ℕ) → account.workers ≡ 0 → IsAnswer all url None

@@ -95,6 +95,8 @@ impl<'a> Accepted<'a> {
         ensures accepted { is_some result ≡ is_accepted self.now url.now }
         ensures within { IfSome result (λ index. index < length self.now) }
     {
+        // By the account no other entry has the URL.
+        let _ = &self.account;
         if self.is_at(guess, url) {
             return Some(guess);
         }
