@@ -4,17 +4,9 @@ use Rattle.std.specs.Bool.{if◌then◌else◌}
 use Rattle.std.specs.List.{list_any}
 use Rattle.crawl_frontier.specs.declared.entry.Entry.{Entry}
 use Rattle.crawl_web.specs.declared.page.PageResult.{PageResult}
-use Rattle.crawl_certificate.specs.CertFaults.{first_of, is_accepted, has_result, stands_in, some_missing, seed_missing, not_fetched, link_missing, is_linked}
-use Rattle.crawl_web.specs.Pages.{links_of}
-use Rattle.crawl_certificate.specs.declared.lookups.Places.{Places}
-use Rattle.crawl_certificate.specs.Places.{has_place, ArePlaces, Urls, is_in}
-use Rattle.crawl_certificate.proofs.Places.{placed_accepted, any_map}
-
-pub seeds_known : (allowed : List ℕ → Bool) (seeds : List (List ℕ)) (entries : List Entry) (places : Places) → ArePlaces entries places → some_missing allowed (has_place entries places) seeds ≡ seed_missing allowed seeds entries
-seeds_known allowed seeds entries places are = λ i. some_missing allowed (λ url. placed_accepted entries places are url i) seeds
-
-pub links_known : (allowed : List ℕ → Bool) (entries : List Entry) (places : Places) (results : List PageResult) → ArePlaces entries places → list_any (λ r. some_missing allowed (has_place entries places) (links_of r.page)) results ≡ link_missing allowed entries results
-links_known allowed entries places results are = λ i. list_any (λ (r : PageResult). some_missing allowed (λ url. placed_accepted entries places are url i) (links_of r.page)) results
+use Rattle.crawl_certificate.specs.CertFaults.{first_of, has_result, stands_in, not_fetched, is_linked}
+use Rattle.crawl_certificate.specs.Lookups.{Urls, is_in}
+use Rattle.crawl_certificate.proofs.Places.{any_map}
 
 pub fetched_known : (entries : List Entry) (marks : List Bool) (results : List PageResult) → marks ≡ map (λ e. has_result results e.url) entries → list_any not marks ≡ not_fetched entries results
 fetched_known entries marks results are = ap (list_any not) are ∙ any_map not (λ (e : Entry). has_result results e.url) entries
@@ -22,9 +14,6 @@ fetched_known entries marks results are = ap (list_any not) are ∙ any_map not 
 -- an entry that is not founded, by the set of the seeds and the marks
 pub founded_known : (allowed : List ℕ → Bool) (seeds : List (List ℕ)) (entries : List Entry) (results : List PageResult) (known : Urls) → ((url : List ℕ) → is_in known url ≡ stands_in seeds url) → list_any (λ e. not (allowed e.url && (if e.hops == 0 then is_in known e.url else is_linked entries results e))) entries ≡ list_any (λ e. not (allowed e.url && (if e.hops == 0 then stands_in seeds e.url else is_linked entries results e))) entries
 founded_known allowed seeds entries results known says = λ i. list_any (λ (e : Entry). not (allowed e.url && (if e.hops == 0 then says e.url i else is_linked entries results e))) entries
-
-pub strays_known : (entries : List Entry) (places : Places) (results : List PageResult) → ArePlaces entries places → list_any (λ r. not (has_place entries places r.url)) results ≡ list_any (λ r. not (is_accepted entries r.url)) results
-strays_known entries places results are = λ i. list_any (λ (r : PageResult). not (placed_accepted entries places are r.url i)) results
 
 -- ---- their order
 

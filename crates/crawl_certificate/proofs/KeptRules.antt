@@ -96,7 +96,7 @@ account_differs account are = queues_differ (λ url. subqueue_of url account.wor
 
 -- ---- counts
 
-at_whole : {X : Type 0} (n : ℕ) (xs : List X) (k : ℕ) (x : X) → k < n → At xs k x → At (take n xs) k x
+pub at_whole : {X : Type 0} (n : ℕ) (xs : List X) (k : ℕ) (x : X) → k < n → At xs k x → At (take n xs) k x
 at_whole zero xs k x below at = absurd (nothing k below)
   where
     nothing : (k : ℕ) → k < 0 → ⊥

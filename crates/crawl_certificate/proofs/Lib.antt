@@ -8,7 +8,7 @@ pub mod Queues
 pub mod KeptRules
 pub mod Places
 pub mod Faults
-pub mod Index
+pub mod Indices
 pub mod Verdicts
 pub mod Certificates
 pub mod Together

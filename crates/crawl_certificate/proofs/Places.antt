@@ -15,8 +15,7 @@ use Rattle.crawl_web.specs.declared.page.PageResult.{PageResult}
 use Rattle.crawl_certificate.specs.CertFaults.{is_accepted, has_result, stands_in, is_behind, is_linked, twice}
 use Rattle.crawl_web.specs.Pages.{links_of}
 use Rattle.crawl_certificate.specs.AccountEntries.{DifferByUrl}
-use Rattle.crawl_certificate.specs.Places.{place_of, has_place, at_this, stands_at, ArePlaces, Urls, is_in, pointed}
-use Rattle.crawl_certificate.specs.declared.lookups.Places.{Places}
+use Rattle.crawl_certificate.specs.Lookups.{Finds, Urls, is_in, pointed}
 use Rattle.crawl_certificate.proofs.Lists.{no_element, first_or_later, some_has, any_from, same_text, text_itself}
 
 -- ---- lists
@@ -111,20 +110,6 @@ pub none_marked : {X : Type 0} (xs : List X) → map (λ _. false) xs ≡ replic
 none_marked [] = refl
 none_marked (x ∷ xs) = ap (λ bs. false ∷ bs) (none_marked xs)
 
-take_differs : (n : ℕ) (entries : List Entry) → DifferByUrl entries → DifferByUrl (take n entries)
-take_differs n entries apart = λ i j d before within.
-    let short : j < min n (length entries) = subst (λ k. j < k) (length-take n entries) within in
-    let P : Entry → Entry → Type 0 = λ a b. a.url ≢ b.url in
-    let here' : i < n = omega (arith, before, short) in
-    let later : j < n = omega (arith, short) in
-    subst (λ a. P a (get_or (take n entries) j d)) (sym (get_or-take n entries i d here')) (subst (λ b. P (get_or entries i d) b) (sym (get_or-take n entries j d later)) (apart i j d before (omega (arith, short))))
-
--- the entries up to a place, and the one that stands there
-pub first_differ : (xs : List (Bor Entry)) (k : ℕ) (x : Bor Entry) → k < length xs → x ≡ get_or xs k x → DifferByUrl (pointed xs) → DifferByUrl (pointed (take k xs) ++ x.now ∷ [])
-first_differ xs k x below at apart =
-    let more : pointed (take (k + 1) xs) ≡ pointed (take k xs) ++ (get_or xs k x).now ∷ [] = map_more (λ (y : Bor Entry). y.now) xs k x below in
-    subst DifferByUrl (take-map (λ (y : Bor Entry). y.now) (k + 1) xs ∙ more ∙ ap (λ (y : Bor Entry). pointed (take k xs) ++ y.now ∷ []) (sym at)) (take_differs (k + 1) (pointed xs) apart)
-
 -- ---- sets of URLs
 
 -- a set of URLs after one was put in
@@ -138,56 +123,27 @@ set_put old new key updates url =
     or_by_cond false true = refl
     or_by_cond false false = refl
 
--- ---- places of entries
+-- ---- what is found
 
--- the place that is kept says what is accepted
-some_place : (entries : List Entry) (places : Places) → ArePlaces entries places → (url : List ℕ) (o : Option ℕ) → place_of entries places url ≡ o → is_some o ≡ is_accepted entries url
-some_place entries places are url None at =
-    sym (false_from_ne_true _ (λ has.
-    let found = some_has (λ (e : Entry). bytes_eq e.url url) entries has in
-    let where' = place_among entries found.0 found.1 in
-    let kept = are.kept where'.0 found.0 where'.1 in
-    let clash : Some where'.0 ≡ None = sym kept ∙ ap (place_of entries places) (same_text found.0.url url found.2) ∙ at in
-    absurd (cc)))
-some_place entries places are url (Some k) at =
-    let entry = are.meant url k at in
-    sym (any_from (λ (e : Entry). bytes_eq e.url url) entries entry.0 (among_at entries k entry.0 entry.1) (subst (λ u. bytes_eq entry.0.url u ≡ true) entry.2 (text_itself entry.0.url)))
+-- the entry at the index that was found has the URL
+own_url : (entries : List Entry) (url : List ℕ) (k : ℕ) → Finds entries url (Some k) → (e : Entry) → slice_get entries k ≡ Some e → e.url ≡ url
+own_url entries url k found e at =
+    let both : Some found.0.0 ≡ Some e = sym found.0.1 ∙ at in
+    let same : found.0.0 ≡ e = cc in
+    sym (ap (λ (z : Entry). z.url) same) ∙ found.0.2
 
-pub placed_accepted : (entries : List Entry) (places : Places) → ArePlaces entries places → (url : List ℕ) → has_place entries places url ≡ is_accepted entries url
-placed_accepted entries places are url = some_place entries places are url (place_of entries places url) refl
+found_eq : (entries : List Entry) (url : List ℕ) (k : ℕ) → Finds entries url (Some k) → (e : Entry) → slice_get entries k ≡ Some e → bytes_eq url e.url ≡ true
+found_eq entries url k found e at = subst (λ u. bytes_eq url u ≡ true) (sym (own_url entries url k found e at)) (text_itself url)
 
--- the entry at a place that is kept for a URL
-pub placed : (entries : List Entry) (places : Places) → ArePlaces entries places → (url : List ℕ) (k : ℕ) → place_of entries places url ≡ Some k → (d : Entry) → (k < length entries) × (slice_get entries k ≡ Some (get_or entries k d)) × ((get_or entries k d).url ≡ url)
-placed entries places are url k at d =
-    let entry = are.meant url k at in
-    let same = get_or_from_slice_get entries k entry.0 d entry.1 in
-    (slice_get_within entries k entry.0 entry.1, entry.1 ∙ ap Some (sym same), ap (λ (e : Entry). e.url) same ∙ entry.2)
+other_eq : (entries : List Entry) (url : List ℕ) (k : ℕ) → Finds entries url (Some k) → (i : ℕ) (e : Entry) → slice_get entries i ≡ Some e → (i ≡ k → ⊥) → bytes_eq url e.url ≡ false
+other_eq entries url k found i e at differs = false_from_ne_true _ (λ same. differs (found.1 i e at same))
 
-pub place_within : (entries : List (Bor Entry)) (places : Places) → ArePlaces (pointed entries) places → (url : List ℕ) (o : Option ℕ) → o ≡ place_of (pointed entries) places url → IfSome o (λ k. k < length entries)
-place_within entries places are url None at = tt
-place_within entries places are url (Some k) at =
-    let entry = are.meant url k (sym at) in
-    omega (arith, slice_get_within (pointed entries) k entry.0 entry.1, length_pointed entries)
+pub found_within : (entries : List Entry) (url : List ℕ) (k : ℕ) → Finds entries url (Some k) → k < length entries
+found_within entries url k found = slice_get_within entries k found.0.0 found.0.1
 
--- the place of a URL is wherever its entry stands
-pub stands_there : (entries : List Entry) (places : Places) → ArePlaces entries places → (url : List ℕ) (k : ℕ) → stands_at entries k url ≡ true → place_of entries places url ≡ Some k
-stands_there entries places are url k = found (slice_get entries k) refl
-  where
-    found : (o : Option Entry) → slice_get entries k ≡ o → at_this o url ≡ true → place_of entries places url ≡ Some k
-    found None at same = absurd (cc)
-    found (Some e) at same = ap (place_of entries places) (sym (same_text e.url url same)) ∙ are.kept k e at
-
--- an entry with the URL stands at the place that is kept for it
-pub only_place : (entries : List Entry) (places : Places) → ArePlaces entries places → (url : List ℕ) (k : ℕ) → place_of entries places url ≡ Some k → (i : ℕ) (e : Entry) → slice_get entries i ≡ Some e → bytes_eq url e.url ≡ true → i ≡ k
-only_place entries places are url k at i e here' same =
-    let both : Some i ≡ Some k = sym (are.kept i e here') ∙ ap (place_of entries places) (sym (same_text url e.url same)) ∙ at in cc
-
--- where no place is kept for a URL no entry has it
-pub no_place : (entries : List Entry) (places : Places) → ArePlaces entries places → (url : List ℕ) → place_of entries places url ≡ None → (i : ℕ) (e : Entry) → slice_get entries i ≡ Some e → bytes_eq url e.url ≡ false
-no_place entries places are url none i e here' =
-    false_from_ne_true _ (λ same.
-    let clash : Some i ≡ None = sym (are.kept i e here') ∙ ap (place_of entries places) (sym (same_text url e.url same)) ∙ none in
-    absurd (cc))
+same_entry : {X : Type 0} (o : Option X) (x y : X) → o ≡ Some x → o ≡ Some y → x ≡ y
+same_entry o x y p q =
+    let both : Some x ≡ Some y = sym p ∙ q in cc
 
 -- ---- marks
 
@@ -218,30 +174,26 @@ or_both true b c p q = refl
 or_both false b c p q = sym (and_from b c p q)
 
 -- what is known of the entries after the one with this URL was marked, if it passes the test
-pub marked : (entries : List Entry) (places : Places) → ArePlaces entries places → (url : List ℕ) (k : ℕ) → place_of entries places url ≡ Some k → (known test : Entry → Bool) (d : Entry) → test (get_or entries k d) ≡ true → set (map known entries) k true ≡ map (λ e. known e || (bytes_eq url e.url && test e)) entries
-marked entries places are url k at known test d passes =
-    let there' = placed entries places are url k at d in
-    set_agrees known (λ e. known e || (bytes_eq url e.url && test e)) entries k true
-    (λ e here'.
-    let same : get_or entries k d ≡ e = get_or_from_slice_get entries k e d here' in
-    or_both (known e) (bytes_eq url e.url) (test e) (subst (λ u. bytes_eq url u ≡ true) (sym there'.2 ∙ ap (λ (z : Entry). z.url) same) (text_itself url)) (subst (λ z. test z ≡ true) same passes))
-    (λ i e here' differs. or_none (known e) (bytes_eq url e.url) (test e) (false_from_ne_true _ (λ same. differs (only_place entries places are url k at i e here' same))))
+pub marked : (entries : List Entry) (url : List ℕ) (k : ℕ) → Finds entries url (Some k) → (known test : Entry → Bool) (e : Entry) → slice_get entries k ≡ Some e → test e ≡ true → set (map known entries) k true ≡ map (λ e. known e || (bytes_eq url e.url && test e)) entries
+marked entries url k found known test e at passes =
+    set_agrees known (λ x. known x || (bytes_eq url x.url && test x)) entries k true
+    (λ x here'. or_both (known x) (bytes_eq url x.url) (test x) (found_eq entries url k found x here') (subst (λ z. test z ≡ true) (same_entry (slice_get entries k) e x at here') passes))
+    (λ i x here' differs. or_none (known x) (bytes_eq url x.url) (test x) (other_eq entries url k found i x here' differs))
 
-pub unmarked : (entries : List Entry) (places : Places) → ArePlaces entries places → (url : List ℕ) (k : ℕ) → place_of entries places url ≡ Some k → (known test : Entry → Bool) (d : Entry) → test (get_or entries k d) ≡ false → map known entries ≡ map (λ e. known e || (bytes_eq url e.url && test e)) entries
-unmarked entries places are url k at known test d fails =
-    maps_agree known (λ e. known e || (bytes_eq url e.url && test e)) entries
-    (λ i e here'. elim (cases_Bool (bytes_eq url e.url)) [
+pub unmarked : (entries : List Entry) (url : List ℕ) (k : ℕ) → Finds entries url (Some k) → (known test : Entry → Bool) (e : Entry) → slice_get entries k ≡ Some e → test e ≡ false → map known entries ≡ map (λ e. known e || (bytes_eq url e.url && test e)) entries
+unmarked entries url k found known test e at fails =
+    maps_agree known (λ x. known x || (bytes_eq url x.url && test x)) entries
+    (λ i x here'. elim (cases_Bool (bytes_eq url x.url)) [
       | inl same ↦
-          let place : i ≡ k = only_place entries places are url k at i e here' same in
-          let one : get_or entries k d ≡ e = get_or_from_slice_get entries k e d (subst (λ n. slice_get entries n ≡ Some e) place here') in
-          or_none_last (known e) (bytes_eq url e.url) (test e) (subst (λ z. test z ≡ false) one fails)
-      | inr other ↦ or_none (known e) (bytes_eq url e.url) (test e) other
+          let there : slice_get entries k ≡ Some x = subst (λ n. slice_get entries n ≡ Some x) (found.1 i x here' same) here' in
+          or_none_last (known x) (bytes_eq url x.url) (test x) (subst (λ z. test z ≡ false) (same_entry (slice_get entries k) e x at there) fails)
+      | inr other ↦ or_none (known x) (bytes_eq url x.url) (test x) other
     ])
 
-pub unmarked_unknown : (entries : List Entry) (places : Places) → ArePlaces entries places → (url : List ℕ) → place_of entries places url ≡ None → (known test : Entry → Bool) → map known entries ≡ map (λ e. known e || (bytes_eq url e.url && test e)) entries
-unmarked_unknown entries places are url none known test =
+pub unmarked_unknown : (entries : List Entry) (url : List ℕ) → Finds entries url None → (known test : Entry → Bool) → map known entries ≡ map (λ e. known e || (bytes_eq url e.url && test e)) entries
+unmarked_unknown entries url none known test =
     maps_agree known (λ e. known e || (bytes_eq url e.url && test e)) entries
-    (λ i e here'. or_none (known e) (bytes_eq url e.url) (test e) (no_place entries places are url none i e here'))
+    (λ i e here'. or_none (known e) (bytes_eq url e.url) (test e) (none i e here'))
 
 or_once_more : (k a b t : Bool) → ((k || (a && t)) || (b && t)) ≡ (k || ((a || b) && t))
 or_once_more true a b t = refl
@@ -260,44 +212,43 @@ marks_push entries links link known test =
 
 -- ---- entries one hop behind the entry of a URL
 
-behind_place : (entries : List Entry) (places : Places) → ArePlaces entries places → (url : List ℕ) (k : ℕ) → place_of entries places url ≡ Some k → (d e : Entry) → (e.hops == (get_or entries k d).hops + 1) ≡ is_behind entries url e
-behind_place entries places are url k at d e =
-    let there' = placed entries places are url k at d in
+behind_found : (entries : List Entry) (url : List ℕ) (k : ℕ) → Finds entries url (Some k) → (before : Entry) → slice_get entries k ≡ Some before → (e : Entry) → (e.hops == before.hops + 1) ≡ is_behind entries url e
+behind_found entries url k found before at e =
     let p : Entry → Bool = λ b. bytes_eq b.url url && e.hops == b.hops + 1 in
-    elim (cases_Bool (e.hops == (get_or entries k d).hops + 1)) [
+    elim (cases_Bool (e.hops == before.hops + 1)) [
       | inl next ↦
-          next ∙ sym (any_from p entries (get_or entries k d) (among_at entries k (get_or entries k d) there'.1)
-          (and_from _ _ (subst (λ u. bytes_eq (get_or entries k d).url u ≡ true) there'.2 (text_itself (get_or entries k d).url)) next))
+          next ∙ sym (any_from p entries before (among_at entries k before at)
+          (and_from _ _ (subst (λ u. bytes_eq before.url u ≡ true) (own_url entries url k found before at) (text_itself before.url)) next))
       | inr not_next ↦
           not_next ∙ sym (false_from_ne_true _ (λ has.
-          let found = some_has p entries has in
-          let fits = and_parts (bytes_eq found.0.url url) (e.hops == found.0.hops + 1) found.2 in
-          let at_found = place_among entries found.0 found.1 in
-          let same_url : url ≡ found.0.url = sym (same_text found.0.url url fits.0) in
-          let place : at_found.0 ≡ k = only_place entries places are url k at at_found.0 found.0 at_found.1 (subst (λ u. bytes_eq url u ≡ true) same_url (text_itself url)) in
-          let one : get_or entries k d ≡ found.0 = get_or_from_slice_get entries k found.0 d (subst (λ n. slice_get entries n ≡ Some found.0) place at_found.1) in
+          let some = some_has p entries has in
+          let fits = and_parts (bytes_eq some.0.url url) (e.hops == some.0.hops + 1) some.2 in
+          let there = place_among entries some.0 some.1 in
+          let same_url : url ≡ some.0.url = sym (same_text some.0.url url fits.0) in
+          let index : there.0 ≡ k = found.1 there.0 some.0 there.1 (subst (λ u. bytes_eq url u ≡ true) same_url (text_itself url)) in
+          let one : before ≡ some.0 = same_entry (slice_get entries k) before some.0 at (subst (λ n. slice_get entries n ≡ Some some.0) index there.1) in
           both_ways _ not_next (subst (λ z. (e.hops == z.hops + 1) ≡ true) (sym one) fits.1)))
     ]
 
-behind_none : (entries : List Entry) (places : Places) → ArePlaces entries places → (url : List ℕ) → place_of entries places url ≡ None → (e : Entry) → is_behind entries url e ≡ false
-behind_none entries places are url none e =
+behind_none : (entries : List Entry) (url : List ℕ) → Finds entries url None → (e : Entry) → is_behind entries url e ≡ false
+behind_none entries url none e =
     let p : Entry → Bool = λ b. bytes_eq b.url url && e.hops == b.hops + 1 in
     false_from_ne_true _ (λ has.
-    let found = some_has p entries has in
-    let fits = and_parts (bytes_eq found.0.url url) (e.hops == found.0.hops + 1) found.2 in
-    let at_found = place_among entries found.0 found.1 in
-    let same_url : url ≡ found.0.url = sym (same_text found.0.url url fits.0) in
-    both_ways _ (no_place entries places are url none at_found.0 found.0 at_found.1) (subst (λ u. bytes_eq url u ≡ true) same_url (text_itself url)))
+    let some = some_has p entries has in
+    let fits = and_parts (bytes_eq some.0.url url) (e.hops == some.0.hops + 1) some.2 in
+    let there = place_among entries some.0 some.1 in
+    let same_url : url ≡ some.0.url = sym (same_text some.0.url url fits.0) in
+    both_ways _ (none there.0 some.0 there.1) (subst (λ u. bytes_eq url u ≡ true) same_url (text_itself url)))
 
 -- marks by the hops of the entry of a result
-pub behind_marks : (entries : List Entry) (places : Places) → ArePlaces entries places → (r : PageResult) (k : ℕ) → place_of entries places r.url ≡ Some k → (d : Entry) (known : Entry → Bool) → map (λ e. known e || (stands_in (links_of r.page) e.url && e.hops == (get_or entries k d).hops + 1)) entries ≡ map (λ e. known e || (stands_in (links_of r.page) e.url && is_behind entries r.url e)) entries
-behind_marks entries places are r k at d known =
-    maps_agree _ _ entries (λ i e here'. ap (λ b. known e || (stands_in (links_of r.page) e.url && b)) (behind_place entries places are r.url k at d e))
+pub behind_marks : (entries : List Entry) (r : PageResult) (k : ℕ) → Finds entries r.url (Some k) → (before : Entry) → slice_get entries k ≡ Some before → (known : Entry → Bool) → map (λ e. known e || (stands_in (links_of r.page) e.url && e.hops == before.hops + 1)) entries ≡ map (λ e. known e || (stands_in (links_of r.page) e.url && is_behind entries r.url e)) entries
+behind_marks entries r k found before at known =
+    maps_agree _ _ entries (λ i e here'. ap (λ b. known e || (stands_in (links_of r.page) e.url && b)) (behind_found entries r.url k found before at e))
 
 -- a result whose URL is not accepted gives none
-pub behind_no_marks : (entries : List Entry) (places : Places) → ArePlaces entries places → (r : PageResult) → place_of entries places r.url ≡ None → (known : Entry → Bool) → map known entries ≡ map (λ e. known e || (stands_in (links_of r.page) e.url && is_behind entries r.url e)) entries
-behind_no_marks entries places are r none known =
-    maps_agree _ _ entries (λ i e here'. or_none_last (known e) (stands_in (links_of r.page) e.url) (is_behind entries r.url e) (behind_none entries places are r.url none e))
+pub behind_no_marks : (entries : List Entry) (r : PageResult) → Finds entries r.url None → (known : Entry → Bool) → map known entries ≡ map (λ e. known e || (stands_in (links_of r.page) e.url && is_behind entries r.url e)) entries
+behind_no_marks entries r none known =
+    maps_agree _ _ entries (λ i e here'. or_none_last (known e) (stands_in (links_of r.page) e.url) (is_behind entries r.url e) (behind_none entries r.url none e))
 
 or_steps : (a b c : Bool) → ((a || b) || c) ≡ (a || (b || c))
 or_steps true b c = refl
@@ -320,26 +271,21 @@ or_nothing true b h = refl
 or_nothing false b h = sym h
 
 -- the entry with the URL of a result is marked
-pub fetched_marked : (entries : List Entry) (places : Places) → ArePlaces entries places → (url : List ℕ) (k : ℕ) → place_of entries places url ≡ Some k → (known : List ℕ → Bool) → set (map (λ e. known e.url) entries) k true ≡ map (λ e. known e.url || bytes_eq url e.url) entries
-fetched_marked entries places are url k at known =
-    let found = are.meant url k at in
+pub fetched_marked : (entries : List Entry) (url : List ℕ) (k : ℕ) → Finds entries url (Some k) → (known : List ℕ → Bool) → set (map (λ e. known e.url) entries) k true ≡ map (λ e. known e.url || bytes_eq url e.url) entries
+fetched_marked entries url k found known =
     set_agrees (λ e. known e.url) (λ e. known e.url || bytes_eq url e.url) entries k true
-    (λ e here'.
-    let both : Some found.0 ≡ Some e = sym found.1 ∙ here' in
-    let same : found.0 ≡ e = cc in
-    sym (or_right (known e.url) (bytes_eq url e.url) (subst (λ u. bytes_eq url u ≡ true) (sym found.2 ∙ ap (λ (z : Entry). z.url) same) (text_itself url))))
-    (λ i e here' differs. or_nothing (known e.url) (bytes_eq url e.url) (false_from_ne_true _ (λ same. differs (only_place entries places are url k at i e here' same))))
+    (λ e here'. sym (or_right (known e.url) (bytes_eq url e.url) (found_eq entries url k found e here')))
+    (λ i e here' differs. or_nothing (known e.url) (bytes_eq url e.url) (other_eq entries url k found i e here' differs))
 
-pub fetched_unmarked : (entries : List Entry) (places : Places) → ArePlaces entries places → (url : List ℕ) → place_of entries places url ≡ None → (known : List ℕ → Bool) → map (λ e. known e.url) entries ≡ map (λ e. known e.url || bytes_eq url e.url) entries
-fetched_unmarked entries places are url none known =
-    maps_agree _ _ entries (λ i e here'. or_nothing (known e.url) (bytes_eq url e.url) (no_place entries places are url none i e here'))
+pub fetched_unmarked : (entries : List Entry) (url : List ℕ) → Finds entries url None → (known : List ℕ → Bool) → map (λ e. known e.url) entries ≡ map (λ e. known e.url || bytes_eq url e.url) entries
+fetched_unmarked entries url none known =
+    maps_agree _ _ entries (λ i e here'. or_nothing (known e.url) (bytes_eq url e.url) (none i e here'))
 
 -- whether the entry with the URL was marked
-pub fetched_before : (entries : List Entry) (places : Places) → ArePlaces entries places → (url : List ℕ) (k : ℕ) → place_of entries places url ≡ Some k → (known : List ℕ → Bool) (d : Bool) → get_or (map (λ e. known e.url) entries) k d ≡ known url
-fetched_before entries places are url k at known d =
-    let found = are.meant url k at in
-    get_or-map (λ (e : Entry). known e.url) entries k found.0 d (slice_get_within entries k found.0 found.1)
-    ∙ ap (λ (e : Entry). known e.url) (get_or_from_slice_get entries k found.0 found.0 found.1) ∙ ap known found.2
+pub fetched_before : (entries : List Entry) (url : List ℕ) (k : ℕ) → Finds entries url (Some k) → (known : List ℕ → Bool) (d : Bool) → get_or (map (λ e. known e.url) entries) k d ≡ known url
+fetched_before entries url k found known d =
+    get_or-map (λ (e : Entry). known e.url) entries k found.0.0 d (slice_get_within entries k found.0.0 found.0.1)
+    ∙ ap (λ (e : Entry). known e.url) (get_or_from_slice_get entries k found.0.0 found.0.0 found.0.1) ∙ ap known found.0.2
 
 -- one more result
 pub fetched_push : (entries : List Entry) (results : List PageResult) (r : PageResult) → map (λ e. has_result results e.url || bytes_eq r.url e.url) entries ≡ map (λ e. has_result (results ++ r ∷ []) e.url) entries

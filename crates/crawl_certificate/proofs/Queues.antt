@@ -18,7 +18,7 @@ use Rattle.crawl_certificate.proofs.Certified.{from_map}
 use Rattle.crawl_certificate.proofs.Order.{Distinct, distinct_entries, distinct_at}
 
 -- the same by recursion, from some number on
-abbrev QueuesFrom : (List ℕ → ℕ) → ℕ → List (List Entry) → Type 0
+abbrev pub QueuesFrom : (List ℕ → ℕ) → ℕ → List (List Entry) → Type 0
 QueuesFrom subqueue n [] = Unit {0}
 QueuesFrom subqueue n (es ∷ rest) = All (λ e. subqueue e.url ≡ n) es × DifferByUrl es × QueuesFrom subqueue (suc n) rest
 
@@ -37,7 +37,7 @@ queues_from subqueue n (es ∷ rest) each =
           (subst Q next later.0, later.1)),
     )
 
-at_least : (subqueue : List ℕ → ℕ) (n : ℕ) (queues : List (List Entry)) (url : List ℕ) → QueuesFrom subqueue n queues → Contains (entry_urls (entries_in queues)) url → n ≤ subqueue url
+pub at_least : (subqueue : List ℕ → ℕ) (n : ℕ) (queues : List (List Entry)) (url : List ℕ) → QueuesFrom subqueue n queues → Contains (entry_urls (entries_in queues)) url → n ≤ subqueue url
 at_least subqueue n [] url from has = absurd (no_element url has)
 at_least subqueue n (es ∷ rest) url from has =
     elim (Contains-append_cases (entry_urls es) (entry_urls (entries_in rest)) url (subst (λ us. Contains us url) (map-append (λ (e : Entry). e.url) es (entries_in rest)) has)) [
@@ -79,7 +79,7 @@ differ_from entries distinct = λ i j d before below same.
     both_ways _ (distinct_at (entry_urls entries) distinct i j d.url before (omega (arith, below, length-map entries (λ (e : Entry). e.url))))
     (subst (λ u. bytes_eq (get_or (entry_urls entries) i d.url) u ≡ true) (at_i ∙ same ∙ sym at_j) (text_itself (get_or (entry_urls entries) i d.url)))
 
-from_first : (subqueue : List ℕ → ℕ) (queues : List (List Entry)) → AreQueues subqueue queues → QueuesFrom subqueue 0 queues
+pub from_first : (subqueue : List ℕ → ℕ) (queues : List (List Entry)) → AreQueues subqueue queues → QueuesFrom subqueue 0 queues
 from_first subqueue queues are = queues_from subqueue 0 queues (λ queue es at.
     let P : ℕ → Type 0 = λ k. All (λ (e : Entry). subqueue e.url ≡ k) es in
     let number : queue ≡ 0 + queue = omega arith in

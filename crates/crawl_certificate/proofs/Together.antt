@@ -9,13 +9,11 @@ use Rattle.std.proofs.lemmas.List.Folds.{list_any-append}
 use Rattle.crawl_frontier.specs.declared.entry.Entry.{Entry}
 use Rattle.crawl_web.specs.declared.page.PageResult.{PageResult}
 use Rattle.crawl_web.specs.Pages.{links_of}
-use Rattle.crawl_certificate.specs.CertFaults.{has_result, is_linked, stands_in, is_behind, some_missing, twice}
+use Rattle.crawl_certificate.specs.CertFaults.{is_accepted, has_result, is_linked, stands_in, is_behind, some_missing, link_missing, twice}
 use Rattle.crawl_certificate.specs.Marks.{AreMarks, in_one, some_in_both}
-use Rattle.crawl_certificate.specs.Places.{has_place, ArePlaces}
-use Rattle.crawl_certificate.specs.declared.lookups.Places.{Places}
 use Rattle.crawl_certificate.specs.declared.marks.Marks.{Marks}
 use Rattle.crawl_certificate.proofs.Lists.{some_has, any_from, none_has, same_text, text_itself}
-use Rattle.crawl_certificate.proofs.Places.{not_not, or_together, placed_accepted}
+use Rattle.crawl_certificate.proofs.Places.{not_not, or_together}
 
 or_false : (b : Bool) → (b || false) ≡ b
 or_false true = refl
@@ -64,15 +62,15 @@ twice_append (x ∷ xs) ys =
     ∙ or_crossed (has_result xs x.url) (has_result ys x.url) (twice xs) (twice ys) (list_any (λ (r : PageResult). has_result ys r.url) xs)
 
 -- where no URL of a result is a stray, those that two lists share are URLs of entries
-shared_url : (entries : List Entry) (places : Places) → ArePlaces entries places → (xs ys : List PageResult) → list_any (λ r. not (has_place entries places r.url)) xs ≡ false → list_any (λ e. has_result xs e.url && has_result ys e.url) entries ≡ list_any (λ r. has_result ys r.url) xs
-shared_url entries places are xs ys none =
+shared_url : (entries : List Entry) → (xs ys : List PageResult) → list_any (λ r. not (is_accepted entries r.url)) xs ≡ false → list_any (λ e. has_result xs e.url && has_result ys e.url) entries ≡ list_any (λ r. has_result ys r.url) xs
+shared_url entries xs ys none =
     let both : Entry → Bool = λ e. has_result xs e.url && has_result ys e.url in
     let again : PageResult → Bool = λ r. has_result ys r.url in
     elim (cases_Bool (list_any again xs)) [
       | inl found ↦
           let r = some_has again xs found in
-          let placed' : has_place entries places r.0.url ≡ true = sym (not_not (has_place entries places r.0.url)) ∙ ap not (none_has (λ (x : PageResult). not (has_place entries places x.url)) xs r.0 none r.1) in
-          let e = some_has (λ (x : Entry). bytes_eq x.url r.0.url) entries (sym (placed_accepted entries places are r.0.url) ∙ placed') in
+          let known : is_accepted entries r.0.url ≡ true = sym (not_not (is_accepted entries r.0.url)) ∙ ap not (none_has (λ (x : PageResult). not (is_accepted entries x.url)) xs r.0 none r.1) in
+          let e = some_has (λ (x : Entry). bytes_eq x.url r.0.url) entries (known) in
           let same : r.0.url ≡ e.0.url = sym (same_text e.0.url r.0.url e.2) in
           let here' : has_result xs e.0.url ≡ true = any_from (λ (x : PageResult). bytes_eq x.url e.0.url) xs r.0 r.1 (subst (λ u. bytes_eq r.0.url u ≡ true) same (text_itself r.0.url)) in
           any_from both entries e.0 e.1 (and_from _ _ here' (subst (λ u. has_result ys u ≡ true) same r.2)) ∙ sym found
@@ -95,11 +93,11 @@ pub record AreTogether (first second found : Marks) : Type 0 where
   pub stray : found.told.stray ≡ (first.told.stray || second.told.stray)
   pub twice : found.told.twice ≡ ((first.told.twice || second.told.twice) || some_in_both first.fetched.items second.fetched.items)
 
-marks_together : (allowed : List ℕ → Bool) (entries : List Entry) (places : Places) → ArePlaces entries places → (xs ys : List PageResult) (first second found : Marks) → AreMarks allowed entries places xs first → AreMarks allowed entries places ys second → AreTogether first second found → AreMarks allowed entries places (xs ++ ys) found
-marks_together allowed entries places are xs ys first second found p q both =
+marks_together : (allowed : List ℕ → Bool) (entries : List Entry) → (xs ys : List PageResult) (first second found : Marks) → AreMarks allowed entries xs first → AreMarks allowed entries ys second → AreTogether first second found → AreMarks allowed entries (xs ++ ys) found
+marks_together allowed entries xs ys first second found p q both =
     let has_link : Entry → PageResult → Bool = λ e r. stands_in (links_of r.page) e.url && is_behind entries r.url e in
-    let missing' : PageResult → Bool = λ r. some_missing allowed (has_place entries places) (links_of r.page) in
-    let stray' : PageResult → Bool = λ r. not (has_place entries places r.url) in
+    let missing' : PageResult → Bool = λ r. some_missing allowed (is_accepted entries) (links_of r.page) in
+    let stray' : PageResult → Bool = λ r. not (is_accepted entries r.url) in
     record {
       fetched =
           both.fetched ∙ (λ i. in_one (p.fetched i) (q.fetched i))
@@ -115,34 +113,35 @@ marks_together allowed entries places are xs ys first second found p q both =
           let parts = or_parts first.told.stray second.told.stray (sym both.stray ∙ none) in
           let shared =
           (λ i. some_in_both (p.fetched i) (q.fetched i)) ∙ in_both_map (λ (e : Entry). has_result xs e.url) (λ (e : Entry). has_result ys e.url) entries
-          ∙ shared_url entries places are xs ys (sym p.stray ∙ parts.0) in
+          ∙ shared_url entries xs ys (sym p.stray ∙ parts.0) in
           both.twice ∙ (λ i. (p.twice parts.0 i || q.twice parts.1 i) || shared i) ∙ sym (twice_append xs ys);
     }
 
--- the marks have a place for each entry
-marks_long : (allowed : List ℕ → Bool) (entries : List Entry) (places : Places) (results : List PageResult) (marks : Marks) → AreMarks allowed entries places results marks → (length marks.fetched.items ≡ length entries) × (length marks.linked.items ≡ length entries)
-marks_long allowed entries places results marks are = (ap length are.fetched ∙ length-map entries _, ap length are.linked ∙ length-map entries _)
+-- there is a mark for each entry
+marks_long : (allowed : List ℕ → Bool) (entries : List Entry) (results : List PageResult) (marks : Marks) → AreMarks allowed entries results marks → (length marks.fetched.items ≡ length entries) × (length marks.linked.items ≡ length entries)
+marks_long allowed entries results marks are = (ap length are.fetched ∙ length-map entries _, ap length are.linked ∙ length-map entries _)
 
--- the halves of a list, each with the places that its results have
-pub halves_together : (allowed : List ℕ → Bool) (entries : List Entry) (places here' there' : Places) → ArePlaces entries places → here' ≡ places → there' ≡ places → (xs ys whole : List PageResult) → xs ++ ys ≡ whole → (first second found : Marks) → AreMarks allowed entries here' xs first → AreMarks allowed entries there' ys second → AreTogether first second found → AreMarks allowed entries places whole found
-halves_together allowed entries places here' there' are e f xs ys whole joined first second found p q both =
-    subst (λ rs. AreMarks allowed entries places rs found) joined
-    (marks_together allowed entries places are xs ys first second found (subst (λ at. AreMarks allowed entries at xs first) e p) (subst (λ at. AreMarks allowed entries at ys second) f q) both)
+-- the halves of a list, each with the entries that its results have
+pub halves_together : (allowed : List ℕ → Bool) (entries here' there' : List Entry) → here' ≡ entries → there' ≡ entries → (xs ys whole : List PageResult) → xs ++ ys ≡ whole → (first second found : Marks) → AreMarks allowed here' xs first → AreMarks allowed there' ys second → AreTogether first second found → AreMarks allowed entries whole found
+halves_together allowed entries here' there' e f xs ys whole joined first second found p q both =
+    subst (λ rs. AreMarks allowed entries rs found) joined
+    (marks_together allowed entries xs ys first second found (subst (λ es. AreMarks allowed es xs first) e p) (subst (λ es. AreMarks allowed es ys second) f q) both)
 
 -- two passes over results have as many marks
-pub as_long : (allowed : List ℕ → Bool) (entries : List Entry) (here' there' : Places) (xs ys : List PageResult) (first second : Marks) → AreMarks allowed entries here' xs first → AreMarks allowed entries there' ys second → (length second.fetched.items ≡ length first.fetched.items) × (length second.linked.items ≡ length first.linked.items)
-as_long allowed entries here' there' xs ys first second p q =
-    let a = marks_long allowed entries here' xs first p in
-    let b = marks_long allowed entries there' ys second q in
-    (b.0 ∙ sym a.0, b.1 ∙ sym a.1)
+pub as_long : (allowed : List ℕ → Bool) (entries here' there' : List Entry) → here' ≡ entries → there' ≡ entries → (xs ys : List PageResult) (first second : Marks) → AreMarks allowed here' xs first → AreMarks allowed there' ys second → (length second.fetched.items ≡ length first.fetched.items) × (length second.linked.items ≡ length first.linked.items)
+as_long allowed entries here' there' e f xs ys first second p q =
+    let a = marks_long allowed here' xs first p in
+    let b = marks_long allowed there' ys second q in
+    let same : length here' ≡ length there' = ap length (e ∙ sym f) in
+    (b.0 ∙ sym same ∙ sym a.0, b.1 ∙ sym same ∙ sym a.1)
 
 -- what one pass found
-pub one_pass : (allowed : List ℕ → Bool) (entries : List Entry) (places : Places) (results : List PageResult) (found : Result Marks AllocError)
+pub one_pass : (allowed : List ℕ → Bool) (entries : List Entry) (results : List PageResult) (found : Result Marks AllocError)
     → IfOk found (λ marks. marks.fetched.items ≡ map (λ e. has_result results e.url) entries)
     → IfOk found (λ marks. marks.linked.items ≡ map (is_linked entries results) entries)
-    → IfOk found (λ marks. marks.told.missing ≡ list_any (λ r. some_missing allowed (has_place entries places) (links_of r.page)) results)
-    → IfOk found (λ marks. marks.told.stray ≡ list_any (λ r. not (has_place entries places r.url)) results)
+    → IfOk found (λ marks. marks.told.missing ≡ link_missing allowed entries results)
+    → IfOk found (λ marks. marks.told.stray ≡ list_any (λ r. not (is_accepted entries r.url)) results)
     → IfOk found (λ marks. marks.told.stray ≡ false → marks.told.twice ≡ twice results)
-    → IfOk found (AreMarks allowed entries places results)
-one_pass allowed entries places results (Ok marks) fetched linked missing stray again = record { fetched = fetched; linked = linked; missing = missing; stray = stray; twice = again }
-one_pass allowed entries places results (Err e) fetched linked missing stray again = tt
+    → IfOk found (AreMarks allowed entries results)
+one_pass allowed entries results (Ok marks) fetched linked missing stray again = record { fetched = fetched; linked = linked; missing = missing; stray = stray; twice = again }
+one_pass allowed entries results (Err e) fetched linked missing stray again = tt

@@ -1,8 +1,8 @@
 pub mod AccountEntries
 pub mod CertFaults
 pub mod Certificate
+pub mod Lookups
 pub mod Marks
-pub mod Places
 pub mod Queues
 pub mod Reachable
 pub mod ResultPages

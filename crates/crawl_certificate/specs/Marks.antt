@@ -3,18 +3,15 @@ use Rattle.std.specs.Prelude.{◌≡◌, ℕ, Bool, false, not, ◌&&◌, ◌||�
 use Rattle.std.specs.List.{list_any}
 use Rattle.crawl_frontier.specs.declared.entry.Entry.{Entry}
 use Rattle.crawl_web.specs.declared.page.PageResult.{PageResult}
-use Rattle.crawl_web.specs.Pages.{links_of}
-use Rattle.crawl_certificate.specs.declared.lookups.Places.{Places}
 use Rattle.crawl_certificate.specs.declared.marks.Marks.{Marks}
-use Rattle.crawl_certificate.specs.Places.{has_place}
-use Rattle.crawl_certificate.specs.CertFaults.{has_result, is_linked, some_missing, twice}
+use Rattle.crawl_certificate.specs.CertFaults.{is_accepted, has_result, is_linked, link_missing, twice}
 
 -- what a pass over these results finds
-pub record AreMarks (allowed : List ℕ → Bool) (entries : List Entry) (places : Places) (results : List PageResult) (marks : Marks) : Type 0 where
+pub record AreMarks (allowed : List ℕ → Bool) (entries : List Entry) (results : List PageResult) (marks : Marks) : Type 0 where
   pub fetched : marks.fetched.items ≡ map (λ e. has_result results e.url) entries
   pub linked : marks.linked.items ≡ map (is_linked entries results) entries
-  pub missing : marks.told.missing ≡ list_any (λ r. some_missing allowed (has_place entries places) (links_of r.page)) results
-  pub stray : marks.told.stray ≡ list_any (λ r. not (has_place entries places r.url)) results
+  pub missing : marks.told.missing ≡ link_missing allowed entries results
+  pub stray : marks.told.stray ≡ list_any (λ r. not (is_accepted entries r.url)) results
   pub twice : marks.told.stray ≡ false → marks.told.twice ≡ twice results
 
 -- place by place, whether it is marked in one of the two

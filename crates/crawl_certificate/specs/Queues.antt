@@ -1,10 +1,23 @@
 -- Entries in the subqueues of their URLs.
-use Rattle.std.specs.Prelude.{◌≡◌, ℕ, List, slice_get, Some}
+use Rattle.std.specs.Prelude.{◌≡◌, ◌<◌, ℕ, List, length, take, slice_get, Some}
 use Rattle.std.specs.List.{All}
+use Rattle.crawl_keys.specs.Assignment.{subqueue_of}
 use Rattle.crawl_frontier.specs.declared.entry.Entry.{Entry}
-use Rattle.crawl_certificate.specs.AccountEntries.{DifferByUrl}
+use Rattle.crawl_frontier.specs.Accounts.{AccountId}
+use Rattle.crawl_certificate.specs.AccountEntries.{entries_in, entries_of, DifferByUrl}
 
 -- each entry of each queue has that queue's number by its URL, and no two entries of one queue have one URL
 pub record AreQueues (subqueue : List ℕ → ℕ) (queues : List (List Entry)) : Type 0 where
   pub placed : (queue : ℕ) (entries : List Entry) → slice_get queues queue ≡ Some entries → All (λ e. subqueue e.url ≡ queue) entries
   pub apart : (queue : ℕ) (entries : List Entry) → slice_get queues queue ≡ Some entries → DifferByUrl entries
+
+-- for each of the first so many queues, how many entries stand before its own
+abbrev pub AreFirsts : ℕ → List (List Entry) → List ℕ → Type 0
+AreFirsts count queues firsts =
+    (queue : ℕ) → queue < count → (entries : List Entry) × (slice_get queues queue ≡ Some entries) × (slice_get firsts queue ≡ Some (length (entries_in (take queue queues))))
+
+-- all entries of an account, and how many stand before those of each subqueue
+pub record AreLaidOut (account : AccountId) (all : List Entry) (firsts : List ℕ) : Type 0 where
+  pub whole : all ≡ entries_of account
+  pub queues : AreQueues (λ url. subqueue_of url account.workers) (take account.workers account.queues)
+  pub first : AreFirsts account.workers account.queues firsts

@@ -5,22 +5,21 @@ ghost use Rattle.std.specs.List.Sorted.{IsPermutation, IsSortedByKey};
 ghost use Rattle.std.specs.Cmp.Lexicographic.{slice_cmp};
 ghost use Rattle.std.specs.Ordering.{nat_cmp};
 ghost use Rattle.crawl_keys.specs.HostFilter.{allows};
-ghost use Rattle.crawl_certificate.specs.AccountEntries.{entries_of, DifferByUrl};
+ghost use Rattle.crawl_certificate.specs.AccountEntries.{entries_of};
 ghost use Rattle.crawl_certificate.specs.ResultPages.{page_in};
 ghost use Rattle.crawl_certificate.specs.Reachable.{WalkOf};
 ghost use Rattle.crawl_certificate.specs.Certificate.{Tells, IsAscending, AreReachable, CountsOf, entry_urls, result_urls};
 ghost use Rattle.crawl_web.specs.declared.page.PageResult.{PageResult};
-ghost use Rattle.crawl_certificate.specs.Places.{pointed, ArePlaces};
 ghost use Rattle.crawl_certificate.specs.Marks.{AreMarks};
 ghost use Rattle.crawl_certificate.specs.CertFaults.{first_of, first_fault};
 
 use crate::error::CertError;
 use crate::founded::some_unfounded;
-use crate::lookups::{Places, entries_of, places_of, url_set};
+use crate::lookups::{Accepted, url_set};
 use crate::marks::{Marks, Told, marks_of};
 use crate::missing::{some_missing, some_unmarked};
 use crate::threads::marks_in_threads;
-use crawl_frontier::{Account, Entry};
+use crawl_frontier::Account;
 use crawl_keys::{CanonUrl, Filter};
 use crawl_web::PageResult;
 use rayon::slice::par_sort_by;
@@ -105,8 +104,8 @@ pub fn certify_moved(
     // A walk leads to each entry's URL in as many hops as the entry has.
     ensures hops { OnOk result (All (λ e. WalkOf (page_in results.items) (allows filter.now) seeds.now e.hops e.url) (entries_of account.now)) }
 {
-    let entries = entries_of(alloc, account)?;
-    find_fault(alloc, filter, seeds, &entries, &results)?;
+    let accepted = Accepted::of(alloc, account)?;
+    find_fault(alloc, filter, seeds, &accepted, &results)?;
     let pages = in_order(results)?;
     Ok(CrawlResult { pages })
 }
@@ -135,8 +134,8 @@ pub fn certify_in_threads<R: Threads + Sync>(
     // A walk leads to each entry's URL in as many hops as the entry has.
     ensures hops { OnOk result (All (λ e. WalkOf (page_in results.items) (allows filter.now) seeds.now e.hops e.url) (entries_of account.now)) }
 {
-    let entries = entries_of(alloc, account)?;
-    find_fault_in_threads(rt, alloc, filter, seeds, &entries, &results)?;
+    let accepted = Accepted::of(alloc, account)?;
+    find_fault_in_threads(rt, alloc, filter, seeds, &accepted, &results)?;
     let pages = in_order_by_threads(rt, alloc, results)?;
     Ok(CrawlResult { pages })
 }
@@ -146,15 +145,13 @@ fn find_fault<'a>(
     alloc: Global,
     filter: &Filter,
     seeds: &'a [CanonUrl],
-    entries: &[&'a Entry],
-    results: &'a [PageResult],
+    accepted: &Accepted<'a>,
+    results: &[PageResult],
 ) -> Result<(), CertError>
-    requires { DifferByUrl (pointed entries.now) }
-    ensures { Tells result (first_fault (allows filter.now) seeds.now (pointed entries.now) results.now) }
+    ensures { Tells result (first_fault (allows filter.now) seeds.now accepted.now results.now) }
 {
-    let accepted = places_of(alloc, entries)?;
-    let marks = marks_of(alloc, filter, &accepted, entries, 0, results)?;
-    fault_by_marks(alloc, filter, seeds, entries, &accepted, marks)
+    let marks = marks_of(alloc, filter, accepted, 0, results)?;
+    fault_by_marks(alloc, filter, seeds, accepted, marks)
 }
 
 /// As [`find_fault`], by threads.
@@ -163,15 +160,13 @@ fn find_fault_in_threads<'a, R: Threads + Sync>(
     alloc: Global,
     filter: &Filter,
     seeds: &'a [CanonUrl],
-    entries: &[&'a Entry],
-    results: &'a [PageResult],
+    accepted: &Accepted<'a>,
+    results: &[PageResult],
 ) -> Result<(), CertError>
-    requires { DifferByUrl (pointed entries.now) }
-    ensures { Tells result (first_fault (allows filter.now) seeds.now (pointed entries.now) results.now) }
+    ensures { Tells result (first_fault (allows filter.now) seeds.now accepted.now results.now) }
 {
-    let accepted = places_of(alloc, entries)?;
-    let marks = marks_in_threads(rt, alloc, filter, &accepted, entries, results)?;
-    fault_by_marks(alloc, filter, seeds, entries, &accepted, marks)
+    let marks = marks_in_threads(rt, alloc, filter, accepted, results)?;
+    fault_by_marks(alloc, filter, seeds, accepted, marks)
 }
 
 /// Ok where no fault holds, by what a pass over the results found.
@@ -179,18 +174,16 @@ fn fault_by_marks<'a>(
     alloc: Global,
     filter: &Filter,
     seeds: &'a [CanonUrl],
-    entries: &[&'a Entry],
-    accepted: &Places<'a>,
+    accepted: &Accepted<'a>,
     marks: Marks,
 ) -> Result<(), CertError>
-    requires places { ArePlaces (pointed entries.now) accepted.now }
-    requires long { vec_len marks.linked ≡ length entries.now }
-    ensures { (results : List PageResult) → AreMarks (allows filter.now) (pointed entries.now) accepted.now results marks → Tells result (first_fault (allows filter.now) seeds.now (pointed entries.now) results) }
+    requires long { vec_len marks.linked ≡ length accepted.now }
+    ensures { (results : List PageResult) → AreMarks (allows filter.now) accepted.now results marks → Tells result (first_fault (allows filter.now) seeds.now accepted.now results) }
 {
-    let seed_missing = some_missing(filter, accepted, entries, seeds);
+    let seed_missing = some_missing(filter, accepted, seeds);
     let not_fetched = some_unmarked(&marks.fetched);
     let seed_set = url_set(alloc, seeds)?;
-    let groundless = some_unfounded(filter, &seed_set, entries, &marks.linked);
+    let groundless = some_unfounded(filter, &seed_set, accepted.entries(), &marks.linked);
     let Told {
         missing,
         stray,

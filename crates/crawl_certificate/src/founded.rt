@@ -3,7 +3,7 @@ ghost use Rattle.std.specs.Prelude.{◌≡◌, ◌==◌, Bool, not, ◌&&◌, ma
 ghost use Rattle.std.specs.List.{list_any};
 ghost use Rattle.crawl_frontier.specs.declared.entry.Entry.{Entry};
 ghost use Rattle.crawl_keys.specs.HostFilter.{allows};
-ghost use Rattle.crawl_certificate.specs.Places.{pointed, is_in};
+ghost use Rattle.crawl_certificate.specs.Lookups.{pointed, is_in};
 
 use crate::lookups::Urls;
 use crawl_frontier::Entry;

@@ -6,10 +6,9 @@ ghost use Rattle.std.specs.Str.{bytes_eq};
 ghost use Rattle.crawl_frontier.specs.declared.entry.Entry.{Entry};
 ghost use Rattle.crawl_keys.specs.HostFilter.{allows};
 ghost use Rattle.crawl_web.specs.Pages.{links_of};
-ghost use Rattle.crawl_certificate.specs.Places.{pointed, has_place, ArePlaces};
-ghost use Rattle.crawl_certificate.specs.CertFaults.{stands_in, has_result, is_behind, is_linked, some_missing, twice};
+ghost use Rattle.crawl_certificate.specs.CertFaults.{is_accepted, stands_in, has_result, is_behind, is_linked, some_missing, link_missing, twice};
 
-use crate::lookups::{GUESSES, Places, place_by};
+use crate::lookups::Accepted;
 use crate::missing::some_missing;
 use crawl_frontier::Entry;
 use crawl_keys::{CanonUrl, Filter};
@@ -51,34 +50,24 @@ impl Told {
 
 /// What the results say of the entries, and what is wrong with them.
 ///
-/// The entry of each result is looked for first at the place behind that of the result before it, and of the first one at
-/// `first`: each worker's results come in the order of its subqueue's entries.
-pub fn marks_of<'a>(
+/// The entry of each result is looked for first behind that of the result before it, and of the first one at
+/// the index `first`: each worker's results come in the order of its subqueue's entries.
+pub fn marks_of(
     alloc: Global,
     filter: &Filter,
-    accepted: &Places<'a>,
-    entries: &[&Entry],
+    accepted: &Accepted<'_>,
     first: usize,
-    results: &'a [PageResult],
+    results: &[PageResult],
 ) -> Result<Marks, AllocError>
-    requires { ArePlaces (pointed entries.now) accepted.now }
-    ensures fetched { IfOk result (λ marks. marks.fetched.items ≡ map (λ e. has_result results.now e.url) (pointed entries.now)) }
-    ensures linked { IfOk result (λ marks. marks.linked.items ≡ map (is_linked (pointed entries.now) results.now) (pointed entries.now)) }
-    ensures missing { IfOk result (λ marks. marks.told.missing ≡ list_any (λ r. some_missing (allows filter.now) (has_place (pointed entries.now) accepted.now) (links_of r.page)) results.now) }
-    ensures stray { IfOk result (λ marks. marks.told.stray ≡ list_any (λ r. not (has_place (pointed entries.now) accepted.now r.url)) results.now) }
+    ensures fetched { IfOk result (λ marks. marks.fetched.items ≡ map (λ e. has_result results.now e.url) accepted.now) }
+    ensures linked { IfOk result (λ marks. marks.linked.items ≡ map (is_linked accepted.now results.now) accepted.now) }
+    ensures missing { IfOk result (λ marks. marks.told.missing ≡ link_missing (allows filter.now) accepted.now results.now) }
+    ensures stray { IfOk result (λ marks. marks.told.stray ≡ list_any (λ r. not (is_accepted accepted.now r.url)) results.now) }
     ensures twice { IfOk result (λ marks. marks.told.stray ≡ false → marks.told.twice ≡ twice results.now) }
 {
-    let mut fetched = no_marks(alloc, entries)?;
-    let mut linked = no_marks(alloc, entries)?;
-    let told = mark_results(
-        filter,
-        accepted,
-        entries,
-        &mut fetched,
-        &mut linked,
-        first,
-        results,
-    );
+    let mut fetched = no_marks(alloc, accepted)?;
+    let mut linked = no_marks(alloc, accepted)?;
+    let told = mark_results(filter, accepted, &mut fetched, &mut linked, first, results);
     Ok(Marks {
         fetched,
         linked,
@@ -86,29 +75,27 @@ pub fn marks_of<'a>(
     })
 }
 
-fn no_marks(alloc: Global, entries: &[&Entry]) -> Result<Vec<bool>, AllocError>
-    ensures { IfOk result (λ marks. marks.items ≡ map (λ _. false) (pointed entries.now)) }
+fn no_marks(alloc: Global, accepted: &Accepted<'_>) -> Result<Vec<bool>, AllocError>
+    ensures { IfOk result (λ marks. marks.items ≡ map (λ _. false) accepted.now) }
 {
-    let marks = vec![in alloc; false; entries.len()]?;
+    let marks = vec![in alloc; false; accepted.entries().len()]?;
     Ok(marks)
 }
 
-fn mark_results<'a>(
+fn mark_results(
     filter: &Filter,
-    accepted: &Places<'a>,
-    entries: &[&Entry],
+    accepted: &Accepted<'_>,
     fetched: &mut [bool],
     linked: &mut [bool],
     first: usize,
-    results: &'a [PageResult],
+    results: &[PageResult],
 ) -> Told
-    requires places { ArePlaces (pointed entries.now) accepted.now }
-    requires none_fetched { fetched.old ≡ map (λ _. false) (pointed entries.now) }
-    requires none_linked { linked.old ≡ map (λ _. false) (pointed entries.now) }
-    ensures fetched { fetched.new ≡ map (λ e. has_result results.now e.url) (pointed entries.now) }
-    ensures linked { linked.new ≡ map (is_linked (pointed entries.now) results.now) (pointed entries.now) }
-    ensures missing { result.missing ≡ list_any (λ r. some_missing (allows filter.now) (has_place (pointed entries.now) accepted.now) (links_of r.page)) results.now }
-    ensures stray { result.stray ≡ list_any (λ r. not (has_place (pointed entries.now) accepted.now r.url)) results.now }
+    requires none_fetched { fetched.old ≡ map (λ _. false) accepted.now }
+    requires none_linked { linked.old ≡ map (λ _. false) accepted.now }
+    ensures fetched { fetched.new ≡ map (λ e. has_result results.now e.url) accepted.now }
+    ensures linked { linked.new ≡ map (is_linked accepted.now results.now) accepted.now }
+    ensures missing { result.missing ≡ link_missing (allows filter.now) accepted.now results.now }
+    ensures stray { result.stray ≡ list_any (λ r. not (is_accepted accepted.now r.url)) results.now }
     ensures twice { result.stray ≡ false → result.twice ≡ twice results.now }
 {
     let mut told = Told {
@@ -118,40 +105,38 @@ fn mark_results<'a>(
     };
     let mut guess = first;
     for one in results {
-        let of_one = mark_result(filter, accepted, entries, fetched, linked, &mut guess, one);
+        let of_one = mark_result(filter, accepted, fetched, linked, &mut guess, one);
         told = told.and(of_one);
     }
     told
 }
 
 /// Marks the entry that has the result, and those that are linked from it and have one hop more. `twice` tells whether the
-/// entry was marked before. The guess moves on behind the place that was found.
-fn mark_result<'a>(
+/// entry was marked before. The guess moves on behind what was found.
+fn mark_result(
     filter: &Filter,
-    accepted: &Places<'a>,
-    entries: &[&Entry],
+    accepted: &Accepted<'_>,
     fetched: &mut [bool],
     linked: &mut [bool],
     guess: &mut usize,
-    one: &'a PageResult,
+    one: &PageResult,
 ) -> Told
-    requires places { ArePlaces (pointed entries.now) accepted.now }
-    requires long_fetched { length fetched.old ≡ length entries.now }
-    requires long_linked { length linked.old ≡ length entries.now }
-    ensures fetched { (known : List ℕ → Bool) → fetched.old ≡ map (λ e. known e.url) (pointed entries.now) → fetched.new ≡ map (λ e. known e.url || bytes_eq one.now.url e.url) (pointed entries.now) }
-    ensures linked { (known : Entry → Bool) → linked.old ≡ map known (pointed entries.now) → linked.new ≡ map (λ e. known e || (stands_in (links_of one.now.page) e.url && is_behind (pointed entries.now) one.now.url e)) (pointed entries.now) }
-    ensures missing { result.missing ≡ some_missing (allows filter.now) (has_place (pointed entries.now) accepted.now) (links_of one.now.page) }
-    ensures stray { result.stray ≡ not (has_place (pointed entries.now) accepted.now one.now.url) }
-    ensures twice { (known : List ℕ → Bool) → fetched.old ≡ map (λ e. known e.url) (pointed entries.now) → result.stray ≡ false → result.twice ≡ known one.now.url }
+    requires long_fetched { length fetched.old ≡ length accepted.now }
+    requires long_linked { length linked.old ≡ length accepted.now }
+    ensures fetched { (known : List ℕ → Bool) → fetched.old ≡ map (λ e. known e.url) accepted.now → fetched.new ≡ map (λ e. known e.url || bytes_eq one.now.url e.url) accepted.now }
+    ensures linked { (known : Entry → Bool) → linked.old ≡ map known accepted.now → linked.new ≡ map (λ e. known e || (stands_in (links_of one.now.page) e.url && is_behind accepted.now one.now.url e)) accepted.now }
+    ensures missing { result.missing ≡ some_missing (allows filter.now) (is_accepted accepted.now) (links_of one.now.page) }
+    ensures stray { result.stray ≡ not (is_accepted accepted.now one.now.url) }
+    ensures twice { (known : List ℕ → Bool) → fetched.old ≡ map (λ e. known e.url) accepted.now → result.stray ≡ false → result.twice ≡ known one.now.url }
 {
     let links = links_of(&one.page);
-    match place_by(accepted, entries, *guess, &one.url) {
-        Some(place) => {
-            *guess = place.saturating_add(1);
-            let twice = fetched[place];
-            fetched[place] = true;
-            let hops = entries[place].hops;
-            let missing = mark_links(filter, accepted, entries, linked, hops, links);
+    match accepted.find_by(*guess, &one.url) {
+        Some(index) => {
+            *guess = index.saturating_add(1);
+            let twice = fetched[index];
+            fetched[index] = true;
+            let entry = accepted.entry(index);
+            let missing = mark_links(filter, accepted, linked, entry.hops, links);
             Told {
                 missing,
                 stray: false,
@@ -159,7 +144,7 @@ fn mark_result<'a>(
             }
         }
         None => Told {
-            missing: some_missing(filter, accepted, entries, links),
+            missing: some_missing(filter, accepted, links),
             stray: true,
             twice: false,
         },
@@ -167,50 +152,47 @@ fn mark_result<'a>(
 }
 
 /// Marks the entries of these links that have one hop more than so many, and tells whether an allowed link is not accepted.
-fn mark_links<'a>(
+///
+/// Links that were new on one page are entries one behind the other, so the entry of each link is looked for first behind that
+/// of the link before it.
+fn mark_links(
     filter: &Filter,
-    accepted: &Places<'a>,
-    entries: &[&Entry],
+    accepted: &Accepted<'_>,
     linked: &mut [bool],
     hops: u32,
-    links: &'a [CanonUrl],
+    links: &[CanonUrl],
 ) -> bool
-    requires places { ArePlaces (pointed entries.now) accepted.now }
-    requires long { length linked.old ≡ length entries.now }
-    ensures linked { (known : Entry → Bool) → linked.old ≡ map known (pointed entries.now) → linked.new ≡ map (λ e. known e || (stands_in links.now e.url && e.hops == hops + 1)) (pointed entries.now) }
-    ensures missing { result ≡ some_missing (allows filter.now) (has_place (pointed entries.now) accepted.now) links.now }
+    requires long { length linked.old ≡ length accepted.now }
+    ensures linked { (known : Entry → Bool) → linked.old ≡ map known accepted.now → linked.new ≡ map (λ e. known e || (stands_in links.now e.url && e.hops == hops + 1)) accepted.now }
+    ensures missing { result ≡ some_missing (allows filter.now) (is_accepted accepted.now) links.now }
 {
     let mut missing = false;
-    let mut guesses = [0; GUESSES];
-    for (number, link) in links.iter().enumerate() {
-        if number % GUESSES == 0 {
-            guesses = accepted.guesses(&links[number..]);
-        }
-        let guess = guesses[number % GUESSES];
-        let is_missing = mark(filter, accepted, entries, linked, hops, guess, link);
+    let mut guess = 0;
+    for link in links {
+        let is_missing = mark(filter, accepted, linked, hops, &mut guess, link);
         missing = missing | is_missing;
     }
     missing
 }
 
-fn mark<'a>(
+fn mark(
     filter: &Filter,
-    accepted: &Places<'a>,
-    entries: &[&Entry],
+    accepted: &Accepted<'_>,
     linked: &mut [bool],
     hops: u32,
-    guess: usize,
-    link: &'a CanonUrl,
+    guess: &mut usize,
+    link: &CanonUrl,
 ) -> bool
-    requires places { ArePlaces (pointed entries.now) accepted.now }
-    requires long { length linked.old ≡ length entries.now }
-    ensures linked { (known : Entry → Bool) → linked.old ≡ map known (pointed entries.now) → linked.new ≡ map (λ e. known e || (bytes_eq link.now e.url && e.hops == hops + 1)) (pointed entries.now) }
-    ensures missing { result ≡ (allows filter.now link.now && not (has_place (pointed entries.now) accepted.now link.now)) }
+    requires long { length linked.old ≡ length accepted.now }
+    ensures linked { (known : Entry → Bool) → linked.old ≡ map known accepted.now → linked.new ≡ map (λ e. known e || (bytes_eq link.now e.url && e.hops == hops + 1)) accepted.now }
+    ensures missing { result ≡ (allows filter.now link.now && not (is_accepted accepted.now link.now)) }
 {
-    match place_by(accepted, entries, guess, link) {
-        Some(place) => {
-            if is_next(hops, entries[place]) {
-                linked[place] = true;
+    match accepted.find_by(*guess, link) {
+        Some(index) => {
+            *guess = index.saturating_add(1);
+            let entry = accepted.entry(index);
+            if is_next(hops, entry) {
+                linked[index] = true;
             }
             false
         }

@@ -2,38 +2,24 @@
 ghost use Rattle.std.specs.Prelude.{◌≡◌, not, ◌&&◌};
 ghost use Rattle.std.specs.List.{list_any};
 ghost use Rattle.crawl_keys.specs.HostFilter.{allows};
-ghost use Rattle.crawl_certificate.specs.Places.{pointed, has_place, ArePlaces};
-ghost use Rattle.crawl_certificate.specs.CertFaults.{some_missing};
+ghost use Rattle.crawl_certificate.specs.CertFaults.{is_accepted, some_missing};
 
-use crate::lookups::{Places, place_at};
-use crawl_frontier::Entry;
+use crate::lookups::Accepted;
 use crawl_keys::{CanonUrl, Filter};
 
-fn is_missing<'a>(
-    filter: &Filter,
-    accepted: &Places<'a>,
-    entries: &[&Entry],
-    url: &'a CanonUrl,
-) -> bool
-    requires { ArePlaces (pointed entries.now) accepted.now }
-    ensures { result ≡ (allows filter.now url.now && not (has_place (pointed entries.now) accepted.now url.now)) }
+fn is_missing(filter: &Filter, accepted: &Accepted<'_>, url: &CanonUrl) -> bool
+    ensures { result ≡ (allows filter.now url.now && not (is_accepted accepted.now url.now)) }
 {
-    filter.allows(url) && place_at(accepted, entries, url).is_none()
+    filter.allows(url) && accepted.find(url).is_none()
 }
 
 /// Whether an allowed URL among these is not accepted.
-pub fn some_missing<'a>(
-    filter: &Filter,
-    accepted: &Places<'a>,
-    entries: &[&Entry],
-    urls: &'a [CanonUrl],
-) -> bool
-    requires { ArePlaces (pointed entries.now) accepted.now }
-    ensures { result ≡ some_missing (allows filter.now) (has_place (pointed entries.now) accepted.now) urls.now }
+pub fn some_missing(filter: &Filter, accepted: &Accepted<'_>, urls: &[CanonUrl]) -> bool
+    ensures { result ≡ some_missing (allows filter.now) (is_accepted accepted.now) urls.now }
 {
     let mut missing = false;
     for url in urls {
-        let is_missing = is_missing(filter, accepted, entries, url);
+        let is_missing = is_missing(filter, accepted, url);
         missing = missing | is_missing;
     }
     missing

@@ -3,13 +3,11 @@ ghost use Rattle.std.specs.Prelude.{◌≡◌, false, not, ◌||◌, ◌++◌, m
 ghost use Rattle.std.specs.List.{list_any};
 ghost use Rattle.crawl_keys.specs.HostFilter.{allows};
 ghost use Rattle.crawl_web.specs.Pages.{links_of};
-ghost use Rattle.crawl_certificate.specs.Places.{pointed, has_place, ArePlaces};
-ghost use Rattle.crawl_certificate.specs.CertFaults.{has_result, is_linked, some_missing, twice};
+ghost use Rattle.crawl_certificate.specs.CertFaults.{is_accepted, has_result, is_linked, link_missing, twice};
 ghost use Rattle.crawl_certificate.specs.Marks.{AreMarks, in_one, some_in_both};
 
-use crate::lookups::Places;
+use crate::lookups::Accepted;
 use crate::marks::{Marks, Told, marks_of};
-use crawl_frontier::Entry;
 use crawl_keys::Filter;
 use crawl_web::PageResult;
 use std::alloc::{AllocError, Global};
@@ -18,10 +16,10 @@ use std::thread::{Threads, join};
 /// Fewer results than this are not worth a thread.
 const LEAST: usize = 4096;
 
-/// A part of the results, with the places of the URLs that they may have.
+/// A part of the results, with the entries that they may have.
 #[derive(Clone, Copy)]
 struct Part<'p, 'a> {
-    accepted: &'p Places<'a>,
+    accepted: &'p Accepted<'a>,
     /// How many results come before this part.
     first: usize,
     results: &'a [PageResult],
@@ -29,7 +27,7 @@ struct Part<'p, 'a> {
 
 impl<'p, 'a> Part<'p, 'a> {
     fn halves(self) -> (Part<'p, 'a>, Part<'p, 'a>)
-        ensures places { (result.0.accepted.now ≡ self.entry.accepted.now) × (result.1.accepted.now ≡ self.entry.accepted.now) }
+        ensures accepted { (result.0.accepted.now ≡ self.entry.accepted.now) × (result.1.accepted.now ≡ self.entry.accepted.now) }
         ensures results { result.0.results.now ++ result.1.results.now ≡ self.entry.results.now }
     {
         let accepted = self.accepted;
@@ -54,26 +52,24 @@ pub fn marks_in_threads<'a, R: Threads + Sync>(
     rt: &R,
     alloc: Global,
     filter: &Filter,
-    accepted: &Places<'a>,
-    entries: &[&Entry],
+    accepted: &Accepted<'a>,
     results: &'a [PageResult],
 ) -> Result<Marks, AllocError>
-    requires { ArePlaces (pointed entries.now) accepted.now }
-    ensures fetched { IfOk result (λ marks. marks.fetched.items ≡ map (λ e. has_result results.now e.url) (pointed entries.now)) }
-    ensures linked { IfOk result (λ marks. marks.linked.items ≡ map (is_linked (pointed entries.now) results.now) (pointed entries.now)) }
-    ensures missing { IfOk result (λ marks. marks.told.missing ≡ list_any (λ r. some_missing (allows filter.now) (has_place (pointed entries.now) accepted.now) (links_of r.page)) results.now) }
-    ensures stray { IfOk result (λ marks. marks.told.stray ≡ list_any (λ r. not (has_place (pointed entries.now) accepted.now r.url)) results.now) }
+    ensures fetched { IfOk result (λ marks. marks.fetched.items ≡ map (λ e. has_result results.now e.url) accepted.now) }
+    ensures linked { IfOk result (λ marks. marks.linked.items ≡ map (is_linked accepted.now results.now) accepted.now) }
+    ensures missing { IfOk result (λ marks. marks.told.missing ≡ link_missing (allows filter.now) accepted.now results.now) }
+    ensures stray { IfOk result (λ marks. marks.told.stray ≡ list_any (λ r. not (is_accepted accepted.now r.url)) results.now) }
     ensures twice { IfOk result (λ marks. marks.told.stray ≡ false → marks.told.twice ≡ twice results.now) }
 {
     if results.len() < LEAST {
-        return marks_of(alloc, filter, accepted, entries, 0, results);
+        return marks_of(alloc, filter, accepted, 0, results);
     }
     let whole = Part {
         accepted,
         first: 0,
         results,
     };
-    let marks = marks_by_four(rt, alloc, filter, entries, whole)?;
+    let marks = marks_by_four(rt, alloc, filter, whole)?;
     Ok(marks)
 }
 
@@ -82,21 +78,17 @@ fn marks_by_four<R: Threads + Sync>(
     rt: &R,
     alloc: Global,
     filter: &Filter,
-    entries: &[&Entry],
     part: Part<'_, '_>,
 ) -> Result<Marks, AllocError>
-    requires { ArePlaces (pointed entries.now) part.accepted.now }
-    ensures { IfOk result (AreMarks (allows filter.now) (pointed entries.now) part.entry.accepted.now part.entry.results.now) }
+    ensures { IfOk result (AreMarks (allows filter.now) part.entry.accepted.now part.entry.results.now) }
 {
     let (front, back) = part.halves();
     let of_front = move || -> Result<Marks, AllocError>
-        requires { ArePlaces (pointed entries.now) front.accepted.now }
-        ensures { IfOk result (AreMarks (allows filter.entry.now) (pointed entries.entry.now) front.entry.accepted.now front.entry.results.now) }
-    { marks_by_two(rt, alloc, filter, entries, front) };
+        ensures { IfOk result (AreMarks (allows filter.entry.now) front.entry.accepted.now front.entry.results.now) }
+    { marks_by_two(rt, alloc, filter, front) };
     let of_back = move || -> Result<Marks, AllocError>
-        requires { ArePlaces (pointed entries.now) back.accepted.now }
-        ensures { IfOk result (AreMarks (allows filter.entry.now) (pointed entries.entry.now) back.entry.accepted.now back.entry.results.now) }
-    { marks_by_two(rt, alloc, filter, entries, back) };
+        ensures { IfOk result (AreMarks (allows filter.entry.now) back.entry.accepted.now back.entry.results.now) }
+    { marks_by_two(rt, alloc, filter, back) };
     let (first, second) = join(rt, of_front, of_back);
     let first = first?;
     let second = second?;
@@ -108,44 +100,27 @@ fn marks_by_two<R: Threads + Sync>(
     rt: &R,
     alloc: Global,
     filter: &Filter,
-    entries: &[&Entry],
     part: Part<'_, '_>,
 ) -> Result<Marks, AllocError>
-    requires { ArePlaces (pointed entries.now) part.accepted.now }
-    ensures { IfOk result (AreMarks (allows filter.now) (pointed entries.now) part.entry.accepted.now part.entry.results.now) }
+    ensures { IfOk result (AreMarks (allows filter.now) part.entry.accepted.now part.entry.results.now) }
 {
     let (front, back) = part.halves();
     let of_front = move || -> Result<Marks, AllocError>
-        requires { ArePlaces (pointed entries.now) front.accepted.now }
-        ensures { IfOk result (AreMarks (allows filter.entry.now) (pointed entries.entry.now) front.entry.accepted.now front.entry.results.now) }
-    { marks_of_part(alloc, filter, entries, front) };
+        ensures { IfOk result (AreMarks (allows filter.entry.now) front.entry.accepted.now front.entry.results.now) }
+    { marks_of_part(alloc, filter, front) };
     let of_back = move || -> Result<Marks, AllocError>
-        requires { ArePlaces (pointed entries.now) back.accepted.now }
-        ensures { IfOk result (AreMarks (allows filter.entry.now) (pointed entries.entry.now) back.entry.accepted.now back.entry.results.now) }
-    { marks_of_part(alloc, filter, entries, back) };
+        ensures { IfOk result (AreMarks (allows filter.entry.now) back.entry.accepted.now back.entry.results.now) }
+    { marks_of_part(alloc, filter, back) };
     let (first, second) = join(rt, of_front, of_back);
     let first = first?;
     let second = second?;
     Ok(together(first, second))
 }
 
-fn marks_of_part(
-    alloc: Global,
-    filter: &Filter,
-    entries: &[&Entry],
-    part: Part<'_, '_>,
-) -> Result<Marks, AllocError>
-    requires { ArePlaces (pointed entries.now) part.accepted.now }
-    ensures { IfOk result (AreMarks (allows filter.now) (pointed entries.now) part.entry.accepted.now part.entry.results.now) }
+fn marks_of_part(alloc: Global, filter: &Filter, part: Part<'_, '_>) -> Result<Marks, AllocError>
+    ensures { IfOk result (AreMarks (allows filter.now) part.entry.accepted.now part.entry.results.now) }
 {
-    marks_of(
-        alloc,
-        filter,
-        part.accepted,
-        entries,
-        part.first,
-        part.results,
-    )
+    marks_of(alloc, filter, part.accepted, part.first, part.results)
 }
 
 /// What two passes over results found, put together.
@@ -173,18 +148,18 @@ fn together(first: Marks, second: Marks) -> Marks
     }
 }
 
-/// Marks each place that is marked in `more`, and tells whether one was marked before.
+/// Marks each index that is marked in `more`, and tells whether one was marked before.
 fn add_marks(marks: &mut [bool], more: &[bool]) -> bool
     requires { length more.now ≡ length marks.old }
     ensures marks { marks.new ≡ in_one marks.old more.now }
     ensures both { result ≡ some_in_both marks.old more.now }
 {
     let mut both = false;
-    for place in 0..more.len() {
-        let marked = marks[place];
-        let more_marked = more[place];
+    for index in 0..more.len() {
+        let marked = marks[index];
+        let more_marked = more[index];
         both = both | (marked & more_marked);
-        marks[place] = marked | more_marked;
+        marks[index] = marked | more_marked;
     }
     both
 }

@@ -3,7 +3,6 @@ use Rattle.std.proofs.lemmas.Result.{err_from_is_err_and}
 use Rattle.crawl_certificate.specs.declared.error.CertError.TheVariants as fault
 use Rattle.crawl_certificate.specs.CertFaults.{first_fault}
 use Rattle.crawl_keys.specs.HostFilter.{allows}
-use Rattle.crawl_certificate.specs.Places.{pointed}
 use Rattle.crawl_certificate.specs.AccountEntries.{DifferByUrl}
 use Rattle.crawl_keys.specs.Outcome.{IsRefusal}
 use Rattle.crawl_certificate.specs.Certificate.{unless_fault}
@@ -15,15 +14,15 @@ returns-in_err-find_fault-clause-fault c =
     let r = c.from_residual-in_err-find_fault in
     let p = err_from_is_err_and r.result r.ensures.1 in
     let told = c.in_err-find_fault.field-0.0 in
-    rw (p.1, p.2) (subst (λ es. IsRefusal fault.NoMemory (unless_fault (first_fault (allows c.args.filter.now) c.args.seeds.now es c.args.results.items)) told) (ap pointed c.deref.ensures.value ∙ c.in_ok-entries.ensures.all) (rw c.deref-2.ensures.value at c.in_err-find_fault.ensures))
+    rw (p.1, p.2) (subst (λ es. IsRefusal fault.NoMemory (unless_fault (first_fault (allows c.args.filter.now) c.args.seeds.now es c.args.results.items)) told) c.in_ok-accepted.ensures.all (rw c.deref.ensures.value at c.in_err-find_fault.ensures))
 
 pub returns : goal.returns
 returns c =
-    let verdict = rw c.deref-2.ensures.value at c.in_ok-find_fault.ensures in
+    let verdict = rw c.deref.ensures.value at c.in_ok-find_fault.ensures in
     let pages = c.in_ok-pages in
     let all =
-    certified c.args.account.now (allows c.args.filter.now) c.args.seeds.now (pointed c.deref.result.now) c.args.results.items pages.pages.items
-    (ap pointed c.deref.ensures.value ∙ c.in_ok-entries.ensures.all) (subst DifferByUrl c.in_ok-entries.ensures.all c.in_ok-entries.ensures.apart) c.in_ok-entries.ensures.queues verdict pages.ensures.same pages.ensures.sorted in
+    certified c.args.account.now (allows c.args.filter.now) c.args.seeds.now c.in_ok-accepted.accepted c.args.results.items pages.pages.items
+    c.in_ok-accepted.ensures.all (subst DifferByUrl c.in_ok-accepted.ensures.all c.in_ok-accepted.ensures.apart) c.in_ok-accepted.ensures.queues verdict pages.ensures.same pages.ensures.sorted in
     record {
       fault = all.fault;
       same = pages.ensures.same;

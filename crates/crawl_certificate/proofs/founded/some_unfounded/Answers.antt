@@ -5,7 +5,7 @@ use Rattle.std.proofs.lemmas.List.Folds.{list_any_at}
 use Rattle.std.proofs.lemmas.List.{map_more}
 use Rattle.crawl_frontier.specs.declared.entry.Entry.{Entry}
 use Rattle.crawl_keys.specs.HostFilter.{allows}
-use Rattle.crawl_certificate.specs.Places.{pointed, is_in}
+use Rattle.crawl_certificate.specs.Lookups.{pointed, is_in}
 use Rattle.crawl_certificate.proofs.Places.{any_push, mark_of, read_pointed, length_pointed}
 use Rattle.crawl_certificate.proofs.founded.some_unfounded.Goals as goal
 

@@ -2,7 +2,7 @@ use Rattle.std.proofs.Common.{◌≡◌, ◌==◌, Bool, false, not, ◌&&◌, m
 use Rattle.std.specs.List.{list_any}
 use Rattle.crawl_frontier.specs.declared.entry.Entry.{Entry}
 use Rattle.crawl_keys.specs.HostFilter.{allows}
-use Rattle.crawl_certificate.specs.Places.{pointed, is_in}
+use Rattle.crawl_certificate.specs.Lookups.{pointed, is_in}
 use Rattle.crawl_certificate.proofs.founded.some_unfounded.Given as goal
 
 abbrev pub invariant-loop-place : goal.invariant-loop-place

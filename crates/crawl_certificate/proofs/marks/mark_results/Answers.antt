@@ -5,20 +5,19 @@ use Rattle.crawl_frontier.specs.declared.entry.Entry.{Entry}
 use Rattle.crawl_web.specs.declared.page.PageResult.{PageResult}
 use Rattle.crawl_keys.specs.HostFilter.{allows}
 use Rattle.crawl_web.specs.Pages.{links_of}
-use Rattle.crawl_certificate.specs.CertFaults.{has_result, is_linked, some_missing, twice}
-use Rattle.crawl_certificate.specs.Places.{pointed, has_place}
+use Rattle.crawl_certificate.specs.CertFaults.{is_accepted, has_result, is_linked, some_missing, twice}
 use Rattle.crawl_certificate.proofs.Places.{any_push, linked_push, fetched_push, twice_more, or_together}
 use Rattle.crawl_certificate.proofs.marks.mark_results.Goals as goal
 
 pub loop-one-preserved : goal.loop-one-preserved
 loop-one-preserved c =
-    let entries = pointed c.args.entries.now in
+    let entries = c.args.accepted.now in
     let all = c.args.results.now in
     let i = c.loop-one.one-index in
     let r = c.one-item.result in
     let more = ap (λ x. take i all ++ x ∷ []) c.one-item.is ∙ sym (take_more all i r c.loop-one-test.true) in
-    let stray' : PageResult → Bool = λ x. not (has_place (pointed c.args.entries.now) c.args.accepted.now x.url) in
-    let missing' : PageResult → Bool = λ x. some_missing (allows c.args.filter.now) (has_place (pointed c.args.entries.now) c.args.accepted.now) (links_of x.page) in
+    let stray' : PageResult → Bool = λ x. not (is_accepted c.args.accepted.now x.url) in
+    let missing' : PageResult → Bool = λ x. some_missing (allows c.args.filter.now) (is_accepted c.args.accepted.now) (links_of x.page) in
     record {
       fetched =
           c.mark_result-of_one.ensures.fetched (has_result (take i all)) c.loop-one.invariant.fetched

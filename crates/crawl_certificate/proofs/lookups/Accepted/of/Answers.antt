@@ -1,14 +1,17 @@
-use Rattle.std.proofs.Common.{rules, ◌≡◌, List, [], ◌∷◌, ◌++◌, take, get_or, sym, ap, subst, ◌∙◌}
+use Rattle.std.proofs.Common.{rules, ◌≡◌, ℕ, ◌+◌, ◌<◌, List, [], ◌∷◌, ◌++◌, length, take, get_or, sym, ap, subst, ◌∙◌, arith}
 use Rattle.std.proofs.lemmas.Grind.{flat_map-append}
-use Rattle.std.proofs.lemmas.List.{take_more, take_all, append-nil}
+use Rattle.std.proofs.lemmas.List.{take_more, take_all, append-nil, length_push}
 use Rattle.std.proofs.lemmas.Option.{slice_get_within, get_or_from_slice_get}
 use Rattle.crawl_frontier.specs.declared.entry.Entry.{Entry}
 use Rattle.crawl_certificate.specs.AccountEntries.{entries_in}
+use Rattle.crawl_certificate.specs.Queues.{AreFirsts}
+use Rattle.crawl_certificate.proofs.Indices.{no_firsts, firsts_push}
+use Rattle.crawl_certificate.proofs.Places.{length_pointed}
 use Rattle.crawl_certificate.proofs.KeptRules.{KeptBelow, none_kept, one_more_kept, account_queues, account_differs}
-use Rattle.crawl_certificate.proofs.lookups.entries_of.Goals as goal
+use Rattle.crawl_certificate.proofs.lookups.Accepted.of.Goals as goal
 
 pub loop-queue-init : goal.loop-queue-init
-loop-queue-init c = record { listed = search rules; kept = none_kept c.args.account.now }
+loop-queue-init c = record { listed = search rules; kept = none_kept c.args.account.now; count = search rules; first = no_firsts c.args.account.now.queues _ }
 
 pub loop-queue-preserved : goal.loop-queue-preserved
 loop-queue-preserved c =
@@ -17,6 +20,10 @@ loop-queue-preserved c =
     let own = c.queue-entry-items.result.now in
     let below = slice_get_within queues q own c.queue-entry-items.ensures.entries in
     let found = get_or_from_slice_get queues q own own c.queue-entry-items.ensures.entries in
+    let before = c.loop-queue.firsts.items in
+    let entries = c.loop-queue.entries in
+    let more : c.push.new.self.items ≡ before ++ c.len.result ∷ [] = c.in_ok-push.ensures.items in
+    let is : c.len.result ≡ length (entries_in (take q queues)) = omega (arith, c.len.ensures, entries.ok.0, length_pointed entries.items, ap length c.loop-queue.invariant.listed) in
     record {
       listed =
           c.loop-entry.invariant
@@ -24,6 +31,17 @@ loop-queue-preserved c =
           ∙ sym (flat_map-append (λ (es : List Entry). es) (take q queues) (get_or queues q own ∷ []))
           ∙ ap entries_in (sym (take_more queues q own below));
       kept = one_more_kept q c.args.account.now own c.loop-queue.invariant.kept c.queue-entry-items.ensures.entries c.queue-entry-items.ensures.rule;
+      count = ap length more ∙ length_push before c.len.result ∙ ap (λ n. n + 1) c.loop-queue.invariant.count;
+      first = subst (AreFirsts (q + 1) queues) (sym more) (firsts_push q queues before c.len.result own c.loop-queue.invariant.count is c.queue-entry-items.ensures.entries c.loop-queue.invariant.first);
+    }
+
+pub invariant_of-result : goal.invariant_of-result
+invariant_of-result c =
+    let last : c.loop-queue.queue ≡ c.args.account.now.workers = search rules in
+    record {
+      whole = c.loop-queue.invariant.listed ∙ ap (λ n. entries_in (take n c.args.account.now.queues)) last;
+      queues = account_queues c.args.account.now (subst (λ n. KeptBelow n c.args.account.now) last c.loop-queue.invariant.kept);
+      first = subst (λ n. AreFirsts n c.args.account.now.queues c.loop-queue.firsts.items) last c.loop-queue.invariant.first;
     }
 
 pub returns-clause-apart : goal.returns-clause-apart

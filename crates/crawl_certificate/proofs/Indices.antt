@@ -1,0 +1,215 @@
+-- The index of a URL among the entries of all subqueues is by its index in its own.
+use Rattle.std.proofs.Common.{◌≡◌, ◌≢◌, inl, inr, ℕ, zero, suc, ◌+◌, ◌<◌, ◌≤◌, Bool, true, false, List, [], ◌∷◌, ◌++◌, length, map, take, get_or, slice_get, Option, Some, None, is_some, refl, sym, ap, subst, ◌∙◌, arith, length-append}
+use Rattle.std.specs.Bool.{if◌then◌else◌}
+use Rattle.std.specs.List.{Contains, list_any}
+use Rattle.std.specs.Option.{option_map}
+use Rattle.std.specs.Str.{bytes_eq}
+use Rattle.std.proofs.lemmas.Bool.{cases_lt, false_from_ne_true}
+use Rattle.std.proofs.lemmas.List.{length-map, map-append}
+use Rattle.std.proofs.lemmas.List.Elements.{All-contains}
+use Rattle.std.proofs.lemmas.Option.{slice_get_within, get_or_from_slice_get}
+use Rattle.hash_index.specs.Lists.{index_of}
+use Rattle.hash_index.proofs.Listed.{found_at, absent_at, has_index}
+use Rattle.crawl_keys.specs.Assignment.{subqueue_of}
+use Rattle.crawl_frontier.specs.declared.entry.Entry.{Entry}
+use Rattle.crawl_frontier.specs.Accounts.{AccountId}
+use Rattle.crawl_frontier.proofs.Urls.{entry_there, url_at}
+use Rattle.crawl_certificate.specs.AccountEntries.{entries_in, DifferByUrl}
+use Rattle.crawl_certificate.specs.CertFaults.{is_accepted}
+use Rattle.crawl_certificate.specs.Certificate.{entry_urls}
+use Rattle.crawl_certificate.specs.Lookups.{at_this, stands_at, Finds}
+use Rattle.crawl_certificate.specs.Queues.{AreFirsts, AreLaidOut}
+use Rattle.crawl_certificate.proofs.Certified.{from_map}
+use Rattle.crawl_certificate.proofs.KeptRules.{account_differs, at_whole}
+use Rattle.crawl_certificate.proofs.Lists.{same_text, any_from}
+use Rattle.crawl_certificate.proofs.Places.{among_at, any_map, get_push, get_last}
+use Rattle.crawl_certificate.proofs.Queues.{QueuesFrom, at_least, from_first}
+
+-- ---- numbers in options
+
+add_none : (o : Option ℕ) → o ≡ option_map (λ i. 0 + i) o
+add_none None = refl
+add_none (Some i) = let same : i ≡ 0 + i = omega arith in ap Some same
+
+add_next : (n : ℕ) (o : Option ℕ) → option_map suc (option_map (λ i. n + i) o) ≡ option_map (λ i. suc n + i) o
+add_next n None = refl
+add_next n (Some i) = let same : suc (n + i) ≡ suc n + i = omega arith in ap Some same
+
+add_both : (a b c : ℕ) → c ≡ a + b → (o : Option ℕ) → option_map (λ i. a + i) (option_map (λ i. b + i) o) ≡ option_map (λ i. c + i) o
+add_both a b c is None = refl
+add_both a b c is (Some i) = let same : a + (b + i) ≡ c + i = omega (arith, is) in ap Some same
+
+-- ---- a text's index in two lists, one after the other
+
+later_step : (b : Bool) (o whole rest : Option ℕ) (n : ℕ) → (if b then Some 0 else option_map suc o) ≡ None → (o ≡ None → whole ≡ option_map (λ i. n + i) rest)
+    → (if b then Some 0 else option_map suc whole) ≡ option_map (λ i. suc n + i) rest
+later_step true o whole rest n none more = absurd (cc)
+later_step false None whole rest n none more = ap (option_map suc) (more refl) ∙ add_next n rest
+later_step false (Some k) whole rest n none more = absurd (cc)
+
+-- where the first does not have it
+behind : (front back : List (List ℕ)) (key : List ℕ) → index_of front key ≡ None → index_of (front ++ back) key ≡ option_map (λ i. length front + i) (index_of back key)
+behind [] back key none = add_none (index_of back key)
+behind (text ∷ front) back key none =
+    later_step (bytes_eq text key) (index_of front key) (index_of (front ++ back) key) (index_of back key) (length front) none (behind front back key)
+
+-- where the second does not
+ahead : (front back : List (List ℕ)) (key : List ℕ) → index_of back key ≡ None → index_of (front ++ back) key ≡ index_of front key
+ahead [] back key none = none
+ahead (text ∷ front) back key none = ap (λ (o : Option ℕ). if bytes_eq text key then Some 0 else option_map suc o) (ahead front back key none)
+
+absent : (texts : List (List ℕ)) (key : List ℕ) → (Contains texts key → ⊥) → index_of texts key ≡ None
+absent texts key never = by_index (index_of texts key) refl
+  where
+    by_index : (o : Option ℕ) → index_of texts key ≡ o → o ≡ None
+    by_index None found = refl
+    by_index (Some k) found = absurd (never (among_at texts k key (found_at texts key k found)))
+
+-- ---- the index among the entries of all queues
+
+in_queues : (subqueue : List ℕ → ℕ) (n : ℕ) (queues : List (List Entry)) → QueuesFrom subqueue n queues → (url : List ℕ) (queue : ℕ) (own : List Entry) → subqueue url ≡ n + queue → slice_get queues queue ≡ Some own
+    → index_of (entry_urls (entries_in queues)) url ≡ option_map (λ i. length (entries_in (take queue queues)) + i) (index_of (entry_urls own) url)
+in_queues subqueue n [] from url queue own here at = absurd (cc)
+in_queues subqueue n (es ∷ rest) from url zero own here at =
+    let same : es ≡ own = cc in
+    let later : index_of (entry_urls (entries_in rest)) url ≡ None =
+    absent (entry_urls (entries_in rest)) url (λ has. let far = at_least subqueue (suc n) rest url from.2 has in omega (arith, far, here)) in
+    ap (λ us. index_of us url) (map-append (λ (e : Entry). e.url) es (entries_in rest))
+    ∙ ahead (entry_urls es) (entry_urls (entries_in rest)) url later
+    ∙ add_none (index_of (entry_urls es) url)
+    ∙ ap (λ (xs : List Entry). option_map (λ i. 0 + i) (index_of (entry_urls xs) url)) same
+in_queues subqueue n (es ∷ rest) from url (suc queue) own here at =
+    let first : index_of (entry_urls es) url ≡ None =
+    absent (entry_urls es) url (λ has.
+    let e = from_map (λ (x : Entry). x.url) es url has in
+    let number : subqueue e.0.url ≡ n = All-contains (λ (x : Entry). subqueue x.url ≡ n) es e.0 from.0 e.1 in
+    let other : subqueue url ≡ n = ap subqueue (sym e.2) ∙ number in
+    omega (arith, other, here)) in
+    let next : subqueue url ≡ suc n + queue = omega (arith, here) in
+    let before = entries_in (take queue rest) in
+    let long : length (es ++ before) ≡ length (entry_urls es) + length before = omega (arith, length-append es before, length-map es (λ (e : Entry). e.url)) in
+    ap (λ us. index_of us url) (map-append (λ (e : Entry). e.url) es (entries_in rest))
+    ∙ behind (entry_urls es) (entry_urls (entries_in rest)) url first
+    ∙ ap (option_map (λ i. length (entry_urls es) + i)) (in_queues subqueue (suc n) rest from.2 url queue own next at)
+    ∙ add_both (length (entry_urls es)) (length before) (length (es ++ before)) long (index_of (entry_urls own) url)
+
+take_less : {X : Type 0} (n k : ℕ) (xs : List X) → k < n → take k (take n xs) ≡ take k xs
+take_less n zero xs below = refl
+take_less zero (suc k) xs below = absurd (omega (arith, below))
+take_less (suc n) (suc k) [] below = refl
+take_less (suc n) (suc k) (x ∷ xs) below = ap (λ ys. x ∷ ys) (take_less n k xs (omega (arith, below)))
+
+module _ (account : AccountId) (all : List Entry) (firsts : List ℕ) (are : AreLaidOut account all firsts) (url : List ℕ) (queue : ℕ) (own : queue ≡ subqueue_of url account.workers) (below : queue < account.workers) where
+  abbrev before : ℕ
+  before = length (entries_in (take queue account.queues))
+
+  in_account : (o : Option ℕ) → ((es : List Entry) → slice_get account.queues queue ≡ Some es → o ≡ index_of (entry_urls es) url) → index_of (entry_urls all) url ≡ option_map (λ i. before + i) o
+  in_account o told =
+      let there = are.first queue below in
+      let queues = take account.workers account.queues in
+      let from_zero : queue ≡ 0 + queue = omega arith in
+      let here : subqueue_of url account.workers ≡ 0 + queue = sym own ∙ from_zero in
+      let whole = in_queues (λ u. subqueue_of u account.workers) 0 queues (from_first (λ u. subqueue_of u account.workers) queues are.queues) url queue there.0 here (at_whole account.workers account.queues queue there.0 below there.1) in
+      let first : length (entries_in (take queue queues)) ≡ before = ap (λ (qs : List (List Entry)). length (entries_in qs)) (take_less account.workers queue account.queues below) in
+      ap (λ (es : List Entry). index_of (entry_urls es) url) are.whole ∙ whole
+      ∙ ap (λ n. option_map (λ i. n + i) (index_of (entry_urls there.0) url)) first
+      ∙ ap (option_map (λ i. before + i)) (sym (told there.0 there.1))
+
+pub no_firsts : (queues : List (List Entry)) (firsts : List ℕ) → AreFirsts 0 queues firsts
+no_firsts queues firsts = λ queue below. absurd (nothing queue below)
+  where
+    nothing : (n : ℕ) → n < 0 → ⊥
+    nothing n below = omega (arith, below)
+
+-- one more queue
+pub firsts_push : (n : ℕ) (queues : List (List Entry)) (firsts : List ℕ) (first : ℕ) (own : List Entry) → length firsts ≡ n → first ≡ length (entries_in (take n queues)) → slice_get queues n ≡ Some own
+    → AreFirsts n queues firsts → AreFirsts (n + 1) queues (firsts ++ first ∷ [])
+firsts_push n queues firsts first own count is at are = λ queue below. elim (cases_lt queue n) [
+  | inl before ↦ let old = are queue before in (old.0, old.1, get_push firsts first queue (length (entries_in (take queue queues))) old.2)
+  | inr not_before ↦
+      let last : n ≡ queue = omega (arith, below, not_before) in
+      let here : slice_get (firsts ++ first ∷ []) n ≡ Some (length (entries_in (take n queues))) =
+      subst (λ k. slice_get (firsts ++ first ∷ []) k ≡ Some first) count (get_last firsts first) ∙ ap Some is in
+      (own, subst (λ k. slice_get queues k ≡ Some own) last at, subst (λ k. slice_get (firsts ++ first ∷ []) k ≡ Some (length (entries_in (take k queues)))) last here)
+]
+
+-- ---- what is found
+
+laid_apart : (account : AccountId) (all : List Entry) (firsts : List ℕ) → AreLaidOut account all firsts → DifferByUrl all
+laid_apart account all firsts are = subst DifferByUrl (sym are.whole) (account_differs account are.queues)
+
+-- entries of one URL stand at one index
+same_index : (entries : List Entry) → DifferByUrl entries → (i k : ℕ) (x e : Entry) → slice_get entries i ≡ Some x → slice_get entries k ≡ Some e → x.url ≡ e.url → i ≡ k
+same_index entries apart i k x e at_i at_k same =
+    let first : i < k → ⊥ = λ before. clash i k x e at_i at_k same before in
+    let second : k < i → ⊥ = λ before. clash k i e x at_k at_i (sym same) before in
+    elim (cases_lt i k) [
+      | inl before ↦ absurd (first before)
+      | inr behind' ↦ elim (cases_lt k i) [
+        | inl before ↦ absurd (second before)
+        | inr there ↦ omega (arith, behind', there)
+      ]
+    ]
+  where
+    clash : (i k : ℕ) (x e : Entry) → slice_get entries i ≡ Some x → slice_get entries k ≡ Some e → x.url ≡ e.url → i < k → ⊥
+    clash i k x e at_i at_k same before =
+        let differs = apart i k x before (slice_get_within entries k e at_k) in
+        let near = get_or_from_slice_get entries i x x at_i in
+        let far = get_or_from_slice_get entries k e x at_k in
+        let P : Entry → Type 0 = λ z. z.url ≢ (get_or entries k x).url in
+        let Q : Entry → Type 0 = λ z. x.url ≢ z.url in
+        subst Q far (subst P near differs) same
+
+-- an entry is found by its URL
+finds_entry : (entries : List Entry) → DifferByUrl entries → (url : List ℕ) (k : ℕ) (e : Entry) → slice_get entries k ≡ Some e → e.url ≡ url → Finds entries url (Some k)
+finds_entry entries apart url k e at is = (
+  (e, at, is),
+  λ i x here same. same_index entries apart i k x e here at (sym (same_text url x.url same) ∙ sym is),
+)
+
+finds_of : (entries : List Entry) → DifferByUrl entries → (url : List ℕ) (o : Option ℕ) → index_of (entry_urls entries) url ≡ o → Finds entries url o
+finds_of entries apart url None found = λ k e at. false_from_ne_true _ (λ same. absent_at (entry_urls entries) url found k (url_at entries k e at ∙ ap Some (sym (same_text url e.url same))))
+finds_of entries apart url (Some k) found = let there = entry_there entries url k found in finds_entry entries apart url k there.0 there.1.0 there.1.1
+
+has_entry : (entries : List Entry) (url : List ℕ) → is_some (index_of (entry_urls entries) url) ≡ is_accepted entries url
+has_entry entries url = has_index (entry_urls entries) url ∙ any_map (λ text. bytes_eq text url) (λ (e : Entry). e.url) entries
+
+-- what is answered, by the index in the URL's own queue
+pub record IsAnswer (all : List Entry) (url : List ℕ) (o : Option ℕ) : Type 0 where
+  pub found : Finds all url o
+  pub accepted : is_some o ≡ is_accepted all url
+
+answer : (all : List Entry) → DifferByUrl all → (url : List ℕ) (o : Option ℕ) → index_of (entry_urls all) url ≡ o → IsAnswer all url o
+answer all apart url o is = record { found = finds_of all apart url o is; accepted = ap is_some (sym is) ∙ has_entry all url }
+
+module _ (account : AccountId) (all : List Entry) (firsts : List ℕ) (are : AreLaidOut account all firsts) (url : List ℕ) (queue : ℕ) (own : queue ≡ subqueue_of url account.workers) (below : queue < account.workers) where
+  pub answers_absent : ((es : List Entry) → slice_get account.queues queue ≡ Some es → None ≡ index_of (entry_urls es) url) → IsAnswer all url None
+  answers_absent told = answer all (laid_apart account all firsts are) url None (in_account account all firsts are url queue own below None told)
+
+  pub queue_within : queue < length firsts
+  queue_within = let there = are.first queue below in slice_get_within firsts queue (before account all firsts are url queue own below) there.2
+
+  pub answers_there : (first i : ℕ) → first ≡ get_or firsts queue first → ((es : List Entry) → slice_get account.queues queue ≡ Some es → Some i ≡ index_of (entry_urls es) url) → IsAnswer all url (Some (first + i))
+  answers_there first i at told =
+      let there = are.first queue below in
+      let is : before account all firsts are url queue own below ≡ first = sym (at ∙ get_or_from_slice_get firsts queue (before account all firsts are url queue own below) first there.2) in
+      answer all (laid_apart account all firsts are) url (Some (first + i)) (in_account account all firsts are url queue own below (Some i) told ∙ ap (λ n. Some (n + i)) is)
+
+-- with no queue there is no entry
+pub answers_none : (account : AccountId) (all : List Entry) (firsts : List ℕ) → AreLaidOut account all firsts → (url : List ℕ) → account.workers ≡ 0 → IsAnswer all url None
+answers_none account all firsts are url is =
+    let empty : all ≡ [] = are.whole ∙ ap (λ n. entries_in (take n account.queues)) is in
+    subst (λ es. IsAnswer es url None) (sym empty) (record { found = λ k e at. absurd (cc); accepted = refl })
+
+-- what stands at a guess
+pub answers_guess : (account : AccountId) (all : List Entry) (firsts : List ℕ) → AreLaidOut account all firsts → (url : List ℕ) (k : ℕ) → stands_at all k url ≡ true → IsAnswer all url (Some k)
+answers_guess account all firsts are url k stands = of_this (slice_get all k) refl stands
+  where
+    of_this : (o : Option Entry) → slice_get all k ≡ o → at_this o url ≡ true → IsAnswer all url (Some k)
+    of_this None at this = absurd (cc)
+    of_this (Some e) at this =
+        let is : e.url ≡ url = same_text e.url url this in
+        record {
+          found = finds_entry all (laid_apart account all firsts are) url k e at is;
+          accepted = sym (any_from (λ (x : Entry). bytes_eq x.url url) all e (among_at all k e at) this);
+        }
