@@ -871,6 +871,22 @@ def crawler(trial: Trial) -> None:
         print(f"  {len(told)} URLs")
 
 
+def bash_crawler(trial: Trial) -> None:
+    """The crawler in bash, which reads no `<base>`: each URL once, those of the search among them."""
+    trial.want_link()
+    if not shutil.which("curl"):
+        raise Skipped("there is no curl")
+    with Folder(ROOT / "examples/site") as folder:
+        wanted = found_by_search(folder.url)
+        words = ["env", f"MERCATOR={trial.program}", "DELAY=0", str(ROOT / "examples/crawl_http.sh"), "127.0.0.1", folder.url]
+        done = run_crawler(words)
+        told = dict(line.split(" ")[::-1] for line in done.stdout.decode().split("\n")[:-1])
+        expect(done.returncode == 0 and not done.stderr, f"status {done.returncode}: {done.stderr.decode()}")
+        expect(len(told) == done.stdout.count(b"\n"), "a URL is told twice")
+        other = {url for url in set(told) & set(wanted) if told[url] != wanted[url]}
+        expect(not other and len(set(wanted) - set(told)) <= 2, f"other URLs: {other or set(told) ^ set(wanted)}")
+
+
 def killed_crawler(trial: Trial) -> None:
     """The crawler is killed again and again, and goes on from its log."""
     trial.want_log()
@@ -959,7 +975,7 @@ def polite_crawler(trial: Trial) -> None:
 PARTS: Tuple[Callable[[Trial], None], ...] = (
     transcript, drawn_sessions, all_at_once, byte_by_byte, stopped_between, dying_client, closed_output, memory, long_line,
     client_values, client_ends, interrupted_call, client_small_pipes, crawls, killed_crawls, log_in_use, full_disk, crawler,
-    killed_crawler, polite_crawler,
+    bash_crawler, killed_crawler, polite_crawler,
 )
 
 
