@@ -1,4 +1,4 @@
-use Rattle.std.proofs.Common.{◌≡◌, true, subst, Some}
+use Rattle.std.proofs.Common.{rules, ◌≡◌, true, Some}
 use Rattle.crawl_certificate.specs.Lookups.{stands_at}
 use Rattle.crawl_certificate.proofs.Indices.{IsAnswer, answers_guess}
 use Rattle.crawl_certificate.proofs.Places.{found_within}
