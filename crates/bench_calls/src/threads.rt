@@ -57,7 +57,7 @@ fn offer_part<K: Name, R: Wait>(
     for _ in 0..rounds {
         for url in urls {
             match sender.offer(rt, frontier, url) {
-                Ok(Offer::Accepted(_, _)) => accepted = accepted.saturating_add(1),
+                Ok(Offer::Accepted { .. }) => accepted = accepted.saturating_add(1),
                 Ok(Offer::Seen) => seen = seen.saturating_add(1),
                 Err(_) => {}
             }

@@ -1,5 +1,5 @@
 -- One subqueue more was settled; and what maps by number have after a change.
-use Rattle.std.proofs.Common.{◌≡◌, ◌⊎◌, ℕ, zero, suc, ◌+◌, ◌<◌, ◌≤◌, Bool, true, false, true≢false, cond, eqb, List, [], ◌∷◌, ◌++◌, length, map, Option, Some, None, get_or, slice_get, refl, sym, ap, ◌∙◌, subst, inl, inr, ⊎_elim, arith}
+use Rattle.std.proofs.Common.{◌≡◌, ◌⊎◌, ℕ, ◌+◌, ◌<◌, ◌≤◌, Bool, true, false, true≢false, cond, eqb, List, [], ◌∷◌, ◌++◌, length, map, Option, Some, None, get_or, slice_get, refl, sym, ap, ◌∙◌, subst, inl, inr, ⊎_elim, arith}
 use Rattle.std.proofs.lemmas.Bool.{cases_lt}
 use Rattle.std.proofs.lemmas.Bool.Decides.{nat_tests}
 use Rattle.std.proofs.lemmas.Option.{slice_get_read, slice_get-map}
@@ -20,7 +20,7 @@ use Rattle.crawl_frontier.specs.Books.{BookId, book_of}
 use Rattle.crawl_frontier.specs.Parts.{WorkerId, SenderId, ShardId}
 use Rattle.crawl_frontier.specs.Accounts.{At, IsPart, HasWorkers, Accounts}
 use Rattle.crawl_frontier.specs.Finishing.{Slots, Placed, OwnRight, IsShared, SettlesAt, AllSettle, IdsOf, AgreesBelow, Gathered, AllAre, SendersIn, HasBook}
-use Rattle.crawl_frontier.proofs.Gets.{get_snoc, get_both, get_within, has_at, same_at}
+use Rattle.crawl_frontier.proofs.Gets.{get_both, get_within, has_at, same_at}
 
 key_is : (key q : ℕ) → is_at (nat_cmp key) q ≡ true → key ≡ q
 key_is key q e = let same : eqb key q ≡ true = unsigned_ties key q ∙ e in grind (arith, nat_tests)

@@ -1,7 +1,7 @@
 //! What a part that sends keeps of its own offers.
 ghost use Rattle.std.specs.Prelude.{◌≡◌, ◌<◌, ◌^◌, IfOk, OnOk, Some, slice_get, vec_len};
 ghost use Rattle.crawl_frontier.specs.Entries.{entry};
-ghost use Rattle.crawl_frontier.specs.Books.{IsBook, HasRoom, book_of, book_accepting, book_seeing, fresh_book, place_of};
+ghost use Rattle.crawl_frontier.specs.Books.{IsBook, HasRoom, book_of, book_accepting, book_seeing, fresh_book};
 
 use crate::entry::Entry;
 use crate::log::Log;
@@ -13,18 +13,6 @@ use std::alloc::{AllocError, Global};
 pub enum Logged {
     Accepted(Entry, u32),
     Seen(CanonUrl, u32),
-}
-
-impl Logged {
-    /// The subqueue.
-    pub fn place(&self) -> u32
-        ensures { result ≡ place_of self.now }
-    {
-        match self {
-            Logged::Accepted(_, place) => *place,
-            Logged::Seen(_, place) => *place,
-        }
-    }
 }
 
 /// The id, how many of its URLs each subqueue accepted, and the log, oldest line first.

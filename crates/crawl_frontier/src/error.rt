@@ -51,9 +51,8 @@ pub enum OfferError {
     Closed,
     /// As many URLs are pending as the maximum allows, offers in progress among them. Later there may be room.
     Full,
-    /// The subqueue accepted another number of URLs of this id (the second) than this part was told of (the first):
-    /// another part has the same id.
-    Crossed(u64, u64),
+    /// The subqueue accepted another number of URLs of this id than this part was told of: another part has the same id.
+    Crossed { own: u64, found: u64 },
     /// The URL is more than [`crate::HOPS_LIMIT`] hops away.
     TooFar,
     /// There was not memory enough, or the subqueue was pushed onto nearly 2^62 times.
@@ -71,7 +70,7 @@ impl fmt::Display for OfferError {
             OfferError::Filtered => f.write_str("not allowed by the filter"),
             OfferError::Closed => f.write_str("gate closed"),
             OfferError::Full => f.write_str("as many URLs pending as allowed"),
-            OfferError::Crossed(_, _) => f.write_str("another sender has this id"),
+            OfferError::Crossed { .. } => f.write_str("another sender has this id"),
             OfferError::TooFar => f.write_str("more hops than an entry holds"),
             OfferError::NoMemory => f.write_str("out of memory"),
         }
@@ -86,10 +85,10 @@ pub enum FinishError {
     /// A subqueue's worker isn't among the parts, or no part has the id of an accepted URL's sender.
     MissingPart,
     /// The gate's word, were it not closed with count 0. A closed worker knows that it is, so this never comes.
-    Unsettled(u64),
+    Unsettled { word: u64 },
     /// The least subqueue behind whose lock stands another's shard, whose worker was not seen to have taken all that was
     /// sent, whose place two workers have, or whose entries are not those of the parts' logs.
-    Disagree(u32),
+    Disagree { queue: u32 },
     /// There was not memory enough.
     NoMemory,
 }
@@ -114,8 +113,8 @@ impl fmt::Display for FinishError {
     fn fmt<W: fmt::Write>(&self, f: &mut fmt::Formatter<W>) -> fmt::Result {
         match self {
             FinishError::MissingPart => f.write_str("a worker or a sender is missing"),
-            FinishError::Unsettled(_) => f.write_str("gate not closed"),
-            FinishError::Disagree(_) => f.write_str("logs and entries of a subqueue differ"),
+            FinishError::Unsettled { .. } => f.write_str("gate not closed"),
+            FinishError::Disagree { .. } => f.write_str("logs and entries of a subqueue differ"),
             FinishError::NoMemory => f.write_str("out of memory"),
         }
     }

@@ -50,7 +50,7 @@ impl<K: Name> Frontier<K> {
         let settled = first_doubt(doubts.as_slice(), alone);
         let least = books_agree(lists.as_slice(), books.as_slice(), workers, settled)?;
         if least < workers {
-            return Err(FinishError::Disagree(least));
+            return Err(FinishError::Disagree { queue: least });
         }
         Ok(Account::new(workers, lists))
     }

@@ -19,7 +19,7 @@ use std::sync::Wait;
 #[derive(Clone, Copy, Debug, PartialEq, Eq)]
 pub enum Offer {
     /// It went to the end of this subqueue. The number is how many of the same sender the subqueue accepted before.
-    Accepted(u32, u64),
+    Accepted { queue: u32, number: u64 },
     /// It was accepted before.
     Seen,
 }
@@ -88,25 +88,28 @@ pub(crate) fn deliver<K: Name, R: Wait>(
     let place = url.subqueue(frontier.workers());
     let own = book.counts[place as usize];
     match admit_at(rt, frontier, &url, place, book.id, own, hops, unit) {
-        Admit::Admitted(number) => {
+        Admit::Admitted { number } => {
             frontier.subqueue(place).ring();
             book.accept(url, place, number, hops as u32);
-            Ok(Offer::Accepted(place, number))
+            Ok(Offer::Accepted {
+                queue: place,
+                number,
+            })
         }
-        Admit::Seen(there, unit) => {
+        Admit::Seen { url: there, unit } => {
             *pass = give_back(frontier, unit);
             book.see(there, place);
             Ok(Offer::Seen)
         }
-        Admit::Crossed(found, unit) => {
+        Admit::Crossed { found, unit } => {
             *pass = give_back(frontier, unit);
-            Err(OfferError::Crossed(own, found))
+            Err(OfferError::Crossed { own, found })
         }
-        Admit::TooFar(unit) => {
+        Admit::TooFar { unit } => {
             *pass = give_back(frontier, unit);
             Err(OfferError::TooFar)
         }
-        Admit::NoMemory(unit) => {
+        Admit::NoMemory { unit } => {
             *pass = give_back(frontier, unit);
             Err(OfferError::NoMemory)
         }

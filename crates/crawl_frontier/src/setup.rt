@@ -9,12 +9,13 @@ use crate::error::FrontierError;
 use crate::rights::{PopRight, PushRight};
 use crate::subqueue::Subqueue;
 use crawl_gate::{Gate, GateError, Unit};
+use crawl_keys::SUBQUEUES_LIMIT;
 use std::alloc::{AllocError, Global};
 use std::collections::VecDeque;
 use std::marker::Model;
 
 /// The most workers: what a host key can be assigned to.
-pub const WORKERS_LIMIT: u32 = 512;
+pub const WORKERS_LIMIT: u32 = SUBQUEUES_LIMIT;
 
 /// A gate and the subqueues of its workers, of which [`crate::Frontier::new`] makes a frontier.
 ///

@@ -61,15 +61,15 @@ pub const HOPS_LIMIT: u64 = 4_294_967_295;
 #[derive(Drop)]
 pub enum Admit {
     /// The URL went to the end of the subqueue. The number is how many of the sender came before it.
-    Admitted(u64),
+    Admitted { number: u64 },
     /// The shard's count of the sender is this one, and not the sender's own.
-    Crossed(u64, Unit),
+    Crossed { found: u64, unit: Unit },
     /// The URL was accepted before. This is the copy of it that shares the shard's text.
-    Seen(CanonUrl, Unit),
+    Seen { url: CanonUrl, unit: Unit },
     /// The hops are above the limit.
-    TooFar(Unit),
+    TooFar { unit: Unit },
     /// A growth was refused.
-    NoMemory(Unit),
+    NoMemory { unit: Unit },
 }
 
 // The answer where this entry has the URL.
@@ -77,8 +77,8 @@ fn seen(there: &Entry, unit: Unit) -> Admit
     ensures { (result ≡ Admit.Seen there.now.url unit) ⊎ (result ≡ Admit.NoMemory unit) }
 {
     match there.url.copy() {
-        Ok(there) => Admit::Seen(there, unit),
-        Err(_) => Admit::NoMemory(unit),
+        Ok(url) => Admit::Seen { url, unit },
+        Err(_) => Admit::NoMemory { unit },
     }
 }
 
@@ -149,7 +149,7 @@ impl<K: Name> Shard<K> {
     {
         let found = count(&self.counts, sender);
         if found != own {
-            return Admit::Crossed(found, unit);
+            return Admit::Crossed { found, unit };
         }
         if hops <= HOPS_LIMIT {
             return self.send(rt, queue, url, sender, own, hops as u32, unit);
@@ -158,7 +158,7 @@ impl<K: Name> Shard<K> {
         if let Some(index) = known {
             return seen(&self.sent[index], unit);
         }
-        Admit::TooFar(unit)
+        Admit::TooFar { unit }
     }
 
     // Sends the URL, unless it is there: one search finds it, or gives it the list's next index. All that grows comes before
@@ -180,28 +180,28 @@ impl<K: Name> Shard<K> {
         ensures { Admits self.old self.new url.now sender own hops unit result }
     {
         let Ok(found) = self.index.find_or_insert(&self.sent, url) else {
-            return Admit::NoMemory(unit);
+            return Admit::NoMemory { unit };
         };
         if let Some(index) = found {
             return seen(&self.sent[index], unit);
         }
         let Ok((sent, listed)) = copies(url, sender, own, hops) else {
-            return Admit::NoMemory(unit);
+            return Admit::NoMemory { unit };
         };
         let Ok(()) = self.sent.reserve(1) else {
-            return Admit::NoMemory(unit);
+            return Admit::NoMemory { unit };
         };
         let Ok(()) = enter_sender(&mut self.counts, sender, own) else {
-            return Admit::NoMemory(unit);
+            return Admit::NoMemory { unit };
         };
         let message = Message { entry: sent, unit };
         match queue.push(rt, &mut self.right, message) {
             Ok(()) => {
                 raise(&mut self.counts, sender, own + 1);
                 self.sent.push_reserved(listed);
-                Admit::Admitted(own)
+                Admit::Admitted { number: own }
             }
-            Err(message) => Admit::NoMemory(message.unit),
+            Err(message) => Admit::NoMemory { unit: message.unit },
         }
     }
 }

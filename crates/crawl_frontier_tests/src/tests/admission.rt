@@ -42,7 +42,10 @@ fn has_bound<K: Name, R: Wait>(
     let above = admit_by_last(rt, &frontier, &mut workers, other, 1, HOPS_LIMIT + 1);
     matches!(
         (first, above),
-        (Some(Admit::Admitted(0)), Some(Admit::TooFar(_)))
+        (
+            Some(Admit::Admitted { number: 0 }),
+            Some(Admit::TooFar { .. })
+        )
     )
 }
 

@@ -2,8 +2,7 @@
 ghost use Rattle.std.specs.Prelude.{◌≡◌};
 
 use crate::tests::parts::{Part, add_sender, done, end, finish, next, offer, open};
-use crawl_frontier::Offer::{Accepted, Seen};
-use crawl_frontier::OfferError::{Closed, Crossed, Filtered, Full};
+use crawl_frontier::OfferError::{Closed, Filtered, Full};
 use crawl_frontier::{
     Account, Entry, FinishError, Frontier, FrontierError, Name, Offer, OfferError, Setup, Turn,
 };
@@ -22,12 +21,25 @@ enum Who {
 
 use Who::{Seeder, Sender, Worker};
 
+// What an offer answers.
+#[derive(Clone, Copy)]
+enum Answer {
+    // The queue, and the number.
+    Accepts(u32, u64),
+    Sees,
+    // The part's own count, and the one found.
+    Crosses(u64, u64),
+    Refuses(OfferError),
+}
+
+use Answer::{Accepts, Crosses, Refuses, Sees};
+
 // A call, and what it answers.
 #[derive(Clone, Copy)]
 enum Call {
     // The seeder makes a sender with this id.
     Makes(u64),
-    Offers(&'static str, Result<Offer, OfferError>),
+    Offers(&'static str, Answer),
     // The worker's next turn: this URL, with these hops; or nothing, with so many units out; or nothing for good.
     Takes(&'static str, u32),
     Idles(u64),
@@ -58,10 +70,10 @@ struct Row {
 }
 
 const DELIVERS: &[Step] = &[
-    (Seeder, Offers("http://a.test/", Ok(Accepted(1, 0)))),
+    (Seeder, Offers("http://a.test/", Accepts(1, 0))),
     (Worker(1), Takes("http://a.test/", 0)),
     (Worker(0), Idles(2)),
-    (Worker(1), Offers("http://b.test/", Ok(Accepted(0, 0)))),
+    (Worker(1), Offers("http://b.test/", Accepts(0, 0))),
     (Worker(1), Finishes),
     (Worker(1), Idles(2)),
     (Worker(0), Takes("http://b.test/", 1)),
@@ -72,11 +84,11 @@ const DELIVERS: &[Step] = &[
 // Two senders and one worker, until the worker is closed and one sender is told so too: closed, and not seen.
 const TWO_SENDERS: &[Step] = &[
     (Seeder, Makes(7)),
-    (Sender(0), Offers("http://a.test/1", Ok(Accepted(0, 0)))),
-    (Seeder, Offers("http://a.test/b", Ok(Accepted(0, 0)))),
-    (Sender(0), Offers("http://a.test/2", Ok(Accepted(0, 1)))),
-    (Sender(0), Offers("http://a.test/3", Ok(Accepted(0, 2)))),
-    (Seeder, Offers("http://a.test/1", Ok(Seen))),
+    (Sender(0), Offers("http://a.test/1", Accepts(0, 0))),
+    (Seeder, Offers("http://a.test/b", Accepts(0, 0))),
+    (Sender(0), Offers("http://a.test/2", Accepts(0, 1))),
+    (Sender(0), Offers("http://a.test/3", Accepts(0, 2))),
+    (Seeder, Offers("http://a.test/1", Sees)),
     (Seeder, Ends),
     (Worker(0), Takes("http://a.test/1", 0)),
     (Worker(0), Finishes),
@@ -87,7 +99,7 @@ const TWO_SENDERS: &[Step] = &[
     (Worker(0), Takes("http://a.test/3", 0)),
     (Worker(0), Finishes),
     (Worker(0), Closes),
-    (Sender(0), Offers("http://a.test/1", Err(Closed))),
+    (Sender(0), Offers("http://a.test/1", Refuses(Closed))),
 ];
 
 const TWO_SENDERS_LIST: &[Listed] = &[
@@ -98,25 +110,25 @@ const TWO_SENDERS_LIST: &[Listed] = &[
 ];
 
 // The seeder's own unit is all that the gate has room for.
-const NO_ROOM: &[Step] = &[(Seeder, Offers("http://a.test/", Err(Full)))];
+const NO_ROOM: &[Step] = &[(Seeder, Offers("http://a.test/", Refuses(Full)))];
 
 // There is room for one URL, until it is done.
 const ROOM_FOR_ONE: &[Step] = &[
-    (Seeder, Offers("http://a.test/1", Ok(Accepted(0, 0)))),
-    (Seeder, Offers("http://a.test/2", Err(Full))),
+    (Seeder, Offers("http://a.test/1", Accepts(0, 0))),
+    (Seeder, Offers("http://a.test/2", Refuses(Full))),
     (Worker(0), Takes("http://a.test/1", 0)),
-    (Seeder, Offers("http://a.test/2", Err(Full))),
+    (Seeder, Offers("http://a.test/2", Refuses(Full))),
     (Worker(0), Finishes),
-    (Seeder, Offers("http://a.test/2", Ok(Accepted(0, 1)))),
+    (Seeder, Offers("http://a.test/2", Accepts(0, 1))),
 ];
 
 const CROSSED: &[Step] = &[
     (Seeder, Makes(7)),
     (Seeder, Makes(7)),
-    (Sender(0), Offers("http://b.test/", Ok(Accepted(0, 0)))),
-    (Sender(1), Offers("http://b.test/x", Err(Crossed(0, 1)))),
-    (Sender(1), Offers("http://b.test/", Err(Crossed(0, 1)))),
-    (Sender(1), Offers("http://a.test/", Ok(Accepted(1, 0)))),
+    (Sender(0), Offers("http://b.test/", Accepts(0, 0))),
+    (Sender(1), Offers("http://b.test/x", Crosses(0, 1))),
+    (Sender(1), Offers("http://b.test/", Crosses(0, 1))),
+    (Sender(1), Offers("http://a.test/", Accepts(1, 0))),
     (Seeder, Ends),
     (Worker(0), Takes("http://b.test/", 0)),
     (Worker(1), Takes("http://a.test/", 0)),
@@ -140,38 +152,38 @@ const THREE_CLOSE: &[Step] = &[
 ];
 
 const TAKEN_AT_1_OF_2: &[Step] = &[
-    (Sender(0), Offers("http://a.test/", Ok(Accepted(1, 0)))),
+    (Sender(0), Offers("http://a.test/", Accepts(1, 0))),
     (Worker(1), Takes("http://a.test/", 0)),
     (Worker(1), Finishes),
 ];
 
 const TAKEN_AT_0: &[Step] = &[
-    (Sender(0), Offers("http://a.test/", Ok(Accepted(0, 0)))),
+    (Sender(0), Offers("http://a.test/", Accepts(0, 0))),
     (Worker(0), Takes("http://a.test/", 0)),
     (Worker(0), Finishes),
 ];
 
 const TAKEN_AT_1: &[Step] = &[
-    (Sender(0), Offers("http://b.test/", Ok(Accepted(1, 0)))),
+    (Sender(0), Offers("http://b.test/", Accepts(1, 0))),
     (Worker(1), Takes("http://b.test/", 0)),
     (Worker(1), Finishes),
 ];
 
 const TAKEN_AT_2: &[Step] = &[
-    (Sender(0), Offers("http://c.test/", Ok(Accepted(2, 0)))),
+    (Sender(0), Offers("http://c.test/", Accepts(2, 0))),
     (Worker(2), Takes("http://c.test/", 0)),
     (Worker(2), Finishes),
 ];
 
 const DROPPED: &[Step] = &[
     (Seeder, Makes(7)),
-    (Seeder, Offers("http://a.test/", Ok(Accepted(1, 0)))),
+    (Seeder, Offers("http://a.test/", Accepts(1, 0))),
     (Seeder, Ends),
     (Worker(1), Takes("http://a.test/", 0)),
     (Worker(1), Leaves),
     (Worker(0), Idles(1)),
     (Worker(0), Idles(1)),
-    (Sender(0), Offers("http://b.test/", Ok(Accepted(0, 0)))),
+    (Sender(0), Offers("http://b.test/", Accepts(0, 0))),
     (Worker(0), Takes("http://b.test/", 0)),
     (Worker(0), Finishes),
     (Worker(0), Idles(1)),
@@ -181,25 +193,25 @@ const DROPPED: &[Step] = &[
 const LATE: &[Step] = &[
     (Seeder, Makes(7)),
     (Seeder, Ends),
-    (Sender(0), Offers("http://a.test/", Ok(Accepted(0, 0)))),
+    (Sender(0), Offers("http://a.test/", Accepts(0, 0))),
     (Worker(0), Takes("http://a.test/", 0)),
-    (Sender(0), Offers("http://a.test/x", Err(Full))),
+    (Sender(0), Offers("http://a.test/x", Refuses(Full))),
     (Worker(0), Finishes),
-    (Sender(0), Offers("http://a.test/x", Ok(Accepted(0, 1)))),
+    (Sender(0), Offers("http://a.test/x", Accepts(0, 1))),
     (Worker(0), Takes("http://a.test/x", 0)),
     (Worker(0), Finishes),
     (Worker(0), Closes),
-    (Sender(0), Offers("http://a.test/", Err(Closed))),
-    (Sender(0), Offers("http://a.test/y", Err(Closed))),
+    (Sender(0), Offers("http://a.test/", Refuses(Closed))),
+    (Sender(0), Offers("http://a.test/y", Refuses(Closed))),
 ];
 
 const LATE_LIST: &[Listed] = &[("http://a.test/", 7, 0, 0), ("http://a.test/x", 7, 1, 0)];
 
 const WITH_WORKER_ID: &[Step] = &[
     (Seeder, Makes(0)),
-    (Sender(0), Offers("http://a.test/1", Ok(Accepted(0, 0)))),
+    (Sender(0), Offers("http://a.test/1", Accepts(0, 0))),
     (Worker(0), Takes("http://a.test/1", 0)),
-    (Worker(0), Offers("http://a.test/2", Err(Crossed(0, 1)))),
+    (Worker(0), Offers("http://a.test/2", Crosses(0, 1))),
     (Worker(0), Finishes),
     (Seeder, Ends),
     (Worker(0), Closes),
@@ -207,12 +219,12 @@ const WITH_WORKER_ID: &[Step] = &[
 
 const FILTERED: &[Step] = &[
     (Seeder, Makes(7)),
-    (Seeder, Offers("http://a.test/", Err(Filtered))),
-    (Seeder, Offers("http://b.test/", Err(Full))),
+    (Seeder, Offers("http://a.test/", Refuses(Filtered))),
+    (Seeder, Offers("http://b.test/", Refuses(Full))),
     (Seeder, Ends),
     (Worker(0), Closes),
-    (Sender(0), Offers("http://a.test/", Err(Filtered))),
-    (Sender(0), Offers("http://b.test/", Err(Closed))),
+    (Sender(0), Offers("http://a.test/", Refuses(Filtered))),
+    (Sender(0), Offers("http://b.test/", Refuses(Closed))),
 ];
 
 // All have the hash 0: four find a slot, one is kept by that hash, and two by their texts.
@@ -231,20 +243,20 @@ const ZERO_5: &str = "http://a.test/000000000000010355el8CGH)V00000005";
 const ZERO_6: &str = "http://a.test/000000000000010355el8CGH)V00000006";
 
 const ONE_HASH: &[Step] = &[
-    (Seeder, Offers(ZERO_0, Ok(Accepted(0, 0)))),
-    (Seeder, Offers(ZERO_1, Ok(Accepted(0, 1)))),
-    (Seeder, Offers(ZERO_2, Ok(Accepted(0, 2)))),
-    (Seeder, Offers(ZERO_3, Ok(Accepted(0, 3)))),
-    (Seeder, Offers(ZERO_4, Ok(Accepted(0, 4)))),
-    (Seeder, Offers(ZERO_5, Ok(Accepted(0, 5)))),
-    (Seeder, Offers(ZERO_6, Ok(Accepted(0, 6)))),
-    (Seeder, Offers(ZERO_0, Ok(Seen))),
-    (Seeder, Offers(ZERO_1, Ok(Seen))),
-    (Seeder, Offers(ZERO_2, Ok(Seen))),
-    (Seeder, Offers(ZERO_3, Ok(Seen))),
-    (Seeder, Offers(ZERO_4, Ok(Seen))),
-    (Seeder, Offers(ZERO_5, Ok(Seen))),
-    (Seeder, Offers(ZERO_6, Ok(Seen))),
+    (Seeder, Offers(ZERO_0, Accepts(0, 0))),
+    (Seeder, Offers(ZERO_1, Accepts(0, 1))),
+    (Seeder, Offers(ZERO_2, Accepts(0, 2))),
+    (Seeder, Offers(ZERO_3, Accepts(0, 3))),
+    (Seeder, Offers(ZERO_4, Accepts(0, 4))),
+    (Seeder, Offers(ZERO_5, Accepts(0, 5))),
+    (Seeder, Offers(ZERO_6, Accepts(0, 6))),
+    (Seeder, Offers(ZERO_0, Sees)),
+    (Seeder, Offers(ZERO_1, Sees)),
+    (Seeder, Offers(ZERO_2, Sees)),
+    (Seeder, Offers(ZERO_3, Sees)),
+    (Seeder, Offers(ZERO_4, Sees)),
+    (Seeder, Offers(ZERO_5, Sees)),
+    (Seeder, Offers(ZERO_6, Sees)),
 ];
 
 const ROWS: &[Row] = &[
@@ -310,7 +322,7 @@ const ROWS: &[Row] = &[
         max_pending: 9,
         suffixes: &[],
         steps: &[CROSSED],
-        end: Err(FinishError::Disagree(0)),
+        end: Err(FinishError::Disagree { queue: 0 }),
     },
     Row {
         name: "least_disagreement: at place 1 alone",
@@ -318,7 +330,7 @@ const ROWS: &[Row] = &[
         max_pending: 9,
         suffixes: &[],
         steps: &[TWINS, TAKEN_AT_1_OF_2, TWO_CLOSE],
-        end: Err(FinishError::Disagree(1)),
+        end: Err(FinishError::Disagree { queue: 1 }),
     },
     Row {
         name: "least_disagreement: at places 1 and 2",
@@ -326,7 +338,7 @@ const ROWS: &[Row] = &[
         max_pending: 9,
         suffixes: &[],
         steps: &[TWINS, TAKEN_AT_2, TAKEN_AT_1, THREE_CLOSE],
-        end: Err(FinishError::Disagree(1)),
+        end: Err(FinishError::Disagree { queue: 1 }),
     },
     Row {
         name: "least_disagreement: at places 0 and 2",
@@ -334,7 +346,7 @@ const ROWS: &[Row] = &[
         max_pending: 9,
         suffixes: &[],
         steps: &[TWINS, TAKEN_AT_2, TAKEN_AT_0, THREE_CLOSE],
-        end: Err(FinishError::Disagree(0)),
+        end: Err(FinishError::Disagree { queue: 0 }),
     },
     Row {
         name: "dropped_busy_worker",
@@ -358,7 +370,7 @@ const ROWS: &[Row] = &[
         max_pending: 9,
         suffixes: &[],
         steps: &[WITH_WORKER_ID],
-        end: Err(FinishError::Disagree(0)),
+        end: Err(FinishError::Disagree { queue: 0 }),
     },
     Row {
         name: "filtered_before_gate",
@@ -395,6 +407,15 @@ fn place_of(who: Who, workers: u32) -> usize {
     }
 }
 
+fn told(answer: Answer) -> Result<Offer, OfferError> {
+    match answer {
+        Accepts(queue, number) => Ok(Offer::Accepted { queue, number }),
+        Sees => Ok(Offer::Seen),
+        Crosses(own, found) => Err(OfferError::Crossed { own, found }),
+        Refuses(error) => Err(error),
+    }
+}
+
 // Whether the offer answers so.
 fn offers<K: Name, R: Wait>(
     rt: &R,
@@ -402,10 +423,10 @@ fn offers<K: Name, R: Wait>(
     frontier: &Frontier<K>,
     part: &mut Part<K>,
     text: &str,
-    answer: Result<Offer, OfferError>,
+    answer: Answer,
 ) -> bool {
     match canonical(alloc, text) {
-        Ok(url) => offer(rt, frontier, part, &url) == Some(answer),
+        Ok(url) => offer(rt, frontier, part, &url) == Some(told(answer)),
         Err(_) => false,
     }
 }

@@ -112,7 +112,7 @@ fn links<'a>(urls: &'a [CanonUrl], url: &CanonUrl) -> &'a [CanonUrl] {
 fn count(counts: &mut Counts, known: bool, answer: Result<Offer, OfferError>) {
     let mut late = known;
     match answer {
-        Ok(Offer::Accepted(_, _)) => counts.accepted = counts.accepted.saturating_add(1),
+        Ok(Offer::Accepted { .. }) => counts.accepted = counts.accepted.saturating_add(1),
         Ok(Offer::Seen) => {}
         Err(OfferError::Closed) => {
             counts.closed = true;

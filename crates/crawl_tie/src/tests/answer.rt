@@ -33,7 +33,7 @@ pub fn page_of(url: &str) -> usize {
 
 pub fn of_offer(answered: Result<Offer, OfferError>) -> Answer {
     match answered {
-        Ok(Offer::Accepted(queue, number)) => Answer::Accepted(queue, number),
+        Ok(Offer::Accepted { queue, number }) => Answer::Accepted(queue, number),
         Ok(Offer::Seen) => Answer::Seen,
         Err(OfferError::Filtered) => Answer::Filtered,
         Err(OfferError::Full) => Answer::Full,

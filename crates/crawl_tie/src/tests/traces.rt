@@ -62,7 +62,9 @@ impl Notes {
 
     fn offer(&mut self, page: usize, answered: Result<Offer, OfferError>) {
         match answered {
-            Ok(Offer::Accepted(queue, number)) => self.write(Step::Accepted(page, queue, number)),
+            Ok(Offer::Accepted { queue, number }) => self.write(Step::Accepted(
+                page, queue, number,
+            )),
             Ok(Offer::Seen) => self.write(Step::Seen(page)),
             Err(_) => self.lost = true,
         }

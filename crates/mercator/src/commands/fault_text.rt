@@ -202,8 +202,8 @@ impl fmt::Display for CrawlText {
             CrawlError::Cert(CertError::Unfounded) => f.write_str("unfounded URL"),
             CrawlError::Cert(CertError::Twice) => f.write_str("fetched twice"),
             CrawlError::Finish(FinishError::MissingPart) => f.write_str("part missing"),
-            CrawlError::Finish(FinishError::Unsettled(_)) => f.write_str("gate not closed"),
-            CrawlError::Finish(FinishError::Disagree(queue)) => {
+            CrawlError::Finish(FinishError::Unsettled { .. }) => f.write_str("gate not closed"),
+            CrawlError::Finish(FinishError::Disagree { queue }) => {
                 write!(f, "subqueue {queue} disagrees")
             }
             CrawlError::Run(_) => f.write_str("no thread"),

@@ -37,12 +37,12 @@ const ROWS: [(Fault, u8, &str); 10] = [
         "mercator: incomplete: part missing\n",
     ),
     (
-        Fault::Crawl(CrawlError::Finish(FinishError::Unsettled(1))),
+        Fault::Crawl(CrawlError::Finish(FinishError::Unsettled { word: 1 })),
         2,
         "mercator: incomplete: gate not closed\n",
     ),
     (
-        Fault::Crawl(CrawlError::Finish(FinishError::Disagree(12))),
+        Fault::Crawl(CrawlError::Finish(FinishError::Disagree { queue: 12 })),
         2,
         "mercator: incomplete: subqueue 12 disagrees\n",
     ),

@@ -1,4 +1,4 @@
-use Rattle.std.proofs.Common.{rules, ◌≡◌, ◌<◌, ◌∙◌, false, Some, refl, sym, subst, length, slice_get, arith}
+use Rattle.std.proofs.Common.{◌≡◌, ◌<◌, ◌∙◌, Some, refl, sym, subst, length, slice_get, arith}
 use Rattle.std.proofs.lemmas.Option.{slice_get_read}
 use Rattle.crawl_frontier.specs.Books.{place_of}
 use Rattle.crawl_frontier.specs.Finishing.{StandsAt}

@@ -5,7 +5,7 @@ use Rattle.std.specs.BTreeMap.{get}
 use Rattle.crawl_frontier.specs.declared.book.Book.{Book}
 use Rattle.crawl_frontier.specs.declared.entry.Entry.{Entry}
 use Rattle.crawl_frontier.specs.declared.finish.settle.Doubt.{Doubt}
-use Rattle.crawl_frontier.specs.Books.{BookId, book_of, IsBook}
+use Rattle.crawl_frontier.specs.Books.{book_of, IsBook}
 use Rattle.crawl_frontier.specs.Entries.{KeepsRule}
 use Rattle.crawl_frontier.specs.Accounts.{At, Accounts, HasWorkers}
 use Rattle.crawl_frontier.specs.Finishing.{AllAre, SendersIn, AgreesBelow, OneDisagrees, IdsOf, Stranger, KeepRuleBelow}
