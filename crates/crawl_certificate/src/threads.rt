@@ -2,7 +2,6 @@
 ghost use Rattle.std.specs.Prelude.{◌≡◌, false, not, ◌||◌, ◌++◌, map, length, vec_len, IfOk};
 ghost use Rattle.std.specs.List.{list_any};
 ghost use Rattle.crawl_keys.specs.HostFilter.{allows};
-ghost use Rattle.crawl_web.specs.Pages.{links_of};
 ghost use Rattle.crawl_certificate.specs.CertFaults.{is_accepted, has_result, is_linked, link_missing, twice};
 ghost use Rattle.crawl_certificate.specs.Marks.{AreMarks, in_one, some_in_both};
 

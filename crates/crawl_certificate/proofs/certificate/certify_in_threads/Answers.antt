@@ -1,4 +1,4 @@
-use Rattle.std.proofs.Common.{ap, subst, ◌∙◌}
+use Rattle.std.proofs.Common.{subst}
 use Rattle.std.proofs.lemmas.Result.{err_from_is_err_and}
 use Rattle.crawl_certificate.specs.declared.error.CertError.TheVariants as fault
 use Rattle.crawl_certificate.specs.CertFaults.{first_fault}

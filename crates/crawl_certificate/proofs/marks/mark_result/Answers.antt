@@ -1,4 +1,4 @@
-use Rattle.std.proofs.Common.{◌≡◌, ◌+◌, ◌==◌, true, ◌&&◌, ◌||◌, map, set, sym, ap, ◌∙◌}
+use Rattle.std.proofs.Common.{◌+◌, ◌==◌, true, ◌&&◌, ◌||◌, map, set, ap, ◌∙◌}
 use Rattle.crawl_frontier.specs.declared.entry.Entry.{Entry}
 use Rattle.crawl_certificate.specs.CertFaults.{stands_in}
 use Rattle.crawl_certificate.proofs.Places.{behind_marks, behind_no_marks, fetched_marked, fetched_unmarked}

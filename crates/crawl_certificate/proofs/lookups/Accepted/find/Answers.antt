@@ -1,6 +1,5 @@
-use Rattle.std.proofs.Common.{rules, ◌≡◌, ℕ, ◌+◌, ◌%◌, ◌<◌, List, length, Option, Some, None, is_some, sym, subst, arith}
+use Rattle.std.proofs.Common.{rules, ◌≡◌, ◌+◌, ◌%◌, ◌<◌, Some, is_some, sym, subst, arith}
 use Rattle.crawl_keys.specs.Assignment.{subqueue_of}
-use Rattle.crawl_frontier.specs.Accounts.{AccountId}
 use Rattle.crawl_certificate.specs.CertFaults.{is_accepted}
 use Rattle.crawl_certificate.specs.Lookups.{pointed, Finds}
 use Rattle.crawl_certificate.proofs.Indices.{IsAnswer, answers_absent, answers_there, queue_within}
