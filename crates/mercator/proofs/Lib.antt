@@ -4,3 +4,4 @@ pub mod RunResults
 pub mod Seeds
 pub mod SiteCrawls
 pub mod WithoutLoss
+pub mod Serves

@@ -54,6 +54,8 @@ one_output (asks.Crawl workers max queues sources within file listed seeds) (ask
     own.gained ∙ ap (λ t. before ++ t) (one_text workers others queues sources bytes [] texts suffixes own.text other.text many first second) ∙ sym other.gained
 one_output (asks.Crawl workers max queues sources within file listed seeds) (asks.Key url others) bytes before after its ask own other = absurd ask
 one_output (asks.Crawl workers max queues sources within file listed seeds) (asks.Replay other_file) bytes before after its ask own other = absurd ask
+one_output (asks.Crawl workers max queues sources within file listed seeds) (asks.Serve others other_max other_within) bytes before after its ask own other = absurd ask
+one_output (asks.Serve workers max within) other_plan bytes before after its ask own other = absurd ask
 one_output (asks.Key url workers) other_plan bytes before after its ask own other = absurd ask
 one_output (asks.Replay file) other_plan bytes before after its ask own other = absurd ask
 

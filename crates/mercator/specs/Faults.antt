@@ -8,6 +8,8 @@ use Rattle.crawl_web.specs.declared.saved_web.error.WebError.{WebError}
 use Rattle.crawl_web.specs.declared.saved_web.error.WebError.TheVariants as web
 use Rattle.crawl_sources.specs.declared.seeds.SeedsFault.{SeedsFault}
 use Rattle.crawl_sources.specs.declared.seeds.SeedsFault.TheVariants as seeds
+use Rattle.crawl_session.specs.declared.serving.ServeError.{ServeError}
+use Rattle.crawl_session.specs.declared.serving.ServeError.TheVariants as serving
 use Rattle.mercator.specs.declared.commands.fault.Fault.{Fault}
 use Rattle.mercator.specs.declared.commands.fault.Fault.TheVariants as wrong
 use Rattle.mercator.specs.declared.commands.input.Unread.{Unread}
@@ -46,6 +48,11 @@ of_url refusal = wrong.Url refusal
 abbrev pub of_filter : FilterError → Fault
 of_filter (filter.BadSuffix place) = wrong.BadSuffix
 of_filter filter.NoMemory = wrong.NoMemory
+
+abbrev pub of_session : ServeError → Fault
+of_session serving.CannotRead = wrong.CannotRead
+of_session serving.CannotWrite = wrong.CannotWrite
+of_session serving.NoMemory = wrong.NoMemory
 
 abbrev pub of_crawl : CrawlError → Fault
 of_crawl crawl.NoMemory = wrong.NoMemory

@@ -26,6 +26,7 @@ IsWithinLimits (asks.Crawl workers max queues sources within file listed seeds) 
     AreLimits workers max × (IsSome listed ⊎ (1 ≤ length seeds.items)) × ((is_input (string_bytes file) && lists_input listed) ≡ false)
 IsWithinLimits (asks.Key url workers) = (1 ≤ workers) × (workers ≤ worker_limit)
 IsWithinLimits (asks.Replay file) = Unit {0}
+IsWithinLimits (asks.Serve workers max within) = AreLimits workers max
 
 -- a text is shown with the status of help or with that of a bad command line
 abbrev pub IsShown : PlanError → Type 0
@@ -41,11 +42,12 @@ abbrev pub known_seeds : Option (String Global) → Option (List ℕ) → Option
 known_seeds None input = Some []
 known_seeds (Some file) input = known_bytes (string_bytes file) input
 
--- the FILE of a plan; a key has none
+-- the FILE of a plan; a key has none, and a session is of the input
 abbrev pub file_of : Plan → List ℕ
 file_of (asks.Crawl workers max queues sources within file listed seeds) = string_bytes file
 file_of (asks.Key url workers) = []
 file_of (asks.Replay file) = string_bytes file
+file_of (asks.Serve workers max within) = codes "-"
 
 -- the file that a fault of a plan speaks of: that of the seeds where this one cannot be read, else FILE
 abbrev pub told_file : Plan → Fault → List ℕ
@@ -62,8 +64,14 @@ abbrev pub is_bad_suffix : Option (String Global) → Bool
 is_bad_suffix None = false
 is_bad_suffix (Some suffix) = not (is_good (string_bytes suffix))
 
--- the command reads the input: one of its files stands for it, and no bad suffix ends the command before
+-- the command reads the input: one of its files stands for it, or it is a session, and no bad suffix ends the command before
 abbrev pub reads_input : Plan → Bool
 reads_input (asks.Crawl workers max queues sources within file listed seeds) = not (is_bad_suffix within) && (is_input (string_bytes file) || lists_input listed)
 reads_input (asks.Key url workers) = false
 reads_input (asks.Replay file) = is_input (string_bytes file)
+reads_input (asks.Serve workers max within) = not (is_bad_suffix within)
+
+-- the command tells a text that is whole before it is written; a session answers as it reads
+abbrev pub IsTelling : Plan → Type 0
+IsTelling (asks.Serve workers max within) = ⊥
+IsTelling plan = Unit {0}

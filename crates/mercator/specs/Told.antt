@@ -11,6 +11,7 @@ use Rattle.mercator.specs.Limits.{most_input_bytes}
 use Rattle.mercator.specs.Plans.{is_bad_suffix, is_input, known_bytes, known_seeds, suffixes_of, told_file}
 use Rattle.crawl_replay.specs.Replay.{IsReplay}
 use Rattle.crawl_replay.specs.Script.{script_of}
+use Rattle.crawl_session.specs.Sessions.{session_text}
 use Rattle.mercator.specs.WebCrawl.{IsBegun, IsCrawlText, IsUnbegun}
 use Rattle.mercator.specs.declared.commands.planned.Plan.{Plan}
 use Rattle.mercator.specs.declared.commands.planned.Plan.TheVariants as asks
@@ -30,6 +31,13 @@ pub record OfFile (known : Option (List ℕ)) (P : List ℕ → Type 0) : Type 0
 abbrev pub OfFiles : List ℕ → Option (String Global) → Option (List ℕ) → (List ℕ → List ℕ → Type 0) → Type 0
 OfFiles file listed input P = OfFile (known_bytes file input) (λ bytes. OfFile (known_seeds listed input) (λ seeds. P bytes seeds))
 
+-- the text has the answers of a session to the lines of an input: of these bytes, which are all that the input has where that is
+-- known
+pub record IsAnswered (workers max : ℕ) (suffixes : List (List ℕ)) (input : Option (List ℕ)) (text : List ℕ) : Type 0 where
+  pub bytes : List ℕ
+  pub read : IfSome input (λ known. bytes ≡ known)
+  pub answered : text ≡ session_text (record { workers = workers; suffixes = suffixes }) max bytes
+
 -- the text is the plan's
 abbrev pub IsTold : Plan → Option (List ℕ) → List ℕ → Type 0
 IsTold (asks.Crawl workers max queues sources within file listed seeds) input text =
@@ -37,6 +45,7 @@ IsTold (asks.Crawl workers max queues sources within file listed seeds) input te
     × OfFiles (string_bytes file) listed input (λ bytes list. IsBegun bytes list (map string_bytes seeds.items) × IsCrawlText workers queues sources bytes list (map string_bytes seeds.items) (suffixes_of within) text)
 IsTold (asks.Key url workers) input text = IsKeyLine (string_bytes url) workers text
 IsTold (asks.Replay file) input text = OfFile (known_bytes (string_bytes file) input) (λ bytes. IsReplay bytes text)
+IsTold (asks.Serve workers max within) input text = (is_bad_suffix within ≡ false) × IsAnswered workers max (suffixes_of within) input text
 
 -- why a replay fails: the FILE cannot be read, or is no script, by this fault; or want of memory
 abbrev pub FailsReplay : List ℕ → Option (List ℕ) → Fault → Type 0
@@ -61,11 +70,25 @@ FailsKey url (wrong.Url refusal) = canonical url ≡ Err refusal
 FailsKey url wrong.NoMemory = Unit {0}
 FailsKey url _ = ⊥
 
+-- why a session does not begin: its suffix is bad, or want of memory
+abbrev pub FailsSession : Option (String Global) → Fault → Type 0
+FailsSession within wrong.BadSuffix = is_bad_suffix within ≡ true
+FailsSession within wrong.NoMemory = Unit {0}
+FailsSession within _ = ⊥
+
+-- why it ends before its input does: the input cannot be read, an answer cannot be written, or want of memory
+abbrev pub BreaksOff : Plan → Fault → Type 0
+BreaksOff (asks.Serve workers max within) wrong.CannotRead = is_bad_suffix within ≡ false
+BreaksOff (asks.Serve workers max within) wrong.CannotWrite = is_bad_suffix within ≡ false
+BreaksOff (asks.Serve workers max within) wrong.NoMemory = is_bad_suffix within ≡ false
+BreaksOff plan fault = ⊥
+
 -- the fault is one by which the plan's command fails before it writes
 abbrev pub Fails : Plan → Option (List ℕ) → Fault → Type 0
 Fails (asks.Crawl workers max queues sources within file listed seeds) input fault = FailsCrawl workers max within (string_bytes file) listed (map string_bytes seeds.items) input fault
 Fails (asks.Key url workers) input fault = FailsKey (string_bytes url) fault
 Fails (asks.Replay file) input fault = FailsReplay (string_bytes file) input fault
+Fails (asks.Serve workers max within) input fault = FailsSession within fault
 
 -- there is nothing that the command could tell: the FILE is known and no script; whatever bytes the files of a crawl have, by
 -- what is known of them, there is no web, a seed has no canonical URL, or there is no seed; a suffix is bad; or the URL has no canonical URL
@@ -74,6 +97,7 @@ CannotTell (asks.Crawl workers max queues sources within file listed seeds) inpu
     (is_bad_suffix within ≡ true) ⊎ (OfFiles (string_bytes file) listed input (λ bytes list. IsBegun bytes list (map string_bytes seeds.items)) → ⊥)
 CannotTell (asks.Key url workers) input = IsErr (canonical (string_bytes url))
 CannotTell (asks.Replay file) input = IsSomeAnd (known_bytes (string_bytes file) input) (λ bytes. IsErr (script_of bytes))
+CannotTell (asks.Serve workers max within) input = is_bad_suffix within ≡ true
 
 -- a crawl alone can be incomplete, and it is one of a saved web from seeds, one at least, that have canonical URLs
 abbrev pub MayLose : Plan → Option (List ℕ) → Type 0
@@ -87,13 +111,18 @@ pub record Gains (plan : Plan) (input old new : Option (List ℕ)) : Type 0 wher
   pub told : IsTold plan input text
   pub gained : Appends old new text
 
--- a command ended by a fault: one by which it fails, and then nothing is written, or a failed write of its text. The status is
--- the fault's, and the writer for faults gained the fault's line, up to where it refused it
+-- why a plan's command ended by this fault: it fails by it, and then nothing is written; or a write of its text failed; or it is
+-- a session, which broke off
+abbrev pub EndsBy : Plan → Option (List ℕ) → Fault → Type 0 → Type 0
+EndsBy plan input fault Unwritten = (Fails plan input fault × Unwritten) ⊎ (((fault ≡ wrong.CannotWrite) × ((text : List ℕ) × IsTold plan input text)) ⊎ BreaksOff plan fault)
+
+-- a command ended by a fault. The status is the fault's, and the writer for faults gained the fault's line, up to where it
+-- refused it
 pub record EndsByFault (plan : Plan) (ended : ℕ) (input err_old err_new : Option (List ℕ)) (Unwritten : Type 0) : Type 0 where
   pub fault : Fault
   pub status : ended ≡ status_of_fault fault
   pub told : Begins err_old err_new (fault_line (told_file plan fault) fault)
-  pub why : (Fails plan input fault × Unwritten) ⊎ ((fault ≡ wrong.CannotWrite) × ((text : List ℕ) × IsTold plan input text))
+  pub why : EndsBy plan input fault Unwritten
 
 -- both plans crawl the input, from the same seeds of the command line within the same suffix, and tell the sources or not; with
 -- the lines of subqueues, where there are as many

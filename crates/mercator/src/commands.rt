@@ -1,11 +1,11 @@
 //! The program over its words, an input and two writers.
-ghost use Rattle.std.specs.Prelude.{◌≡◌, ◌≤◌, ◌<◌, ◌⊎◌, List, ℕ, [], false, string_bytes};
+ghost use Rattle.std.specs.Prelude.{◌≡◌, ◌≤◌, ◌<◌, ◌⊎◌, List, ℕ, [], false, string_bytes, IfOk, IfErr, IsErr};
 ghost use Rattle.std.specs.Io.KnownBytes.{Appends};
 ghost use Rattle.mercator.specs.Ending.{Begins};
 ghost use Rattle.mercator.specs.FaultText.{fault_line};
 ghost use Rattle.mercator.specs.Faults.{status_of_fault};
 ghost use Rattle.mercator.specs.Plans.{IsShown, IsWithinLimits, reads_input};
-ghost use Rattle.mercator.specs.Told.{CannotTell, EndsByFault, FailsWithoutPlan, Gains, MayLose, TellsWords};
+ghost use Rattle.mercator.specs.Told.{CannotTell, EndsBy, EndsByFault, FailsWithoutPlan, Gains, MayLose, TellsWords};
 ghost use Rattle.mercator.specs.declared.commands.planned.Plan.{Plan};
 ghost use Rattle.mercator.specs.declared.commands.words.PlanError.{PlanError};
 ghost use Rattle.mercator.specs.declared.commands.fault.Fault.TheVariants as wrong;
@@ -16,6 +16,7 @@ mod fault_text;
 mod input;
 mod planned;
 mod queues;
+mod serving;
 mod source;
 mod tell;
 mod web_crawl;
@@ -26,6 +27,7 @@ pub use fault::Fault;
 pub use input::{INPUT_LIMIT, InputLimits, READ_LIMIT, Unread, read_input};
 pub use planned::Plan;
 pub use queues::queue_text;
+use serving::serve_plan;
 use std::alloc::Global;
 use std::fs::Files;
 use std::io::{Read, Write};
@@ -73,7 +75,8 @@ pub fn run_words<R: Files + Threads + Wait + Sync, I: Read, O: Write, E: Write>(
 }
 
 /// Runs a plan and answers the status. What the command tells is whole before any of it is written to `out`; a fault is told to
-/// `err` in a line of its own, and then nothing is written to `out`, unless a write to it failed.
+/// `err` in a line of its own, and then nothing is written to `out`, unless a write to it failed. A session answers as it reads,
+/// and a fault leaves the answers before it.
 ///
 /// It is for a process that ends then: a crawl's web and pages are not dropped but left to its end, which gives their memory back
 /// at once. What crawls again and again in one process calls [`crawl_saved_web`], which leaves nothing.
@@ -103,14 +106,39 @@ pub fn run_plan<R: Files + Threads + Wait + Sync, I: Read, O: Write, E: Write>(
     ensures unreported { result ≡ 2 → out.new ≡ out.old }
     ensures unread { reads_input plan.now ≡ false → input.new ≡ input.old }
 {
-    let told = tell(rt, alloc, plan, input);
-    match end(out, told) {
+    match run(rt, alloc, plan, input, out) {
         Ok(()) => 0,
         Err(fault) => {
             tell_fault(alloc, err, plan.told_file(fault), fault);
             fault.status()
         }
     }
+}
+
+/// Runs a plan, but for what is told of its fault.
+fn run<R: Files + Threads + Wait + Sync, I: Read, O: Write>(
+    rt: &R,
+    alloc: Global,
+    plan: &Plan,
+    input: &mut I,
+    out: &mut O,
+) -> Result<(), Fault>
+    requires { IsWithinLimits plan.now }
+    ensures done { IfOk result (λ _. Gains plan.now (I.remaining input.old) (O.contents out.old) (O.contents out.new)) }
+    ensures fault { IfErr result (λ fault. EndsBy plan.now (I.remaining input.old) fault (out.new ≡ out.old)) }
+    ensures refused { CannotTell plan.now (I.remaining input.old) → IfErr result (λ fault. status_of_fault fault ≡ 1) × IsErr result × (out.new ≡ out.old) }
+    ensures incomplete { IfErr result (λ fault. status_of_fault fault ≡ 2 → MayLose plan.now (I.remaining input.old) × (out.new ≡ out.old)) }
+    ensures unread { reads_input plan.now ≡ false → input.new ≡ input.old }
+{
+    if let Plan::Serve {
+        workers,
+        max,
+        within,
+    } = plan
+    {
+        return serve_plan(alloc, *workers, *max, within, input, out);
+    }
+    end(out, tell(rt, alloc, plan, input))
 }
 
 /// Shows why words are no plan: help in the output, and what is wrong with them in the writer for faults.

@@ -24,6 +24,15 @@ const REPLAY_HELP: &str = "\
 A script's first line is 'workers N max M', and each line after it an event.
 Example: mercator replay two_urls.script";
 
+const SERVE_HELP: &str = "\
+Requests, one a line, each answered by one line at once:
+  offer URL   accepted Q NUMBER | seen | filtered | not a URL | not http or https |
+              refused closed | refused full
+  next Q      taken URL | pending COUNT | closed | refused busy | refused nosuch
+  done Q      count COUNT | refused nothing | refused nosuch
+  endseeds    count COUNT | refused nothing
+Any other line is answered 'bad line', 'line too long' or 'not UTF-8'.";
+
 /// The whole command line.
 pub fn command_line<'a>(alloc: Global) -> Result<Command<'a>, AllocError> {
     Command::new(alloc, NAME)
@@ -32,7 +41,8 @@ pub fn command_line<'a>(alloc: Global) -> Result<Command<'a>, AllocError> {
         .subcommand_required(true)
         .subcommand(crawl_command(alloc)?)?
         .subcommand(key_command(alloc)?)?
-        .subcommand(replay_command(alloc)?)
+        .subcommand(replay_command(alloc)?)?
+        .subcommand(serve_command(alloc)?)
 }
 
 fn crawl_command<'a>(alloc: Global) -> Result<Command<'a>, AllocError> {
@@ -70,6 +80,15 @@ fn replay_command<'a>(alloc: Global) -> Result<Command<'a>, AllocError> {
         .about("Writes the frontier's replies to a script of its steps")
         .after_help(REPLAY_HELP)
         .arg(file(alloc, "The script, or - for standard input"))
+}
+
+fn serve_command<'a>(alloc: Global) -> Result<Command<'a>, AllocError> {
+    Command::new(alloc, "serve")
+        .about("Answers requests on standard input, one a line, by a frontier")
+        .after_help(SERVE_HELP)
+        .arg(workers(alloc, "Workers, each with a subqueue of its own: 1 to 512"))?
+        .arg(max_pending(alloc))?
+        .arg(within(alloc))
 }
 
 fn workers<'a>(alloc: Global, help: &'a str) -> Arg<'a> {

@@ -39,6 +39,15 @@ pub enum Plan {
         /// The script's name, or `-` for the input.
         file: String,
     },
+    /// `serve`: the answers to requests of the input.
+    Serve {
+        /// How many workers, and so subqueues, the frontier has: 1 to 512.
+        workers: u32,
+        /// The frontier's maximum of pending URLs: 1 to 2^40.
+        max: u64,
+        /// The suffix of the hosts that are wanted, where not all are.
+        within: Option<String>,
+    },
 }
 
 impl Plan {
@@ -49,6 +58,7 @@ impl Plan {
         match self {
             Plan::Crawl { file, .. } | Plan::Replay { file } => file.as_str(),
             Plan::Key { .. } => "",
+            Plan::Serve { .. } => "-",
         }
     }
 

@@ -5,7 +5,7 @@ ghost use Rattle.crawl_keys.specs.HostFilter.{filter_of};
 ghost use Rattle.crawl_keys.specs.Outcome.{Gives};
 ghost use Rattle.mercator.specs.KeyLine.{IsKeyLine};
 ghost use Rattle.mercator.specs.Limits.{most_input_bytes};
-ghost use Rattle.mercator.specs.Plans.{IsWithinLimits, is_input, is_bad_suffix, known_bytes, known_seeds, lists_input, reads_input, suffixes_of};
+ghost use Rattle.mercator.specs.Plans.{IsTelling, IsWithinLimits, is_input, is_bad_suffix, known_bytes, known_seeds, lists_input, reads_input, suffixes_of};
 ghost use Rattle.crawl_replay.specs.Replay.{IsReplay};
 ghost use Rattle.mercator.specs.Told.{IsTold, Fails, FailsReplay, FailsCrawl, FailsKey, OfFile, OfFiles};
 ghost use Rattle.mercator.specs.WebCrawl.{IsBegun, IsFound, told_text};
@@ -41,7 +41,8 @@ pub fn tell<R: Files + Threads + Wait + Sync, I: Read>(
     plan: &Plan,
     input: &mut I,
 ) -> Result<Vec<u8>, Fault>
-    requires { IsWithinLimits plan.now }
+    requires limits { IsWithinLimits plan.now }
+    requires telling { IsTelling plan.now }
     ensures text { IfOk result (λ text. IsTold plan.now (I.remaining input.old) text.items) }
     ensures fault { IfErr result (λ fault. Fails plan.now (I.remaining input.old) fault) }
     ensures unread { reads_input plan.now ≡ false → input.new ≡ input.old }
@@ -67,6 +68,7 @@ pub fn tell<R: Files + Threads + Wait + Sync, I: Read>(
             text
         }
         Plan::Key { url, workers } => tell_key(alloc, url, *workers),
+        Plan::Serve { .. } => unreachable!("a session tells as it reads"),
     }
 }
 
@@ -136,7 +138,7 @@ fn read_list<R: Files, I: Read>(
 }
 
 /// The filter of a crawl.
-fn filter_of(alloc: Global, within: &Option<String>) -> Result<Filter, FilterError>
+pub fn filter_of(alloc: Global, within: &Option<String>) -> Result<Filter, FilterError>
     ensures { Gives FilterError.NoMemory (λ filter. filter) result (filter_of (suffixes_of within.now)) }
 {
     match within {

@@ -112,6 +112,7 @@ fn plan_of(alloc: Global, matches: &ArgMatches<'_>) -> Result<Plan, PlanError>
         Some(("crawl", found)) => crawl_of(alloc, found),
         Some(("key", found)) => key_of(alloc, found),
         Some(("replay", found)) => replay_of(alloc, found),
+        Some(("serve", found)) => serve_of(alloc, found),
         _ => Err(misread(alloc)),
     }
 }
@@ -169,6 +170,20 @@ fn replay_of(alloc: Global, found: &ArgMatches<'_>) -> Result<Plan, PlanError>
     };
     Ok(Plan::Replay {
         file: String::from_str(alloc, file)?,
+    })
+}
+
+fn serve_of(alloc: Global, found: &ArgMatches<'_>) -> Result<Plan, PlanError>
+    ensures limits { IfOk result IsWithinLimits }
+    ensures shown { IfErr result IsShown }
+{
+    let (Some(workers), Some(max)) = (workers_of(found), max_of(found)) else {
+        return Err(misread(alloc));
+    };
+    Ok(Plan::Serve {
+        workers,
+        max,
+        within: option_of(alloc, found, "within")?,
     })
 }
 

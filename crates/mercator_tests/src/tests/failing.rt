@@ -7,7 +7,11 @@ use std::thread::Threads;
 
 const SCRIPT: &str = "workers 1 max 9\nlook 0\nenter 0\n";
 
-const ROWS: [(Row, Failing); 12] = [
+const REQUESTS: &str = "offer http://a.test/\nnext 0\n";
+
+const ANSWERS: &str = "accepted 0 0\ntaken http://a.test/\n";
+
+const ROWS: [(Row, Failing); 16] = [
     (
         Row {
             name: "second_read_fails",
@@ -198,6 +202,70 @@ const ROWS: [(Row, Failing); 12] = [
             out: ALL,
             flushes: true,
             err: 5,
+        },
+    ),
+    (
+        Row {
+            name: "second_read_of_a_session_fails",
+            words: "serve --workers 1",
+            input: REQUESTS,
+            status: FAULT,
+            out: ANSWERS,
+            err: "mercator: cannot read -\n",
+        },
+        Failing {
+            reads: true,
+            out: ALL,
+            flushes: true,
+            err: ALL,
+        },
+    ),
+    (
+        Row {
+            name: "write_of_an_answer_fails",
+            words: "serve --workers 1",
+            input: REQUESTS,
+            status: FAULT,
+            out: "accepted 0 0\ntaken",
+            err: "mercator: cannot write\n",
+        },
+        Failing {
+            reads: false,
+            out: 18,
+            flushes: true,
+            err: ALL,
+        },
+    ),
+    (
+        Row {
+            name: "flush_of_answers_fails",
+            words: "serve --workers 1",
+            input: REQUESTS,
+            status: FAULT,
+            out: ANSWERS,
+            err: "mercator: cannot write\n",
+        },
+        Failing {
+            reads: false,
+            out: ALL,
+            flushes: false,
+            err: ALL,
+        },
+    ),
+    (
+        Row {
+            name: "nothing_fails_in_a_session",
+            words: "serve --workers 1",
+            input: REQUESTS,
+            status: DONE,
+            out: ANSWERS,
+            err: "",
+        },
+        Failing {
+            reads: false,
+            out: ALL,
+            flushes: true,
+            err: 0,
         },
     ),
 ];

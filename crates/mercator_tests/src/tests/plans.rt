@@ -4,7 +4,7 @@ use mercator::{Plan, plan};
 use std::alloc::{AllocError, Global};
 
 /// Words, and all of their plan: workers, maximum, queues, sources, suffix, FILE, file of seeds, seeds.
-const ROWS: [(&str, &str); 11] = [
+const ROWS: [(&str, &str); 14] = [
     (
         "crawl - x",
         "crawl 4 1048576 false false None - None [\"x\"]",
@@ -40,6 +40,15 @@ const ROWS: [(&str, &str); 11] = [
     ("key x", "key x 4"),
     ("key --workers=512 x", "key x 512"),
     ("replay -", "replay -"),
+    ("serve", "serve 4 1048576 None"),
+    (
+        "serve --within=b.test --workers 2 --max-pending 7",
+        "serve 2 7 Some(\"b.test\")",
+    ),
+    (
+        "serve --workers=512 --max-pending=1099511627776",
+        "serve 512 1099511627776 None",
+    ),
 ];
 
 /// The plan in one line.
@@ -59,6 +68,11 @@ fn plan_line(alloc: Global, plan: &Plan) -> Result<String, AllocError> {
         ),
         Plan::Key { url, workers } => format!(in alloc; "key {url} {workers}"),
         Plan::Replay { file } => format!(in alloc; "replay {file}"),
+        Plan::Serve {
+            workers,
+            max,
+            within,
+        } => format!(in alloc; "serve {workers} {max} {within:?}"),
     }
 }
 
