@@ -8,6 +8,9 @@ built program. A part that wants `--log` or the requests `link` and `again` is s
 be, where the program has them not; so is a full disk where the user may mount none. Drawn sessions
 are compared with a reckoning of this script, over that of drawn.py for URLs and the machine.
 SECONDS of the environment is the time limit of each wait. At last it prints `N passed, M failed`.
+
+The checked program of `rt try` holds freed memory back, so the part memory wants for it
+ASAN_OPTIONS=quarantine_size_mb=0:thread_local_quarantine_size_kb=0 in the environment.
 """
 
 from __future__ import annotations
