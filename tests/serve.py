@@ -4,9 +4,8 @@
 Usage: serve.py [--program FILE] [--part NAME].. [--lines N] [--requests N] [--longest BYTES] [--seed S]
 
 PROGRAM is --program, else what MERCATOR of the environment names, else `mercator` of PATH, else the
-built program. A part that wants `--log` or the requests `link` and `again` is skipped, and said to
-be, where the program has them not; so is a full disk where the user may mount none. Drawn sessions
-are compared with a reckoning of this script, over that of drawn.py for URLs and the machine.
+built program. A part that wants the requests `link` and `again` is skipped, and said to be, where
+the program has them not. Drawn sessions are compared with a reckoning of this script, over that of drawn.py for URLs and the machine.
 SECONDS of the environment is the time limit of each wait. At last it prints `N passed, M failed`.
 
 The checked program of `rt try` holds freed memory back, so the part memory wants for it
@@ -40,7 +39,7 @@ ROOT = Path(__file__).resolve().parent.parent
 sys.path[:0] = [str(ROOT / "tests"), str(ROOT / "clients/python")]
 import drawn  # noqa: E402
 from mercator_frontier import (  # noqa: E402
-    Accepted, Closed, Frontier, FrontierEnded, FrontierError, LogInUse, NoSuchQueue, NothingTaken, Pending,
+    Accepted, Closed, Frontier, FrontierEnded, FrontierError, NoSuchQueue, NothingTaken, Pending,
     ProgramMissing, QueueBusy, Refusal,
 )
 
@@ -270,9 +269,6 @@ class Trial:
     def __init__(self, words: argparse.Namespace, folder: Path) -> None:
         self.words, self.folder = words, folder
         self.program = program_of(words.program)
-        said = subprocess.run([self.program, "serve", "--help"], capture_output=True, check=False, stdin=subprocess.DEVNULL)
-        self.has_log = b"--log" in said.stdout
-        self.has_sync = b"--sync" in said.stdout
         session = Serve(self.program)
         self.has_link = session.ask(b"again 0") != "bad line"
         session.end()
@@ -280,10 +276,6 @@ class Trial:
 
     def draw(self, name: str) -> Random:
         return Random(f"{name} of seed {self.words.seed}")
-
-    def want_log(self) -> None:
-        if not self.has_log:
-            raise Skipped("the program has no --log")
 
     def want_link(self) -> None:
         if not self.has_link:
@@ -473,20 +465,17 @@ def memory(trial: Trial) -> None:
 
 def long_line(trial: Trial) -> None:
     """A line of any length has one answer, and needs no memory."""
-    for log in ((), ("--log", str(trial.folder / "long.log")))[:1 + trial.has_log]:
-        session = Serve(trial.program, log)
-        piece = b"offer http://a.test/".ljust(1_000_000, b"a")
-        rest = trial.words.longest
-        session.flood(iter([b"next 0\n" * 10]), 10)
-        before = session.memory()
-        after = session.flood((piece[:min(len(piece), rest - sent)] for sent in range(0, rest, len(piece))), 0)
-        session.send(b"\nendseeds\n")
-        expect(session.lines(2) == [b"line too long", b"count 0"], "its answer")
-        after = session.memory()
-        expect(after - before < 4_000_000, f"{after - before} bytes for a line of {rest}")
-        expect(session.end() == (0, ""), "its end")
-        if log:
-            expect(os.path.getsize(log[1]) < 1_000_000, "the log has the whole line")
+    session = Serve(trial.program)
+    piece = b"offer http://a.test/".ljust(1_000_000, b"a")
+    rest = trial.words.longest
+    session.flood(iter([b"next 0\n" * 10]), 10)
+    before = session.memory()
+    after = session.flood((piece[:min(len(piece), rest - sent)] for sent in range(0, rest, len(piece))), 0)
+    session.send(b"\nendseeds\n")
+    expect(session.lines(2) == [b"line too long", b"count 0"], "its answer")
+    after = session.memory()
+    expect(after - before < 4_000_000, f"{after - before} bytes for a line of {rest}")
+    expect(session.end() == (0, ""), "its end")
 
 
 # ---------------------------------------------------------------- parts: the client
@@ -646,7 +635,6 @@ class Crawl:
         self.in_hands: Counter[str] = Counter()
         self.wrong: List[str] = []
         self.told_closed = 0
-        self.ended = threading.Event()
 
     def work(self, frontier: Frontier, queue: int) -> None:
         try:
@@ -682,34 +670,18 @@ class Crawl:
         with self.lock:
             self.in_hands[url] -= 1
 
-    def kill(self, pid: int, after: int, seconds: float) -> None:
-        """Kills the program a moment after so many fetches."""
-        after += sum(self.fetched.values())
-        while sum(self.fetched.values()) < after and not self.ended.wait(0.0005):
-            pass
-        if not self.ended.wait(seconds):
-            os.kill(pid, signal.SIGKILL)
-
-    def run(self, workers: int, log: Optional[str] = None, after: int = 0, seconds: float = 0.0) -> bool:
-        """Crawls to its end, or until the program is killed after so many fetches; whether it came to its end."""
+    def run(self, workers: int) -> bool:
+        """Crawls to its end; whether each fetcher was told that it is over."""
         self.told_closed = 0
-        self.ended.clear()
-        with Frontier(workers, within="test", log=log, program=self.trial.program) as frontier:
+        with Frontier(workers, within="test", program=self.trial.program) as frontier:
             fetchers = [threading.Thread(target=self.work, args=(frontier, queue), daemon=True) for queue in range(workers)]
-            killer = threading.Thread(target=self.kill, args=(pid_of(frontier), after, seconds), daemon=True)
-            for thread in [killer, *fetchers] if after else fetchers:
-                thread.start()
-            try:
-                frontier.offer_all(self.web.seeds)
-                frontier.end_seeds()
-            except FrontierEnded:
-                pass
+            for fetcher in fetchers:
+                fetcher.start()
+            frontier.offer_all(self.web.seeds)
+            frontier.end_seeds()
             for fetcher in fetchers:
                 fetcher.join(SECONDS)
                 expect(not fetcher.is_alive(), "a fetcher waits for ever")
-            self.ended.set()
-            if after:
-                killer.join()
         expect(not self.wrong, f"{self.wrong[:3]}")
         return self.told_closed == workers
 
@@ -722,78 +694,6 @@ def crawls(trial: Trial) -> None:
             crawl = Crawl(Web(draw), trial)
             expect(crawl.run(workers), "a fetcher was not told that it is over")
             expect(crawl.fetched == Counter(crawl.web.reached), f"crawl {number} of {workers}: other URLs")
-
-
-def killed_crawls(trial: Trial) -> None:
-    """A crawl is killed again and again, and goes on from its log.
-
-    It fetches every URL: once, but for those that were in a fetcher's hands.
-    """
-    trial.want_log()
-    kills = again = 0
-    for number in range(20):
-        draw = trial.draw(f"killed {number}")
-        crawl = Crawl(Web(draw), trial)
-        log = str(trial.folder / f"killed-{number}.log")
-        is_torn = number % 4 == 3  # the machine crashes too: the log ends somewhere near its end
-        may: Counter[str] = Counter(crawl.web.reached)
-        workers = draw.choice((1, 2, 7, 16))
-        while not crawl.run(workers, log, draw.randrange(1, 60), draw.random() / 200):
-            kills += 1
-            may += crawl.in_hands
-            crawl.in_hands.clear()
-            crawl.hosts.clear()
-            if is_torn:
-                os.truncate(log, max(0, os.path.getsize(log) - draw.randrange(200)))
-        again += sum(crawl.fetched.values()) - len(crawl.fetched)
-        expect(set(crawl.fetched) == crawl.web.reached, f"killed {number}: {len(crawl.fetched)} of {len(crawl.web.reached)} URLs")
-        expect(is_torn or not crawl.fetched - may, f"killed {number}: twice: {crawl.fetched - may}")
-    print(f"  {kills} kills; {again} URLs were fetched again")
-
-
-def log_in_use(trial: Trial) -> None:
-    """One program has a log at a time; what it had given out is given out again by the next one."""
-    trial.want_log()
-    log = trial.folder / "used.log"
-    with Frontier(1, log=log, sync=trial.has_sync, program=trial.program) as frontier:
-        frontier.offer("http://a.test/")
-        expect(frontier.take(0) == "http://a.test/", "take")
-        expect_error(LogInUse, lambda: Frontier(1, log=log, program=trial.program))
-    with Frontier(1, log=log, program=trial.program) as frontier:
-        expect(frontier.take(0) == "http://a.test/", "the URL that was in hand")
-        expect(frontier.done(0) == 1, "done")
-        expect(frontier.try_take(0) == Pending(1), "nothing more")
-
-
-def full_disk(trial: Trial) -> None:
-    """Where the log finds no room, nothing is answered that it has not; with room the crawl goes on."""
-    trial.want_log()
-    disk = trial.folder / "disk"
-    disk.mkdir()
-    mounted = subprocess.run(["mount", "-t", "tmpfs", "-o", "size=64k", "none", str(disk)], capture_output=True, check=False)
-    if mounted.returncode:
-        raise Skipped("no file system can be mounted here")
-    try:
-        log = disk / "log"
-        accepted: List[str] = []
-        with Frontier(2, log=log, program=trial.program) as frontier:
-            try:
-                for number in range(100_000):
-                    if frontier.offer(f"http://a.test/{number}"):
-                        accepted.append(f"http://a.test/{number}")
-                raise Differs("a full disk is not told")
-            except FrontierEnded as error:
-                expect(error.status == 1 and "cannot write" in error.told, f"what is told: {error}")
-        subprocess.run(["mount", "-o", "remount,size=1m", str(disk)], check=True)
-        with Frontier(2, log=log, program=trial.program) as frontier:
-            told = frontier.offer_all(accepted)
-            expect(told == [Refusal.SEEN] * len(accepted), "what was answered is not in the log")
-            queue = drawn.queue_of(drawn.url_of("http://a.test/"), 2)
-            for url in accepted:
-                expect(frontier.take(queue) == url, "another URL")
-                frontier.done(queue)
-    finally:
-        subprocess.run(["umount", str(disk)], check=False)
 
 
 # ---------------------------------------------------------------- parts: the crawler over HTTP
@@ -890,35 +790,6 @@ def bash_crawler(trial: Trial) -> None:
         expect(not other and len(set(wanted) - set(told)) <= 2, f"other URLs: {other or set(told) ^ set(wanted)}")
 
 
-def killed_crawler(trial: Trial) -> None:
-    """The crawler is killed again and again, and goes on from its log."""
-    trial.want_log()
-    trial.want_link()
-    draw = trial.draw("crawler")
-    with Folder(ROOT / "examples/site") as folder:
-        wanted = found_by_search(folder.url)
-        log = trial.folder / "crawler.log"
-        told: List[Tuple[str, str]] = []
-        status: Optional[int] = None
-        kills = 0
-        while status is None:
-            words = crawler_words(trial, "--delay", "0.02", "--within", "127.0.0.1", "--log", str(log), folder.url)
-            process = subprocess.Popen(words, stdout=subprocess.PIPE)
-            assert process.stdout
-            try:
-                status = process.wait(0.3 + draw.random() if kills < 10 else SECONDS)
-            except subprocess.TimeoutExpired:
-                process.kill()
-                process.wait()
-                kills += 1
-            told += told_by_crawler(process.stdout.read())
-        expect(status == 0, f"status {status}")
-        expect(set(told) == set(wanted.items()), f"other URLs: {set(told) ^ set(wanted.items())}")
-        # One host has one fetcher, which has one URL in its hands.
-        expect(len(told) <= len(wanted) + kills, f"{len(told)} lines for {len(wanted)} URLs and {kills} kills")
-        print(f"  {kills} kills; {len(told) - len(wanted)} lines were written again")
-
-
 class Polite(http.server.BaseHTTPRequestHandler):
     """A host with robots.txt, a redirect, a page without an end, and a page of all its links."""
 
@@ -977,8 +848,8 @@ def polite_crawler(trial: Trial) -> None:
 
 PARTS: Tuple[Callable[[Trial], None], ...] = (
     transcript, drawn_sessions, all_at_once, byte_by_byte, stopped_between, dying_client, closed_output, memory, long_line,
-    client_values, client_ends, interrupted_call, client_small_pipes, crawls, killed_crawls, log_in_use, full_disk, crawler,
-    bash_crawler, killed_crawler, polite_crawler,
+    client_values, client_ends, interrupted_call, client_small_pipes, crawls, crawler,
+    bash_crawler, polite_crawler,
 )
 
 

@@ -3,7 +3,7 @@
 A crawl has N fetchers and as many queues, numbered from 0. Fetcher Q takes the URLs of queue Q, one
 at a time. It fetches the URL, offers the links of the page, and is done with it::
 
-    with Frontier(workers=4, log="crawl.log") as frontier:
+    with Frontier(workers=4) as frontier:
         frontier.offer("http://example.org/")
         frontier.end_seeds()
         ...                                    # in a thread for each queue:
@@ -14,7 +14,6 @@ at a time. It fetches the URL, offers the links of the page, and is done with it
 - Each URL is given out once, whatever its spelling.
 - All URLs of a host are in one queue, so no two fetchers visit one host at a time.
 - `take` answers None when every accepted URL is done, and then for good.
-- With `log=`, a crawl that was cut off goes on: start it again with the same words.
 
 The frontier itself is proved; this client, and what a fetcher does with a URL, is not. All calls
 may come from any threads. The client needs Linux and Python 3.9, and nothing else.
@@ -24,19 +23,17 @@ may come from any threads. The client needs Linux and Python 3.9, and nothing el
 from __future__ import annotations
 
 import enum
-import fcntl
 import itertools
 import os
 import select
 import subprocess
 import tempfile
 import threading
-import time
 from types import TracebackType
 from typing import Dict, Iterable, List, NamedTuple, NoReturn, Optional, Sequence, Type, Union
 
 __all__ = [
-    "Accepted", "Closed", "Frontier", "FrontierEnded", "FrontierError", "LogInUse", "NoSuchQueue",
+    "Accepted", "Closed", "Frontier", "FrontierEnded", "FrontierError", "NoSuchQueue",
     "NothingTaken", "Offer", "Pending", "ProgramMissing", "QueueBusy", "Refusal", "UnknownAnswer",
 ]
 
@@ -66,10 +63,6 @@ class FrontierError(Exception):
 
 class ProgramMissing(FrontierError):
     """The program `mercator` could not be started."""
-
-
-class LogInUse(FrontierError):
-    """The program of another frontier has the log."""
 
 
 class FrontierEnded(FrontierError):
@@ -155,8 +148,6 @@ class Frontier:
         *,
         max_pending: Optional[int] = None,
         within: Optional[str] = None,
-        log: Union[str, os.PathLike[str], None] = None,
-        sync: bool = False,
         program: Union[str, os.PathLike[str], None] = None,
     ) -> None:
         """Starts `mercator serve`.
@@ -164,30 +155,18 @@ class Frontier:
         workers      how many fetchers, and so queues: 1 to 512
         max_pending  the most URLs that are not done at one time
         within       keeps the crawl to hosts that are this suffix, or end with a dot and it
-        log          a file that each request is appended to before it is answered. A frontier that
-                     is started with it goes on where it ends, by the same options
-        sync         the log outlives the machine too, and each answer waits for the disk
         program      the program; else it is what MERCATOR of the environment names, else `mercator`
         """
         command = [os.fspath(program or os.environ.get("MERCATOR") or "mercator"), "serve"]
         command += ["--workers", str(workers)]
         command += [] if max_pending is None else ["--max-pending", str(max_pending)]
         command += [] if within is None else ["--within", within]
-        command += [] if log is None else ["--log", os.fspath(log)]
-        command += ["--sync"] if sync else []
         self.workers = workers
         # One lock for the process. Each queue's condition stands on it, and `take` waits there.
         self._lock = threading.Lock()
         self._changed = [threading.Condition(self._lock) for _ in range(workers)]
         self._waiting = 0
-        self._channel = _Channel(command, log)
-        self._cut_off: Dict[int, str] = {}
-        if log is not None:
-            try:
-                self._cut_off = self._ask_again()
-            except BaseException:
-                self.close()
-                raise
+        self._channel = _Channel(command)
 
     # ---- what a crawler asks
 
@@ -210,8 +189,7 @@ class Frontier:
     def end_seeds(self) -> Optional[int]:
         """No more seeds come, so that the crawl may end.
 
-        Answers how many URLs are not done; or None where the seeds had ended before, as they may
-        have after a restart.
+        Answers how many URLs are not done; or None where the seeds had ended before.
         """
         with self._lock:
             answer = self._ask(b"endseeds\n")
@@ -220,8 +198,7 @@ class Frontier:
     def take(self, queue: int) -> Optional[str]:
         """The URL that has waited longest in the queue, or None when the crawl is over.
 
-        It waits until there is one of both. A queue gives first what its fetcher had in hand when
-        the frontier ended that wrote the log.
+        It waits until there is one of both.
         """
         with self._lock:
             while True:
@@ -248,12 +225,22 @@ class Frontier:
         """
         with self._lock:
             self._check(queue)
-            count = self._count_in(self._ask(b"done %d\n" % queue))
-            self._cut_off.pop(queue, None)
-            return count
+            return self._count_in(self._ask(b"done %d\n" % queue))
+
+    def again(self, queue: int) -> Optional[str]:
+        """The URL that the queue gave last, if it is not done: what a fetcher that died had in hand."""
+        with self._lock:
+            self._check(queue)
+            answer = self._ask(b"again %d\n" % queue)
+            word, _, rest = answer.partition(b" ")
+            if word == b"taken":
+                return rest.decode()
+            if answer == b"refused nothing":
+                return None
+            _refuse(answer)
 
     def close(self) -> None:
-        """Ends the program; what no log has is lost.
+        """Ends the program; the URLs that it holds are lost.
 
         A call that waits, or that comes later, raises `FrontierEnded`.
         """
@@ -293,8 +280,6 @@ class Frontier:
 
     def _next(self, queue: int) -> Union[str, Pending, Closed]:
         self._check(queue)
-        if queue in self._cut_off:
-            return self._cut_off.pop(queue)
         answer = self._ask(b"next %d\n" % queue)
         word, _, rest = answer.partition(b" ")
         if word == b"taken":
@@ -305,18 +290,6 @@ class Frontier:
             self._wake(range(self.workers))
             return Closed.CLOSED
         _refuse(answer)
-
-    def _ask_again(self) -> Dict[int, str]:
-        """The URL that each queue had given out when the log ended."""
-        requests = b"".join(b"again %d\n" % queue for queue in range(self.workers))
-        cut_off: Dict[int, str] = {}
-        for queue, answer in enumerate(self._ask_all(requests, self.workers)):
-            word, _, rest = answer.partition(b" ")
-            if word == b"taken":
-                cut_off[queue] = rest.decode()
-            elif answer != b"refused nothing":
-                _refuse(answer)
-        return cut_off
 
     def _count_in(self, answer: bytes) -> int:
         word, _, rest = answer.partition(b" ")
@@ -349,24 +322,19 @@ class Frontier:
 class _Channel:
     """The process, and its requests and answers. One thread at a time may use it."""
 
-    def __init__(self, command: Sequence[str], log: Union[str, os.PathLike[str], None]) -> None:
+    def __init__(self, command: Sequence[str]) -> None:
         self._program = command[0]
-        # The program inherits the lock of its log, so that the lock lasts as long as the program.
-        locks = [] if log is None else [_locked(log)]
         # A file, since a pipe that nobody reads might fill.
         self._told = tempfile.TemporaryFile()
         try:
             # In a session of its own, so that Ctrl-C reaches the crawler alone, which then ends it.
             self._process = subprocess.Popen(
                 command, bufsize=0, stdin=subprocess.PIPE, stdout=subprocess.PIPE,
-                stderr=self._told, pass_fds=locks, start_new_session=True,
+                stderr=self._told, start_new_session=True,
             )
         except OSError as error:
             self._told.close()
             raise ProgramMissing(f"{self._program}: {error.strerror}") from error
-        finally:
-            for lock in locks:
-                os.close(lock)
         assert self._process.stdin and self._process.stdout
         self._requests = self._process.stdin.fileno()
         self._answers = self._process.stdout.fileno()
@@ -458,21 +426,6 @@ class _Channel:
         why = why or f"{self._program} ended {how}"
         self._end = FrontierEnded(f"{why}: {told}" if told else why, status, told)
         return self._end
-
-
-def _locked(log: Union[str, os.PathLike[str]]) -> int:
-    """The log, open and locked. The program of a crawler that was killed may have it a moment."""
-    file = os.open(log, os.O_RDONLY | os.O_CREAT, 0o666)
-    end = time.monotonic() + _SECONDS_TO_END
-    while True:
-        try:
-            fcntl.flock(file, fcntl.LOCK_EX | fcntl.LOCK_NB)
-            return file
-        except BlockingIOError:
-            if time.monotonic() > end:
-                os.close(file)
-                raise LogInUse(os.fspath(log)) from None
-            time.sleep(0.02)
 
 
 # ---- requests and answers as bytes
