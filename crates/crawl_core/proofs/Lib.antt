@@ -1,5 +1,6 @@
 pub mod Counts
 pub mod Effects
+pub mod Fetching
 pub mod GateHistory
 pub mod Holders
 pub mod Leaving

@@ -36,7 +36,7 @@ Both R (Some a) (Some b) = R a b
 Both R None (Some b) = ⊥
 Both R (Some a) None = ⊥
 
-AllZip-slice_get : {A B : Type 0} (R : A → B → Type 0) (xs : List A) (ys : List B) (i : ℕ) → AllZip R xs ys → Both R (slice_get xs i) (slice_get ys i)
+pub AllZip-slice_get : {A B : Type 0} (R : A → B → Type 0) (xs : List A) (ys : List B) (i : ℕ) → AllZip R xs ys → Both R (slice_get xs i) (slice_get ys i)
 AllZip-slice_get R [] [] i z = tt
 AllZip-slice_get R [] (y ∷ ys) i z = absurd z
 AllZip-slice_get R (x ∷ xs) [] i z = absurd z

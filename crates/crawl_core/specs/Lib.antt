@@ -1,4 +1,5 @@
 pub mod ErrorText
+pub mod Fetching
 pub mod Flags
 pub mod GateSide
 pub mod Growth

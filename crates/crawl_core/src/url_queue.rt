@@ -1,5 +1,7 @@
 //! What the machine keeps of one subqueue.
 ghost use Rattle.std.specs.Prelude.{◌≡◌, ◌∷◌, [], true, false, drop, IfOk, IfSome, IfNone, OnErr, OnSome};
+ghost use Rattle.std.specs.Option.{option_map};
+ghost use Rattle.crawl_core.specs.Fetching.{kept_fetch};
 ghost use Rattle.crawl_core.specs.Kept.{empty_queue, has_seen, number_at};
 ghost use Rattle.crawl_core.specs.Moves.{accepting};
 
@@ -56,6 +58,17 @@ impl UrlQueue {
         ensures { result ≡ self.now.busy }
     {
         self.busy
+    }
+
+    /// The URL that was taken last, if it is not done yet.
+    pub fn in_fetch(&self) -> Option<&Text>
+        ensures { option_map (λ url. url.now) result ≡ kept_fetch self.now }
+    {
+        if !self.busy {
+            return None;
+        }
+        let taken = self.seen.len().saturating_sub(self.waiting.len());
+        self.seen.get(taken.saturating_sub(1))
     }
 
     /// Whether the URL was ever accepted here.

@@ -1,6 +1,7 @@
 //! The subqueues of a machine, each asked and changed by its place.
 ghost use Rattle.std.specs.Prelude.{◌≡◌, ◌∷◌, [], ◌<◌, true, false, length, replicate, slice_get, slice_set, Some, None, drop, IfOk, IfSome, IfNone, OnErr, OnSome};
 ghost use Rattle.std.specs.Option.{option_map};
+ghost use Rattle.crawl_core.specs.Fetching.{kept_fetch};
 ghost use Rattle.crawl_core.specs.Kept.{KeptQueue, empty_queue, has_seen, number_at};
 ghost use Rattle.crawl_core.specs.Moves.{accepting};
 
@@ -43,6 +44,14 @@ impl UrlQueues {
     {
         let queue = self.queues.get(place as usize)?;
         Some(queue.is_busy())
+    }
+
+    /// The URL that the subqueue took last, if that is not done yet; nothing where there is no such subqueue.
+    pub fn in_fetch(&self, place: u32) -> Option<Option<&Text>>
+        ensures { option_map (λ found. option_map (λ url. url.now) found) result ≡ option_map kept_fetch (slice_get self.now place) }
+    {
+        let queue = self.queues.get(place as usize)?;
+        Some(queue.in_fetch())
     }
 
     /// Whether the subqueue has accepted the URL, if there is one.

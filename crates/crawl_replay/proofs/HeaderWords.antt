@@ -33,7 +33,7 @@ all4 true true false d e = absurd (cc)
 all4 true false c d e = absurd (cc)
 all4 false b c d e = absurd (cc)
 
-within_limits : (workers max : ℕ) → is_within workers max ≡ true → AreLimits workers max
+pub within_limits : (workers max : ℕ) → is_within workers max ≡ true → AreLimits workers max
 within_limits workers max e = let all = all4 (nat_le 1 workers) (nat_le workers worker_limit) (nat_le 1 max) (nat_le max pending_limit) e in record {
   some_worker = leb-true 1 workers all.first;
   few_workers = leb-true workers worker_limit all.second;
@@ -56,7 +56,7 @@ by_check : {A : Type 0} (b : Bool) (o : Option A) (y : A) → (if b then o else 
 by_check true o y e = (refl, e)
 by_check false o y e = absurd (cc)
 
-header_stands : (line : List ℕ) (header : Header) → header_of line ≡ Some header → IsHeaderLine header.workers header.max line
+pub header_stands : (line : List ℕ) (header : Header) → header_of line ≡ Some header → IsHeaderLine header.workers header.max line
 header_stands line header e =
     let a = by_step _ (at_space line) header e in
     let b = by_step _ (at_space a.0.1) header a.2 in
@@ -86,7 +86,7 @@ header_stands line header e =
 
 -- ---- what stands there is said
 
-header_said : (workers max : ℕ) (line : List ℕ) → IsHeaderLine workers max line → header_of line ≡ Some (record { workers = workers; max = max })
+pub header_said : (workers max : ℕ) (line : List ℕ) → IsHeaderLine workers max line → header_of line ≡ Some (record { workers = workers; max = max })
 header_said workers max line is =
     let rest_a = is.first ++ 32 ∷ (codes "max" ++ 32 ∷ is.second) in
     let rest_b = codes "max" ++ 32 ∷ is.second in

@@ -8,5 +8,7 @@ mod replay;
 mod replies;
 mod script;
 
+pub use numbers::number32;
 pub use replay::replay_text;
-pub use script::{Script, ScriptError, read_script};
+pub use replies::ReplyText;
+pub use script::{Header, Script, ScriptError, header_of, read_script};

@@ -8,7 +8,7 @@ use std::fmt;
 
 /// A reply as a script's reader sees it.
 #[derive(Clone, Copy)]
-struct ReplyText<'a>(&'a Reply);
+pub struct ReplyText<'a>(pub &'a Reply);
 
 impl fmt::Display for ReplyText<'_> {
     ghost output = { λ reply. Some (reply_text reply.0.now) };

@@ -17,7 +17,7 @@ use crawl_core::Event;
 use crawl_web::{first_line, text_of};
 pub use error::ScriptError;
 use event::said_by;
-use header::{Header, header_of};
+pub use header::{Header, header_of};
 use std::alloc::Global;
 
 /// Events for a frontier, and the numbers that it is made with.

@@ -1,6 +1,10 @@
 //! The events on a subqueue.
 ghost use Rattle.std.specs.Prelude.{◌≡◌, IfOk, OnErr};
+ghost use Rattle.std.specs.Option.{option_map};
+ghost use Rattle.crawl_core.specs.Fetching.{in_fetch};
 ghost use Rattle.crawl_core.specs.Moves.{Moves};
+ghost use Rattle.crawl_core.specs.Shows.{Shows};
+ghost use Rattle.crawl_core.specs.State.{State};
 ghost use Rattle.crawl_core.specs.declared.event.Event.{Event};
 
 use super::Core;
@@ -10,6 +14,15 @@ use crate::reply::{Refusal, Reply};
 use crate::text::Text;
 
 impl Core {
+    /// The URL that the subqueue took last, whose fetch is not done; `Some(None)` where the subqueue is not busy, and `None`
+    /// where there is no such subqueue.
+    #[tactic(auto, using(crate::proofs::Fetching::kept_in_fetch))]
+    pub fn in_fetch(&self, queue: u32) -> Option<Option<&Text>>
+        ensures { (state : State) → Shows self.now state → option_map (λ found. option_map (λ url. url.now) found) result ≡ in_fetch state queue }
+    {
+        self.queues.in_fetch(queue)
+    }
+
     pub(super) fn admit(&mut self, sender: u64, url: &Text, queue: u32) -> Result<Reply, NoMemory>
         ensures moves { IfOk result (λ reply. Moves self.old (Event.Admit sender url.now queue) reply self.new) }
         ensures err { OnErr result (self.new ≡ self.old) }

@@ -1,0 +1,171 @@
+-- Lines of bytes that are cut in two, and of bytes behind an unfinished line that was cut short.
+use Rattle.std.proofs.Common.{◌≡◌, ◌⊎◌, ℕ, zero, suc, ◌+◌, ◌-◌, ◌<◌, ◌==◌, inl, inr, Bool, true, false, if◌then◌else◌, List, [], ◌∷◌, ◌++◌, length, take, map, nat_lt, slice_index, Result, Err, refl, sym, ap, subst, ◌∙◌, arith, append_assoc, eqb-true, ltb-true, ltb-false, lt-ltb, ne_eqb}
+use Rattle.std.specs.List.{slice_split, onto_first}
+use Rattle.std.specs.Str.Lines.{lines, lines_of_parts, strip_carriage_return}
+use Rattle.std.proofs.lemmas.List.{length-append, length-take-le, take_all}
+use Rattle.std.proofs.lemmas.List.Elements.{All-nil, All-cons, All-append, All-take}
+use Rattle.std.proofs.lemmas.List.Splits.{slice_split-cons_yes, slice_split-cons_no, slice_split_none, slice_split_at, length-slice_split}
+use Rattle.crawl_web.specs.Limits.{line_limit}
+use Rattle.crawl_session.specs.declared.request.Request.{Request}
+use Rattle.crawl_session.specs.declared.request.RequestError.{RequestError}
+use Rattle.crawl_session.specs.declared.request.RequestError.TheVariants.{LineTooLong}
+use Rattle.crawl_session.specs.Input.{held_limit, IsUnfinished, AreWhole}
+use Rattle.crawl_session.specs.Requests.{request_of}
+use Rattle.crawl_session.specs.Settings.{Settings}
+
+abbrev is_lf : ℕ → Bool
+is_lf b = b == 10
+
+abbrev IsOther : ℕ → Type 0
+IsOther b = (b == 10) ≡ false
+
+-- a part that others follow loses its CR
+before_others : (part : List ℕ) (parts : List (List ℕ)) → 0 < length parts → lines_of_parts (part ∷ parts) ≡ strip_carriage_return part ∷ lines_of_parts parts
+before_others part [] h = absurd (omega arith)
+before_others part (next ∷ more) h = refl
+
+parts_below : (bytes : List ℕ) → 0 < length (slice_split is_lf bytes)
+parts_below bytes = omega (arith, length-slice_split is_lf bytes)
+
+-- ---- whole lines, and bytes behind them
+
+onto_front : (x : ℕ) (parts more : List (List ℕ)) → 0 < length parts → onto_first x (parts ++ more) ≡ onto_first x parts ++ more
+onto_front x [] more h = absurd (omega arith)
+onto_front x (part ∷ parts) more h = refl
+
+split_two : (f rest : List ℕ) → slice_split is_lf (f ++ 10 ∷ rest) ≡ slice_split is_lf f ++ slice_split is_lf rest
+split_two [] rest = refl
+split_two (x ∷ xs) rest = by_byte (is_lf x) refl (split_two xs rest)
+  where
+    by_byte : (b : Bool) → is_lf x ≡ b → slice_split is_lf (xs ++ 10 ∷ rest) ≡ slice_split is_lf xs ++ slice_split is_lf rest → slice_split is_lf (x ∷ xs ++ 10 ∷ rest) ≡ slice_split is_lf (x ∷ xs) ++ slice_split is_lf rest
+    by_byte true is more =
+        slice_split-cons_yes is_lf x (xs ++ 10 ∷ rest) is ∙ ap (λ l. [] ∷ l) more ∙ ap (λ l. l ++ slice_split is_lf rest) (sym (slice_split-cons_yes is_lf x xs is))
+    by_byte false is more =
+        slice_split-cons_no is_lf x (xs ++ 10 ∷ rest) is ∙ ap (onto_first x) more ∙ onto_front x (slice_split is_lf xs) (slice_split is_lf rest) (parts_below xs)
+        ∙ ap (λ l. l ++ slice_split is_lf rest) (sym (slice_split-cons_no is_lf x xs is))
+
+parts_two : (parts others : List (List ℕ)) → 0 < length others → lines_of_parts (parts ++ others) ≡ lines_of_parts (parts ++ [] ∷ []) ++ lines_of_parts others
+parts_two [] others h = refl
+parts_two (part ∷ parts) others h =
+    before_others part (parts ++ others) (omega (arith, length-append parts others))
+    ∙ ap (λ l. strip_carriage_return part ∷ l) (parts_two parts others h)
+    ∙ ap (λ l. l ++ lines_of_parts others) (sym (before_others part (parts ++ [] ∷ []) (omega (arith, length-append parts ([] ∷ [])))))
+
+-- whole lines, and then those of the bytes behind them
+pub lines_behind : (front rest : List ℕ) → AreWhole front → lines (front ++ rest) ≡ lines front ++ lines rest
+lines_behind front rest (inl none) = let P : List ℕ → Type 0 = λ f. lines (f ++ rest) ≡ lines f ++ lines rest in subst P (sym none) refl
+lines_behind front rest (inr whole) =
+    let P : List ℕ → Type 0 = λ f. lines (f ++ rest) ≡ lines f ++ lines rest in
+    subst P (sym whole.1)
+    (ap lines (append_assoc whole.0 (10 ∷ []) rest)
+    ∙ ap lines_of_parts (split_two whole.0 rest)
+    ∙ parts_two (slice_split is_lf whole.0) (slice_split is_lf rest) (parts_below rest)
+    ∙ ap (λ l. lines_of_parts l ++ lines rest) (sym (split_two whole.0 [])))
+
+-- whole lines and whole lines are whole lines
+pub whole-append : (front more : List ℕ) → AreWhole front → AreWhole more → AreWhole (front ++ more)
+whole-append front more whole (inl none) = let P : List ℕ → Type 0 = λ m. AreWhole (front ++ m) in subst P (sym none) (subst AreWhole (sym (append_none front)) whole)
+  where
+    append_none : (l : List ℕ) → l ++ [] ≡ l
+    append_none [] = refl
+    append_none (x ∷ xs) = ap (λ l. x ∷ l) (append_none xs)
+whole-append front more whole (inr some) = inr (front ++ some.0, ap (λ l. front ++ l) some.1 ∙ sym (append_assoc front some.0 (10 ∷ [])))
+
+-- ---- a line whose end was not read
+
+-- bytes without LF are one line, or none
+one_line : (bytes : List ℕ) → IsUnfinished bytes → 0 < length bytes → lines bytes ≡ bytes ∷ []
+one_line bytes unfinished some =
+    rw (slice_split_none is_lf bytes unfinished) (rw (ne_eqb (length bytes) 0 (λ none. omega (arith, none, some))) refl)
+
+-- the first line of bytes with an LF
+line_before : (line more : List ℕ) → IsUnfinished line → lines (line ++ 10 ∷ more) ≡ strip_carriage_return line ∷ lines more
+line_before line more unfinished =
+    ap lines_of_parts (slice_split_at is_lf line 10 more unfinished refl) ∙ before_others line (slice_split is_lf more) (parts_below more)
+
+-- where the first line of whole lines ends
+record FirstEnd (bytes : List ℕ) : Type 0 where
+  line : List ℕ
+  more : List ℕ
+  split : bytes ≡ line ++ 10 ∷ more
+  unfinished : IsUnfinished line
+
+first_end : (front : List ℕ) → FirstEnd (front ++ 10 ∷ [])
+first_end [] = record { line = []; more = []; split = refl; unfinished = All-nil IsOther }
+first_end (x ∷ xs) = by_byte (x == 10) refl (first_end xs)
+  where
+    by_byte : (b : Bool) → (x == 10) ≡ b → FirstEnd (xs ++ 10 ∷ []) → FirstEnd (x ∷ xs ++ 10 ∷ [])
+    by_byte true is rest = record { line = []; more = xs ++ 10 ∷ []; split = ap (λ y. y ∷ xs ++ 10 ∷ []) (eqb-true x 10 is); unfinished = All-nil IsOther }
+    by_byte false is rest = record { line = x ∷ rest.line; more = rest.more; split = ap (λ l. x ∷ l) rest.split; unfinished = All-cons IsOther x rest.line is rest.unfinished }
+
+-- ---- lines that ask alike
+
+-- what each line asks
+abbrev pub requests : Settings → List (List ℕ) → List (Result Request RequestError)
+requests settings ls = map (request_of settings.workers settings.suffixes) ls
+
+too_long : (settings : Settings) (line : List ℕ) → line_limit < length line → request_of settings.workers settings.suffixes line ≡ Err LineTooLong
+too_long settings line long = rw (lt-ltb line_limit (length line) long) refl
+
+-- two lines that are too long
+both_long : (settings : Settings) (line other : List ℕ) → line_limit < length line → line_limit < length other → request_of settings.workers settings.suffixes line ≡ request_of settings.workers settings.suffixes other
+both_long settings line other first second = too_long settings line first ∙ sym (too_long settings other second)
+
+stripped_long : (line : List ℕ) → line_limit + 1 < length line → line_limit < length (strip_carriage_return line)
+stripped_long line long = by_end (slice_index line (length line - 1) == 13)
+  where
+    by_end : (b : Bool) → line_limit < length (if b then take (length line - 1) line else line)
+    by_end true = omega (arith, length-take-le (length line - 1) line (omega arith))
+    by_end false = omega arith
+
+-- a line that was cut short, or that is as it was
+cut_or_whole : (tail : List ℕ) → (take held_limit tail ≡ tail) ⊎ ((line_limit + 1 < length (take held_limit tail)) × (line_limit + 1 < length tail))
+cut_or_whole tail = by_length (nat_lt held_limit (length tail)) refl
+  where
+    by_length : (b : Bool) → nat_lt held_limit (length tail) ≡ b → (take held_limit tail ≡ tail) ⊎ ((line_limit + 1 < length (take held_limit tail)) × (line_limit + 1 < length tail))
+    by_length true long = let above = ltb-true held_limit (length tail) long in let cut = length-take-le held_limit tail (omega (arith, above)) in inr (omega (arith, cut), omega (arith, above))
+    by_length false short = inl (take_all held_limit tail (ltb-false held_limit (length tail) short))
+
+-- at the end of the input
+pub tail_asks : (settings : Settings) (tail : List ℕ) → IsUnfinished tail → requests settings (lines (take held_limit tail)) ≡ requests settings (lines tail)
+tail_asks settings tail unfinished = by_cut (cut_or_whole tail)
+  where
+    by_cut : (take held_limit tail ≡ tail) ⊎ ((line_limit + 1 < length (take held_limit tail)) × (line_limit + 1 < length tail)) → requests settings (lines (take held_limit tail)) ≡ requests settings (lines tail)
+    by_cut (inl same) = ap (λ l. requests settings (lines l)) same
+    by_cut (inr long) =
+        ap (requests settings) (one_line (take held_limit tail) (All-take IsOther held_limit tail unfinished) (omega (arith, long.0)))
+        ∙ ap (λ r. r ∷ []) (both_long settings (take held_limit tail) tail (omega (arith, long.0)) (omega (arith, long.1)))
+        ∙ sym (ap (requests settings) (one_line tail unfinished (omega (arith, long.1))))
+
+-- and where its line ends in what follows
+pub front_asks : (settings : Settings) (tail front : List ℕ) → IsUnfinished tail → requests settings (lines (take held_limit tail ++ (front ++ 10 ∷ []))) ≡ requests settings (lines (tail ++ (front ++ 10 ∷ [])))
+front_asks settings tail front unfinished = by_cut (cut_or_whole tail)
+  where
+    asks : (beginning : List ℕ) → IsUnfinished beginning → (end : FirstEnd (front ++ 10 ∷ [])) → requests settings (lines (beginning ++ (front ++ 10 ∷ [])))
+        ≡ request_of settings.workers settings.suffixes (strip_carriage_return (beginning ++ end.line)) ∷ requests settings (lines end.more)
+    asks beginning is end =
+        ap (λ l. requests settings (lines (beginning ++ l))) end.split
+        ∙ ap (λ l. requests settings (lines l)) (sym (append_assoc beginning end.line (10 ∷ end.more)))
+        ∙ ap (requests settings) (line_before (beginning ++ end.line) end.more (All-append IsOther beginning end.line is end.unfinished))
+
+    longer : (line more : List ℕ) → line_limit + 1 < length line → line_limit < length (strip_carriage_return (line ++ more))
+    longer line more long = stripped_long (line ++ more) (omega (arith, length-append line more, long))
+
+    by_cut : (take held_limit tail ≡ tail) ⊎ ((line_limit + 1 < length (take held_limit tail)) × (line_limit + 1 < length tail)) → requests settings (lines (take held_limit tail ++ (front ++ 10 ∷ []))) ≡ requests settings (lines (tail ++ (front ++ 10 ∷ [])))
+    by_cut (inl same) = ap (λ l. requests settings (lines (l ++ (front ++ 10 ∷ [])))) same
+    by_cut (inr long) =
+        let end = first_end front in
+        asks (take held_limit tail) (All-take IsOther held_limit tail unfinished) end
+        ∙ ap (λ r. r ∷ requests settings (lines end.more)) (both_long settings _ _ (longer (take held_limit tail) end.line long.0) (longer tail end.line long.1))
+        ∙ sym (asks tail unfinished end)
+
+-- ---- what is held
+
+-- what was cut short, and cut short again with what follows
+pub take_cut : (n : ℕ) (xs ys : List ℕ) → take n (take n xs ++ ys) ≡ take n (xs ++ ys)
+take_cut zero xs ys = refl
+take_cut (suc n) [] ys = refl
+take_cut (suc n) (x ∷ xs) ys = ap (λ l. x ∷ l) (take_cut n xs ys)
+
+pub unfinished-append : (xs ys : List ℕ) → IsUnfinished xs → IsUnfinished ys → IsUnfinished (xs ++ ys)
+unfinished-append xs ys first second = All-append IsOther xs ys first second

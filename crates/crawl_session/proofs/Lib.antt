@@ -1,0 +1,13 @@
+pub mod Closings
+pub mod Cuts
+pub mod Ends
+pub mod Lines
+pub mod Logs
+pub mod Onces
+pub mod Assigned
+pub mod Rests
+pub mod Runs
+pub mod Sees
+pub mod Steps
+pub mod Turns
+pub mod Words

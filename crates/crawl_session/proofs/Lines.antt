@@ -1,0 +1,97 @@
+-- Lines, one after another.
+use Rattle.std.proofs.Common.{◌≡◌, ℕ, List, [], ◌∷◌, ◌++◌, Result, refl, sym, ap, subst, ◌∙◌, append_assoc, append-nil}
+use Rattle.std.proofs.lemmas.Grind.{flat_map-append}
+use Rattle.crawl_core.specs.State.{State}
+use Rattle.crawl_core.specs.Shows.{Shows}
+use Rattle.crawl_session.specs.declared.answer.Answer.{Answer}
+use Rattle.crawl_session.specs.declared.request.Request.{Request}
+use Rattle.crawl_session.specs.declared.request.RequestError.{RequestError}
+use Rattle.crawl_session.specs.Answers.{answer_line, answer_lines}
+use Rattle.crawl_session.specs.Serving.{Serves, ServesAll}
+use Rattle.crawl_session.specs.Sessions.{answered, line_exchange, answers, state_after, history_of}
+use Rattle.crawl_session.specs.Settings.{Settings, SessionView}
+use Rattle.crawl_session.proofs.Cuts.{requests}
+
+pub answers-append : (settings : Settings) (state : State) (front back : List (List ℕ)) → answers settings state (front ++ back) ≡ answers settings state front ++ answers settings (state_after settings state front) back
+answers-append settings state [] back = refl
+answers-append settings state (line ∷ more) back = ap (λ l. (line_exchange settings state line).answer ∷ l) (answers-append settings (line_exchange settings state line).state more back)
+
+pub state_after-append : (settings : Settings) (state : State) (front back : List (List ℕ)) → state_after settings state (front ++ back) ≡ state_after settings (state_after settings state front) back
+state_after-append settings state [] back = refl
+state_after-append settings state (line ∷ more) back = state_after-append settings (line_exchange settings state line).state more back
+
+pub history_of-append : (settings : Settings) (state : State) (front back : List (List ℕ)) → history_of settings state (front ++ back) ≡ history_of settings state front ++ history_of settings (state_after settings state front) back
+history_of-append settings state [] back = refl
+history_of-append settings state (line ∷ more) back =
+    let here = line_exchange settings state line in
+    ap (λ l. here.history ++ l) (history_of-append settings here.state more back) ∙ sym (append_assoc here.history (history_of settings here.state more) (history_of settings (state_after settings here.state more) back))
+
+-- ---- lines that ask alike are answered alike
+
+answers_by : State → List (Result Request RequestError) → List Answer
+answers_by state [] = []
+answers_by state (r ∷ rs) = (answered state r).answer ∷ answers_by (answered state r).state rs
+
+state_by : State → List (Result Request RequestError) → State
+state_by state [] = state
+state_by state (r ∷ rs) = state_by (answered state r).state rs
+
+answers_as : (settings : Settings) (state : State) (ls : List (List ℕ)) → answers settings state ls ≡ answers_by state (requests settings ls)
+unfolding answers_by
+answers_as settings state [] = refl
+answers_as settings state (line ∷ more) = ap (λ l. (line_exchange settings state line).answer ∷ l) (answers_as settings (line_exchange settings state line).state more)
+
+state_as : (settings : Settings) (state : State) (ls : List (List ℕ)) → state_after settings state ls ≡ state_by state (requests settings ls)
+unfolding state_by
+state_as settings state [] = refl
+state_as settings state (line ∷ more) = state_as settings (line_exchange settings state line).state more
+
+pub answers_alike : (settings : Settings) (state : State) (ls others : List (List ℕ)) → requests settings ls ≡ requests settings others → answers settings state ls ≡ answers settings state others
+answers_alike settings state ls others same = answers_as settings state ls ∙ ap (answers_by state) same ∙ sym (answers_as settings state others)
+
+pub state_alike : (settings : Settings) (state : State) (ls others : List (List ℕ)) → requests settings ls ≡ requests settings others → state_after settings state ls ≡ state_after settings state others
+state_alike settings state ls others same = state_as settings state ls ∙ ap (state_by state) same ∙ sym (state_as settings state others)
+
+-- ---- serving
+
+pub serves_none : (old : SessionView) → ServesAll old [] [] old
+serves_none old = record { settings = refl; comes = λ state shown. (refl, shown) }
+
+pub serves_line : (old : SessionView) (line : List ℕ) (answer : Answer) (new : SessionView) → Serves old line answer new → ServesAll old (line ∷ []) (answer_line answer) new
+serves_line old line answer new one = record {
+  settings = one.settings;
+  comes = λ state shown.
+      let came = one.comes state shown in (
+        sym (append-nil (answer_line answer)) ∙ ap (λ a. answer_lines (a ∷ [])) (sym came.0),
+        came.1,
+      );
+}
+
+pub serves_more : (old : SessionView) (front : List (List ℕ)) (text : List ℕ) (mid : SessionView) (back : List (List ℕ)) (more : List ℕ) (new : SessionView)
+    → ServesAll old front text mid → ServesAll mid back more new → ServesAll old (front ++ back) (text ++ more) new
+serves_more old front text mid back more new first second = record {
+  settings = second.settings ∙ first.settings;
+  comes = λ state shown.
+      let one = first.comes state shown in
+      let between = state_after old.settings state front in
+      let P : Settings → Type 0 = λ s. (more ≡ answer_lines (answers s between back)) × Shows new.core (state_after s between back) in
+      let two : P old.settings = subst P first.settings (second.comes between one.1) in
+      let Q : State → Type 0 = λ s. Shows new.core s in (
+        ap (λ t. t ++ more) one.0
+            ∙ ap (λ t. answer_lines (answers old.settings state front) ++ t) two.0
+            ∙ sym (flat_map-append answer_line (answers old.settings state front) (answers old.settings between back))
+            ∙ ap answer_lines (sym (answers-append old.settings state front back)),
+        subst Q (sym (state_after-append old.settings state front back)) two.1,
+      );
+}
+
+pub serves_alike : (old : SessionView) (ls others : List (List ℕ)) (text : List ℕ) (new : SessionView) → requests old.settings ls ≡ requests old.settings others → ServesAll old ls text new → ServesAll old others text new
+serves_alike old ls others text new same serves = record {
+  settings = serves.settings;
+  comes = λ state shown.
+      let came = serves.comes state shown in
+      let Q : State → Type 0 = λ s. Shows new.core s in (
+        came.0 ∙ ap answer_lines (answers_alike old.settings state ls others same),
+        subst Q (state_alike old.settings state ls others same) came.1,
+      );
+}

@@ -1,0 +1,189 @@
+-- From the steps of the machine to what comes of a request.
+use Rattle.std.proofs.Common.{◌≡◌, ◌⊎◌, inl, inr, Bool, true, false, not, ◌||◌, cond, if◌then◌else◌, List, [], ◌∷◌, nat_eq, Option, Some, None, Result, Ok, Err, IfOk, OnErr, refl, sym, ap, subst, ◌∙◌, true≢false, ℕ, Ordering}
+use Rattle.std.specs.declared.alloc.AllocError.{AllocError}
+use Rattle.std.specs.declared.cmp.Ordering.TheVariants.{Less, Equal, Greater}
+use Rattle.std.specs.BTreeMap.{is_at}
+use Rattle.std.specs.BTreeSet.{insert_key}
+use Rattle.std.specs.List.{list_any}
+use Rattle.std.specs.Map.{remove_entry}
+use Rattle.std.specs.Ordering.{nat_cmp, is_eq, match_ordering}
+use Rattle.std.specs.Result.{IsOk}
+use Rattle.std.specs.Set.{remove_key}
+use Rattle.std.proofs.lemmas.Cmp.{nat_cmp_total}
+use Rattle.crawl_core.specs.declared.event.Event.{Event}
+use Rattle.crawl_core.specs.declared.event.Event.TheVariants.{Look, Enter, Back}
+use Rattle.crawl_core.specs.declared.reply.Reply.{Reply}
+use Rattle.crawl_core.specs.declared.reply.Reply.TheVariants as told
+use Rattle.crawl_core.specs.declared.reply.Refusal.TheVariants as why
+use Rattle.crawl_core.specs.declared.word.Word.{Word}
+use Rattle.crawl_core.specs.GateSide as gate_side
+use Rattle.crawl_core.specs.GateSide.{GateSide, GateTurn, back, enter, enter_with, grant, holds, let_go, remembers, same_word, shown_word, turned_away, units_out}
+use Rattle.crawl_core.specs.Kept.{Kept}
+use Rattle.crawl_core.specs.Shows.{Shows, Makes}
+use Rattle.crawl_core.specs.State.{State, unfinished_in}
+use Rattle.crawl_core.specs.Step.{turn}
+use Rattle.crawl_core.proofs.Sets.{list_any-insert_key}
+use Rattle.crawl_session.specs.declared.answer.Answer.{Answer}
+use Rattle.crawl_session.specs.declared.answer.Answer.TheVariants.{Told}
+use Rattle.crawl_session.specs.declared.request.Request.{Request}
+use Rattle.crawl_session.specs.Exchanges.{Exchange, client, is_entered, exchange, after, ends}
+use Rattle.crawl_session.specs.Requests.{request_of}
+use Rattle.crawl_session.specs.Sessions.{answered}
+use Rattle.crawl_session.specs.Settings.{Settings}
+use Rattle.crawl_session.specs.Serving.{Comes, Leads, GoesBack, GivenUp, GivesUp, Serves, returned}
+
+-- an event, and then what comes by its reply
+pub comes_after : (event : Event) (more : Reply → State → Exchange) (old : Kept) (reply : Reply) (mid : Kept) (answer : Answer) (new : Kept)
+    → Makes old event reply mid → Comes (more reply) mid answer new → Comes (λ state. after state event more) old answer new
+comes_after event more old reply mid answer new makes comes state shown =
+    let made = makes.step state shown in
+    let at_next : ((more reply made.0).answer ≡ answer) × Shows new (more reply made.0).state = comes made.0 made.2 in
+    let P : Reply → State → Type 0 = λ r s. ((more r s).answer ≡ answer) × Shows new (more r s).state in
+    let by_reply : P (turn state event).reply made.0 = subst (λ r. P r made.0) made.1.reply_is at_next in
+    subst (λ s. P (turn state event).reply s) made.1.state_is by_reply
+
+-- no event more
+pub comes_at_end : (reply : Reply) (kept : Kept) → Comes (ends reply) kept (Told reply) kept
+comes_at_end reply kept state shown = (refl, shown)
+
+-- one event whose reply is the answer
+pub comes_at_once : (event : Event) (old : Kept) (reply : Reply) (new : Kept) → Makes old event reply new → Comes (λ state. after state event ends) old (Told reply) new
+comes_at_once event old reply new makes = comes_after event ends old reply new (Told reply) new makes (comes_at_end reply new)
+
+-- ---- out of memory
+
+pub leads : (old : Kept) (e : Event) (reply : Reply) (new : Kept) → Makes old e reply new → Leads old e new
+leads old e reply new makes state shown = let made = makes.step state shown in subst (λ (s : State). Shows new s) made.1.state_is made.2
+
+-- a call that needs no memory is not refused
+pub never_refused : {X E : Type 0} (result : Result X E) (A : Type 0) → IsOk result → OnErr result A
+never_refused (Ok x) A ok = tt
+never_refused (Err e) A ok = absurd (cc (ok))
+
+pub gave_back : (old : Kept) (result : Result Reply AllocError) (new : Kept) → IfOk result (λ reply. Makes old (Back client) reply new) → IsOk result → Leads old (Back client) new
+gave_back old (Ok reply) new makes ok = leads old (Back client) reply new makes
+gave_back old (Err refused) new makes ok = absurd (cc (ok))
+
+-- nothing happened
+pub gives_up_at_once : (old new : Kept) → new ≡ old → GivesUp old new
+gives_up_at_once old new same state shown = record {
+  history = [];
+  next = state;
+  run = refl;
+  events = inl refl;
+  words = state.gate.remembered;
+  same = refl;
+  shows = subst (λ (kept : Kept). Shows kept state) (sym same) shown;
+}
+
+-- the client has not entered, or its unit went back
+pub goes_back_at_once : (old new : Kept) → new ≡ old → GoesBack old new
+goes_back_at_once old new same state shown = inl (subst (λ (kept : Kept). Shows kept state) (sym same) shown)
+
+entered_back : (old : Kept) (reply : Reply) (mid new : Kept) → is_entered reply ≡ true → Makes old (Enter client) reply mid → Leads mid (Back client) new → GoesBack old new
+entered_back old reply mid new entered makes goes state shown =
+    let made = makes.step state shown in
+    inr (subst (λ (r : Reply). is_entered r ≡ true) made.1.reply_is entered, goes (turn state (Enter client)).state (leads old (Enter client) reply mid makes state shown))
+
+pub goes_back_entered : {X E : Type 0} (old : Kept) (reply : Reply) (mid : Kept) (result : Result X E) (new : Kept) → is_entered reply ≡ true → Makes old (Enter client) reply mid → OnErr result (Leads mid (Back client) new) → OnErr result (GoesBack old new)
+goes_back_entered old reply mid (Ok x) new entered makes goes = tt
+goes_back_entered old reply mid (Err e) new entered makes goes = entered_back old reply mid new entered makes goes
+
+-- an entry that is granted
+record Granted (gate : GateSide) (messages : ℕ) (done : GateTurn) : Type 0 where
+  same : is_entered done.reply ≡ true → done.gate ≡ (grant gate messages client).gate
+
+granted_if : (gate : GateSide) (messages : ℕ) (b : Bool) (x y : GateTurn) → Granted gate messages x → Granted gate messages y → Granted gate messages (if b then x else y)
+granted_if gate messages true x y first second = first
+granted_if gate messages false x y first second = second
+
+granted : (gate : GateSide) (messages : ℕ) (word : Option Word) → Granted gate messages (enter_with gate messages client word)
+granted gate messages None = record { same = λ entered. absurd (true≢false (sym entered)) }
+granted gate messages (Some word) =
+    let full = turned_away gate why.Full in
+    let room = if nat_eq (units_out gate messages) gate.max then full else grant gate messages client in
+    let closed = turned_away gate why.Closed in
+    let within = if gate.closed then closed else room in
+    let lost : GateTurn = record { reply = told.Lost; gate = gate } in
+    granted_if gate messages (not (same_word word (shown_word gate messages))) lost within (record { same = λ entered. absurd (true≢false (sym entered)) })
+    (granted_if gate messages gate.closed closed room (record { same = λ entered. absurd (true≢false (sym entered)) })
+    (granted_if gate messages (nat_eq (units_out gate messages) gate.max) full (grant gate messages client) (record { same = λ entered. absurd (true≢false (sym entered)) }) (record { same = λ entered. refl })))
+
+-- the client goes out of the holders as it came in
+back_out : (ks : List ℕ) → list_any (is_at (nat_cmp client)) ks ≡ false → remove_key (is_at (nat_cmp client)) (insert_key nat_cmp ks client) ≡ ks
+back_out [] free = refl
+back_out (x ∷ xs) free = at_first (nat_cmp client x) refl free (back_out xs)
+  where
+    at_first : (o : Ordering) → nat_cmp client x ≡ o → (is_eq o || list_any (is_at (nat_cmp client)) xs) ≡ false
+        → (list_any (is_at (nat_cmp client)) xs ≡ false → remove_key (is_at (nat_cmp client)) (insert_key nat_cmp xs client) ≡ xs)
+        → remove_key (is_at (nat_cmp client)) (match_ordering o (client ∷ x ∷ xs) (x ∷ xs) (x ∷ insert_key nat_cmp xs client)) ≡ x ∷ xs
+    at_first Less is free more = refl
+    at_first Equal is free more = absurd (true≢false free)
+    at_first Greater is free more =
+        ap (λ (o : Ordering). cond (is_eq o) (insert_key nat_cmp xs client) (x ∷ remove_key (is_at (nat_cmp client)) (insert_key nat_cmp xs client))) is
+        ∙ ap (λ (l : List ℕ). x ∷ l) (more free)
+
+-- the gate after an entry and the return
+returned_gate : (gate : GateSide) (before behind : ℕ) → is_entered (enter gate before client).reply ≡ true
+    → (back (enter gate before client).gate behind client).gate ≡ record gate { remembered = remove_entry (is_at (nat_cmp client)) gate.remembered }
+returned_gate gate before behind = by_hold (holds gate client) refl
+  where
+    by_hold : (b : Bool) → holds gate client ≡ b → is_entered (if b then turned_away gate why.Busy else enter_with gate before client (remembers gate client)).reply ≡ true
+        → (back (if b then turned_away gate why.Busy else enter_with gate before client (remembers gate client)).gate behind client).gate ≡ record gate { remembered = remove_entry (is_at (nat_cmp client)) gate.remembered }
+    by_hold true is entered = absurd (true≢false (sym entered))
+    by_hold false free entered =
+        let inside = (grant gate before client).gate in
+        let held : holds inside client ≡ true = list_any-insert_key nat_cmp_total client client gate.holders in
+        ap (λ (g : GateSide). (back g behind client).gate) ((granted gate before (remembers gate client)).same entered)
+        ∙ ap (λ b. (if b then gate_side.gave_back (let_go inside client) behind else turned_away inside why.Nothing).gate) held
+        ∙ ap (λ (hs : List ℕ). record inside { holders = hs }) (back_out gate.holders free)
+
+-- of an offer there was a look, and an entry and the return, or no entry
+abbrev looked : State → State
+looked state = (turn state (Look client)).state
+
+after_look : (state : State) (new : Kept) → Shows new (looked state) → GivenUp state new
+after_look state new shows = record {
+  history = (Look client, (turn state (Look client)).reply) ∷ [];
+  next = looked state;
+  run = (looked state, record { reply_is = refl; state_is = refl }, refl);
+  events = inr (inl refl);
+  words = (looked state).gate.remembered;
+  same = refl;
+  shows = shows;
+}
+
+after_return : (state : State) (new : Kept) → is_entered (turn (looked state) (Enter client)).reply ≡ true → Shows new (returned (looked state)) → GivenUp state new
+after_return state new entered shows =
+    let inside = turn (looked state) (Enter client) in
+    let out = turn inside.state (Back client) in
+    record {
+      history = (Look client, (turn state (Look client)).reply) ∷ (Enter client, inside.reply) ∷ (Back client, out.reply) ∷ [];
+      next = returned (looked state);
+      run = (looked state, record { reply_is = refl; state_is = refl }, (inside.state, record { reply_is = refl; state_is = refl }, (out.state, record { reply_is = refl; state_is = refl }, refl)));
+      events = inr (inr refl);
+      words = remove_entry (is_at (nat_cmp client)) (looked state).gate.remembered;
+      same = ap (λ (g : GateSide). record state { gate = g }) (returned_gate (looked state).gate (unfinished_in (looked state)) (unfinished_in inside.state) entered);
+      shows = shows;
+    }
+
+by_end : (state : State) (new : Kept) → Shows new (looked state) ⊎ ((is_entered (turn (looked state) (Enter client)).reply ≡ true) × Shows new (returned (looked state))) → GivenUp state new
+by_end state new (inl shows) = after_look state new shows
+by_end state new (inr goes) = after_return state new goes.0 goes.1
+
+looked_back : (old : Kept) (reply : Reply) (mid new : Kept) → Makes old (Look client) reply mid → GoesBack mid new → GivesUp old new
+looked_back old reply mid new makes more state shown = by_end state new (more (looked state) (leads old (Look client) reply mid makes state shown))
+
+pub gives_up_looking : {X E : Type 0} (old : Kept) (reply : Reply) (mid : Kept) (result : Result X E) (new : Kept) → Makes old (Look client) reply mid → OnErr result (GoesBack mid new) → OnErr result (GivesUp old new)
+gives_up_looking old reply mid (Ok x) new makes more = tt
+gives_up_looking old reply mid (Err e) new makes more = looked_back old reply mid new makes more
+
+-- ---- a line
+
+-- a line that asks something
+pub serves_request : (settings : Settings) (old : Kept) (line : List ℕ) (request : Request) (reply : Reply) (new : Kept) → request_of settings.workers settings.suffixes line ≡ Ok request
+    → Comes (λ state. exchange state request) old (Told reply) new → Serves (record { settings = settings; core = old }) line (Told reply) (record { settings = settings; core = new })
+serves_request settings old line request reply new asks comes = record {
+  settings = refl;
+  comes = subst (λ r. Comes (λ state. answered state r) old (Told reply) new) (sym asks) comes;
+}

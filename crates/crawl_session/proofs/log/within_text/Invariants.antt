@@ -1,0 +1,6 @@
+use Rattle.std.proofs.Common.{◌≡◌, map, take, string_bytes}
+use Rattle.crawl_session.specs.Logs.{within_text}
+use Rattle.crawl_session.proofs.log.within_text.Given as goal
+
+abbrev pub invariant-loop-suffix : goal.invariant-loop-suffix
+invariant-loop-suffix l = string_bytes l.text ≡ within_text (map (λ s. s.now) (take l.suffix-index l.suffixes))

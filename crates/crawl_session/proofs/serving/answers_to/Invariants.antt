@@ -1,0 +1,10 @@
+use Rattle.std.proofs.Common.{◌≡◌, ℕ, List, ◌++◌, length, string_bytes}
+use Rattle.std.specs.Str.Lines.{lines}
+use Rattle.crawl_session.specs.Serving.{ServesAll}
+use Rattle.crawl_session.proofs.serving.answers_to.Given as goal
+
+abbrev pub invariant-loop-line : goal.invariant-loop-line
+invariant-loop-line l = (front : List (List ℕ)) × (lines l.bytes ≡ front ++ lines l.rest) × ServesAll l.initial.session front (string_bytes l.answers) l.session
+
+abbrev pub decreases-loop-line : goal.decreases-loop-line
+decreases-loop-line l = length l.rest

@@ -1,0 +1,10 @@
+pub mod Answers
+pub mod Clients
+pub mod Exchanges
+pub mod Input
+pub mod Logs
+pub mod Requests
+pub mod Settings
+pub mod Sessions
+pub mod Serving
+pub mod Tables

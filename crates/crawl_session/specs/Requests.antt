@@ -1,0 +1,77 @@
+-- What a line asks of a frontier.
+use Rattle.std.specs.Prelude.{ℕ, List, codes, if◌then◌else◌, Option, Some, None, ok_or, Result, Ok, Err}
+use Rattle.std.specs.Option.{option_map}
+use Rattle.std.specs.Str.{bytes_eq}
+use Rattle.crawl_keys.specs.Assignment.{subqueue_of}
+use Rattle.crawl_keys.specs.CanonicalText.{canonical, resolve}
+use Rattle.crawl_keys.specs.HostFilter.{allows}
+use Rattle.crawl_keys.specs.declared.error.KeyError.{KeyError}
+use Rattle.crawl_keys.specs.declared.error.KeyError.TheVariants as key
+use Rattle.crawl_replay.specs.Numbers.{number_of}
+use Rattle.crawl_web.specs.Lines.{text_of}
+use Rattle.crawl_web.specs.Parts.{at_space}
+use Rattle.crawl_web.specs.declared.lines.LineError.{LineError}
+use Rattle.crawl_web.specs.declared.lines.LineError.TheVariants.{TooLong, NotText}
+use Rattle.crawl_session.specs.declared.request.Request.{Request}
+use Rattle.crawl_session.specs.declared.request.Request.TheVariants.{Offer, Next, Again, Done, EndSeeds}
+use Rattle.crawl_session.specs.declared.request.RequestError.{RequestError}
+use Rattle.crawl_session.specs.declared.request.RequestError.TheVariants as wrong
+
+-- the error of a line that has no text, and of a text that has no canonical URL
+abbrev pub of_line : LineError → RequestError
+of_line (TooLong number) = wrong.LineTooLong
+of_line (NotText number) = wrong.NotText
+
+abbrev pub of_key : KeyError → RequestError
+of_key key.NotUrl = wrong.NotUrl
+of_key key.NotHttp = wrong.NotHttp
+of_key key.NoMemory = wrong.NoMemory
+
+-- a canonical URL, if the filter with these suffixes allows it, and the subqueue that its host key is assigned to among so many
+abbrev pub allowed : ℕ → List (List ℕ) → List ℕ → Result Request RequestError
+allowed workers suffixes url =
+    if allows suffixes url then Ok (Offer url (subqueue_of url workers)) else Err wrong.Filtered
+
+-- the same of a text that may have no canonical URL
+abbrev pub offered : ℕ → List (List ℕ) → Result (List ℕ) KeyError → Result Request RequestError
+offered workers suffixes (Err refusal) = Err (of_key refusal)
+offered workers suffixes (Ok url) = allowed workers suffixes url
+
+-- `offer URL`
+abbrev pub offer_of : ℕ → List (List ℕ) → List ℕ → Result Request RequestError
+offer_of workers suffixes text = offered workers suffixes (canonical text)
+
+-- `link BASE TEXT`: the offer of the text resolved against the base; a base that has no canonical URL is told as its offer is
+abbrev pub linked : ℕ → List (List ℕ) → List ℕ → Result (List ℕ) KeyError → Result Request RequestError
+linked workers suffixes text (Err refusal) = Err (of_key refusal)
+linked workers suffixes text (Ok base) = offered workers suffixes (resolve base text)
+
+abbrev pub link_of : ℕ → List (List ℕ) → Option (List ℕ × List ℕ) → Result Request RequestError
+link_of workers suffixes None = Err wrong.BadLine
+link_of workers suffixes (Some p) = linked workers suffixes p.1 (canonical p.0)
+
+abbrev pub plain_request : List ℕ → Option Request
+plain_request word = if bytes_eq word (codes "endseeds") then Some EndSeeds else None
+
+-- `next Q`, `again Q`, `done Q`
+abbrev pub numbered_request : List ℕ → List ℕ → Option Request
+numbered_request word number =
+    if bytes_eq word (codes "next") then option_map Next (number_of 32 number)
+    else if bytes_eq word (codes "again") then option_map Again (number_of 32 number)
+    else if bytes_eq word (codes "done") then option_map Done (number_of 32 number)
+    else None
+
+abbrev pub request_from : ℕ → List (List ℕ) → List ℕ → Option (List ℕ × List ℕ) → Result Request RequestError
+request_from workers suffixes text None = ok_or (plain_request text) wrong.BadLine
+request_from workers suffixes text (Some p) =
+    if bytes_eq p.0 (codes "offer") then offer_of workers suffixes p.1
+    else if bytes_eq p.0 (codes "link") then link_of workers suffixes (at_space p.1)
+    else ok_or (numbered_request p.0 p.1) wrong.BadLine
+
+abbrev pub request_in : ℕ → List (List ℕ) → Result (List ℕ) LineError → Result Request RequestError
+request_in workers suffixes (Ok text) = request_from workers suffixes text (at_space text)
+request_in workers suffixes (Err fault) = Err (of_line fault)
+
+-- what a line asks of a frontier with so many workers whose filter has these suffixes, or why it asks nothing
+abbrev pub request_of : ℕ → List (List ℕ) → List ℕ → Result Request RequestError
+request_of workers suffixes line = request_in workers suffixes (text_of 1 line)

@@ -1,0 +1,118 @@
+//! The events of a request, one after another.
+ghost use Rattle.std.specs.Prelude.{◌≡◌, IfOk, OnErr};
+ghost use Rattle.std.specs.Result.{IsOk};
+ghost use Rattle.crawl_core.specs.declared.event.Event.{Event};
+ghost use Rattle.crawl_session.specs.Exchanges as spec;
+ghost use Rattle.crawl_session.specs.Serving.{Comes, GivesUp, GoesBack, Leads};
+ghost use Rattle.crawl_session.specs.declared.answer.Answer.{Answer};
+
+use crate::request::Request;
+use crawl_core::{Core, Event, NoMemory, Refusal, Reply, Text};
+use std::alloc::AllocError;
+
+/// The one sender of a session's offers: its client.
+const CLIENT: u64 = 0;
+
+/// The reply that a request is answered.
+///
+/// # Errors
+/// Out of memory, for an offer or where a URL is told again. The frontier is then as before, but for the word that its client remembers.
+#[tactic(auto, using(crate::proofs::Steps::gives_up_at_once, crate::proofs::Steps::never_refused))]
+pub fn exchange(core: &mut Core, request: Request) -> Result<Reply, NoMemory>
+    ensures comes { IfOk result (λ reply. Comes (λ state. spec.exchange state request) core.old (Answer.Told reply) core.new) }
+    ensures err { OnErr result (GivesUp core.old core.new) }
+{
+    match request {
+        Request::Offer { url, queue } => offer(core, url, queue),
+        Request::Next { queue } => next(core, queue),
+        Request::Again { queue } => again(core, queue),
+        Request::Done { queue } => core.step(&Event::Done { queue }),
+        Request::EndSeeds => core.step(&Event::EndSeeds),
+    }
+}
+
+#[tactic(auto, using(crate::proofs::Steps::gives_up_at_once))]
+fn offer(core: &mut Core, url: Text, queue: u32) -> Result<Reply, NoMemory>
+    ensures comes { IfOk result (λ reply. Comes (λ state. spec.offering state url queue) core.old (Answer.Told reply) core.new) }
+    ensures err { OnErr result (GivesUp core.old core.new) }
+{
+    let _word = core.step(&Event::Look { sender: CLIENT })?;
+    enter(core, url, queue)
+}
+
+#[tactic(auto, using(crate::proofs::Steps::goes_back_at_once))]
+fn enter(core: &mut Core, url: Text, queue: u32) -> Result<Reply, NoMemory>
+    ensures comes { IfOk result (λ reply. Comes (λ state. spec.entering state url queue) core.old (Answer.Told reply) core.new) }
+    ensures err { OnErr result (GoesBack core.old core.new) }
+{
+    let reply = core.step(&Event::Enter { sender: CLIENT })?;
+    if is_entered(&reply) {
+        return admit(core, url, queue);
+    }
+    Ok(reply)
+}
+
+/// Admits the URL by the client's unit, which is given back where it does not go with the URL.
+fn admit(core: &mut Core, url: Text, queue: u32) -> Result<Reply, NoMemory>
+    ensures comes { IfOk result (λ reply. Comes (λ state. spec.admitting state url queue) core.old (Answer.Told reply) core.new) }
+    ensures err { OnErr result (Leads core.old (Event.Back spec.client) core.new) }
+{
+    let sender = CLIENT;
+    let Ok(reply) = core.step(&Event::Admit { sender, url, queue }) else {
+        return Err(give_back(core));
+    };
+    if is_seen(&reply) {
+        let _left = core.step(&Event::Back { sender })?;
+    }
+    Ok(reply)
+}
+
+fn next(core: &mut Core, queue: u32) -> Result<Reply, NoMemory>
+    ensures comes { IfOk result (λ reply. Comes (λ state. spec.taking state queue) core.old (Answer.Told reply) core.new) }
+    ensures succeeds { IsOk result }
+{
+    let reply = core.step(&Event::Take { queue })?;
+    if is_empty(&reply) {
+        return core.step(&Event::Close);
+    }
+    Ok(reply)
+}
+
+/// The URL that the subqueue is busy with, once more.
+fn again(core: &Core, queue: u32) -> Result<Reply, NoMemory>
+    ensures { IfOk result (λ reply. Comes (λ state. spec.again state queue) core.now (Answer.Told reply) core.now) }
+{
+    match core.in_fetch(queue) {
+        None => Ok(Reply::Refused(Refusal::NoSuch)),
+        Some(None) => Ok(Reply::Refused(Refusal::Nothing)),
+        Some(Some(url)) => Ok(Reply::Taken(url.clone()?)),
+    }
+}
+
+/// After a refused growth: the client's unit is given back.
+fn give_back(core: &mut Core) -> NoMemory
+    ensures { Leads core.old (Event.Back spec.client) core.new }
+{
+    match core.step(&Event::Back { sender: CLIENT }) {
+        Ok(_) => AllocError,
+        Err(refused) => refused,
+    }
+}
+
+fn is_entered(reply: &Reply) -> bool
+    ensures { result ≡ spec.is_entered reply.now }
+{
+    matches!(reply, Reply::Entered(_))
+}
+
+fn is_seen(reply: &Reply) -> bool
+    ensures { result ≡ spec.is_seen reply.now }
+{
+    matches!(reply, Reply::Seen)
+}
+
+fn is_empty(reply: &Reply) -> bool
+    ensures { result ≡ spec.is_empty reply.now }
+{
+    matches!(reply, Reply::Empty)
+}

@@ -1,0 +1,217 @@
+//! A line, and what it asks of the frontier.
+ghost use Rattle.std.specs.Prelude.{◌≡◌, ◌≤◌};
+ghost use Rattle.crawl_core.specs.Limits.{worker_limit};
+ghost use Rattle.crawl_keys.specs.CanonicalText.{resolve};
+ghost use Rattle.crawl_keys.specs.Outcome.{Gives};
+ghost use Rattle.crawl_session.specs.Requests as spec;
+ghost use Rattle.crawl_web.specs.Parts.{at_space};
+ghost use Rattle.crawl_session.specs.declared.request.RequestError.TheVariants as wrong;
+
+use crawl_core::Text;
+use crawl_keys::{Base, CanonUrl, Filter, KeyError, canonical};
+use crawl_replay::number32;
+use crawl_web::{LineError, split_space, text_of};
+use std::alloc::{AllocError, Global};
+
+/// What a line asks of the frontier.
+#[derive(Debug, PartialEq, Eq, Drop)]
+pub enum Request {
+    /// `offer URL`, `link BASE TEXT`: to accept this canonical URL into the subqueue that its host key is assigned to.
+    Offer { url: Text, queue: u32 },
+    /// `next Q`: the URL that has waited longest in the subqueue.
+    Next { queue: u32 },
+    /// `again Q`: the URL that the subqueue gave last, whose fetch is not over.
+    Again { queue: u32 },
+    /// `done Q`: the fetch of the URL that the subqueue gave last is over.
+    Done { queue: u32 },
+    /// `endseeds`: no more seeds come.
+    EndSeeds,
+}
+
+/// Why a line asks nothing of the frontier, in the order of the checks.
+#[derive(Clone, Copy, Debug, PartialEq, Eq)]
+pub enum RequestError {
+    /// The line has more than [`LINE_LIMIT`](crawl_web::LINE_LIMIT) bytes.
+    LineTooLong,
+    /// The line is not UTF-8.
+    NotText,
+    /// The line is no request.
+    BadLine,
+    /// The text that is offered is no URL; or the base of a link is none.
+    NotUrl,
+    /// The URL that is offered, or the base of a link, is neither `http` nor `https`.
+    NotHttp,
+    /// The filter does not allow the URL that is offered.
+    Filtered,
+    /// A growth was refused. This may stand in place of any other answer.
+    NoMemory,
+}
+
+impl From<LineError> for RequestError {
+    ghost from_gives = { λ fault error. error ≡ spec.of_line fault };
+
+    fn from(fault: LineError) -> RequestError {
+        match fault {
+            LineError::TooLong(_) => RequestError::LineTooLong,
+            LineError::NotText(_) => RequestError::NotText,
+        }
+    }
+}
+
+impl From<AllocError> for RequestError {
+    ghost from_gives = { λ _ error. error ≡ wrong.NoMemory };
+
+    fn from(_refused: AllocError) -> RequestError {
+        RequestError::NoMemory
+    }
+}
+
+/// What the line asks of a frontier with so many workers and this filter.
+///
+/// # Errors
+/// In the order of [`RequestError`].
+pub fn request_of(
+    alloc: Global,
+    workers: u32,
+    filter: &Filter,
+    line: &[u8],
+) -> Result<Request, RequestError>
+    requires some_worker { 1 ≤ workers }
+    requires few_workers { workers ≤ worker_limit }
+    ensures { Gives RequestError.NoMemory (λ request. request) result (spec.request_of workers filter.now line.now) }
+{
+    let text = text_of(1, line)?;
+    request_from(alloc, workers, filter, text)
+}
+
+fn request_from(
+    alloc: Global,
+    workers: u32,
+    filter: &Filter,
+    text: &str,
+) -> Result<Request, RequestError>
+    requires some_worker { 1 ≤ workers }
+    requires few_workers { workers ≤ worker_limit }
+    ensures { Gives RequestError.NoMemory (λ request. request) result (spec.request_from workers filter.now text.now (at_space text.now)) }
+{
+    let request = match split_space(text) {
+        None => plain_request(text),
+        Some(("offer", url)) => return offer_of(alloc, workers, filter, url),
+        Some(("link", rest)) => return link_of(alloc, workers, filter, rest),
+        Some((word, number)) => numbered_request(word, number),
+    };
+    match request {
+        Some(request) => Ok(request),
+        None => Err(RequestError::BadLine),
+    }
+}
+
+fn plain_request(word: &str) -> Option<Request>
+    ensures { result ≡ spec.plain_request word.now }
+{
+    match word {
+        "endseeds" => Some(Request::EndSeeds),
+        _ => None,
+    }
+}
+
+fn numbered_request(word: &str, number: &str) -> Option<Request>
+    ensures { result ≡ spec.numbered_request word.now number.now }
+{
+    match word {
+        "next" => Some(Request::Next {
+            queue: number32(number)?,
+        }),
+        "again" => Some(Request::Again {
+            queue: number32(number)?,
+        }),
+        "done" => Some(Request::Done {
+            queue: number32(number)?,
+        }),
+        _ => None,
+    }
+}
+
+/// The offer of the text's canonical URL.
+fn offer_of(
+    alloc: Global,
+    workers: u32,
+    filter: &Filter,
+    text: &str,
+) -> Result<Request, RequestError>
+    requires some_worker { 1 ≤ workers }
+    requires few_workers { workers ≤ worker_limit }
+    ensures { Gives RequestError.NoMemory (λ request. request) result (spec.offer_of workers filter.now text.now) }
+{
+    match canonical(alloc, text) {
+        Ok(url) => offered(alloc, workers, filter, &url),
+        Err(why) => Err(error_of(why)),
+    }
+}
+
+/// The offer of what a text resolves to against a base: the base ends at the first space, and the text is the rest.
+fn link_of(
+    alloc: Global,
+    workers: u32,
+    filter: &Filter,
+    rest: &str,
+) -> Result<Request, RequestError>
+    requires some_worker { 1 ≤ workers }
+    requires few_workers { workers ≤ worker_limit }
+    ensures { Gives RequestError.NoMemory (λ request. request) result (spec.link_of workers filter.now (at_space rest.now)) }
+{
+    let Some((base, text)) = split_space(rest) else {
+        return Err(RequestError::BadLine);
+    };
+    match Base::canonical(alloc, base) {
+        Ok(base) => linked(alloc, workers, filter, &base, text),
+        Err(why) => Err(error_of(why)),
+    }
+}
+
+fn linked(
+    alloc: Global,
+    workers: u32,
+    filter: &Filter,
+    base: &Base,
+    text: &str,
+) -> Result<Request, RequestError>
+    requires some_worker { 1 ≤ workers }
+    requires few_workers { workers ≤ worker_limit }
+    ensures { Gives RequestError.NoMemory (λ request. request) result (spec.offered workers filter.now (resolve base.now text.now)) }
+{
+    match base.resolve(alloc, text) {
+        Ok(url) => offered(alloc, workers, filter, &url),
+        Err(why) => Err(error_of(why)),
+    }
+}
+
+/// Why a text offers nothing.
+fn error_of(why: KeyError) -> RequestError
+    ensures { result ≡ spec.of_key why }
+{
+    match why {
+        KeyError::NotUrl => RequestError::NotUrl,
+        KeyError::NotHttp => RequestError::NotHttp,
+        KeyError::NoMemory => RequestError::NoMemory,
+    }
+}
+
+/// The offer of the URL, if the filter allows it.
+fn offered(
+    alloc: Global,
+    workers: u32,
+    filter: &Filter,
+    url: &CanonUrl,
+) -> Result<Request, RequestError>
+    requires some_worker { 1 ≤ workers }
+    requires few_workers { workers ≤ worker_limit }
+    ensures { Gives RequestError.NoMemory (λ request. request) result (spec.allowed workers filter.now url.now) }
+{
+    if !filter.allows(url) {
+        return Err(RequestError::Filtered);
+    }
+    let queue = url.subqueue(workers);
+    let url = Text::from_str(alloc, url.as_str())?;
+    Ok(Request::Offer { url, queue })
+}

@@ -1,0 +1,82 @@
+//! A frontier that is asked by one client, line by line.
+ghost use Rattle.std.specs.Prelude.{◌≡◌, ◌<◌, ◌≤◌, ◌⊎◌, ◌↔◌, Err, IfOk, OnOk, OnErr};
+ghost use Rattle.crawl_core.specs.Limits.{AreLimits, worker_limit, pending_limit};
+ghost use Rattle.crawl_core.specs.Shows.{Shows};
+ghost use Rattle.crawl_core.specs.State.{start};
+ghost use Rattle.crawl_core.specs.declared.error.CoreError.{CoreError};
+ghost use Rattle.crawl_session.specs.Serving.{GivesUp, Serves};
+
+use crate::answer::Answer;
+use crate::exchange::exchange;
+use crate::request::{RequestError, request_of};
+use crawl_core::{Core, CoreError, NoMemory};
+use crawl_keys::Filter;
+use std::alloc::{AllocError, Global};
+use std::marker::Model;
+
+/// A frontier, and the filter of the URLs that are offered to it.
+#[derive(Drop)]
+pub struct Session {
+    alloc: Global,
+    core: Core,
+    workers: u32,
+    filter: Filter,
+}
+
+// Contracts see its settings and what its machine keeps.
+impl Model for Session {
+    ghost use Rattle.crawl_session.specs.Settings.{SessionView, IsSession};
+
+    ghost Value = { SessionView };
+
+    ghost view = { λ s. record { settings = record { workers = s.workers; suffixes = s.filter }; core = s.core } };
+
+    ghost invariant = { λ s. IsSession (record { workers = s.workers; suffixes = s.filter }) };
+}
+
+impl Session {
+    /// A new frontier for that many workers, and at most so many URLs that wait or are fetched at one time.
+    ///
+    /// # Errors
+    /// `BadWorkers`, then `BadMax`, for a number beyond its limits; `NoMemory` where a growth was refused.
+    pub fn new(
+        alloc: Global,
+        workers: u32,
+        max_pending: u64,
+        filter: Filter,
+    ) -> Result<Session, CoreError>
+        ensures start { IfOk result (λ session. Shows session.core (start workers max_pending)) }
+        ensures workers { IfOk result (λ session. session.settings.workers ≡ workers) }
+        ensures suffixes { IfOk result (λ session. session.settings.suffixes ≡ filter) }
+        ensures limits { OnOk result (AreLimits workers max_pending) }
+        ensures bad_workers { (result ≡ Err CoreError.BadWorkers) ↔ ((workers < 1) ⊎ (worker_limit < workers)) }
+        ensures bad_max { (result ≡ Err CoreError.BadMax) ↔ ((1 ≤ workers) × (workers ≤ worker_limit) × ((max_pending < 1) ⊎ (pending_limit < max_pending))) }
+    {
+        match Core::new(alloc, workers, max_pending) {
+            Ok(core) => Ok(Session {
+                alloc,
+                core,
+                workers,
+                filter,
+            }),
+            Err(why) => Err(why),
+        }
+    }
+
+    /// What the line is answered. It is one without LF, and without a CR before that.
+    ///
+    /// # Errors
+    /// Out of memory. The frontier is then as before, but for the word that its client remembers.
+    #[tactic(auto, using(crate::proofs::Steps::gives_up_at_once))]
+    pub fn answer(&mut self, line: &[u8]) -> Result<Answer, NoMemory>
+        ensures serves { IfOk result (λ answer. Serves self.old line.now answer self.new) }
+        ensures same { self.new.settings ≡ self.old.settings }
+        ensures err { OnErr result (GivesUp self.old.core self.new.core) }
+    {
+        match request_of(self.alloc, self.workers, &self.filter, line) {
+            Ok(request) => Ok(Answer::Told(exchange(&mut self.core, request)?)),
+            Err(RequestError::NoMemory) => Err(AllocError),
+            Err(why) => Ok(Answer::Unasked(why)),
+        }
+    }
+}

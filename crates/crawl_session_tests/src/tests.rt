@@ -1,0 +1,249 @@
+//! Sessions: drawn ones against a second reckoning, and a table of lines at their edges.
+mod reckoning;
+
+use crawl_keys::{Filter, FilterError};
+use crawl_replay::Header;
+use crawl_session::{ServeError, Session, read_settings, rerun, serve, settings_line, whole_len};
+use reckoning::{MAX, Reckoning};
+use std::alloc::{AllocError, Global};
+use std::io::{self, Read};
+use std::test::Fail;
+
+/// Gives some bytes a read, as many as it draws; and where it is to break, it fails once it has no more.
+#[derive(Drop)]
+struct Slow<'a> {
+    left: &'a [u8],
+    most: usize,
+    drawn: usize,
+    breaks: bool,
+}
+
+impl Read for Slow<'_> {
+    fn read(&mut self, buf: &mut [u8]) -> io::Result<usize> {
+        if self.breaks && self.left.is_empty() {
+            return Err(io::Error::from(io::ErrorKind::Other));
+        }
+        self.drawn = self.drawn.wrapping_mul(25_214_903_917).wrapping_add(11);
+        let most = (self.drawn >> 20) % self.most.max(1);
+        let count = buf.len().min(most.saturating_add(1));
+        self.left.read(&mut buf[..count])
+    }
+}
+
+/// A session of one worker for hosts within `test`.
+fn session(alloc: Global) -> Result<Session, FilterError> {
+    let filter = Filter::new(alloc, &["test"])?;
+    match Session::new(alloc, 1, MAX, filter) {
+        Ok(session) => Ok(session),
+        Err(_) => Err(FilterError::NoMemory),
+    }
+}
+
+/// The answers to an input that comes in reads of so many bytes.
+fn answers(alloc: Global, input: &[u8], most: usize, breaks: bool) -> Option<(Vec<u8>, bool)> {
+    let mut session = session(alloc).ok()?;
+    let mut out = Vec::new(alloc);
+    let mut reader = Slow {
+        left: input,
+        most,
+        drawn: most,
+        breaks,
+    };
+    let ended = serve(alloc, &mut session, &mut reader, &mut out);
+    Some((out, ended == Err(ServeError::CannotRead)))
+}
+
+fn is(told: Option<(Vec<u8>, bool)>, wanted: &[u8], broke: bool) -> bool {
+    match told {
+        Some((text, fails)) => text.as_slice() == wanted && fails == broke,
+        None => false,
+    }
+}
+
+/// How many lines a drawn session has.
+const LINES: u64 = 4_000;
+
+/// The requests that are drawn, and their answers by the reckoning.
+fn drawn(alloc: Global) -> Result<(String, String), AllocError> {
+    let mut reckoning = Reckoning::new(alloc);
+    let mut requests = String::new(alloc);
+    let mut wanted = String::new(alloc);
+    let mut seed = 1u64;
+    for number in 0..LINES {
+        seed = seed
+            .wrapping_mul(6_364_136_223_846_793_005)
+            .wrapping_add(1_442_695_040_888_963_407);
+        let kind = if number == 3_600 {
+            15
+        } else {
+            (seed >> 40) % 15
+        };
+        reckoning.ask(kind, (seed >> 50) % 700, &mut requests, &mut wanted)?;
+    }
+    Ok((requests, wanted))
+}
+
+#[test]
+fn a_drawn_session_in_reads_of_any_length(rt: HostRuntime) -> Result<(), Fail> {
+    let (requests, wanted) = drawn(rt.alloc())?;
+    for most in [1, 2, 7, 40, 5_000, 100_000] {
+        let told = answers(rt.alloc(), requests.as_bytes(), most, most == 7);
+        assert!(rt;
+            is(told, wanted.as_bytes(), most == 7),
+            "{most} bytes a read"
+        );
+    }
+    Ok(())
+}
+
+/// The answer to a line, which is asked again where memory was out.
+fn ask(session: &mut Session, line: &str, out: &mut String) -> Result<(), AllocError> {
+    let answer = match session.answer(line.as_bytes()) {
+        Ok(answer) => answer,
+        Err(_) => session.answer(line.as_bytes())?,
+    };
+    writeln!(out, "{answer}")
+}
+
+#[test]
+fn a_line_for_which_memory_was_out_is_asked_again(rt: HostRuntime) -> Result<(), Fail> {
+    let (requests, wanted) = drawn(rt.alloc())?;
+    let mut session = session(rt.alloc())?;
+    let mut told = String::new(rt.alloc());
+    for line in requests.lines().take(400) {
+        ask(&mut session, line, &mut told)?;
+    }
+    assert!(rt; wanted.starts_with(told.as_str()));
+    Ok(())
+}
+
+#[test]
+fn a_log_brings_a_session_back(rt: HostRuntime) -> Result<(), Fail> {
+    let alloc = rt.alloc();
+    let (requests, wanted) = drawn(alloc)?;
+    let log = requests.as_bytes();
+    for cut in [0, 1, 5_000, 40_001, log.len()] {
+        let whole = whole_len(&log[..cut.min(log.len())]);
+        let mut session = session(alloc)?;
+        rerun(&mut session, &log[..whole.min(log.len())])?;
+        let mut out = Vec::new(alloc);
+        let mut rest = &log[whole.min(log.len())..];
+        let ended = serve(alloc, &mut session, &mut rest, &mut out);
+        assert!(rt;
+            ended == Ok(()) && wanted.as_bytes().ends_with(&out),
+            "cut at {cut}"
+        );
+    }
+    Ok(())
+}
+
+#[test]
+fn a_log_names_its_settings(rt: HostRuntime) -> Result<(), Fail> {
+    let alloc = rt.alloc();
+    let header = Header {
+        workers: 4,
+        max: 1_048_576,
+    };
+    let line = settings_line(alloc, &header, &["a.test", "b"])?;
+    assert_eq!(rt;
+        line.as_str(),
+        "within a.test within b workers 4 max 1048576"
+    );
+    assert!(rt; read_settings(alloc, &line)?.is_some());
+    for other in [
+        "",
+        "workers 4",
+        "within a workers 0 max 1",
+        "within workers 4 max 1",
+        "within a.test",
+    ] {
+        assert!(rt; read_settings(alloc, other)?.is_none(), "{other}");
+    }
+    Ok(())
+}
+
+#[test]
+fn answers_lines_at_their_edges(rt: HostRuntime) {
+    let rows: [(&[u8], &str); 14] = [
+        (b"", ""),
+        (b"\n", "bad line\n"),
+        (b"endseeds", "count 0\n"),
+        (b"endseeds\r\n", "count 0\n"),
+        (b"endseeds\r", "bad line\n"),
+        (
+            b"next  0\nnext 0 \nnext\ndone -1\n",
+            "bad line\nbad line\nbad line\nbad line\n",
+        ),
+        (
+            b"next 4294967296\nnext 007\nagain 1\n",
+            "bad line\nrefused nosuch\nrefused nosuch\n",
+        ),
+        (b"\xff\n", "not UTF-8\n"),
+        (
+            b"look 1\nclose\nOffer http://a.test/\n",
+            "bad line\nbad line\nbad line\n",
+        ),
+        (
+            b"offer mailto:a@b.test\noffer nowhere\noffer http://b.other/\n",
+            "not http or https\nnot a URL\nfiltered\n",
+        ),
+        (
+            b"link http://a.test/x/y ../z?q\nnext 0\nagain 0\n",
+            "accepted 0 0\ntaken http://a.test/z?q\ntaken http://a.test/z?q\n",
+        ),
+        (
+            b"link http://a.test/x \nnext 0\n",
+            "accepted 0 0\ntaken http://a.test/x\n",
+        ),
+        (
+            b"link http://a.test/x\nlink  x\nlink a:b x\nlink http://b.other/ /x\nlink http://b.other/ //a.test/\n",
+            "bad line\nnot a URL\nnot http or https\nfiltered\naccepted 0 0\n",
+        ),
+        (
+            b"link http://a.test/ mailto:x\nlink http://a.test/ http://a.test:99999/\n",
+            "not http or https\nnot a URL\n",
+        ),
+    ];
+    for (input, wanted) in rows {
+        assert!(rt;
+            is(
+                answers(rt.alloc(), input, 3, false),
+                wanted.as_bytes(),
+                false
+            ),
+            "{input:?}"
+        );
+    }
+}
+
+/// A line of so many bytes, with this end.
+fn line_of(alloc: Global, length: usize, end: &str) -> Result<Vec<u8>, AllocError> {
+    let mut line = vec![in alloc; b'x'; length]?;
+    line.extend_from_slice(end.as_bytes())?;
+    Ok(line)
+}
+
+#[test]
+fn answers_long_lines(rt: HostRuntime) -> Result<(), Fail> {
+    let rows = [
+        (4096, "\n", "bad line\n"),
+        (4096, "\r\n", "bad line\n"),
+        (4097, "\n", "line too long\n"),
+        (4097, "\r\n", "line too long\n"),
+        (4098, "\nendseeds", "line too long\ncount 0\n"),
+        (4097, "", "line too long\n"),
+        (200_000, "\r\nendseeds\n", "line too long\ncount 0\n"),
+    ];
+    for (length, end, wanted) in rows {
+        let line = line_of(rt.alloc(), length, end)?;
+        assert!(rt;
+            is(
+                answers(rt.alloc(), &line, 1000, false),
+                wanted.as_bytes(),
+                false
+            ),
+            "{length} bytes"
+        );
+    }
+    Ok(())
+}
