@@ -26,11 +26,13 @@ Example: mercator replay two_urls.script";
 
 const SERVE_HELP: &str = "\
 Requests, one a line, each answered by one line at once:
-  offer URL   accepted Q NUMBER | seen | filtered | not a URL | not http or https |
-              refused closed | refused full
-  next Q      taken URL | pending COUNT | closed | refused busy | refused nosuch
-  done Q      count COUNT | refused nothing | refused nosuch
-  endseeds    count COUNT | refused nothing
+  offer URL       accepted Q NUMBER | seen | filtered | not a URL | not http or https |
+                  refused closed | refused full
+  link BASE TEXT  the same, of TEXT as a link of the page BASE
+  next Q          taken URL | pending COUNT | closed | refused busy | refused nosuch
+  again Q         taken URL | refused nothing | refused nosuch
+  done Q          count COUNT | refused nothing | refused nosuch
+  endseeds        count COUNT | refused nothing
 Any other line is answered 'bad line', 'line too long' or 'not UTF-8'.";
 
 /// The whole command line.
