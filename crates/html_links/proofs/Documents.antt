@@ -1,5 +1,6 @@
 -- The document's machine over runs, over a whole tag and over a whole comment.
 use Rattle.std.proofs.Common.{◌≡◌, ℕ, ◌+◌, ◌-◌, ◌<◌, ◌≤◌, ◌==◌, Bool, true, false, not, cond, List, [], ◌∷◌, ◌++◌, length, take, drop, map, Option, None, Some, refl, ap, sym, ◌∙◌, arith, append_assoc, append-nil}
+use Rattle.std.specs.Prelude.{codes}
 use Rattle.std.specs.List.{take_while}
 use Rattle.std.proofs.lemmas.List.{take_rest, map-append}
 use Rattle.html_links.specs.declared.bytes.Class.{Class}
@@ -11,7 +12,14 @@ use Rattle.html_links.specs.Comments.{mark_of}
 use Rattle.html_links.specs.Comments as comments
 use Rattle.html_links.specs.RawText as raw
 use Rattle.html_links.specs.Shown.{front, behind, Stopped}
-use Rattle.html_links.specs.Document.{State, Data, TagOpen, EndTagOpen, TagName, InTag, MarkupDeclaration, MarkupDash, Bogus, InComment, InRaw, behind_tag, is_raw, raw_step, Next, Go, StartTag, emitted, open_step, end_open_step, opening_of, name_step, tag_step, comment_step, step, follow, read}
+use Rattle.html_links.specs.declared.document.Content.TheVariants as content
+use Rattle.html_links.specs.declared.script.State as code
+use Rattle.html_links.specs.declared.script.State.TheVariants as script
+use Rattle.html_links.specs.declared.script.Next as nexts
+use Rattle.html_links.specs.declared.script.Next.TheVariants as next
+use Rattle.html_links.specs.Script as scripts
+use Rattle.html_links.proofs.Scripts.{left}
+use Rattle.html_links.specs.Document.{State, Data, TagOpen, EndTagOpen, TagName, InTag, MarkupDeclaration, MarkupDash, Bogus, InComment, InRaw, behind_start, behind_tag, content_of, raw_step, InScript, InPlain, script_step, Next, Go, StartTag, emitted, open_step, end_open_step, opening_of, name_step, tag_step, comment_step, step, follow, read}
 use Rattle.html_links.specs.Markup.{in_tag_name, led_front, led_behind, rest_of, read_rest, RestLeaves, start_tag_at}
 use Rattle.html_links.specs.declared.document.StartTagAt.{StartTagAt}
 use Rattle.std.specs.Borrow.{Bor}
@@ -276,29 +284,64 @@ raw_left name s [] here e = absurd (cc)
 raw_left name s (c ∷ rest) here e =
     let le : length here ≤ length rest + 1 = raw_left_at name c (raw.step name s c) rest here (λ s e. raw_left name s rest here e) e in omega arith
 
-pub raw_named : (name : List ℕ) → is_raw (map lower name) ≡ true → 0 < length name
+pub raw_named : (name : List ℕ) → content.Raw ≡ content_of (map lower name) → 0 < length name
 raw_named [] e = absurd (cc)
 raw_named (c ∷ rest) e = omega arith
 
-pub not_raw : (name bytes : List ℕ) → is_raw name ≡ false → read (behind_tag false name) bytes ≡ read Data bytes
-not_raw name bytes e = ap (λ b. read (cond b (InRaw name raw.Text) Data) bytes) e
+pub to_markup : (name bytes : List ℕ) → content.Markup ≡ content_of name → read (behind_tag false name) bytes ≡ read Data bytes
+to_markup name bytes e = ap (λ k. read (behind_start k name) bytes) (sym e)
 
-to_raw : (name bytes : List ℕ) (o : Option (List ℕ)) → is_raw name ≡ true → o ≡ raw.run name raw.Text bytes → read (behind_tag false name) bytes ≡ raw_then name o
-to_raw name bytes o e ends = ap (λ b. read (cond b (InRaw name raw.Text) Data) bytes) e ∙ in_raw name raw.Text bytes ∙ ap (raw_then name) (sym ends)
+in_plain : (bytes : List ℕ) → read InPlain bytes ≡ []
+in_plain [] = refl
+in_plain (c ∷ rest) = in_plain rest
+
+pub to_plain : (name bytes : List ℕ) → content.Plain ≡ content_of name → read (behind_tag false name) bytes ≡ []
+to_plain name bytes e = ap (λ k. read (behind_start k name) bytes) (sym e) ∙ in_plain bytes
+
+pub to_raw : (name bytes : List ℕ) → content.Raw ≡ content_of name → read (behind_tag false name) bytes ≡ read (InRaw name raw.Text) bytes
+to_raw name bytes e = ap (λ k. read (behind_start k name) bytes) (sym e)
+
+in_script_at : (c : ℕ) (n : nexts.Next) (rest : List ℕ) → ((s : code.State) → read (InScript s) rest ≡ raw_then (codes "script") (scripts.run s rest)) →
+    follow (script_step c n) (λ here. read here rest) ≡ raw_then (codes "script") (scripts.follow n (λ s. scripts.run s rest) (c ∷ rest))
+in_script_at c (next.Go s) rest later = later s
+in_script_at c next.Ends rest later = refl
+
+in_script : (s : code.State) (bytes : List ℕ) → read (InScript s) bytes ≡ raw_then (codes "script") (scripts.run s bytes)
+in_script s [] = refl
+in_script s (c ∷ rest) = in_script_at c (scripts.step s c) rest (λ s. in_script s rest)
+
+pub to_script : (name bytes : List ℕ) → content.Script ≡ content_of name → read (behind_tag false name) bytes ≡ read (InScript script.Text) bytes
+to_script name bytes e = ap (λ k. read (behind_start k name) bytes) (sym e)
 
 end_rest : (name : List ℕ) (o : Option Tag) (r : Option (Bor (List ℕ))) → bytes_at r ≡ rest_of o → tag_then true name o ≡ read_rest r
 end_rest name o None e = end_none name o e
 end_rest name o (Some left) e = end_then name o left.now e
 
-pub read_raw : (name bytes more : List ℕ) (r : Option (Bor (List ℕ))) → is_raw name ≡ true → Some more ≡ raw.run name raw.Text bytes → bytes_at r ≡ rest_of (tag_of more) → read (behind_tag false name) bytes ≡ read_rest r
-read_raw name bytes more r e ends tag_ends = to_raw name bytes (Some more) e ends ∙ in_tag true name BeforeName [] more ∙ end_rest name (tag_of more) r tag_ends
+pub read_raw : (name bytes more : List ℕ) (r : Option (Bor (List ℕ))) → Some more ≡ raw.run name raw.Text bytes → bytes_at r ≡ rest_of (tag_of more) → read (InRaw name raw.Text) bytes ≡ read_rest r
+read_raw name bytes more r ends tag_ends = in_raw name raw.Text bytes ∙ ap (raw_then name) (sym ends) ∙ in_tag true name BeforeName [] more ∙ end_rest name (tag_of more) r tag_ends
 
-pub read_open_raw : (name bytes : List ℕ) → is_raw name ≡ true → None ≡ raw.run name raw.Text bytes → read (behind_tag false name) bytes ≡ []
-read_open_raw name bytes e ends = to_raw name bytes None e ends
+pub read_open_raw : (name bytes : List ℕ) → None ≡ raw.run name raw.Text bytes → read (InRaw name raw.Text) bytes ≡ []
+read_open_raw name bytes ends = in_raw name raw.Text bytes ∙ ap (raw_then name) (sym ends)
 
 pub raw_leaves : (name bytes more : List ℕ) (r : Option (Bor (List ℕ))) → Some more ≡ raw.run name raw.Text bytes → bytes_at r ≡ rest_of (tag_of more) → RestLeaves r bytes
 raw_leaves name bytes more None ends tag_ends = tt
 raw_leaves name bytes more (Some left) ends tag_ends =
     let a : length more ≤ length bytes = raw_left name raw.Text bytes more (sym ends) in
     let b : length left.now < length more = rest_less (tag_of more) more left.now (λ t e. tag_less BeforeName [] more t e) tag_ends in
+    omega arith
+
+-- a whole script
+
+pub read_script : (bytes more : List ℕ) (r : Option (Bor (List ℕ))) → Some more ≡ scripts.run script.Text bytes → bytes_at r ≡ rest_of (tag_of more) → read (InScript script.Text) bytes ≡ read_rest r
+read_script bytes more r ends tag_ends =
+    in_script script.Text bytes ∙ ap (raw_then (codes "script")) (sym ends) ∙ in_tag true (codes "script") BeforeName [] more ∙ end_rest (codes "script") (tag_of more) r tag_ends
+
+pub read_open_script : (bytes : List ℕ) → None ≡ scripts.run script.Text bytes → read (InScript script.Text) bytes ≡ []
+read_open_script bytes ends = in_script script.Text bytes ∙ ap (raw_then (codes "script")) (sym ends)
+
+pub script_leaves : (bytes more : List ℕ) (r : Option (Bor (List ℕ))) → Some more ≡ scripts.run script.Text bytes → bytes_at r ≡ rest_of (tag_of more) → RestLeaves r bytes
+script_leaves bytes more None ends tag_ends = tt
+script_leaves bytes more (Some here) ends tag_ends =
+    let a : length more ≤ length bytes = left script.Text bytes more (sym ends) in
+    let b : length here.now < length more = rest_less (tag_of more) more here.now (λ t e. tag_less BeforeName [] more t e) tag_ends in
     omega arith

@@ -4,3 +4,6 @@ pub mod Loops
 pub mod Dashing
 pub mod Documents
 pub mod RawTexts
+pub mod Reading
+pub mod Seeing
+pub mod Scripts

@@ -1,5 +1,5 @@
 -- The start tags of a document, as the tokenizer of the HTML Standard reads them in HTML content (13.2.5.1 to 13.2.5.56)
--- with the text of raw elements read as raw, by their names, and a script's text without its escaped states.
+-- with the content of elements by their names alone.
 -- A doctype ends at the first `>` in each of its states, as a bogus comment does.
 use Rattle.std.specs.Prelude.{ℕ, ◌==◌, ◌||◌, Bool, true, false, if◌then◌else◌, List, [], ◌∷◌, ◌++◌, reverse, codes}
 use Rattle.std.specs.Str.{bytes_eq}
@@ -12,17 +12,31 @@ use Rattle.html_links.specs.Tags as tags
 use Rattle.html_links.specs.Comments.{mark_of}
 use Rattle.html_links.specs.Comments as comments
 use Rattle.html_links.specs.RawText as raw
+use Rattle.html_links.specs.declared.document.Content.{Content}
+use Rattle.html_links.specs.declared.document.Content.TheVariants as content
+use Rattle.html_links.specs.declared.script.State as code
+use Rattle.html_links.specs.declared.script.State.TheVariants as script
+use Rattle.html_links.specs.declared.script.Next as nexts
+use Rattle.html_links.specs.declared.script.Next.TheVariants as next
+use Rattle.html_links.specs.Script as scripts
 
 pub record StartTag : Type 0 where
   pub name : List ℕ
   pub attributes : List Attribute
   pub self_closing : Bool
 
--- the elements whose text is raw
+-- what the content of an element is, by its name: text to its end tag, a script, text to the document's end, or markup
 abbrev pub is_raw : List ℕ → Bool
 is_raw name =
     bytes_eq name (codes "title") || bytes_eq name (codes "textarea") || bytes_eq name (codes "style") || bytes_eq name (codes "xmp")
-    || bytes_eq name (codes "iframe") || bytes_eq name (codes "noembed") || bytes_eq name (codes "noframes") || bytes_eq name (codes "script")
+    || bytes_eq name (codes "iframe") || bytes_eq name (codes "noembed") || bytes_eq name (codes "noframes")
+
+abbrev pub content_of : List ℕ → Content
+content_of name =
+    if is_raw name then content.Raw
+    else if bytes_eq name (codes "script") then content.Script
+    else if bytes_eq name (codes "plaintext") then content.Plain
+    else content.Markup
 
 -- what stands behind a `<`
 abbrev pub opening_of : ℕ → Opening
@@ -45,8 +59,10 @@ pub data State : Type 0 where
   Bogus : State
   InComment : comments.State → State
   InRaw : List ℕ → raw.State → State
+  InScript : code.State → State
+  InPlain : State
 
--- Go to a here, or emit what has ended, with the start tags in it.
+-- Go to a state, or emit what has ended, with the start tags in it.
 pub data Next : Type 0 where
   Go : State → Next
   Emit : List StartTag → State → Next
@@ -56,9 +72,21 @@ abbrev pub emitted : Bool → List ℕ → List Attribute → Bool → List Star
 emitted true name attributes closing = []
 emitted false name attributes closing = record { name = name; attributes = attributes; self_closing = closing } ∷ []
 
+abbrev pub raw_content : List ℕ → State
+raw_content name = InRaw name raw.Text
+
+abbrev pub script_content : State
+script_content = InScript script.Text
+
+abbrev pub behind_start : Content → List ℕ → State
+behind_start content.Raw name = raw_content name
+behind_start content.Script name = script_content
+behind_start content.Plain name = InPlain
+behind_start content.Markup name = Data
+
 abbrev pub behind_tag : Bool → List ℕ → State
 behind_tag true name = Data
-behind_tag false name = if is_raw name then InRaw name raw.Text else Data
+behind_tag false name = behind_start (content_of name) name
 
 abbrev pub data_step : ℕ → Next
 data_step c = if c == 60 then Go TagOpen else Go Data
@@ -96,6 +124,10 @@ abbrev pub raw_step : List ℕ → ℕ → raw.Next → Next
 raw_step name c (raw.Go state) = Go (InRaw name state)
 raw_step name c raw.Ends = tag_step true name (tags.step BeforeName (class_of c) c [])
 
+abbrev pub script_step : ℕ → nexts.Next → Next
+script_step c (next.Go state) = Go (InScript state)
+script_step c next.Ends = tag_step true (codes "script") (tags.step BeforeName (class_of c) c [])
+
 abbrev pub step : State → ℕ → Next
 step Data c = data_step c
 step TagOpen c = open_step (opening_of c) c
@@ -107,6 +139,8 @@ step MarkupDash c = if c == 45 then Go (InComment comments.Start) else bogus_ste
 step Bogus c = bogus_step c
 step (InComment state) c = comment_step (comments.step state (mark_of c))
 step (InRaw name state) c = raw_step name c (raw.step name state c)
+step (InScript state) c = script_step c (scripts.step state c)
+step InPlain c = Go InPlain
 
 abbrev pub follow : Next → (State → List StartTag) → List StartTag
 follow (Go here) on = on here

@@ -5,3 +5,8 @@ pub mod Dashes
 pub mod Document
 pub mod Markup
 pub mod RawText
+pub mod Elements
+pub mod Values
+pub mod Seen
+pub mod Script
+pub mod Scans

@@ -3,12 +3,13 @@ ghost use Rattle.std.specs.Prelude.{◌≡◌, ◌<◌, length, map, IfOk, false
 ghost use Rattle.std.specs.List.{take_while};
 ghost use Rattle.html_links.specs.Tags.{tag_of, lower};
 ghost use Rattle.html_links.specs.Comments.{bytes_at};
-ghost use Rattle.html_links.specs.Document.{opening_of, read, tags_of, behind_tag, is_raw, Bogus, MarkupDeclaration};
+ghost use Rattle.html_links.specs.Document.{opening_of, read, tags_of, behind_tag, content_of, is_raw, Bogus, MarkupDeclaration, raw_content, script_content};
 ghost use Rattle.html_links.specs.Markup.{in_tag_name, led_front, led_behind, start_tag_at, read_rest, rest_of, MarkupReads, MarkupEnds, other_markup, MarkupLeaves, RestLeaves};
 
 use crate::bytes::{Class, behind_byte, class_of, parts, split_quoted};
 use crate::comments::after_comment;
 use crate::raw_text::{after_raw_text, same_name};
+use crate::script::after_script;
 use crate::tag::{AttributeAt, Piece, TagAt, next_piece, read_tag};
 use std::alloc::{AllocError, Global};
 
@@ -22,6 +23,15 @@ enum Opening {
     Plain,
 }
 
+/// What the content of an element is.
+#[derive(Clone, Copy)]
+enum Content {
+    Raw,
+    Script,
+    Plain,
+    Markup,
+}
+
 /// A start tag as it stands in the document.
 #[derive(Drop)]
 pub struct StartTagAt<'a> {
@@ -32,7 +42,7 @@ pub struct StartTagAt<'a> {
 
 /// What stands behind a `<`: a tag's name and what is behind it, or what is behind anything else.
 #[derive(Clone, Copy)]
-enum Markup<'a> {
+pub(crate) enum Markup<'a> {
     Start(&'a [u8], &'a [u8]),
     End(&'a [u8], &'a [u8]),
     Other(&'a [u8]),
@@ -120,7 +130,7 @@ fn other(rest: Option<&[u8]>) -> Markup<'_>
     }
 }
 
-fn next_markup(bytes: &[u8]) -> Markup<'_>
+pub(crate) fn next_markup(bytes: &[u8]) -> Markup<'_>
     ensures reads { MarkupReads result bytes.now }
     ensures leaves { MarkupLeaves result bytes.now }
 {
@@ -140,7 +150,7 @@ fn next_markup(bytes: &[u8]) -> Markup<'_>
 }
 
 /// What is behind a tag, from behind its name.
-fn after_tag(bytes: &[u8]) -> Option<&[u8]>
+pub(crate) fn after_tag(bytes: &[u8]) -> Option<&[u8]>
     ensures { bytes_at result ≡ rest_of (tag_of bytes.now) }
 {
     let mut rest = bytes;
@@ -164,21 +174,55 @@ fn is_raw(name: &[u8]) -> bool
         || same_name(name, b"iframe")
         || same_name(name, b"noembed")
         || same_name(name, b"noframes")
-        || same_name(name, b"script")
 }
 
-/// What is behind a start tag, or behind the end tag of its element where its text is raw.
-fn after_element<'a>(name: &[u8], bytes: &'a [u8]) -> Option<&'a [u8]>
+fn content_of(name: &[u8]) -> Content
+    ensures { result ≡ content_of (map lower name.now) }
+{
+    if is_raw(name) {
+        Content::Raw
+    } else if same_name(name, b"script") {
+        Content::Script
+    } else if same_name(name, b"plaintext") {
+        Content::Plain
+    } else {
+        Content::Markup
+    }
+}
+
+/// What is behind an element whose text is raw, from behind its start tag.
+fn after_raw<'a>(name: &[u8], bytes: &'a [u8]) -> Option<&'a [u8]>
+    requires { 0 < length name.now }
+    ensures reads { read (raw_content (map lower name.now)) bytes.now ≡ read_rest result }
+    ensures leaves { RestLeaves result bytes.now }
+{
+    match after_raw_text(name, bytes) {
+        Some(more) => after_tag(more),
+        None => None,
+    }
+}
+
+/// What is behind a script, from behind its start tag.
+fn after_whole_script(bytes: &[u8]) -> Option<&[u8]>
+    ensures reads { read script_content bytes.now ≡ read_rest result }
+    ensures leaves { RestLeaves result bytes.now }
+{
+    match after_script(bytes) {
+        Some(more) => after_tag(more),
+        None => None,
+    }
+}
+
+/// What is behind a start tag, or behind the end tag of its element where the content is text.
+pub(crate) fn after_element<'a>(name: &[u8], bytes: &'a [u8]) -> Option<&'a [u8]>
     ensures reads { read (behind_tag false (map lower name.now)) bytes.now ≡ read_rest result }
     ensures leaves { RestLeaves result bytes.now }
 {
-    if is_raw(name) {
-        match after_raw_text(name, bytes) {
-            Some(more) => after_tag(more),
-            None => None,
-        }
-    } else {
-        Some(bytes)
+    match content_of(name) {
+        Content::Raw => after_raw(name, bytes),
+        Content::Script => after_whole_script(bytes),
+        Content::Plain => None,
+        Content::Markup => Some(bytes),
     }
 }
 

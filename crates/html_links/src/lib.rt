@@ -4,10 +4,22 @@
 mod bytes;
 mod comments;
 mod document;
+mod element;
+mod found;
+mod links;
+mod named;
+mod next_tag;
 mod raw_text;
+mod reader;
+mod references;
+mod refresh;
+mod script;
+mod srcset;
+mod style;
 mod tag;
 
-pub use comments::after_comment;
 pub use document::{StartTagAt, tags};
-pub use raw_text::after_raw_text;
-pub use tag::{AttributeAt, TagAt, read_tag};
+pub use links::Links;
+pub use reader::{Base, read_links};
+pub use style::style_links;
+pub use tag::AttributeAt;

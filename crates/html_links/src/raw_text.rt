@@ -9,7 +9,7 @@ ghost use Rattle.html_links.specs.RawText.{Text, run, ends_at, same_name};
 
 use crate::bytes::{Class, behind_byte, class_of, parts, split_quoted};
 
-fn is_letter(byte: u8) -> bool
+pub(crate) fn is_letter(byte: u8) -> bool
     ensures { result ≡ is_letter byte }
 {
     matches!(byte, b'A'..=b'Z' | b'a'..=b'z')
@@ -75,4 +75,17 @@ pub fn after_raw_text<'a>(name: &[u8], bytes: &'a [u8]) -> Option<&'a [u8]>
             None => rest = opened,
         }
     }
+}
+
+/// The text of this element before its end tag, where it has one.
+pub(crate) fn raw_text<'a>(name: &[u8], bytes: &'a [u8]) -> &'a [u8]
+    requires { 0 < length name.now }
+{
+    let behind = match after_raw_text(name, bytes) {
+        Some(more) => more.len().saturating_add(name.len()).saturating_add(2),
+        None => 0,
+    };
+    bytes
+        .get(..bytes.len().saturating_sub(behind))
+        .unwrap_or(&[])
 }
