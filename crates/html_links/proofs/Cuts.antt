@@ -1,0 +1,71 @@
+-- The runs that the code cuts by a length are `front` and `behind`.
+use Rattle.std.proofs.Common.{◌≡◌, ℕ, suc, ◌+◌, ◌-◌, ◌==◌, Bool, true, false, not, cond, List, [], ◌∷◌, length, take, drop, get_or, Some, None, refl, ap, sym, ◌∙◌, arith}
+use Rattle.std.specs.List.{prefix_len, position_or_len, take_while}
+use Rattle.std.proofs.lemmas.List.Folds.{length-prefix_len}
+use Rattle.std.proofs.lemmas.List.Sums.{position_or_len_is}
+use Rattle.std.proofs.lemmas.List.{take_rest, drop_all}
+use Rattle.std.proofs.lemmas.Bool.{eqb-true}
+use Rattle.std.proofs.Math.Seq.{drop-cons}
+use Rattle.memchr.specs.Find.{IsFirstByte, is_byte}
+use Rattle.html_links.specs.Shown.{front, behind, in_name, BeginsName, name_front, name_behind}
+
+refuted : (b : Bool) → (b ≡ true → ⊥) → b ≡ false
+refuted true never = absurd (never refl)
+refuted false never = refl
+
+front_at : (b : Bool) (c : ℕ) (rest tail : List ℕ) (n : ℕ) → tail ≡ take n rest → cond b (c ∷ tail) [] ≡ take (cond b (1 + n) 0) (c ∷ rest)
+front_at true c rest tail n e = let more : 1 + n ≡ suc n = omega arith in rw more (ap (λ t. c ∷ t) e)
+front_at false c rest tail n e = refl
+
+front_prefix : (test : ℕ → Bool) (bytes : List ℕ) → front test bytes ≡ take (prefix_len test bytes) bytes
+front_prefix test [] = refl
+front_prefix test (c ∷ rest) = front_at (test c) c rest (front test rest) (prefix_len test rest) (front_prefix test rest)
+
+behind_at : (b : Bool) (c : ℕ) (rest tail : List ℕ) (n : ℕ) → tail ≡ drop n rest → cond b tail (c ∷ rest) ≡ drop (cond b (1 + n) 0) (c ∷ rest)
+behind_at true c rest tail n e = let more : 1 + n ≡ suc n = omega arith in rw more e
+behind_at false c rest tail n e = refl
+
+behind_prefix : (test : ℕ → Bool) (bytes : List ℕ) → behind test bytes ≡ drop (prefix_len test bytes) bytes
+behind_prefix test [] = refl
+behind_prefix test (c ∷ rest) = behind_at (test c) c rest (behind test rest) (prefix_len test rest) (behind_prefix test rest)
+
+pub front_cut : (test : ℕ → Bool) (bytes : List ℕ) → take (length (take_while test bytes)) bytes ≡ front test bytes
+front_cut test bytes = rw (length-prefix_len test bytes) (sym (front_prefix test bytes))
+
+pub behind_cut : (test : ℕ → Bool) (bytes : List ℕ) → drop (length (take_while test bytes)) bytes ≡ behind test bytes
+behind_cut test bytes = rw (length-prefix_len test bytes) (sym (behind_prefix test bytes))
+
+pub tail_front : (c : ℕ) (rest : List ℕ) (n : ℕ) → take (1 + n) (c ∷ rest) ≡ c ∷ take n rest
+tail_front c rest n = let more : 1 + n ≡ suc n = omega arith in rw more refl
+
+pub tail_behind : (c : ℕ) (rest : List ℕ) (n : ℕ) → drop (1 + n) (c ∷ rest) ≡ drop n rest
+tail_behind c rest n = let more : 1 + n ≡ suc n = omega arith in rw more refl
+
+-- a name, by the length of what follows its first byte
+pub name_cut : (bytes : List ℕ) (n : ℕ) → BeginsName bytes → n ≡ length (take_while in_name (take (length bytes - 1) (drop 1 bytes))) →
+    (take (1 + n) bytes ≡ name_front bytes) × (drop (1 + n) bytes ≡ name_behind bytes)
+name_cut [] n begins len = absurd begins
+name_cut (c ∷ rest) n begins len =
+    let all : take (length (c ∷ rest) - 1) (drop 1 (c ∷ rest)) ≡ rest = take_rest (c ∷ rest) 1 in
+    let short : n ≡ length (take_while in_name rest) = len ∙ ap (λ xs. length (take_while in_name xs)) all in
+    rw short (tail_front c rest _ ∙ ap (λ t. c ∷ t) (front_cut in_name rest), tail_behind c rest _ ∙ behind_cut in_name rest)
+
+-- the first quote, by its place
+pub quote_cut : (quote : ℕ) (bytes : List ℕ) (end : ℕ) → IsFirstByte (is_byte quote) bytes (Some end) →
+    (take end bytes ≡ front (λ c. not (c == quote)) bytes) × (quote ∷ drop (end + 1) bytes ≡ behind (λ c. not (c == quote)) bytes)
+quote_cut quote bytes end first =
+    let high = first.0.high in
+    let there : position_or_len (is_byte quote) bytes ≡ end =
+    position_or_len_is (is_byte quote) bytes end 0 (omega (arith, high)) (λ k below. refuted (is_byte quote (get_or bytes k 0)) (first.0.before k (omega arith) below)) (λ inside. first.1) in
+    let here : get_or bytes end 0 ≡ quote = eqb-true _ _ first.1 in
+    let cut : drop end bytes ≡ get_or bytes end 0 ∷ drop (suc end) bytes = drop-cons bytes end 0 high in
+    let after : end + 1 ≡ suc end = omega arith in (
+      sym (front_prefix (λ c. not (c == quote)) bytes ∙ ap (λ n. take n bytes) there),
+      ap (λ n. quote ∷ drop n bytes) after ∙ ap (λ q. q ∷ drop (suc end) bytes) (sym here) ∙ sym cut ∙ sym (behind_prefix (λ c. not (c == quote)) bytes ∙ ap (λ n. drop n bytes) there),
+    )
+
+pub no_quote : (quote : ℕ) (bytes : List ℕ) → IsFirstByte (is_byte quote) bytes None → behind (λ c. not (c == quote)) bytes ≡ []
+no_quote quote bytes nowhere =
+    let none : position_or_len (is_byte quote) bytes ≡ length bytes =
+    position_or_len_is (is_byte quote) bytes (length bytes) 0 (omega arith) (λ k below. refuted (is_byte quote (get_or bytes k 0)) (nowhere k (omega arith) below)) (λ inside. absurd (omega (arith, inside))) in
+    behind_prefix (λ c. not (c == quote)) bytes ∙ ap (λ n. drop n bytes) none ∙ drop_all (length bytes) bytes (omega arith)

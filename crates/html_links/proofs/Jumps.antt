@@ -1,0 +1,366 @@
+-- The machine over runs of bytes: a run on which it stays in a state is one jump.
+use Rattle.std.proofs.Common.{◌≡◌, ℕ, ◌+◌, ◌<◌, ◌≤◌, ◌==◌, Bool, true, false, not, cond, List, [], ◌∷◌, ◌++◌, length, map, reverse, Option, None, Some, refl, ap, sym, ◌∙◌, arith, append_assoc, append-nil, subst}
+use Rattle.html_links.specs.declared.bytes.Class.{Class}
+use Rattle.html_links.specs.declared.bytes.Class.TheVariants.{Space, Slash, Greater, Equals, Quote, Apostrophe, Other}
+use Rattle.html_links.specs.Tags.{Attribute, State, BeforeName, Name, AfterName, BeforeValue, DoubleQuoted, SingleQuoted, Unquoted, AfterQuoted, SelfClosing, Go, Tag, step, start, to_name, to_value, lower, class_of, run, follow}
+use Rattle.html_links.specs.Shown.{front, behind, is_space, in_name, in_unquoted, begins, BeginsName, name_front, name_behind, Stopped}
+
+-- what each byte of a run does, one after another
+abbrev written : (ℕ → List Attribute → List Attribute) → List Attribute → List ℕ → List Attribute
+written write all [] = all
+written write all (c ∷ rest) = written write (write c all) rest
+
+jump_at : (s : State) (write : ℕ → List Attribute → List Attribute) (b : Bool) (c : ℕ) (all : List Attribute) (rest some more : List ℕ) →
+    (b ≡ true → step s (class_of c) c all ≡ Go s (write c all)) →
+    run s (write c all) rest ≡ run s (written write (write c all) some) more →
+    run s all (c ∷ rest) ≡ run s (written write all (cond b (c ∷ some) [])) (cond b more (c ∷ rest))
+jump_at s write true c all rest some more stays later = ap (λ n. follow n (λ state all. run state all rest) rest) (stays refl) ∙ later
+jump_at s write false c all rest some more stays later = refl
+
+-- where it stays in s over bytes that pass a test, it jumps over them
+pub jump : (s : State) (test : ℕ → Bool) (write : ℕ → List Attribute → List Attribute) →
+    ((c : ℕ) (all : List Attribute) → test c ≡ true → step s (class_of c) c all ≡ Go s (write c all)) →
+    (all : List Attribute) (bytes : List ℕ) → run s all bytes ≡ run s (written write all (front test bytes)) (behind test bytes)
+jump s test write stays all [] = refl
+jump s test write stays all (c ∷ rest) =
+    jump_at s write (test c) c all rest (front test rest) (behind test rest) (stays c all) (jump s test write stays (write c all) rest)
+
+-- two states that do the same at the first byte
+pub same_at : (s t : State) (c : ℕ) (rest : List ℕ) (all : List Attribute) → step s (class_of c) c all ≡ step t (class_of c) c all → run s all (c ∷ rest) ≡ run t all (c ∷ rest)
+same_at s t c rest all same = ap (λ n. follow n (λ state all. run state all rest) rest) same
+
+-- what is behind a run does not pass
+stopped_at : (test : ℕ → Bool) (b : Bool) (c : ℕ) (rest more : List ℕ) → test c ≡ b → Stopped test more → Stopped test (cond b more (c ∷ rest))
+stopped_at test true c rest more is later = later
+stopped_at test false c rest more is later = is
+
+pub stopped : (test : ℕ → Bool) (bytes : List ℕ) → Stopped test (behind test bytes)
+stopped test [] = tt
+stopped test (c ∷ rest) = stopped_at test (test c) c rest (behind test rest) refl (stopped test rest)
+
+-- two states that do the same where a run has stopped
+pub same_stopped : (s t : State) (test : ℕ → Bool) → ((c : ℕ) (all : List Attribute) → test c ≡ false → step s (class_of c) c all ≡ step t (class_of c) c all) →
+    (all : List Attribute) (bytes : List ℕ) → Stopped test bytes → run s all bytes ≡ run t all bytes
+same_stopped s t test same all [] ends = refl
+same_stopped s t test same all (c ∷ rest) ends = same_at s t c rest all (same c all ends)
+
+shorter_at : (b : Bool) (c : ℕ) (rest more : List ℕ) → length more ≤ length rest → length (cond b more (c ∷ rest)) ≤ length (c ∷ rest)
+shorter_at true c rest more le = omega (arith, le)
+shorter_at false c rest more le = omega arith
+
+pub shorter : (test : ℕ → Bool) (bytes : List ℕ) → length (behind test bytes) ≤ length bytes
+shorter test [] = omega arith
+shorter test (c ∷ rest) = shorter_at (test c) c rest (behind test rest) (shorter test rest)
+
+-- white space
+
+nothing_written : (all : List Attribute) (run : List ℕ) → written (λ c a. a) all run ≡ all
+nothing_written all [] = refl
+nothing_written all (c ∷ rest) = nothing_written all rest
+
+skip : (s : State) → ((c : ℕ) (all : List Attribute) → is_space c ≡ true → step s (class_of c) c all ≡ Go s all) →
+    (all : List Attribute) (bytes : List ℕ) → run s all bytes ≡ run s all (behind is_space bytes)
+skip s stays all bytes = jump s is_space (λ c a. a) stays all bytes ∙ ap (λ a. run s a (behind is_space bytes)) (nothing_written all (front is_space bytes))
+
+abbrev spaces : Class → Bool
+spaces k = elim k [ Space ↦ true | _ ↦ false ]
+
+space_before_name : (k : Class) (c : ℕ) (all : List Attribute) → spaces k ≡ true → step BeforeName k c all ≡ Go BeforeName all
+space_before_name Space c all is = refl
+space_before_name _ c all is = absurd (cc)
+
+space_after_name : (k : Class) (c : ℕ) (all : List Attribute) → spaces k ≡ true → step AfterName k c all ≡ Go AfterName all
+space_after_name Space c all is = refl
+space_after_name _ c all is = absurd (cc)
+
+space_before_value : (k : Class) (c : ℕ) (all : List Attribute) → spaces k ≡ true → step BeforeValue k c all ≡ Go BeforeValue all
+space_before_value Space c all is = refl
+space_before_value _ c all is = absurd (cc)
+
+pub skip_before_name : (all : List Attribute) (bytes : List ℕ) → run BeforeName all bytes ≡ run BeforeName all (behind is_space bytes)
+skip_before_name = skip BeforeName (λ c all. space_before_name (class_of c) c all)
+
+pub skip_after_name : (all : List Attribute) (bytes : List ℕ) → run AfterName all bytes ≡ run AfterName all (behind is_space bytes)
+skip_after_name = skip AfterName (λ c all. space_after_name (class_of c) c all)
+
+pub skip_before_value : (all : List Attribute) (bytes : List ℕ) → run BeforeValue all bytes ≡ run BeforeValue all (behind is_space bytes)
+skip_before_value = skip BeforeValue (λ c all. space_before_value (class_of c) c all)
+
+-- names
+
+abbrev names : Class → Bool
+names k = elim k [ Space ↦ false | Slash ↦ false | Greater ↦ false | Equals ↦ false | _ ↦ true ]
+
+name_stays : (k : Class) (c : ℕ) (all : List Attribute) → names k ≡ true → step Name k c all ≡ Go Name (to_name c all)
+name_stays Space c all is = absurd (cc)
+name_stays Slash c all is = absurd (cc)
+name_stays Greater c all is = absurd (cc)
+name_stays Equals c all is = absurd (cc)
+name_stays _ c all is = refl
+
+name_ends : (k : Class) (c : ℕ) (all : List Attribute) → names k ≡ false → step Name k c all ≡ step AfterName k c all
+name_ends Space c all is = refl
+name_ends Slash c all is = refl
+name_ends Greater c all is = refl
+name_ends Equals c all is = refl
+name_ends _ c all is = absurd (cc)
+
+name_begins : (k : Class) (c : ℕ) (all : List Attribute) → begins k ≡ true → step BeforeName k c all ≡ Go Name (start c all)
+name_begins Space c all is = absurd (cc)
+name_begins Slash c all is = absurd (cc)
+name_begins Greater c all is = absurd (cc)
+name_begins _ c all is = refl
+
+name_written : (name value : List ℕ) (all : List Attribute) (run : List ℕ) →
+    written to_name (record { name = name; value = value } ∷ all) run ≡ record { name = name ++ map lower run; value = value } ∷ all
+name_written name value all [] = ap (λ n. record { name = n; value = value } ∷ all) (sym (append-nil name))
+name_written name value all (c ∷ rest) = name_written (name ++ lower c ∷ []) value all rest ∙ ap (λ n. record { name = n; value = value } ∷ all) (append_assoc name (lower c ∷ []) (map lower rest))
+
+-- an attribute's name, and the white space behind it
+pub read_name : (bytes : List ℕ) → BeginsName bytes → (all : List Attribute) →
+    run BeforeName all bytes ≡ run AfterName (record { name = map lower (name_front bytes); value = [] } ∷ all) (behind is_space (name_behind bytes))
+read_name [] begins all = absurd begins
+read_name (c ∷ rest) begins all =
+    ap (λ n. follow n (λ state all. run state all rest) rest) (name_begins (class_of c) c all begins)
+    ∙ jump Name in_name to_name (λ c all. name_stays (class_of c) c all) (start c all) rest
+    ∙ ap (λ a. run Name a (behind in_name rest)) (name_written (lower c ∷ []) [] all (front in_name rest))
+    ∙ same_stopped Name AfterName in_name (λ c all. name_ends (class_of c) c all) _ (behind in_name rest) (stopped in_name rest)
+    ∙ skip_after_name _ (behind in_name rest)
+
+pub name_shorter : (bytes : List ℕ) → BeginsName bytes → length (behind is_space (name_behind bytes)) < length bytes
+name_shorter [] begins = absurd begins
+name_shorter (c ∷ rest) begins = omega (arith, shorter in_name rest, shorter is_space (behind in_name rest))
+
+-- the class of a byte tells the byte
+
+abbrev chain : Bool → Bool → Bool → Bool → Bool → Bool → Class
+chain space slash greater equals quote apostrophe = cond space Space (cond slash Slash (cond greater Greater (cond equals Equals (cond quote Quote (cond apostrophe Apostrophe Other)))))
+
+greater_by : (b1 b2 b3 b4 b5 b6 : Bool) → chain b1 b2 b3 b4 b5 b6 ≡ Greater → b3 ≡ true
+greater_by true b2 b3 b4 b5 b6 e = absurd (cc)
+greater_by false true b3 b4 b5 b6 e = absurd (cc)
+greater_by false false true b4 b5 b6 e = refl
+greater_by false false false true b5 b6 e = absurd (cc)
+greater_by false false false false true b6 e = absurd (cc)
+greater_by false false false false false true e = absurd (cc)
+greater_by false false false false false false e = absurd (cc)
+
+equals_by : (b1 b2 b3 b4 b5 b6 : Bool) → chain b1 b2 b3 b4 b5 b6 ≡ Equals → b4 ≡ true
+equals_by true b2 b3 b4 b5 b6 e = absurd (cc)
+equals_by false true b3 b4 b5 b6 e = absurd (cc)
+equals_by false false true b4 b5 b6 e = absurd (cc)
+equals_by false false false true b5 b6 e = refl
+equals_by false false false false true b6 e = absurd (cc)
+equals_by false false false false false true e = absurd (cc)
+equals_by false false false false false false e = absurd (cc)
+
+quote_by : (b1 b2 b3 b4 b5 b6 : Bool) → chain b1 b2 b3 b4 b5 b6 ≡ Quote → b5 ≡ true
+quote_by true b2 b3 b4 b5 b6 e = absurd (cc)
+quote_by false true b3 b4 b5 b6 e = absurd (cc)
+quote_by false false true b4 b5 b6 e = absurd (cc)
+quote_by false false false true b5 b6 e = absurd (cc)
+quote_by false false false false true b6 e = refl
+quote_by false false false false false true e = absurd (cc)
+quote_by false false false false false false e = absurd (cc)
+
+apostrophe_by : (b1 b2 b3 b4 b5 b6 : Bool) → chain b1 b2 b3 b4 b5 b6 ≡ Apostrophe → b6 ≡ true
+apostrophe_by true b2 b3 b4 b5 b6 e = absurd (cc)
+apostrophe_by false true b3 b4 b5 b6 e = absurd (cc)
+apostrophe_by false false true b4 b5 b6 e = absurd (cc)
+apostrophe_by false false false true b5 b6 e = absurd (cc)
+apostrophe_by false false false false true b6 e = absurd (cc)
+apostrophe_by false false false false false true e = refl
+apostrophe_by false false false false false false e = absurd (cc)
+
+other_greater : (c : ℕ) → (c == 62) ≡ false → class_of c ≡ Greater → ⊥
+other_greater c other is = let e : (c == 62) ≡ true = greater_by _ _ _ (c == 61) (c == 34) (c == 39) is in absurd (cc)
+
+other_equals : (c : ℕ) → (c == 61) ≡ false → class_of c ≡ Equals → ⊥
+other_equals c other is = let e : (c == 61) ≡ true = equals_by _ _ (c == 62) _ (c == 34) (c == 39) is in absurd (cc)
+
+other_quote : (c : ℕ) → not (c == 34) ≡ true → class_of c ≡ Quote → ⊥
+other_quote c other is = let e : (c == 34) ≡ true = quote_by _ _ (c == 62) (c == 61) _ (c == 39) is in absurd (cc)
+
+other_apostrophe : (c : ℕ) → not (c == 39) ≡ true → class_of c ≡ Apostrophe → ⊥
+other_apostrophe c other is = let e : (c == 39) ≡ true = apostrophe_by _ _ (c == 62) (c == 61) (c == 34) _ is in absurd (cc)
+
+-- the first byte
+
+at_class : (s : State) (k : Class) (c : ℕ) (rest : List ℕ) (all : List Attribute) → k ≡ class_of c → run s all (c ∷ rest) ≡ follow (step s k c all) (λ state all. run state all rest) rest
+at_class s k c rest all is = ap (λ k. follow (step s k c all) (λ state all. run state all rest) rest) (sym is)
+
+-- an attribute without a value: what follows its name is read as before a name
+no_value : (k : Class) (c : ℕ) (all : List Attribute) → spaces k ≡ false → (k ≡ Equals → ⊥) → step AfterName k c all ≡ step BeforeName k c all
+no_value Space c all space equals = absurd (cc)
+no_value Equals c all space equals = absurd (equals refl)
+no_value _ c all space equals = refl
+
+pub read_no_value : (all : List Attribute) (bytes : List ℕ) → Stopped is_space bytes → Stopped (λ c. c == 61) bytes → run AfterName all bytes ≡ run BeforeName all bytes
+read_no_value all [] space equals = refl
+read_no_value all (c ∷ rest) space equals = same_at AfterName BeforeName c rest all (no_value (class_of c) c all space (other_equals c equals))
+
+-- a slash alone
+slash_alone : (k : Class) (c : ℕ) (all : List Attribute) → (k ≡ Greater → ⊥) → step SelfClosing k c all ≡ step BeforeName k c all
+slash_alone Greater c all greater = absurd (greater refl)
+slash_alone _ c all greater = refl
+
+pub read_slash : (all : List Attribute) (bytes : List ℕ) → Stopped (λ c. c == 62) bytes → run SelfClosing all bytes ≡ run BeforeName all bytes
+read_slash all [] greater = refl
+read_slash all (c ∷ rest) greater = same_at SelfClosing BeforeName c rest all (slash_alone (class_of c) c all (other_greater c greater))
+
+-- a quoted value
+
+value_written : (name value : List ℕ) (all : List Attribute) (run : List ℕ) →
+    written to_value (record { name = name; value = value } ∷ all) run ≡ record { name = name; value = value ++ run } ∷ all
+value_written name value all [] = ap (λ v. record { name = name; value = v } ∷ all) (sym (append-nil value))
+value_written name value all (c ∷ rest) = value_written name (value ++ c ∷ []) all rest ∙ ap (λ v. record { name = name; value = v } ∷ all) (append_assoc value (c ∷ []) rest)
+
+after_quoted : (k : Class) (c : ℕ) (all : List Attribute) → step AfterQuoted k c all ≡ step BeforeName k c all
+after_quoted Space c all = refl
+after_quoted Slash c all = refl
+after_quoted Greater c all = refl
+after_quoted _ c all = refl
+
+read_after_quoted : (all : List Attribute) (bytes : List ℕ) → run AfterQuoted all bytes ≡ run BeforeName all bytes
+read_after_quoted all [] = refl
+read_after_quoted all (c ∷ rest) = same_at AfterQuoted BeforeName c rest all (after_quoted (class_of c) c all)
+
+double_stays : (k : Class) (c : ℕ) (all : List Attribute) → (k ≡ Quote → ⊥) → step DoubleQuoted k c all ≡ Go DoubleQuoted (to_value c all)
+double_stays Quote c all quote = absurd (quote refl)
+double_stays _ c all quote = refl
+
+single_stays : (k : Class) (c : ℕ) (all : List Attribute) → (k ≡ Apostrophe → ⊥) → step SingleQuoted k c all ≡ Go SingleQuoted (to_value c all)
+single_stays Apostrophe c all quote = absurd (quote refl)
+single_stays _ c all quote = refl
+
+abbrev before : ℕ → ℕ → Bool
+before quote c = not (c == quote)
+
+double_jump : (name : List ℕ) (all : List Attribute) (bytes : List ℕ) →
+    run DoubleQuoted (record { name = name; value = [] } ∷ all) bytes ≡ run DoubleQuoted (record { name = name; value = front (before 34) bytes } ∷ all) (behind (before 34) bytes)
+double_jump name all bytes =
+    jump DoubleQuoted (before 34) to_value (λ c all passes. double_stays (class_of c) c all (other_quote c passes)) _ bytes
+    ∙ ap (λ a. run DoubleQuoted a (behind (before 34) bytes)) (value_written name [] all (front (before 34) bytes))
+
+single_jump : (name : List ℕ) (all : List Attribute) (bytes : List ℕ) →
+    run SingleQuoted (record { name = name; value = [] } ∷ all) bytes ≡ run SingleQuoted (record { name = name; value = front (before 39) bytes } ∷ all) (behind (before 39) bytes)
+single_jump name all bytes =
+    jump SingleQuoted (before 39) to_value (λ c all passes. single_stays (class_of c) c all (other_apostrophe c passes)) _ bytes
+    ∙ ap (λ a. run SingleQuoted a (behind (before 39) bytes)) (value_written name [] all (front (before 39) bytes))
+
+pub read_double : (name bytes : List ℕ) (first : ℕ) (more value rest : List ℕ) → bytes ≡ first ∷ more → Quote ≡ class_of first →
+    (value ≡ front (before 34) more) × (34 ∷ rest ≡ behind (before 34) more) →
+    (all : List Attribute) → run BeforeValue (record { name = name; value = [] } ∷ all) bytes ≡ run BeforeName (record { name = name; value = value } ∷ all) rest
+read_double name bytes first more value rest is quote cut all =
+    ap (run BeforeValue _) is ∙ at_class BeforeValue Quote first more _ quote ∙ double_jump name all more
+    ∙ ap (run DoubleQuoted _) (sym cut.1) ∙ read_after_quoted _ rest
+    ∙ ap (λ v. run BeforeName (record { name = name; value = v } ∷ all) rest) (sym cut.0)
+
+pub read_open_double : (name bytes : List ℕ) (first : ℕ) (more : List ℕ) → bytes ≡ first ∷ more → Quote ≡ class_of first → behind (before 34) more ≡ [] →
+    (all : List Attribute) → run BeforeValue (record { name = name; value = [] } ∷ all) bytes ≡ None
+read_open_double name bytes first more is quote none all =
+    ap (run BeforeValue _) is ∙ at_class BeforeValue Quote first more _ quote ∙ double_jump name all more ∙ ap (run DoubleQuoted _) none
+
+pub read_single : (name bytes : List ℕ) (first : ℕ) (more value rest : List ℕ) → bytes ≡ first ∷ more → Apostrophe ≡ class_of first →
+    (value ≡ front (before 39) more) × (39 ∷ rest ≡ behind (before 39) more) →
+    (all : List Attribute) → run BeforeValue (record { name = name; value = [] } ∷ all) bytes ≡ run BeforeName (record { name = name; value = value } ∷ all) rest
+read_single name bytes first more value rest is quote cut all =
+    ap (run BeforeValue _) is ∙ at_class BeforeValue Apostrophe first more _ quote ∙ single_jump name all more
+    ∙ ap (run SingleQuoted _) (sym cut.1) ∙ read_after_quoted _ rest
+    ∙ ap (λ v. run BeforeName (record { name = name; value = v } ∷ all) rest) (sym cut.0)
+
+pub read_open_single : (name bytes : List ℕ) (first : ℕ) (more : List ℕ) → bytes ≡ first ∷ more → Apostrophe ≡ class_of first → behind (before 39) more ≡ [] →
+    (all : List Attribute) → run BeforeValue (record { name = name; value = [] } ∷ all) bytes ≡ None
+read_open_single name bytes first more is quote none all =
+    ap (run BeforeValue _) is ∙ at_class BeforeValue Apostrophe first more _ quote ∙ single_jump name all more ∙ ap (run SingleQuoted _) none
+
+pub quoted_shorter : (test : ℕ → Bool) (bytes : List ℕ) (first quote : ℕ) (more rest : List ℕ) → bytes ≡ first ∷ more → quote ∷ rest ≡ behind test more → length rest < length bytes + 1
+quoted_shorter test bytes first quote more rest is cut =
+    let a : length bytes ≡ length (first ∷ more) = ap length is in
+    let b : length (quote ∷ rest) ≡ length (behind test more) = ap length cut in
+    let le : length (behind test more) ≤ length more = shorter test more in
+    omega arith
+
+-- an unquoted value
+
+abbrev unquoted : Class → Bool
+unquoted k = elim k [ Space ↦ false | Greater ↦ false | _ ↦ true ]
+
+unquoted_stays : (k : Class) (c : ℕ) (all : List Attribute) → unquoted k ≡ true → step Unquoted k c all ≡ Go Unquoted (to_value c all)
+unquoted_stays Space c all is = absurd (cc)
+unquoted_stays Greater c all is = absurd (cc)
+unquoted_stays _ c all is = refl
+
+unquoted_ends : (k : Class) (c : ℕ) (all : List Attribute) → unquoted k ≡ false → step Unquoted k c all ≡ step BeforeName k c all
+unquoted_ends Space c all is = refl
+unquoted_ends Greater c all is = refl
+unquoted_ends _ c all is = absurd (cc)
+
+unquoted_begins : (k : Class) (c : ℕ) (all : List Attribute) → spaces k ≡ false → (k ≡ Greater → ⊥) → (k ≡ Quote → ⊥) → (k ≡ Apostrophe → ⊥) → step BeforeValue k c all ≡ step Unquoted k c all
+unquoted_begins Space c all space greater quote apostrophe = absurd (cc)
+unquoted_begins Greater c all space greater quote apostrophe = absurd (greater refl)
+unquoted_begins Quote c all space greater quote apostrophe = absurd (quote refl)
+unquoted_begins Apostrophe c all space greater quote apostrophe = absurd (apostrophe refl)
+unquoted_begins _ c all space greater quote apostrophe = refl
+
+unquoted_jump : (name : List ℕ) (all : List Attribute) (bytes : List ℕ) →
+    run Unquoted (record { name = name; value = [] } ∷ all) bytes ≡ run BeforeName (record { name = name; value = front in_unquoted bytes } ∷ all) (behind in_unquoted bytes)
+unquoted_jump name all bytes =
+    jump Unquoted in_unquoted to_value (λ c all. unquoted_stays (class_of c) c all) _ bytes
+    ∙ ap (λ a. run Unquoted a (behind in_unquoted bytes)) (value_written name [] all (front in_unquoted bytes))
+    ∙ same_stopped Unquoted BeforeName in_unquoted (λ c all. unquoted_ends (class_of c) c all) _ (behind in_unquoted bytes) (stopped in_unquoted bytes)
+
+pub read_unquoted : (name bytes : List ℕ) (first : ℕ) (more value rest : List ℕ) → bytes ≡ first ∷ more → Stopped is_space bytes →
+    (class_of first ≡ Greater → ⊥) → (class_of first ≡ Quote → ⊥) → (class_of first ≡ Apostrophe → ⊥) → value ≡ front in_unquoted bytes → rest ≡ behind in_unquoted bytes →
+    (all : List Attribute) → run BeforeValue (record { name = name; value = [] } ∷ all) bytes ≡ run BeforeName (record { name = name; value = value } ∷ all) rest
+read_unquoted name bytes first more value rest is space greater quote apostrophe cut end all =
+    let here : Stopped is_space (first ∷ more) = subst (λ (xs : List ℕ). Stopped is_space xs) is space in
+    ap (run BeforeValue _) is
+    ∙ same_at BeforeValue Unquoted first more _ (unquoted_begins (class_of first) first _ here greater quote apostrophe)
+    ∙ ap (run Unquoted _) (sym is) ∙ unquoted_jump name all bytes
+    ∙ ap (λ v. run BeforeName (record { name = name; value = v } ∷ all) (behind in_unquoted bytes)) (sym cut)
+    ∙ ap (run BeforeName _) (sym end)
+
+-- an attribute with a value, from its name on
+pub read_equals : (bytes zs more : List ℕ) → BeginsName bytes → zs ≡ behind is_space (name_behind bytes) → zs ≡ 61 ∷ more → (all : List Attribute) →
+    run BeforeName all bytes ≡ run BeforeValue (record { name = map lower (name_front bytes); value = [] } ∷ all) (behind is_space more)
+read_equals bytes zs more begins skipped is all =
+    read_name bytes begins all ∙ ap (run AfterName _) (sym skipped ∙ is) ∙ skip_before_value _ more
+
+pub read_bare : (bytes zs : List ℕ) → BeginsName bytes → zs ≡ behind is_space (name_behind bytes) → Stopped is_space zs → Stopped (λ c. c == 61) zs → (all : List Attribute) →
+    run BeforeName all bytes ≡ run BeforeName (record { name = map lower (name_front bytes); value = [] } ∷ all) zs
+read_bare bytes zs begins skipped space equals all =
+    read_name bytes begins all ∙ ap (run AfterName _) (sym skipped) ∙ read_no_value _ zs space equals
+
+-- the pieces at the first byte that is no white space
+
+pub read_end : (bytes zs : List ℕ) → zs ≡ behind is_space bytes → zs ≡ [] → (all : List Attribute) → run BeforeName all bytes ≡ None
+read_end bytes zs skipped is all = skip_before_name all bytes ∙ ap (run BeforeName all) (sym skipped ∙ is)
+
+pub read_greater : (bytes zs : List ℕ) (first : ℕ) (more : List ℕ) → zs ≡ behind is_space bytes → zs ≡ first ∷ more → Greater ≡ class_of first → (all : List Attribute) →
+    run BeforeName all bytes ≡ Some (record { attributes = reverse all; self_closing = false; rest = more })
+read_greater bytes zs first more skipped is greater all =
+    skip_before_name all bytes ∙ ap (run BeforeName all) (sym skipped ∙ is) ∙ at_class BeforeName Greater first more all greater
+
+to_slash : (bytes zs : List ℕ) (first : ℕ) (more : List ℕ) → zs ≡ behind is_space bytes → zs ≡ first ∷ more → Slash ≡ class_of first → (all : List Attribute) →
+    run BeforeName all bytes ≡ run SelfClosing all more
+to_slash bytes zs first more skipped is slash all =
+    skip_before_name all bytes ∙ ap (run BeforeName all) (sym skipped ∙ is) ∙ at_class BeforeName Slash first more all slash
+
+pub read_self_closing : (bytes zs : List ℕ) (first : ℕ) (more last : List ℕ) → zs ≡ behind is_space bytes → zs ≡ first ∷ more → Slash ≡ class_of first → more ≡ 62 ∷ last → (all : List Attribute) →
+    run BeforeName all bytes ≡ Some (record { attributes = reverse all; self_closing = true; rest = last })
+read_self_closing bytes zs first more last skipped is slash end all = to_slash bytes zs first more skipped is slash all ∙ ap (run SelfClosing all) end
+
+pub read_slash_alone : (bytes zs : List ℕ) (first : ℕ) (more : List ℕ) → zs ≡ behind is_space bytes → zs ≡ first ∷ more → Slash ≡ class_of first → Stopped (λ c. c == 62) more → (all : List Attribute) →
+    run BeforeName all bytes ≡ run BeforeName all more
+read_slash_alone bytes zs first more skipped is slash alone all = to_slash bytes zs first more skipped is slash all ∙ read_slash all more alone
+
+pub read_attribute : (bytes zs : List ℕ) (P : Option Tag) → zs ≡ behind is_space bytes → (all : List Attribute) → run BeforeName all zs ≡ P → run BeforeName all bytes ≡ P
+read_attribute bytes zs P skipped all reads = skip_before_name all bytes ∙ ap (run BeforeName all) (sym skipped) ∙ reads
+
+pub piece_shorter : (bytes zs : List ℕ) (first : ℕ) (more : List ℕ) → zs ≡ behind is_space bytes → zs ≡ first ∷ more → length more < length bytes
+piece_shorter bytes zs first more skipped is =
+    let a : length zs ≡ length (behind is_space bytes) = ap length skipped in
+    let b : length zs ≡ length (first ∷ more) = ap length is in
+    let le : length (behind is_space bytes) ≤ length bytes = shorter is_space bytes in
+    omega arith

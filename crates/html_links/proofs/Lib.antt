@@ -1,0 +1,9 @@
+pub mod Cuts
+pub mod Jumps
+pub mod Loops
+pub mod Dashing
+pub mod Documents
+pub mod RawTexts
+pub mod Reading
+pub mod Seeing
+pub mod Scripts

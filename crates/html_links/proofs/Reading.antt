@@ -1,0 +1,36 @@
+-- The values of a tag's wanted attributes, one attribute after another.
+use Rattle.std.proofs.Common.{◌≡◌, ◌∙◌, sym, ap, refl, ℕ, Bool, true, false, cond, List, [], ◌∷◌, ◌++◌, reverse, map, Option, None, Some}
+use Rattle.std.specs.Prelude.{codes}
+use Rattle.std.proofs.lemmas.Grind.{reverse_onto}
+use Rattle.std.specs.Str.{bytes_eq}
+use Rattle.html_links.specs.Tags.{lower, Attribute, run, BeforeName}
+use Rattle.html_links.specs.Elements.{Wanted}
+use Rattle.html_links.specs.Values.{Values, values_of, first_named, or_named, with_attribute}
+
+-- some attributes are behind it, and these are their values
+pub record Reading (bytes rest : List ℕ) (w : Wanted) (v : Values) : Type 0 where
+  pub all : List Attribute
+  pub reads : run BeforeName all rest ≡ run BeforeName [] bytes
+  pub values : v ≡ values_of w (reverse all)
+
+-- one attribute more at the end
+
+named_at : (b : Bool) (value : List ℕ) (o : Option (List ℕ)) (name : List ℕ) (a : Attribute) (first : Option (List ℕ)) →
+    o ≡ or_named first name a → cond b (Some value) o ≡ or_named (cond b (Some value) first) name a
+named_at true value o name a first e = refl
+named_at false value o name a first e = e
+
+named_last : (name : List ℕ) (all : List Attribute) (a : Attribute) → first_named name (all ++ a ∷ []) ≡ or_named (first_named name all) name a
+named_last name [] a = refl
+named_last name (x ∷ rest) a = named_at (bytes_eq x.name (map lower name)) x.value (first_named name (rest ++ a ∷ [])) name a (first_named name rest) (named_last name rest a)
+
+values_last : (w : Wanted) (all : List Attribute) (a : Attribute) → values_of w (all ++ a ∷ []) ≡ with_attribute (values_of w all) w a
+values_last w all a = rw (named_last w.first all a, named_last w.second all a, named_last w.third all a, named_last (codes "style") all a) refl
+
+pub one_more : (bytes rest more : List ℕ) (w : Wanted) (v new : Values) (a : Attribute) → Reading bytes rest w v →
+    ((all : List Attribute) → run BeforeName all rest ≡ run BeforeName (a ∷ all) more) → new ≡ with_attribute v w a → Reading bytes more w new
+one_more bytes rest more w v new a so_far reads with_it = record {
+  all = a ∷ so_far.all;
+  reads = sym (reads so_far.all) ∙ so_far.reads;
+  values = with_it ∙ ap (λ (v : Values). with_attribute v w a) so_far.values ∙ sym (values_last w (reverse so_far.all) a) ∙ ap (values_of w) (sym (reverse_onto so_far.all a []));
+}

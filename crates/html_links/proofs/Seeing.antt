@@ -1,0 +1,70 @@
+-- What a reader of links sees, tag by tag.
+use Rattle.std.proofs.Common.{◌≡◌, ◌∙◌, ◌<◌, ◌≤◌, ◌+◌, sym, ap, refl, arith, ℕ, true, false, List, [], ◌∷◌, ◌++◌, length, map, Option, None, Some}
+use Rattle.html_links.specs.declared.element.Element.{Element}
+use Rattle.html_links.specs.declared.next_tag.NextTag.{NextTag}
+use Rattle.html_links.specs.Tags.{Attribute, Tag, BeforeName, tag_of}
+use Rattle.html_links.specs.Document.{StartTag, Data, InTag, behind_tag, read}
+use Rattle.html_links.specs.Elements.{Wanted, element_of, wanted_of}
+use Rattle.html_links.specs.Values.{Values, TagValues, tag_with, values_of, values_in}
+use Rattle.html_links.specs.Seen.{seen_of, seen_with, LeavesTag}
+use Rattle.html_links.proofs.Documents.{tag_then, in_tag, tag_less}
+
+abbrev values_from : Values → Option TagValues → Values
+values_from v None = v
+values_from v (Some x) = x.values
+
+abbrev rest_from : List ℕ → Option TagValues → List ℕ
+rest_from rest None = rest
+rest_from rest (Some x) = x.rest
+
+seen_at_tag : (name : List ℕ) (o : Option Tag) (v : Values) (text : List ℕ) (more : List StartTag) → Some (tag_with v text) ≡ values_in (wanted_of (element_of name)) o →
+    read (behind_tag false name) text ≡ more → map seen_of (tag_then false name o) ≡ seen_with (element_of name) v ∷ map seen_of more
+seen_at_tag name None v text more e behind = absurd (cc)
+seen_at_tag name (Some t) v text more e behind =
+    let values : values_of (wanted_of (element_of name)) t.attributes ≡ v = ap (values_from v) (sym e) in
+    let rest : t.rest ≡ text = ap (rest_from text) (sym e) in
+    ap (λ (v : Values). seen_with (element_of name) v ∷ map seen_of (read (behind_tag false name) t.rest)) values
+    ∙ ap (λ (r : List ℕ). seen_with (element_of name) v ∷ map seen_of (read (behind_tag false name) r)) rest
+    ∙ ap (λ (m : List StartTag). seen_with (element_of name) v ∷ map seen_of m) behind
+
+-- a start tag whose values were found
+pub seen_start : (name bytes : List ℕ) (element : Element) (w : Wanted) (v : Values) (text : List ℕ) (more : List StartTag) → element ≡ element_of name → w ≡ wanted_of element →
+    Some (tag_with v text) ≡ values_in w (tag_of bytes) → read (behind_tag false name) text ≡ more →
+    map seen_of (read (InTag false name BeforeName []) bytes) ≡ seen_with element v ∷ map seen_of more
+seen_start name bytes element w v text more is wants found behind =
+    ap (map seen_of) (in_tag false name BeforeName [] bytes)
+    ∙ seen_at_tag name (tag_of bytes) v text more (found ∙ ap (λ (w : Wanted). values_in w (tag_of bytes)) (wants ∙ ap wanted_of is)) behind
+    ∙ ap (λ (e : Element). seen_with e v ∷ map seen_of more) (sym is)
+
+none_seen : (name : List ℕ) (o : Option Tag) (w : Wanted) → None ≡ values_in w o → map seen_of (tag_then false name o) ≡ []
+none_seen name None w e = refl
+none_seen name (Some t) w e = absurd (cc)
+
+-- one that does not end
+pub open_start : (name bytes : List ℕ) (w : Wanted) → None ≡ values_in w (tag_of bytes) → map seen_of (read (InTag false name BeforeName []) bytes) ≡ []
+open_start name bytes w found = ap (map seen_of) (in_tag false name BeforeName [] bytes) ∙ none_seen name (tag_of bytes) w found
+
+text_less_at : (o : Option Tag) (w : Wanted) (v : Values) (text bytes : List ℕ) → ((t : Tag) → o ≡ Some t → length t.rest < length bytes) → Some (tag_with v text) ≡ values_in w o → length text < length bytes
+text_less_at None w v text bytes less e = absurd (cc)
+text_less_at (Some t) w v text bytes less e =
+    let rest : t.rest ≡ text = ap (rest_from text) (sym e) in
+    let l : length t.rest ≡ length text = ap length rest in
+    omega (arith, less t refl)
+
+pub text_less : (w : Wanted) (v : Values) (text bytes : List ℕ) → Some (tag_with v text) ≡ values_in w (tag_of bytes) → length text < length bytes
+text_less w v text bytes found = text_less_at (tag_of bytes) w v text bytes (λ t e. tag_less BeforeName [] bytes t e) found
+
+pub leaves_within : (t : Option NextTag) (more bytes : List ℕ) → length more ≤ length bytes → LeavesTag t more → LeavesTag t bytes
+leaves_within None more bytes le leaves = tt
+leaves_within (Some t) more bytes le leaves = omega arith
+
+-- what is sought in the bytes stands in what is left of them
+pub record Sought (bytes rest : List ℕ) : Type 0 where
+  pub same : map seen_of (read Data bytes) ≡ map seen_of (read Data rest)
+  pub left : length rest ≤ length bytes
+
+pub sought_on : (bytes rest more : List ℕ) → Sought bytes rest → read Data rest ≡ read Data more → length more < length rest → Sought bytes more
+sought_on bytes rest more so_far reads less = record {
+  same = so_far.same ∙ ap (map seen_of) reads;
+  left = omega (arith, so_far.left);
+}

@@ -1,0 +1,10 @@
+use Rattle.std.proofs.Common.{◌≡◌, List, length, []}
+use Rattle.html_links.specs.Tags.{Attribute, run, BeforeName}
+use Rattle.html_links.proofs.document.after_tag.Given as goal
+
+-- the tag ends where what is left of it ends, after some attributes
+abbrev pub invariant-pieces : goal.invariant-pieces
+invariant-pieces l = (all : List Attribute) × (run BeforeName all l.rest ≡ run BeforeName [] l.fn.bytes)
+
+abbrev pub decreases-pieces : goal.decreases-pieces
+decreases-pieces l = length l.rest

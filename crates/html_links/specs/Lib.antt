@@ -1,0 +1,12 @@
+pub mod Tags
+pub mod Shown
+pub mod Comments
+pub mod Dashes
+pub mod Document
+pub mod Markup
+pub mod RawText
+pub mod Elements
+pub mod Values
+pub mod Seen
+pub mod Script
+pub mod Scans

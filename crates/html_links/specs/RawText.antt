@@ -1,0 +1,56 @@
+-- Raw text, as in `style` or `title`, to its end tag, as the tokenizer of the HTML Standard reads it
+-- (13.2.5.2 and 13.2.5.3 with 13.2.5.9 to 13.2.5.14; RCDATA and RAWTEXT differ in character references alone).
+use Rattle.std.specs.Prelude.{ℕ, ◌==◌, Bool, true, false, if◌then◌else◌, List, [], ◌∷◌, ◌++◌, map, Option, None, Some}
+use Rattle.std.specs.Str.{bytes_eq}
+use Rattle.html_links.specs.declared.bytes.Class.{Class}
+use Rattle.html_links.specs.declared.bytes.Class.TheVariants.{Space, Slash, Greater}
+use Rattle.std.specs.Char.{to_ascii_lowercase}
+use Rattle.html_links.specs.Tags.{class_of, is_letter}
+
+-- in an end tag's name stands the name so far, the Standard's temporary buffer in to_ascii_lowercase case
+pub data State : Type 0 where
+  Text : State
+  LessThan : State
+  EndTagOpen : State
+  EndTagName : List ℕ → State
+
+-- go to a state, or go on behind the end tag's name, at this byte
+pub data Next : Type 0 where
+  Go : State → Next
+  Ends : Next
+
+abbrev pub text_step : ℕ → Next
+text_step c = if c == 60 then Go LessThan else Go Text
+
+-- an appropriate end tag's name ends at white space, `/` or `>`
+abbrev pub ends_name : Class → Bool
+ends_name Space = true
+ends_name Slash = true
+ends_name Greater = true
+ends_name _ = false
+
+abbrev pub step : List ℕ → State → ℕ → Next
+step name Text c = text_step c
+step name LessThan c = if c == 47 then Go EndTagOpen else text_step c
+step name EndTagOpen c = if is_letter c then Go (EndTagName (to_ascii_lowercase c ∷ [])) else text_step c
+step name (EndTagName so_far) c =
+    if is_letter c then Go (EndTagName (so_far ++ to_ascii_lowercase c ∷ []))
+    else if ends_name (class_of c) then (if bytes_eq so_far name then Ends else text_step c)
+    else text_step c
+
+abbrev pub follow : Next → (State → Option (List ℕ)) → List ℕ → Option (List ℕ)
+follow (Go state) on here = on state
+follow Ends on here = Some here
+
+-- the bytes from behind the name of the end tag of the element with this name; nothing where there is none
+abbrev pub run : List ℕ → State → List ℕ → Option (List ℕ)
+run name state [] = None
+run name state (c ∷ rest) = follow (step name state c) (λ state. run name state rest) (c ∷ rest)
+
+-- what the code tests of the letters behind `</` and the bytes behind them
+abbrev pub ends_at : List ℕ → Bool
+ends_at [] = false
+ends_at (c ∷ rest) = ends_name (class_of c)
+
+abbrev pub same_name : List ℕ → List ℕ → Bool
+same_name found name = bytes_eq (map to_ascii_lowercase found) (map to_ascii_lowercase name)

@@ -1,0 +1,81 @@
+-- What the code's values stand for in the words of `Tags`, and the runs of bytes that it cuts.
+use Rattle.std.specs.Prelude.{◌≡◌, ℕ, ◌<◌, Bool, true, false, if◌then◌else◌, List, [], ◌∷◌, length, map, reverse, Option, None, Some}
+use Rattle.html_links.specs.declared.bytes.Class.{Class}
+use Rattle.html_links.specs.declared.bytes.Class.TheVariants.{Space, Slash, Greater, Equals}
+use Rattle.html_links.specs.declared.tag.AttributeAt.{AttributeAt}
+use Rattle.html_links.specs.declared.tag.TagAt.{TagAt}
+use Rattle.html_links.specs.declared.tag.Piece.{Piece}
+use Rattle.html_links.specs.declared.tag.Piece.TheVariants as piece
+use Rattle.html_links.specs.Tags.{Attribute, Tag, BeforeName, BeforeValue, lower, class_of, run}
+
+-- the bytes from the front on that pass a test
+abbrev pub front : (ℕ → Bool) → List ℕ → List ℕ
+front test [] = []
+front test (c ∷ rest) = if test c then c ∷ front test rest else []
+
+-- and those behind them
+abbrev pub behind : (ℕ → Bool) → List ℕ → List ℕ
+behind test [] = []
+behind test (c ∷ rest) = if test c then behind test rest else c ∷ rest
+
+abbrev pub is_space : ℕ → Bool
+is_space c = elim (class_of c) [ Space ↦ true | _ ↦ false ]
+
+abbrev pub in_name : ℕ → Bool
+in_name c = elim (class_of c) [ Space ↦ false | Slash ↦ false | Greater ↦ false | Equals ↦ false | _ ↦ true ]
+
+abbrev pub in_unquoted : ℕ → Bool
+in_unquoted c = elim (class_of c) [ Space ↦ false | Greater ↦ false | _ ↦ true ]
+
+-- the class begins a name, where an attribute may begin
+abbrev pub begins : Class → Bool
+begins Space = false
+begins Slash = false
+begins Greater = false
+begins _ = true
+
+abbrev pub BeginsName : List ℕ → Type 0
+BeginsName [] = ⊥
+BeginsName (c ∷ rest) = begins (class_of c) ≡ true
+
+-- a name, whose first byte may be `=`, and what is behind it
+abbrev pub name_front : List ℕ → List ℕ
+name_front [] = []
+name_front (c ∷ rest) = c ∷ front in_name rest
+
+abbrev pub name_behind : List ℕ → List ℕ
+name_behind [] = []
+name_behind (c ∷ rest) = behind in_name rest
+
+abbrev pub attribute_at : AttributeAt → Attribute
+attribute_at a = record { name = map lower a.name.now; value = a.value.now }
+
+abbrev pub tag_at : Option TagAt → Option Tag
+tag_at None = None
+tag_at (Some t) = Some (record { attributes = map attribute_at t.attributes.items; self_closing = t.self_closing; rest = t.rest.now })
+
+-- what the machine gives once it has read a piece, after these attributes
+abbrev pub outcome : Piece → List Attribute → Option Tag
+outcome (piece.Attribute a more) all = run BeforeName (attribute_at a ∷ all) more.now
+outcome (piece.Slash more) all = run BeforeName all more.now
+outcome (piece.End closing more) all = Some (record { attributes = reverse all; self_closing = closing; rest = more.now })
+outcome piece.Unfinished all = None
+
+abbrev pub Reads : Piece → List ℕ → Type 0
+Reads piece bytes = (all : List Attribute) → run BeforeName all bytes ≡ outcome piece all
+
+-- The same from before the value of an attribute with this name.
+abbrev pub ReadsValue : Piece → List ℕ → List ℕ → Type 0
+ReadsValue piece name bytes = (all : List Attribute) → run BeforeValue (record { name = map lower name; value = [] } ∷ all) bytes ≡ outcome piece all
+
+-- what is left has fewer bytes than n
+abbrev pub Leaves : Piece → ℕ → Type 0
+Leaves (piece.Attribute a more) n = length more.now < n
+Leaves (piece.Slash more) n = length more.now < n
+Leaves (piece.End closing more) n = length more.now < n
+Leaves piece.Unfinished n = Unit {0}
+
+-- the first byte fails the test, where there is one
+abbrev pub Stopped : (ℕ → Bool) → List ℕ → Type 0
+Stopped test [] = Unit {0}
+Stopped test (c ∷ rest) = test c ≡ false

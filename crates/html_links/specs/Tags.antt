@@ -1,0 +1,113 @@
+-- Start tags from behind their name, as the tokenizer of the HTML Standard reads them (13.2.5.32 to 13.2.5.40).
+-- Each state is one constructor, each transition one equation of `step`. Carriage returns count as white space,
+-- since the Standard makes line feeds of them first. NUL stays NUL, and character references stay as they are.
+use Rattle.std.specs.Prelude.{ℕ, ◌==◌, ◌||◌, ◌&&◌, nat_le, Bool, true, false, if◌then◌else◌, List, [], ◌∷◌, ◌++◌, reverse, Option, None, Some}
+use Rattle.std.specs.Char.{to_ascii_lowercase}
+use Rattle.html_links.specs.declared.bytes.Class.{Class}
+use Rattle.html_links.specs.declared.bytes.Class.TheVariants.{Space, Slash, Greater, Equals, Quote, Apostrophe, Other}
+
+-- tab, line feed, form feed, carriage return and space; `/`, `>`, `=`, `"`, `'`
+abbrev pub class_of : ℕ → Class
+class_of c =
+    if c == 9 || c == 10 || c == 12 || c == 13 || c == 32 then Space
+    else if c == 47 then Slash
+    else if c == 62 then Greater
+    else if c == 61 then Equals
+    else if c == 34 then Quote
+    else if c == 39 then Apostrophe
+    else Other
+
+-- an ASCII upper alpha in lower case
+abbrev pub lower : ℕ → ℕ
+lower c = to_ascii_lowercase c
+
+abbrev pub is_letter : ℕ → Bool
+is_letter c = (nat_le 65 c && nat_le c 90) || (nat_le 97 c && nat_le c 122)
+
+pub record Attribute : Type 0 where
+  pub name : List ℕ
+  pub value : List ℕ
+
+pub data State : Type 0 where
+  BeforeName : State
+  Name : State
+  AfterName : State
+  BeforeValue : State
+  DoubleQuoted : State
+  SingleQuoted : State
+  Unquoted : State
+  AfterQuoted : State
+  SelfClosing : State
+
+-- a new attribute, whose name has one byte
+abbrev pub start : ℕ → List Attribute → List Attribute
+start c all = record { name = lower c ∷ []; value = [] } ∷ all
+
+-- one more byte of the latest attribute's name, and of its value
+abbrev pub to_name : ℕ → List Attribute → List Attribute
+to_name c [] = []
+to_name c (a ∷ all) = record { name = a.name ++ lower c ∷ []; value = a.value } ∷ all
+
+abbrev pub to_value : ℕ → List Attribute → List Attribute
+to_value c [] = []
+to_value c (a ∷ all) = record { name = a.name; value = a.value ++ c ∷ [] } ∷ all
+
+-- Go to a state, or emit the tag, with its self-closing flag.
+pub data Next : Type 0 where
+  Go : State → List Attribute → Next
+  Emit : Bool → List Attribute → Next
+
+abbrev pub step : State → Class → ℕ → List Attribute → Next
+step BeforeName Space c all = Go BeforeName all
+step BeforeName Slash c all = Go SelfClosing all
+step BeforeName Greater c all = Emit false all
+step BeforeName _ c all = Go Name (start c all)
+step Name Space c all = Go AfterName all
+step Name Slash c all = Go SelfClosing all
+step Name Greater c all = Emit false all
+step Name Equals c all = Go BeforeValue all
+step Name _ c all = Go Name (to_name c all)
+step AfterName Space c all = Go AfterName all
+step AfterName Slash c all = Go SelfClosing all
+step AfterName Equals c all = Go BeforeValue all
+step AfterName Greater c all = Emit false all
+step AfterName _ c all = Go Name (start c all)
+step BeforeValue Space c all = Go BeforeValue all
+step BeforeValue Quote c all = Go DoubleQuoted all
+step BeforeValue Apostrophe c all = Go SingleQuoted all
+step BeforeValue Greater c all = Emit false all
+step BeforeValue _ c all = Go Unquoted (to_value c all)
+step DoubleQuoted Quote c all = Go AfterQuoted all
+step DoubleQuoted _ c all = Go DoubleQuoted (to_value c all)
+step SingleQuoted Apostrophe c all = Go AfterQuoted all
+step SingleQuoted _ c all = Go SingleQuoted (to_value c all)
+step Unquoted Space c all = Go BeforeName all
+step Unquoted Greater c all = Emit false all
+step Unquoted _ c all = Go Unquoted (to_value c all)
+step AfterQuoted Space c all = Go BeforeName all
+step AfterQuoted Slash c all = Go SelfClosing all
+step AfterQuoted Greater c all = Emit false all
+step AfterQuoted _ c all = Go Name (start c all)
+step SelfClosing Greater c all = Emit true all
+step SelfClosing Space c all = Go BeforeName all
+step SelfClosing Slash c all = Go SelfClosing all
+step SelfClosing _ c all = Go Name (start c all)
+
+-- A tag that was emitted: its attributes in order, and the bytes behind it.
+pub record Tag : Type 0 where
+  pub attributes : List Attribute
+  pub self_closing : Bool
+  pub rest : List ℕ
+
+abbrev pub follow : Next → (State → List Attribute → Option Tag) → List ℕ → Option Tag
+follow (Go state all) on rest = on state all
+follow (Emit closing all) on rest = Some (record { attributes = reverse all; self_closing = closing; rest = rest })
+
+-- At the end of the file within a tag there is no tag.
+abbrev pub run : State → List Attribute → List ℕ → Option Tag
+run state all [] = None
+run state all (c ∷ rest) = follow (step state (class_of c) c all) (λ state all. run state all rest) rest
+
+-- the tag that begins with these bytes behind its name
+abbrev pub tag_of : List ℕ → Option Tag
+tag_of bytes = run BeforeName [] bytes

@@ -1,0 +1,58 @@
+-- The values of a tag's wanted attributes: of equal names the first counts.
+use Rattle.std.specs.Prelude.{ℕ, if◌then◌else◌, List, [], ◌∷◌, map, codes, Option, None, Some}
+use Rattle.std.specs.Option.{option_or}
+use Rattle.std.specs.Str.{bytes_eq}
+use Rattle.std.specs.Borrow.{Bor}
+use Rattle.html_links.specs.declared.found.Values as code
+use Rattle.html_links.specs.Tags.{lower, Attribute, Tag}
+use Rattle.html_links.specs.Comments.{bytes_at}
+use Rattle.html_links.specs.Elements.{Wanted}
+
+-- the value of the first attribute with a name
+abbrev pub first_named : List ℕ → List Attribute → Option (List ℕ)
+first_named name [] = None
+first_named name (a ∷ rest) = if bytes_eq a.name (map lower name) then Some a.value else first_named name rest
+
+pub record Values : Type 0 where
+  pub first : Option (List ℕ)
+  pub second : Option (List ℕ)
+  pub third : Option (List ℕ)
+  pub style : Option (List ℕ)
+
+abbrev pub values_of : Wanted → List Attribute → Values
+values_of w all = record {
+  first = first_named w.first all;
+  second = first_named w.second all;
+  third = first_named w.third all;
+  style = first_named (codes "style") all;
+}
+
+-- What is said of the code: values with what is behind the tag, and one attribute more.
+pub record TagValues : Type 0 where
+  pub values : Values
+  pub rest : List ℕ
+
+abbrev pub tag_with : Values → List ℕ → TagValues
+tag_with values rest = record { values = values; rest = rest }
+
+abbrev pub values_in : Wanted → Option Tag → Option TagValues
+values_in w None = None
+values_in w (Some t) = Some (tag_with (values_of w t.attributes) t.rest)
+
+abbrev pub values_at : code.Values → Values
+values_at v = record { first = bytes_at v.first; second = bytes_at v.second; third = bytes_at v.third; style = bytes_at v.style }
+
+abbrev pub tag_values : Option (code.Values × Bor (List ℕ)) → Option TagValues
+tag_values None = None
+tag_values (Some x) = Some (tag_with (values_at x.0) x.1.now)
+
+abbrev pub or_named : Option (List ℕ) → List ℕ → Attribute → Option (List ℕ)
+or_named value name a = option_or value (if bytes_eq a.name (map lower name) then Some a.value else None)
+
+abbrev pub with_attribute : Values → Wanted → Attribute → Values
+with_attribute v w a = record {
+  first = or_named v.first w.first a;
+  second = or_named v.second w.second a;
+  third = or_named v.third w.third a;
+  style = or_named v.style (codes "style") a;
+}

@@ -1,0 +1,141 @@
+//! Classes of bytes, and slices cut where they change.
+ghost use Rattle.std.specs.Prelude.{◌≡◌, ◌≤◌, ◌∷◌, ◌==◌, [], length, not, MatchOption};
+ghost use Rattle.std.specs.List.{take_while};
+ghost use Rattle.html_links.specs.Tags.{class_of};
+ghost use Rattle.html_links.specs.Shown.{front, behind, is_space, in_name, in_unquoted, name_front, name_behind, BeginsName, Stopped};
+
+use memchr::memchr;
+
+/// What a byte means within a tag.
+#[derive(Clone, Copy)]
+pub(crate) enum Class {
+    Space,
+    Slash,
+    Greater,
+    Equals,
+    Quote,
+    Apostrophe,
+    Other,
+}
+
+/// The class of a byte.
+pub(crate) fn class_of(byte: u8) -> Class
+    ensures { result ≡ class_of byte }
+{
+    match byte {
+        9 | 10 | 12 | 13 | 32 => Class::Space,
+        b'/' => Class::Slash,
+        b'>' => Class::Greater,
+        b'=' => Class::Equals,
+        b'"' => Class::Quote,
+        b'\'' => Class::Apostrophe,
+        _ => Class::Other,
+    }
+}
+
+pub(crate) fn is_space(byte: u8) -> bool
+    ensures { result ≡ is_space byte }
+{
+    matches!(class_of(byte), Class::Space)
+}
+
+fn in_name(byte: u8) -> bool
+    ensures { result ≡ in_name byte }
+{
+    !matches!(
+        class_of(byte),
+        Class::Space | Class::Slash | Class::Greater | Class::Equals
+    )
+}
+
+fn in_unquoted(byte: u8) -> bool
+    ensures { result ≡ in_unquoted byte }
+{
+    !matches!(class_of(byte), Class::Space | Class::Greater)
+}
+
+fn space_len(bytes: &[u8]) -> usize
+    ensures { result ≡ length (take_while is_space bytes.now) }
+{
+    bytes.iter().take_while(|byte| is_space(**byte)).count()
+}
+
+fn name_len(bytes: &[u8]) -> usize
+    ensures { result ≡ length (take_while in_name bytes.now) }
+{
+    bytes.iter().take_while(|byte| in_name(**byte)).count()
+}
+
+fn unquoted_len(bytes: &[u8]) -> usize
+    ensures { result ≡ length (take_while in_unquoted bytes.now) }
+{
+    bytes.iter().take_while(|byte| in_unquoted(**byte)).count()
+}
+
+pub(crate) fn parts(bytes: &[u8]) -> Option<(u8, &[u8])>
+    ensures { MatchOption result (bytes.now ≡ []) (λ x. bytes.now ≡ x.0 ∷ x.1.now) }
+{
+    match bytes.split_first() {
+        Some((first, more)) => Some((*first, more)),
+        None => None,
+    }
+}
+
+/// What is behind this byte, where it is the first.
+pub(crate) fn behind_byte(byte: u8, bytes: &[u8]) -> Option<&[u8]>
+    ensures { MatchOption result (Stopped (λ c. c == byte) bytes.now) (λ more. bytes.now ≡ byte ∷ more.now) }
+{
+    let Some((first, more)) = parts(bytes) else {
+        return None;
+    };
+    if first == byte { Some(more) } else { None }
+}
+
+pub(crate) fn skip_space(bytes: &[u8]) -> &[u8]
+    ensures skipped { result.now ≡ behind is_space bytes.now }
+    ensures stopped { Stopped is_space result.now }
+{
+    &bytes[space_len(bytes)..]
+}
+
+pub(crate) fn split_name(bytes: &[u8]) -> (&[u8], &[u8])
+    requires { BeginsName bytes.now }
+    ensures name { result.0.now ≡ name_front bytes.now }
+    ensures rest { result.1.now ≡ name_behind bytes.now }
+{
+    bytes.split_at(1 + name_len(&bytes[1..]))
+}
+
+pub(crate) fn split_unquoted(bytes: &[u8]) -> (&[u8], &[u8])
+    ensures value { result.0.now ≡ front in_unquoted bytes.now }
+    ensures rest { result.1.now ≡ behind in_unquoted bytes.now }
+{
+    bytes.split_at(unquoted_len(bytes))
+}
+
+/// What stands before the first such quote, and what behind it.
+pub(crate) fn split_quoted(quote: u8, bytes: &[u8]) -> Option<(&[u8], &[u8])>
+    ensures { MatchOption result (behind (λ c. not (c == quote)) bytes.now ≡ [])
+        (λ x. (x.0.now ≡ front (λ c. not (c == quote)) bytes.now) × (quote ∷ x.1.now ≡ behind (λ c. not (c == quote)) bytes.now)) }
+{
+    match memchr(quote, bytes) {
+        Some(end) => Some((&bytes[..end], &bytes[end + 1..])),
+        None => None,
+    }
+}
+
+/// White space as Python's patterns have it, with the vertical tab.
+pub(crate) fn is_wide_space(byte: u8) -> bool {
+    matches!(byte, b'\t'..=b'\r' | b' ')
+}
+
+pub(crate) fn skip_wide_spaces(bytes: &[u8]) -> &[u8]
+    ensures { length result.now ≤ length bytes.now }
+{
+    for (index, byte) in bytes.iter().enumerate() {
+        if !is_wide_space(*byte) {
+            return &bytes[index..];
+        }
+    }
+    &[]
+}

@@ -1,0 +1,73 @@
+//! Where a comment ends.
+ghost use Rattle.std.specs.Prelude.{◌≡◌, ◌==◌, length};
+ghost use Rattle.std.specs.List.{take_while};
+ghost use Rattle.html_links.specs.Comments.{Comment, run, comment_rest, bytes_at};
+ghost use Rattle.html_links.specs.Shown.{behind, Stopped};
+ghost use Rattle.html_links.specs.Dashes.{Dashed, LeavesRest};
+
+use crate::bytes::{behind_byte, split_quoted};
+
+/// What is behind a comment, from behind its `<!--`; nothing where the comment does not end.
+pub fn after_comment(bytes: &[u8]) -> Option<&[u8]>
+    ensures { bytes_at result ≡ comment_rest bytes.now }
+{
+    if let Some(last) = behind_byte(b'>', bytes) {
+        return Some(last);
+    }
+    let Some(more) = behind_byte(b'-', bytes) else {
+        return in_comment(bytes);
+    };
+    match behind_byte(b'>', more) {
+        Some(last) => Some(last),
+        None => in_comment(bytes),
+    }
+}
+
+fn in_comment(bytes: &[u8]) -> Option<&[u8]>
+    ensures { bytes_at result ≡ run Comment bytes.now }
+{
+    let mut rest = bytes;
+    'dashes: loop {
+        let Some((_, dashed)) = split_quoted(b'-', rest) else {
+            return None;
+        };
+        match after_dash(dashed) {
+            Ok(last) => return Some(last),
+            Err(more) => rest = more,
+        }
+    }
+}
+
+/// What is behind the comment where it ends after this dash, and else what is left of it.
+fn after_dash(bytes: &[u8]) -> Result<&[u8], &[u8]>
+    ensures ends { Dashed result bytes.now }
+    ensures leaves { LeavesRest result bytes.now }
+{
+    let Some(dashed) = behind_byte(b'-', bytes) else {
+        return Err(bytes);
+    };
+    let more = skip_dashes(dashed);
+    if let Some(last) = behind_byte(b'>', more) {
+        return Ok(last);
+    }
+    let Some(banged) = behind_byte(b'!', more) else {
+        return Err(more);
+    };
+    match behind_byte(b'>', banged) {
+        Some(last) => Ok(last),
+        None => Err(banged),
+    }
+}
+
+fn dash_len(bytes: &[u8]) -> usize
+    ensures { result ≡ length (take_while (λ c. c == 45) bytes.now) }
+{
+    bytes.iter().take_while(|byte| **byte == b'-').count()
+}
+
+fn skip_dashes(bytes: &[u8]) -> &[u8]
+    ensures skipped { result.now ≡ behind (λ c. c == 45) bytes.now }
+    ensures stopped { Stopped (λ c. c == 45) result.now }
+{
+    &bytes[dash_len(bytes)..]
+}

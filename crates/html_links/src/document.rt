@@ -1,0 +1,267 @@
+//! The start tags of a document.
+ghost use Rattle.std.specs.Prelude.{◌≡◌, ◌<◌, length, map, IfOk, false};
+ghost use Rattle.std.specs.List.{take_while};
+ghost use Rattle.html_links.specs.Tags.{tag_of, lower};
+ghost use Rattle.html_links.specs.Comments.{bytes_at};
+ghost use Rattle.html_links.specs.Document.{opening_of, read, tags_of, behind_tag, content_of, is_raw, Bogus, MarkupDeclaration, raw_content, script_content};
+ghost use Rattle.html_links.specs.Markup.{in_tag_name, led_front, led_behind, start_tag_at, read_rest, rest_of, MarkupReads, MarkupEnds, other_markup, MarkupLeaves, RestLeaves};
+
+use crate::bytes::{Class, behind_byte, class_of, parts, split_quoted};
+use crate::comments::after_comment;
+use crate::raw_text::{after_raw_text, same_name};
+use crate::script::after_script;
+use crate::tag::{AttributeAt, Piece, TagAt, next_piece, read_tag};
+use std::alloc::{AllocError, Global};
+
+/// What a byte behind a `<` means.
+#[derive(Clone, Copy)]
+enum Opening {
+    Bang,
+    Solidus,
+    Question,
+    Letter,
+    Plain,
+}
+
+/// What the content of an element is.
+#[derive(Clone, Copy)]
+enum Content {
+    Raw,
+    Script,
+    Plain,
+    Markup,
+}
+
+/// A start tag as it stands in the document.
+#[derive(Drop)]
+pub struct StartTagAt<'a> {
+    pub name: &'a [u8],
+    pub attributes: Vec<AttributeAt<'a>>,
+    pub self_closing: bool,
+}
+
+/// What stands behind a `<`: a tag's name and what is behind it, or what is behind anything else.
+#[derive(Clone, Copy)]
+pub(crate) enum Markup<'a> {
+    Start(&'a [u8], &'a [u8]),
+    End(&'a [u8], &'a [u8]),
+    Other(&'a [u8]),
+    Unfinished,
+}
+
+fn opening_of(byte: u8) -> Opening
+    ensures { result ≡ opening_of byte }
+{
+    match byte {
+        b'!' => Opening::Bang,
+        b'/' => Opening::Solidus,
+        b'?' => Opening::Question,
+        b'A'..=b'Z' | b'a'..=b'z' => Opening::Letter,
+        _ => Opening::Plain,
+    }
+}
+
+fn in_tag_name(byte: u8) -> bool
+    ensures { result ≡ in_tag_name byte }
+{
+    !matches!(class_of(byte), Class::Space | Class::Slash | Class::Greater)
+}
+
+fn tag_name_len(bytes: &[u8]) -> usize
+    ensures { result ≡ length (take_while in_tag_name bytes.now) }
+{
+    bytes.iter().take_while(|byte| in_tag_name(**byte)).count()
+}
+
+fn split_tag_name(bytes: &[u8]) -> (&[u8], &[u8])
+    requires { 0 < length bytes.now }
+    ensures name { result.0.now ≡ led_front in_tag_name bytes.now }
+    ensures rest { result.1.now ≡ led_behind in_tag_name bytes.now }
+{
+    bytes.split_at(1 + tag_name_len(&bytes[1..]))
+}
+
+fn after_bogus(bytes: &[u8]) -> Option<&[u8]>
+    ensures reads { read Bogus bytes.now ≡ read_rest result }
+    ensures leaves { RestLeaves result bytes.now }
+{
+    match split_quoted(b'>', bytes) {
+        Some((_, rest)) => Some(rest),
+        None => None,
+    }
+}
+
+/// What is behind what begins with `<!`.
+fn after_declaration(bytes: &[u8]) -> Option<&[u8]>
+    ensures reads { read MarkupDeclaration bytes.now ≡ read_rest result }
+    ensures leaves { RestLeaves result bytes.now }
+{
+    let Some(dashed) = behind_byte(b'-', bytes) else {
+        return after_bogus(bytes);
+    };
+    match behind_byte(b'-', dashed) {
+        Some(text) => after_comment(text),
+        None => after_bogus(dashed),
+    }
+}
+
+fn after_end_open(bytes: &[u8]) -> Markup<'_>
+    ensures reads { MarkupEnds result bytes.now }
+    ensures leaves { MarkupLeaves result bytes.now }
+{
+    let Some((first, _)) = parts(bytes) else {
+        return Markup::Unfinished;
+    };
+    match opening_of(first) {
+        Opening::Letter => {
+            let (name, rest) = split_tag_name(bytes);
+            Markup::End(name, rest)
+        }
+        _ => other(after_bogus(bytes)),
+    }
+}
+
+fn other(rest: Option<&[u8]>) -> Markup<'_>
+    ensures { result ≡ other_markup rest.entry }
+{
+    match rest {
+        Some(rest) => Markup::Other(rest),
+        None => Markup::Unfinished,
+    }
+}
+
+pub(crate) fn next_markup(bytes: &[u8]) -> Markup<'_>
+    ensures reads { MarkupReads result bytes.now }
+    ensures leaves { MarkupLeaves result bytes.now }
+{
+    let Some((first, more)) = parts(bytes) else {
+        return Markup::Unfinished;
+    };
+    match opening_of(first) {
+        Opening::Bang => other(after_declaration(more)),
+        Opening::Solidus => after_end_open(more),
+        Opening::Question => other(after_bogus(more)),
+        Opening::Letter => {
+            let (name, rest) = split_tag_name(bytes);
+            Markup::Start(name, rest)
+        }
+        Opening::Plain => Markup::Other(bytes),
+    }
+}
+
+/// What is behind a tag, from behind its name.
+pub(crate) fn after_tag(bytes: &[u8]) -> Option<&[u8]>
+    ensures { bytes_at result ≡ rest_of (tag_of bytes.now) }
+{
+    let mut rest = bytes;
+    'pieces: loop {
+        match next_piece(rest) {
+            Piece::Attribute(_, more) => rest = more,
+            Piece::Slash(more) => rest = more,
+            Piece::End(_, last) => return Some(last),
+            Piece::Unfinished => return None,
+        }
+    }
+}
+
+fn is_raw(name: &[u8]) -> bool
+    ensures { result ≡ is_raw (map lower name.now) }
+{
+    same_name(name, b"title")
+        || same_name(name, b"textarea")
+        || same_name(name, b"style")
+        || same_name(name, b"xmp")
+        || same_name(name, b"iframe")
+        || same_name(name, b"noembed")
+        || same_name(name, b"noframes")
+}
+
+fn content_of(name: &[u8]) -> Content
+    ensures { result ≡ content_of (map lower name.now) }
+{
+    if is_raw(name) {
+        Content::Raw
+    } else if same_name(name, b"script") {
+        Content::Script
+    } else if same_name(name, b"plaintext") {
+        Content::Plain
+    } else {
+        Content::Markup
+    }
+}
+
+/// What is behind an element whose text is raw, from behind its start tag.
+fn after_raw<'a>(name: &[u8], bytes: &'a [u8]) -> Option<&'a [u8]>
+    requires { 0 < length name.now }
+    ensures reads { read (raw_content (map lower name.now)) bytes.now ≡ read_rest result }
+    ensures leaves { RestLeaves result bytes.now }
+{
+    match after_raw_text(name, bytes) {
+        Some(more) => after_tag(more),
+        None => None,
+    }
+}
+
+/// What is behind a script, from behind its start tag.
+fn after_whole_script(bytes: &[u8]) -> Option<&[u8]>
+    ensures reads { read script_content bytes.now ≡ read_rest result }
+    ensures leaves { RestLeaves result bytes.now }
+{
+    match after_script(bytes) {
+        Some(more) => after_tag(more),
+        None => None,
+    }
+}
+
+/// What is behind a start tag, or behind the end tag of its element where the content is text.
+pub(crate) fn after_element<'a>(name: &[u8], bytes: &'a [u8]) -> Option<&'a [u8]>
+    ensures reads { read (behind_tag false (map lower name.now)) bytes.now ≡ read_rest result }
+    ensures leaves { RestLeaves result bytes.now }
+{
+    match content_of(name) {
+        Content::Raw => after_raw(name, bytes),
+        Content::Script => after_whole_script(bytes),
+        Content::Plain => None,
+        Content::Markup => Some(bytes),
+    }
+}
+
+/// The start tags of a document, in order.
+pub fn tags<'a>(alloc: Global, bytes: &'a [u8]) -> Result<Vec<StartTagAt<'a>>, AllocError>
+    ensures { IfOk result (λ tags. map start_tag_at tags.items ≡ tags_of bytes.now) }
+{
+    let mut tags = Vec::new(alloc);
+    let mut rest = bytes;
+    'markup: loop {
+        let Some((_, opened)) = split_quoted(b'<', rest) else {
+            return Ok(tags);
+        };
+        match next_markup(opened) {
+            Markup::Start(name, more) => match read_tag(alloc, more)? {
+                Some(found) => {
+                    let TagAt {
+                        attributes,
+                        self_closing,
+                        rest: last,
+                    } = found;
+                    tags.push(StartTagAt {
+                        name,
+                        attributes,
+                        self_closing,
+                    })?;
+                    match after_element(name, last) {
+                        Some(left) => rest = left,
+                        None => return Ok(tags),
+                    }
+                }
+                None => return Ok(tags),
+            },
+            Markup::End(_, more) => match after_tag(more) {
+                Some(last) => rest = last,
+                None => return Ok(tags),
+            },
+            Markup::Other(more) => rest = more,
+            Markup::Unfinished => return Ok(tags),
+        }
+    }
+}

@@ -1,0 +1,120 @@
+//! The elements whose attributes name documents, and these attributes.
+ghost use Rattle.std.specs.Prelude.{◌≡◌, map};
+ghost use Rattle.html_links.specs.Tags.{lower};
+ghost use Rattle.html_links.specs.Elements.{is_anchor, is_background, is_embedded, is_image, element_of, wanted_at, wanted_of, wants};
+
+use crate::raw_text::same_name;
+
+/// Elements that name documents alike.
+#[derive(Clone, Copy)]
+pub(crate) enum Element {
+    Anchor,
+    Area,
+    Background,
+    Base,
+    Embedded,
+    Image,
+    Link,
+    Meta,
+    Object,
+    Video,
+    Other,
+}
+
+/// The names of the attributes that are wanted of an element; an empty name is none's.
+#[derive(Clone, Copy)]
+pub(crate) struct Wanted {
+    pub(crate) first: &'static [u8],
+    pub(crate) second: &'static [u8],
+    pub(crate) third: &'static [u8],
+}
+
+fn is_anchor(name: &[u8]) -> bool
+    ensures { result ≡ is_anchor (map lower name.now) }
+{
+    same_name(name, b"a") || same_name(name, b"image") || same_name(name, b"use")
+}
+
+fn is_background(name: &[u8]) -> bool
+    ensures { result ≡ is_background (map lower name.now) }
+{
+    same_name(name, b"body")
+        || same_name(name, b"table")
+        || same_name(name, b"td")
+        || same_name(name, b"th")
+}
+
+fn is_embedded(name: &[u8]) -> bool
+    ensures { result ≡ is_embedded (map lower name.now) }
+{
+    same_name(name, b"audio")
+        || same_name(name, b"embed")
+        || same_name(name, b"frame")
+        || same_name(name, b"iframe")
+        || same_name(name, b"input")
+        || same_name(name, b"script")
+        || same_name(name, b"track")
+}
+
+fn is_image(name: &[u8]) -> bool
+    ensures { result ≡ is_image (map lower name.now) }
+{
+    same_name(name, b"img") || same_name(name, b"source")
+}
+
+/// The element with this name, in any case.
+pub(crate) fn element_of(name: &[u8]) -> Element
+    ensures { result ≡ element_of (map lower name.now) }
+{
+    if is_anchor(name) {
+        Element::Anchor
+    } else if is_image(name) {
+        Element::Image
+    } else if is_embedded(name) {
+        Element::Embedded
+    } else if is_background(name) {
+        Element::Background
+    } else if same_name(name, b"area") {
+        Element::Area
+    } else if same_name(name, b"base") {
+        Element::Base
+    } else if same_name(name, b"link") {
+        Element::Link
+    } else if same_name(name, b"meta") {
+        Element::Meta
+    } else if same_name(name, b"object") {
+        Element::Object
+    } else if same_name(name, b"video") {
+        Element::Video
+    } else {
+        Element::Other
+    }
+}
+
+/// The attributes that name documents, in the order of their links, or say what those are.
+pub(crate) fn wanted_of(element: Element) -> Wanted
+    ensures { wanted_at result ≡ wanted_of element }
+{
+    match element {
+        Element::Anchor => names(b"href", b"xlink:href", b""),
+        Element::Area | Element::Base => names(b"href", b"", b""),
+        Element::Background => names(b"background", b"", b""),
+        Element::Embedded => names(b"src", b"", b""),
+        Element::Image => names(b"src", b"srcset", b""),
+        Element::Link => names(b"href", b"imagesrcset", b"rel"),
+        Element::Meta => names(b"content", b"http-equiv", b""),
+        Element::Object => names(b"data", b"", b""),
+        Element::Video => names(b"src", b"poster", b""),
+        Element::Other => names(b"", b"", b""),
+    }
+}
+
+fn names(first: &'static [u8], second: &'static [u8], third: &'static [u8]) -> Wanted
+    ensures { wanted_at result ≡ wants first.now second.now third.now }
+{
+    Wanted {
+        first,
+        second,
+        third,
+    }
+}

@@ -1,0 +1,25 @@
+//! The links of an HTML document, by the HTML Standard's tokenizer.
+#![tactic(auto)]
+
+mod bytes;
+mod comments;
+mod document;
+mod element;
+mod found;
+mod links;
+mod named;
+mod next_tag;
+mod raw_text;
+mod reader;
+mod references;
+mod refresh;
+mod script;
+mod srcset;
+mod style;
+mod tag;
+
+pub use document::{StartTagAt, tags};
+pub use links::Links;
+pub use reader::{Base, read_links};
+pub use style::style_links;
+pub use tag::AttributeAt;

@@ -1,0 +1,91 @@
+//! Where raw text ends.
+ghost use Rattle.std.specs.Prelude.{◌≡◌, ◌<◌, ◌&&◌, length, map};
+ghost use Rattle.std.specs.List.{take_while};
+ghost use Rattle.std.specs.Char.{to_ascii_lowercase};
+ghost use Rattle.html_links.specs.Comments.{bytes_at};
+ghost use Rattle.html_links.specs.Shown.{front, behind};
+ghost use Rattle.html_links.specs.Tags.{is_letter};
+ghost use Rattle.html_links.specs.RawText.{Text, run, ends_at, same_name};
+
+use crate::bytes::{Class, behind_byte, class_of, parts, split_quoted};
+
+pub(crate) fn is_letter(byte: u8) -> bool
+    ensures { result ≡ is_letter byte }
+{
+    matches!(byte, b'A'..=b'Z' | b'a'..=b'z')
+}
+
+fn letters_len(bytes: &[u8]) -> usize
+    ensures { result ≡ length (take_while is_letter bytes.now) }
+{
+    bytes.iter().take_while(|byte| is_letter(**byte)).count()
+}
+
+fn split_letters(bytes: &[u8]) -> (&[u8], &[u8])
+    ensures letters { result.0.now ≡ front is_letter bytes.now }
+    ensures rest { result.1.now ≡ behind is_letter bytes.now }
+{
+    bytes.split_at(letters_len(bytes))
+}
+
+fn ends_name(bytes: &[u8]) -> bool
+    ensures { result ≡ ends_at bytes.now }
+{
+    match parts(bytes) {
+        Some((first, _)) => {
+            matches!(
+                class_of(first),
+                Class::Space | Class::Slash | Class::Greater
+            )
+        }
+        None => false,
+    }
+}
+
+pub(crate) fn same_name(found: &[u8], name: &[u8]) -> bool
+    ensures { result ≡ same_name found.now name.now }
+{
+    found.eq_ignore_ascii_case(name)
+}
+
+fn is_end(found: &[u8], rest: &[u8], name: &[u8]) -> bool
+    ensures { result ≡ (ends_at rest.now && same_name found.now name.now) }
+{
+    ends_name(rest) && same_name(found, name)
+}
+
+/// What is behind the name of the end tag with which the text of this element ends; nothing where it does not end.
+pub fn after_raw_text<'a>(name: &[u8], bytes: &'a [u8]) -> Option<&'a [u8]>
+    requires { 0 < length name.now }
+    ensures { bytes_at result ≡ run (map to_ascii_lowercase name.now) Text bytes.now }
+{
+    let mut rest = bytes;
+    'tags: loop {
+        let Some((_, opened)) = split_quoted(b'<', rest) else {
+            return None;
+        };
+        match behind_byte(b'/', opened) {
+            Some(slashed) => {
+                let (found, more) = split_letters(slashed);
+                if is_end(found, more, name) {
+                    return Some(more);
+                }
+                rest = more;
+            }
+            None => rest = opened,
+        }
+    }
+}
+
+/// The text of this element before its end tag, where it has one.
+pub(crate) fn raw_text<'a>(name: &[u8], bytes: &'a [u8]) -> &'a [u8]
+    requires { 0 < length name.now }
+{
+    let behind = match after_raw_text(name, bytes) {
+        Some(more) => more.len().saturating_add(name.len()).saturating_add(2),
+        None => 0,
+    };
+    bytes
+        .get(..bytes.len().saturating_sub(behind))
+        .unwrap_or(&[])
+}

@@ -1,0 +1,117 @@
+//! A start tag from behind its name.
+ghost use Rattle.std.specs.Prelude.{◌≡◌, ◌+◌, length, IfOk};
+ghost use Rattle.html_links.specs.Tags.{tag_of};
+ghost use Rattle.html_links.specs.Shown.{is_space, BeginsName, Stopped, tag_at, Reads, ReadsValue, Leaves};
+
+use crate::bytes::{
+    Class, behind_byte, class_of, parts, skip_space, split_name, split_quoted, split_unquoted,
+};
+use std::alloc::{AllocError, Global};
+
+/// An attribute as it stands in the document: its name in any case, its value without quotes.
+#[derive(Clone, Copy)]
+pub struct AttributeAt<'a> {
+    pub name: &'a [u8],
+    pub value: &'a [u8],
+}
+
+/// A tag, and the bytes behind its `>`.
+#[derive(Drop)]
+pub struct TagAt<'a> {
+    pub attributes: Vec<AttributeAt<'a>>,
+    pub self_closing: bool,
+    pub rest: &'a [u8],
+}
+
+/// What stands next in a tag, and the bytes behind it.
+#[derive(Clone, Copy)]
+pub(crate) enum Piece<'a> {
+    Attribute(AttributeAt<'a>, &'a [u8]),
+    Slash(&'a [u8]),
+    End(bool, &'a [u8]),
+    Unfinished,
+}
+
+/// An attribute whose name begins here.
+fn attribute(bytes: &[u8]) -> Piece<'_>
+    requires { BeginsName bytes.now }
+    ensures reads { Reads result bytes.now }
+    ensures leaves { Leaves result (length bytes.now) }
+{
+    let (name, rest) = split_name(bytes);
+    let rest = skip_space(rest);
+    match behind_byte(b'=', rest) {
+        Some(more) => value(name, skip_space(more)),
+        None => Piece::Attribute(AttributeAt { name, value: &[] }, rest),
+    }
+}
+
+/// The value of an attribute, behind the `=` and white space.
+fn value<'a>(name: &'a [u8], bytes: &'a [u8]) -> Piece<'a>
+    requires { Stopped is_space bytes.now }
+    ensures reads { ReadsValue result name.now bytes.now }
+    ensures leaves { Leaves result (length bytes.now + 1) }
+{
+    let Some((first, more)) = parts(bytes) else {
+        return Piece::Unfinished;
+    };
+    match class_of(first) {
+        Class::Quote => match split_quoted(b'"', more) {
+            Some((value, rest)) => Piece::Attribute(AttributeAt { name, value }, rest),
+            None => Piece::Unfinished,
+        },
+        Class::Apostrophe => match split_quoted(b'\'', more) {
+            Some((value, rest)) => Piece::Attribute(AttributeAt { name, value }, rest),
+            None => Piece::Unfinished,
+        },
+        Class::Greater => Piece::Attribute(AttributeAt { name, value: &[] }, bytes),
+        _ => {
+            let (value, rest) = split_unquoted(bytes);
+            Piece::Attribute(AttributeAt { name, value }, rest)
+        }
+    }
+}
+
+/// The next piece of a tag.
+pub(crate) fn next_piece(bytes: &[u8]) -> Piece<'_>
+    ensures reads { Reads result bytes.now }
+    ensures leaves { Leaves result (length bytes.now) }
+{
+    let rest = skip_space(bytes);
+    let Some((first, more)) = parts(rest) else {
+        return Piece::Unfinished;
+    };
+    match class_of(first) {
+        Class::Greater => Piece::End(false, more),
+        Class::Slash => match behind_byte(b'>', more) {
+            Some(last) => Piece::End(true, last),
+            None => Piece::Slash(more),
+        },
+        _ => attribute(rest),
+    }
+}
+
+/// The attributes of a start tag, from behind its name; nothing where the tag does not end.
+pub fn read_tag<'a>(alloc: Global, bytes: &'a [u8]) -> Result<Option<TagAt<'a>>, AllocError>
+    ensures { IfOk result (λ tag. tag_at tag ≡ tag_of bytes.now) }
+{
+    let mut attributes = Vec::new(alloc);
+    let mut rest = bytes;
+    'pieces: loop {
+        match next_piece(rest) {
+            Piece::Attribute(attribute, more) => {
+                attributes.push(attribute)?;
+                rest = more;
+            }
+            Piece::Slash(more) => rest = more,
+            Piece::End(self_closing, rest) => {
+                return Ok(Some(TagAt {
+                    attributes,
+                    self_closing,
+                    rest,
+                }));
+            }
+            Piece::Unfinished => return Ok(None),
+        }
+    }
+}

@@ -1,0 +1,197 @@
+#!/usr/bin/env python3
+"""Compares the links of drawn documents with html5lib's tokens: html_links.py [COUNT] [SEED].
+
+It makes a small program over a copy of `crates/html_links` in a temporary folder, which `rt try` runs. The reckoning
+reads a document by html5lib's tokenizer (Debian's python3-html5lib), and values by the patterns of tools/site_to_web.py.
+"""
+
+from __future__ import annotations
+
+import importlib.util
+import pathlib
+import random
+import shutil
+import subprocess
+import sys
+import tempfile
+
+from html5lib import _tokenizer
+from html5lib.constants import tokenTypes
+
+TOP = pathlib.Path(__file__).resolve().parents[1]
+BETWEEN = "\x1d"  # behind a document, and behind its links
+BEHIND = "\x1e"  # behind a link
+
+TAGS = """a area audio body embed frame image img input link object source table td th track use video base meta p div
+svg option br a img link meta a img source""".split()
+TEXT_TAGS = "script style title textarea xmp iframe noembed noframes plaintext".split()
+OWN = {
+    "a": "href xlink:href", "img": "src srcset", "source": "src srcset", "link": "href imagesrcset rel",
+    "meta": "http-equiv content", "video": "src poster", "object": "data", "area": "href", "use": "href", "td": "background",
+}
+VALUES = [
+    "x", "a b", "../y?q=1&r=2", "", " \t pad \n", "&amp;", "&amp", "&ampx", "&amp=1", "&copy=1", "&copy;", "&copyx", "&notit;",
+    "&notin;", "&#65;", "&#x41", "&#X41;z", "&#0;", "&#128;", "&#x9f;", "&#xD800;", "&#x110000;", "&#99999999999;", "&#;", "&#x;",
+    "&", "&;", "&#", "&#x", "&CounterClockwiseContourIntegral;", "&frac12", "&there4;", "&bne;", "&acE;", "&nosuch;", "&lt&gt;",
+    "&#1;", "&#xFFFE;", "a.png 1x, b.png 2x", "a.png, b.png,, c.png 3w,", "a(,b) 2x, c (d, e) f, g", ",,,", "a,b c,d",
+    "0; url=n.html", "5;URL='q.html'", " 3 r.html", '1,"s.html', "0;url = t.html", " 5x", ".;v", "refresh", "REFRESH",
+    "preconnect", "DNS-Prefetch icon", "\u00fc?\u00fc", "\u20ac", "\0",
+]
+PIECES = [
+    "<", "<<", ">", "</", "</>", "</ >", "</3>", "<?", "<!", "<!>", "<!DOCTYPE html>", "<!doctype html PUBLIC \">\" '>'>",
+    "<![CDATA[ <a href=cdata> ]]>", "<!-- c -->", "<!-- a <!-- b --> c -->", "<!-->", "<!--->", "<!-- x --!>", "<!-- x -- >", "<!--",
+    "<!---->", "<!-----x-->", "<!--!>", "--!>", "-->", "--", "-", "!", "&", "\n", "\f", "\0", "'", '"', "=", "/", "</p>",
+    "</a href='>'>", "</script>", "</style>", "</title>", "</script >", "</ script>", "</SCRIPT\n>", "</scripty>", "</script",
+    "<!--<script>", "<script>", "<script ", "<script/>", "<style/>", "<title/>", "script", "a", "href=", "src=x",
+    "<style>p{background:url(s.png)}</style>", "<textarea><a href=in></textarea>",
+]
+PROGRAM = """//! The links of documents that stand in a file, one behind another.
+#![tactic(auto)]
+
+use html_links::{Links, read_links};
+use std::alloc::AllocError;
+use std::io::Write;
+use std::{fs, io};
+
+#[derive(Drop)]
+struct Texts(Vec<u8>);
+
+impl Links for Texts {
+    fn push(&mut self, text: &[u8]) -> Result<(), AllocError> {
+        self.0.extend_from_slice(text)?;
+        self.0.extend_from_slice(b"\\x1e")
+    }
+}
+
+fn main(rt: HostRuntime) -> io::Result<()> {
+    let documents = fs::read(&rt, "documents")?;
+    let mut texts = Texts(Vec::new(rt.alloc()));
+    for document in documents.as_slice().split(|byte| *byte == 0x1d) {
+        read_links(rt.alloc(), document, true, &mut texts)?;
+        texts.0.extend_from_slice(b"\\x1d")?;
+    }
+    io::writer(&rt).write_all(texts.0.as_slice())
+}
+"""
+
+
+def load_tool():
+    """The converter as a module."""
+    spec = importlib.util.spec_from_file_location("site_to_web", TOP / "tools/site_to_web.py")
+    tool = importlib.util.module_from_spec(spec)
+    spec.loader.exec_module(tool)
+    return tool
+
+
+TOOL = load_tool()
+
+
+class Reader(TOOL.LinkReader):
+    """The converter's reader over html5lib's tokens."""
+
+    def read(self, text):
+        """The links of a document."""
+        tokens = _tokenizer.HTMLTokenizer(text)
+        self.in_style = None
+        for token in tokens:
+            if token["type"] == tokenTypes["StartTag"]:
+                self.read_tag(token["name"], dict(reversed(token["data"].items())), tokens)
+            elif token["type"] == tokenTypes["EndTag"]:
+                self.in_style = self.flush(self.in_style)
+            elif token["type"] in (tokenTypes["Characters"], tokenTypes["SpaceCharacters"]) and self.in_style is not None:
+                self.in_style += token["data"]
+        self.flush(self.in_style)
+        return self.links
+
+    def flush(self, style):
+        """Gives the links of a style element."""
+        if style:
+            self.links += TOOL.links_of_style(style)
+
+    def read_tag(self, tag, found, tokens):
+        """What a start tag names, and the state behind it."""
+        if "style" in found:
+            self.links += TOOL.links_of_style(found["style"])
+        if tag == "meta":
+            self.read_refresh(found)
+        elif tag in TOOL.LINKS and (tag != "link" or not TOOL.HOST_HINTS & set(found.get("rel", "").lower().split())):
+            self.read_links(TOOL.LINKS[tag], found)
+        if tag in ("title", "textarea"):
+            tokens.state = tokens.rcdataState
+        elif tag in ("style", "xmp", "iframe", "noembed", "noframes"):
+            tokens.state = tokens.rawtextState
+        elif tag == "script":
+            tokens.state = tokens.scriptDataState
+        elif tag == "plaintext":
+            tokens.state = tokens.plaintextState
+        self.in_style = "" if tag == "style" else None
+
+
+def drawn_tag(draw):
+    """A start tag, sometimes broken."""
+    is_text = draw.random() < 0.08
+    name = draw.choice(TEXT_TAGS if is_text else TAGS)
+    text = "<" + (name.upper() if draw.random() < 0.1 else name)
+    for _ in range(draw.choice([0, 1, 1, 2, 3])):
+        own = draw.choice(OWN.get(name, "src").split() + ["style", "class"])
+        quote = draw.choice(['"', "'", ""])
+        value = draw.choice(VALUES).replace(quote or "\1", "")
+        equals = draw.choice(["=", "=", "=", " = ", "==", "=\n"])
+        end = quote if draw.random() < 0.97 else ""
+        text += draw.choice([" ", " ", "\n", "/", "", "\f"]) + own + equals + quote + value + end
+    text += draw.choice([">"] * 12 + ["/>", " >", ""])
+    if is_text and draw.random() < 0.8:
+        text += draw.choice(["x", "<a href=in>", "<!-- y", "<!--<script>", "<!--<script></script>-->"])
+        text += draw.choice(["", f"</{name}x>", "<"]) + f"</{name}>"
+    return text
+
+
+def drawn_document(draw, wild):
+    """A document; a wild one has broken markup in every place."""
+    parts = []
+    for _ in range(draw.randint(1, 40 if wild else 12)):
+        parts.append(draw.choice(PIECES) if draw.random() < (0.8 if wild else 0.2) else drawn_tag(draw))
+        parts.append(draw.choice(["", "", " ", "text"]))
+    return "".join(parts).replace("\r", "")
+
+
+def crate_links(documents):
+    """The links that the crate gives."""
+    with tempfile.TemporaryDirectory() as folder:
+        top = pathlib.Path(folder)
+        shutil.copytree(TOP / "crates/html_links", top / "crates/html_links", ignore=shutil.ignore_patterns("out"))
+        (top / "crates/drawn_links/src").mkdir(parents=True)
+        (top / "crates/drawn_links/src/main.rt").write_text(PROGRAM)
+        (top / "documents").write_text(BETWEEN.join(documents))
+        (top / "crates.txt").write_text("html_links: memchr\ndrawn_links: html_links\n")
+        subprocess.run(["git", "init", "-q", folder], check=True)
+        words = ["rt", "try", "--steps", "2000000000", "--seconds", "600", "--data", f"documents={top / 'documents'}"]
+        run = subprocess.run(words, cwd=top / "crates/drawn_links", capture_output=True, check=False)
+        if not run.stdout:
+            sys.exit(run.stderr.decode(errors="replace"))
+        return run.stdout.decode(errors="replace").split(BETWEEN)
+
+
+def main():
+    """Draws, compares and tells the shortest differences."""
+    words = sys.argv[1:]
+    count, seed = int(words[0]) if words else 2000, int(words[1]) if len(words) > 1 else 1
+    draw = random.Random(seed)
+    documents = [drawn_document(draw, number % 2) for number in range(count)]
+    given = crate_links(documents)
+    passed, failed = 0, []
+    for document, links in zip(documents, given):
+        wanted = "".join(link + BEHIND for link in Reader(True).read(document))
+        if links == wanted:
+            passed += 1
+        else:
+            failed.append((document, wanted, links))
+    missing = count - passed - len(failed)
+    for document, wanted, links in sorted(failed, key=lambda row: len(row[0]))[:5]:
+        print(f"document {document!r}\n  wanted {wanted!r}\n  given  {links!r}")
+    print(f"{passed} passed, {len(failed) + missing} failed")
+    return 1 if failed or missing else 0
+
+
+if __name__ == "__main__":
+    sys.exit(main())
