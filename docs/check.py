@@ -53,12 +53,12 @@ def tracked() -> list[Path]:
 
 
 def words_of(paths: list[Path]) -> set[str]:
-    """The names in all files but documents; the cases are no documents."""
+    """The names in all files but documents."""
     words: set[str] = set()
     for path in paths:
         name = path.relative_to(ROOT).as_posix()
         words.update(re.findall(r"[A-Za-z_]\w*", name))
-        if path.suffix != ".md" or name.startswith("tests/cases/"):
+        if path.suffix != ".md":
             words.update(re.findall(r"[A-Za-z_]\w*", path.read_text("utf-8", "replace")))
     return words
 
@@ -141,7 +141,7 @@ def faults(paths: list[Path]) -> Iterator[str]:
         name = document.relative_to(ROOT).as_posix()
         text = document.read_text("utf-8")
         size = len(text.encode())
-        total += 0 if name.startswith("tests/cases/") else size
+        total += size
         for pattern, limit in LIMITS:
             if pattern.fullmatch(name) and size > limit:
                 yield f"{name}: {size} bytes, where {limit} are the most"

@@ -1,7 +1,7 @@
 #!/usr/bin/env python3
 """Runs the commands that documents show, and compares what they print.
 
-A document is Markdown: prose, inputs and commands.
+A document has the marks of Markdown: prose, inputs and commands.
 
     ```text page.web
     savedweb 1
@@ -32,7 +32,7 @@ A document is Markdown: prose, inputs and commands.
   LF. An output's line that begins like one of these marks has a `\\` before.
 - A line that begins with `# `, and empty lines above it, belong to no answer.
 
-Without names it runs tests/cases/*.md, README.md, docs/MANUAL.md and
+Without names it runs tests/cases/*.txt, README.md, docs/MANUAL.md and
 docs/FORMATS.md. It prints how each answer differs, at last `N passed,
 M failed`, and ends with status 1 where any failed or nothing ran.
 """
@@ -160,7 +160,7 @@ def main() -> None:
     if not program.is_file():
         sys.exit(f"{program} is not there: `rt ci`, or `rt run -- --help` in"
                  " crates/mercator_cli, builds it")
-    own = [*sorted(ROOT.glob("tests/cases/*.md")),
+    own = [*sorted(ROOT.glob("tests/cases/*.txt")),
            *(ROOT / name for name in DOCUMENTS)]
     paths = [Path(name) for name in sys.argv[1:]] or own
     documents = [read(path) for path in paths]
