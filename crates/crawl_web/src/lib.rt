@@ -9,6 +9,7 @@ mod page;
 mod parts;
 mod report;
 mod saved_web;
+mod session;
 
 pub use fetch::{Fetch, FetchError};
 pub use lines::{LINE_LIMIT, LineError, first_line, text_of};
@@ -16,3 +17,4 @@ pub use page::{Links, Page, PageResult, links_of};
 pub use parts::split_space;
 pub use report::{NoMemory, report_text};
 pub use saved_web::{SavedWeb, WebError};
+pub use session::{SessionFetch, WithoutSession};

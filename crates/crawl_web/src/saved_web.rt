@@ -13,19 +13,20 @@ mod known_link;
 mod known_links;
 mod known_page;
 mod line;
+mod link_cache;
 mod link_text;
 mod links;
-mod memory;
 mod pages;
 
 use crate::fetch::{Fetch, FetchError};
 use crate::lines::first_line;
 use crate::page::Page;
+use crate::session::SessionFetch;
 use add::{Above, add_line};
 use crawl_keys::CanonUrl;
 pub use error::WebError;
+use link_cache::LinkCache;
 use links::page_behind;
-use memory::Memories;
 use pages::Pages;
 use std::alloc::Global;
 
@@ -34,8 +35,6 @@ use std::alloc::Global;
 pub struct SavedWeb<'a> {
     /// Each page with the bytes behind its line.
     pages: Pages<'a>,
-    /// What fetches remember of the folders of pages. A fetch takes one that no other has.
-    memories: Memories<'a>,
 }
 
 impl<'a> SavedWeb<'a> {
@@ -56,7 +55,6 @@ impl<'a> SavedWeb<'a> {
     {
         Ok(SavedWeb {
             pages: known_pages(alloc, bytes)?,
-            memories: Memories::new(alloc)?,
         })
     }
 }
@@ -96,8 +94,37 @@ impl Fetch for SavedWeb<'_> {
         // It never fails of itself.
         ensures refused { IfErr result (λ e. e ≡ FetchError.NoMemory) }
     {
+        let mut cache = LinkCache::without_slots(alloc);
+        self.fetch_in(alloc, &mut cache, url)
+    }
+}
+
+impl<'a> SessionFetch for SavedWeb<'a> {
+    ghost use Rattle.crawl_web.specs.KnownPages.{page_at};
+
+    type Session = LinkCache<'a>;
+
+    ghost meaning = { page_at };
+
+    // What a folder knows is right of links, whatever web they are of.
+    ghost is_of = { λ _ _. Unit {0} };
+
+    fn open_session(&self, alloc: Global, among: u32) -> LinkCache<'a> {
+        LinkCache::new(alloc, among)
+    }
+
+    fn fetch_in(
+        &self,
+        alloc: Global,
+        session: &mut LinkCache<'a>,
+        url: &CanonUrl,
+    ) -> Result<Page, FetchError>
+        ensures meaning { IfOk result (λ page. page ≡ page_at self.now url.now) }
+        // It never fails of itself.
+        ensures refused { IfErr result (λ e. e ≡ FetchError.NoMemory) }
+    {
         match self.pages.get(url) {
-            Some(page) => page_behind(alloc, &self.memories, url, page.base()?, page.behind()),
+            Some(page) => page_behind(alloc, session, page.base()?, page.behind()),
             None => Ok(Page::Missing),
         }
     }

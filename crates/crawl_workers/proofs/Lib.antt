@@ -1,4 +1,4 @@
 pub mod Lossless
-pub mod Meeting
 pub mod Running
+pub mod Slots
 pub mod Turning

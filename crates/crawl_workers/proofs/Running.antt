@@ -20,11 +20,11 @@ use Rattle.crawl_frontier.specs.Entries.{MayFollow, KeepsRule, entry}
 use Rattle.crawl_frontier.specs.Books.{BookId, book_accepting, book_seeing}
 use Rattle.crawl_frontier.specs.Offers.{OfferBooks}
 use Rattle.crawl_frontier.specs.Parts.{WorkerId, BusyId, worker}
-use Rattle.crawl_workers.specs.declared.harvest.Harvest.{Harvest}
+use Rattle.crawl_workers.specs.declared.output.WorkerOutput.{WorkerOutput}
 use Rattle.crawl_workers.specs.declared.worker_end.WorkerEnd.{WorkerEnd}
-use Rattle.crawl_workers.specs.declared.met.Met.{Met}
+use Rattle.crawl_workers.specs.declared.recent.RecentUrls.{RecentUrls}
 use Rattle.crawl_workers.specs.Logs.{line_of, HasLine, AllLogged, Grows}
-use Rattle.crawl_workers.specs.Met.{Knows}
+use Rattle.crawl_workers.specs.Recent.{Knows}
 use Rattle.crawl_workers.specs.Ran.{Fate, result_at, results_of, taken_in, most_lost_at, most_lost, Ran}
 use Rattle.crawl_workers.specs.Turn.{Finds, Loses, SameBusy}
 use Rattle.crawl_workers.specs.Runs.{AllRan}
@@ -88,9 +88,9 @@ slot_on workers b b' (Some url) grows has = has_line_on workers b b' url grows h
 slot_on workers b b' None grows has = tt
 
 -- what is remembered stays known
-pub knows_on : (workers : ℕ) (b b' : BookId) (met : Met) → Grows b b' → Knows workers b.log met → Knows workers b'.log met
-knows_on workers b b' met grows all =
-    All-weaker (λ slot. IfSome slot (HasLine workers b.log)) (λ slot. IfSome slot (HasLine workers b'.log)) (λ slot has. slot_on workers b b' slot grows has) met.slots.items all
+pub knows_on : (workers : ℕ) (b b' : BookId) (recent : RecentUrls) → Grows b b' → Knows workers b.log recent → Knows workers b'.log recent
+knows_on workers b b' recent grows all =
+    All-weaker (λ slot. IfSome slot (HasLine workers b.log)) (λ slot. IfSome slot (HasLine workers b'.log)) (λ slot has. slot_on workers b b' slot grows has) recent.slots.items all
 
 -- a list with the same element written once more
 pub unchanged_at : {X : Type 0} (xs : List X) (i : ℕ) (x y : X) → y ≡ slice_index_or xs i x → slice_set xs i y ≡ xs
@@ -174,7 +174,7 @@ few_next allowed meaning fates e o before after few next =
     rw (sum_by_push (λ (f : Fate). most_lost_at allowed (links_of (meaning f.0.url)) f.1) fates (e, o)) (omega (arith, few, next))
 
 -- a URL got its page
-ran_found : (workers : ℕ) (allowed : List ℕ → Bool) (meaning : List ℕ → Page) (start w v : WorkerId) (e : Entry) (old new : Harvest)
+ran_found : (workers : ℕ) (allowed : List ℕ → Bool) (meaning : List ℕ → Page) (start w v : WorkerId) (e : Entry) (old new : WorkerOutput)
     → MayFollow workers w.place w.taken e → v.place ≡ w.place → v.taken ≡ w.taken ++ e ∷ [] → Grows w.book v.book → Finds workers allowed meaning e.url v.book.log old new
     → Ran workers allowed meaning start w old.results.items old.lost → Ran workers allowed meaning start v new.results.items new.lost
 ran_found workers allowed meaning start w v e old new may place taken grows finds ran =
@@ -200,7 +200,7 @@ ran_found workers allowed meaning start w v e old new may place taken grows find
     }
 
 -- a URL was lost
-ran_lost : (workers : ℕ) (allowed : List ℕ → Bool) (meaning : List ℕ → Page) (start w v : WorkerId) (e : Entry) (old new : Harvest)
+ran_lost : (workers : ℕ) (allowed : List ℕ → Bool) (meaning : List ℕ → Page) (start w v : WorkerId) (e : Entry) (old new : WorkerOutput)
     → MayFollow workers w.place w.taken e → v.place ≡ w.place → v.taken ≡ w.taken ++ e ∷ [] → Grows w.book v.book → Loses (most_lost_at allowed (links_of (meaning e.url)) None) old new
     → Ran workers allowed meaning start w old.results.items old.lost → Ran workers allowed meaning start v new.results.items new.lost
 ran_lost workers allowed meaning start w v e old new may place taken grows loses ran =
@@ -224,7 +224,7 @@ ran_lost workers allowed meaning start w v e old new may place taken grows loses
     }
 
 -- a turn with a URL
-pub ran_worked : (workers : ℕ) (allowed : List ℕ → Bool) (meaning : List ℕ → Page) (start w v : WorkerId) (b b' : BusyId) (old new : Harvest)
+pub ran_worked : (workers : ℕ) (allowed : List ℕ → Bool) (meaning : List ℕ → Page) (start w v : WorkerId) (b b' : BusyId) (old new : WorkerOutput)
     → (b.worker ≡ worker w.place w.seat (w.taken ++ b.message.entry ∷ []) w.empty_pops w.book) → MayFollow workers w.place w.taken b.message.entry
     → SameBusy b b' → Finds workers allowed meaning b.message.entry.url b'.worker.book.log old new ⊎ Loses (most_lost_at allowed (links_of (meaning b.message.entry.url)) None) old new
     → v.place ≡ b'.worker.place → v.taken ≡ b'.worker.taken → v.book ≡ b'.worker.book
@@ -240,7 +240,7 @@ ran_worked workers allowed meaning start w v b b' old new takes may same finds p
     ]
 
 -- a page was fetched, its links were offered, and its result kept or lost
-pub kept : (workers : ℕ) (allowed : List ℕ → Bool) (meaning : List ℕ → Page) (url : List ℕ) (log : List Logged) (old mid new : Harvest) (refused : ℕ) (page : Page)
+pub kept : (workers : ℕ) (allowed : List ℕ → Bool) (meaning : List ℕ → Page) (url : List ℕ) (log : List Logged) (old mid new : WorkerOutput) (refused : ℕ) (page : Page)
     → page ≡ meaning url → refused ≤ count_by allowed (links_of page) → (refused ≡ 0 → AllLogged workers allowed log (links_of page))
     → mid.results ≡ old.results → mid.lost ≡ min (old.lost + refused) (2 ^ 64 - 1)
     → ((new.results.items ≡ mid.results.items ++ record { url = url; page = page } ∷ []) × (new.lost ≡ mid.lost)) ⊎ Loses 1 mid new

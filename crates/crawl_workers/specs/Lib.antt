@@ -1,8 +1,8 @@
 pub mod ErrorTexts
 pub mod Logs
 pub mod Lossless
-pub mod Met
 pub mod Ran
+pub mod Recent
 pub mod Rounds
 pub mod Runs
 pub mod Turn

@@ -4,11 +4,11 @@ use Rattle.crawl_web.specs.declared.page.Page.{Page}
 use Rattle.crawl_web.specs.Pages.{links_of}
 use Rattle.crawl_frontier.specs.declared.book.Logged.{Logged}
 use Rattle.crawl_frontier.specs.Parts.{WorkerId, BusyId, worker}
-use Rattle.crawl_workers.specs.declared.harvest.Harvest.{Harvest}
+use Rattle.crawl_workers.specs.declared.output.WorkerOutput.{WorkerOutput}
 use Rattle.crawl_workers.specs.declared.turn.Step.{Step}
 use Rattle.crawl_workers.specs.declared.turn.Step.TheVariants.{Worked, Waits, Closes}
 use Rattle.crawl_workers.specs.Logs.{AllLogged, Grows}
-use Rattle.crawl_workers.specs.Met.{Knows}
+use Rattle.crawl_workers.specs.Recent.{Knows}
 use Rattle.crawl_workers.specs.Ran.{AtLeast, most_lost_at, Ran}
 
 -- the worker after a turn
@@ -17,23 +17,23 @@ worker_in (Worked w) = w
 worker_in (Waits w) = w
 worker_in (Closes w) = w
 
--- so far as in `Ran`, with this harvest; and the log has a line of each URL that it remembers
-abbrev pub Goes : ℕ → (List ℕ → Bool) → (List ℕ → Page) → WorkerId → WorkerId → Harvest → Type 0
-Goes workers allowed meaning start now harvest =
-    Ran workers allowed meaning start now harvest.results.items harvest.lost × Knows workers now.book.log harvest.met
+-- so far as in `Ran`, with this output; and the log has a line of each URL that it remembers
+abbrev pub Goes : ℕ → (List ℕ → Bool) → (List ℕ → Page) → WorkerId → WorkerId → WorkerOutput → Type 0
+Goes workers allowed meaning start now output =
+    Ran workers allowed meaning start now output.results.items output.lost × Knows workers now.book.log output.recent
 
 -- one result more
-abbrev pub Keeps : List ℕ → Page → Harvest → Harvest → Type 0
+abbrev pub Keeps : List ℕ → Page → WorkerOutput → WorkerOutput → Type 0
 Keeps url page old new = (new.results.items ≡ old.results.items ++ record { url = url; page = page } ∷ []) × (new.lost ≡ old.lost)
 
 -- one loss more at least and no more than so many, and no result
-pub record Loses (most : ℕ) (old new : Harvest) : Type 0 where
+pub record Loses (most : ℕ) (old new : WorkerOutput) : Type 0 where
   pub results : new.results.items ≡ old.results.items
   pub more : AtLeast (old.lost + 1) new.lost
   pub few : new.lost ≤ old.lost + most
 
 -- the URL has its page as a result, and what was lost is counted: no more than the links of the page that are allowed
-pub record Finds (workers : ℕ) (allowed : List ℕ → Bool) (meaning : List ℕ → Page) (url : List ℕ) (log : List Logged) (old new : Harvest) : Type 0 where
+pub record Finds (workers : ℕ) (allowed : List ℕ → Bool) (meaning : List ℕ → Page) (url : List ℕ) (log : List Logged) (old new : WorkerOutput) : Type 0 where
   pub page : Page
   pub means : page ≡ meaning url
   pub results : new.results.items ≡ old.results.items ++ record { url = url; page = page } ∷ []

@@ -2,13 +2,14 @@
 //! anywhere.
 //!
 //! [`run_worker`] runs one worker on the calling thread, [`run_turns`] all of them there in turn, and [`run_threads`] each in
-//! a thread of its own. Whichever it is, a worker's [`WorkerEnd`] says the same of what the worker took, found and lost.
+//! a thread of its own. Whichever it is, a worker's [`WorkerEnd`] says the same of what the worker took, found and lost. Each
+//! has a second form, as [`run_worker_in`], for sources whose fetches remember something in a session.
 #![tactic(auto)]
 
 mod error;
-mod harvest;
 pub mod laws;
-mod met;
+mod output;
+mod recent;
 mod run;
 mod threads;
 mod turn;
@@ -16,8 +17,8 @@ mod turns;
 mod worker_end;
 
 pub use error::RunError;
-pub use met::Met;
-pub use run::run_worker;
-pub use threads::run_threads;
-pub use turns::run_turns;
+pub use recent::RecentUrls;
+pub use run::{run_worker, run_worker_in};
+pub use threads::{run_threads, run_threads_in};
+pub use turns::{run_turns, run_turns_in};
 pub use worker_end::WorkerEnd;

@@ -3,11 +3,11 @@ ghost use Rattle.crawl_keys.specs.HostFilter.{allows};
 ghost use Rattle.crawl_workers.specs.Ran.{Ran};
 ghost use Rattle.crawl_workers.specs.Runs.{RanTo};
 
-use crate::harvest::Harvest;
+use crate::output::WorkerOutput;
 use crate::turn::{Step, turn};
 use crate::worker_end::WorkerEnd;
 use crawl_frontier::{Frontier, Name, Worker};
-use crawl_web::Fetch;
+use crawl_web::{Fetch, SessionFetch, WithoutSession};
 use crossbeam_utils::Backoff;
 use std::alloc::Global;
 use std::sync::Wait;
@@ -32,12 +32,34 @@ pub fn run_worker<K: Name, F: Fetch, R: Wait>(
 ) -> WorkerEnd<K>
     ensures { RanTo K.workers (allows K.filter) (F.meaning fetcher.now) worker result }
 {
-    let mut harvest = Harvest::new(alloc);
+    run_worker_in(rt, alloc, frontier, worker, &WithoutSession { fetcher })
+}
+
+/// As [`run_worker`], with a session of the fetcher that the worker owns.
+pub fn run_worker_in<K: Name, F: SessionFetch, R: Wait>(
+    rt: &R,
+    alloc: Global,
+    frontier: &Frontier<K>,
+    worker: Worker<K>,
+    fetcher: &F,
+) -> WorkerEnd<K>
+    ensures { RanTo K.workers (allows K.filter) (F.meaning fetcher.now) worker result }
+{
+    let mut session = fetcher.open_session(alloc, frontier.workers());
+    let mut output = WorkerOutput::new(alloc);
     let mut worker = worker;
     let backoff = Backoff::new();
     let mut spins = 0;
     for _ in rt.forever() {
-        match turn(rt, alloc, frontier, worker, fetcher, &mut harvest) {
+        match turn(
+            rt,
+            alloc,
+            frontier,
+            worker,
+            fetcher,
+            &mut session,
+            &mut output,
+        ) {
             Step::Worked(next) => {
                 worker = next;
                 backoff.reset();
@@ -52,7 +74,7 @@ pub fn run_worker<K: Name, F: Fetch, R: Wait>(
                 }
                 worker = next;
             }
-            Step::Closes(closed) => return harvest.end(closed),
+            Step::Closes(closed) => return output.end(closed),
         }
     }
     unreachable!()

@@ -5,10 +5,10 @@ ghost use Rattle.crawl_keys.specs.HostFilter.{allows};
 ghost use Rattle.crawl_workers.specs.Runs.{RanTo, AllRan};
 
 use crate::error::RunError;
-use crate::run::run_worker;
+use crate::run::run_worker_in;
 use crate::worker_end::WorkerEnd;
 use crawl_frontier::{Frontier, Name, Worker};
-use crawl_web::Fetch;
+use crawl_web::{Fetch, SessionFetch, WithoutSession};
 use std::alloc::Global;
 use std::snapshot::Snapshot;
 use std::sync::{OnceLock, Wait};
@@ -17,12 +17,12 @@ use std::thread::{Promise, Threads};
 
 // What a thread promises: the end of this worker, where the run was not given up.
 #[derive(Drop)]
-struct EndOf<'a, K: Name, F: Fetch> {
+struct EndOf<'a, K: Name, F: SessionFetch> {
     worker: Snapshot<Worker<K>>,
     fetcher: &'a F,
 }
 
-impl<'a, K: Name, F: Fetch> Promise<Option<WorkerEnd<K>>> for EndOf<'a, K, F> {
+impl<'a, K: Name, F: SessionFetch> Promise<Option<WorkerEnd<K>>> for EndOf<'a, K, F> {
     ghost use Rattle.std.specs.Prelude.{IfSome};
     ghost use Rattle.crawl_keys.specs.HostFilter.{allows};
     ghost use Rattle.crawl_workers.specs.Runs.{RanTo};
@@ -31,7 +31,7 @@ impl<'a, K: Name, F: Fetch> Promise<Option<WorkerEnd<K>>> for EndOf<'a, K, F> {
 }
 
 // Runs the worker once all threads were started, and drops it where one could not be.
-fn run_after<K: Name, F: Fetch, R: Wait>(
+fn run_after<K: Name, F: SessionFetch, R: Wait>(
     rt: &R,
     alloc: Global,
     frontier: &Frontier<K>,
@@ -44,12 +44,12 @@ fn run_after<K: Name, F: Fetch, R: Wait>(
     if !*started.wait(rt) {
         return None;
     }
-    Some(run_worker(rt, alloc, frontier, worker, fetcher))
+    Some(run_worker_in(rt, alloc, frontier, worker, fetcher))
 }
 
 // Starts a thread for the last worker, then for those before it, says to all whether each was started, and joins them. So
 // the ends come in the order of the workers, and each level joins the one thread that it started.
-fn run_all<K: Name + Send + Sync, F: Fetch + Sync, R: Threads + Wait + Sync>(
+fn run_all<K: Name + Send + Sync, F: SessionFetch + Sync, R: Threads + Wait + Sync>(
     rt: &R,
     alloc: Global,
     frontier: &Frontier<K>,
@@ -120,6 +120,22 @@ fn room_for<K: Name>(alloc: Global, count: usize) -> Result<Vec<WorkerEnd<K>>, R
 /// `NoMemory` where there is no room for the ends, and `NoThread` where a thread could not be started; those that were
 /// started end then.
 pub fn run_threads<K: Name + Send + Sync, F: Fetch + Sync, R: Threads + Wait + Sync>(
+    rt: &R,
+    alloc: Global,
+    frontier: &Frontier<K>,
+    workers: Vec<Worker<K>>,
+    fetcher: &F,
+) -> Result<Vec<WorkerEnd<K>>, RunError>
+    ensures { IfOk result (λ v. AllRan K.workers (allows K.filter) (F.meaning fetcher.now) workers.items v.items) }
+{
+    run_threads_in(rt, alloc, frontier, workers, &WithoutSession { fetcher })
+}
+
+/// As [`run_threads`], where each worker owns a session of the fetcher.
+///
+/// # Errors
+/// Those of [`run_threads`].
+pub fn run_threads_in<K: Name + Send + Sync, F: SessionFetch + Sync, R: Threads + Wait + Sync>(
     rt: &R,
     alloc: Global,
     frontier: &Frontier<K>,

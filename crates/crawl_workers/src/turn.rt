@@ -4,15 +4,15 @@ ghost use Rattle.crawl_keys.specs.HostFilter.{allows};
 ghost use Rattle.crawl_frontier.specs.Parts.{WorkerId};
 ghost use Rattle.crawl_web.specs.Pages.{links_of};
 ghost use Rattle.crawl_workers.specs.Logs.{AllLogged, HasLine};
-ghost use Rattle.crawl_workers.specs.Met.{Knows};
+ghost use Rattle.crawl_workers.specs.Recent.{Knows};
 ghost use Rattle.crawl_workers.specs.Ran.{most_lost_at};
 ghost use Rattle.crawl_workers.specs.Turn.{Finds, Goes, Loses, SameBusy, worker_in};
 
-use crate::harvest::Harvest;
-use crate::met::Met;
+use crate::output::WorkerOutput;
+use crate::recent::RecentUrls;
 use crawl_frontier::{BusyWorker, ClosedWorker, Frontier, Name, OfferError, Turn, Worker};
 use crawl_keys::CanonUrl;
-use crawl_web::{Fetch, Links, Page};
+use crawl_web::{Links, Page, SessionFetch};
 use std::alloc::Global;
 use std::sync::Wait;
 
@@ -27,28 +27,28 @@ pub(crate) enum Step<K: Name> {
     Closes(ClosedWorker<K>),
 }
 
-// Offers a link that was not met before, and answers whether it is lost. One that the filter does not allow is not. A link
-// that was met or seen shares the text of the frontier's from then on.
+// Offers a link that is not remembered, and answers whether it is lost. One that the filter does not allow is not. A link
+// that is remembered or was seen shares the text of the frontier's from then on.
 fn is_refused<K: Name, R: Wait>(
     rt: &R,
     alloc: Global,
     frontier: &Frontier<K>,
     busy: &mut BusyWorker<K>,
-    met: &mut Met,
+    recent: &mut RecentUrls,
     url: &mut CanonUrl,
 ) -> bool
     ensures url { url.new ≡ url.old }
     ensures same { SameBusy busy.old busy.new }
     ensures filtered { allows K.filter url.old ≡ false → result ≡ false }
-    ensures line { Knows K.workers busy.old.worker.book.log met.old → result ≡ false → allows K.filter url.old ≡ true → HasLine K.workers busy.new.worker.book.log url.old }
-    ensures met { Knows K.workers busy.old.worker.book.log met.old → Knows K.workers busy.new.worker.book.log met.new }
+    ensures line { Knows K.workers busy.old.worker.book.log recent.old → result ≡ false → allows K.filter url.old ≡ true → HasLine K.workers busy.new.worker.book.log url.old }
+    ensures recent { Knows K.workers busy.old.worker.book.log recent.old → Knows K.workers busy.new.worker.book.log recent.new }
 {
-    if met.has(url) {
+    if recent.has(url) {
         return false;
     }
     match busy.offer_shared(rt, frontier, url) {
         Ok(_) => {
-            met.meet(alloc, url);
+            recent.remember(alloc, url);
             false
         }
         Err(OfferError::Filtered) => false,
@@ -62,18 +62,18 @@ fn offer_links<K: Name, R: Wait>(
     alloc: Global,
     frontier: &Frontier<K>,
     busy: &mut BusyWorker<K>,
-    met: &mut Met,
+    recent: &mut RecentUrls,
     links: &mut [CanonUrl],
 ) -> u64
     ensures links { links.new ≡ links.old }
     ensures same { SameBusy busy.old busy.new }
     ensures few { result ≤ count_by (allows K.filter) links.old }
-    ensures lines { Knows K.workers busy.old.worker.book.log met.old → result ≡ 0 → AllLogged K.workers (allows K.filter) busy.new.worker.book.log links.old }
-    ensures met { Knows K.workers busy.old.worker.book.log met.old → Knows K.workers busy.new.worker.book.log met.new }
+    ensures lines { Knows K.workers busy.old.worker.book.log recent.old → result ≡ 0 → AllLogged K.workers (allows K.filter) busy.new.worker.book.log links.old }
+    ensures recent { Knows K.workers busy.old.worker.book.log recent.old → Knows K.workers busy.new.worker.book.log recent.new }
 {
     let mut refused = 0;
     for place in 0..links.len() {
-        if is_refused(rt, alloc, frontier, busy, met, &mut links[place]) {
+        if is_refused(rt, alloc, frontier, busy, recent, &mut links[place]) {
             refused += 1;
         }
     }
@@ -86,24 +86,24 @@ fn offer_page<K: Name, R: Wait>(
     alloc: Global,
     frontier: &Frontier<K>,
     busy: &mut BusyWorker<K>,
-    met: &mut Met,
+    recent: &mut RecentUrls,
     page: Page,
 ) -> (Page, u64)
     ensures page { result.0 ≡ page }
     ensures same { SameBusy busy.old busy.new }
     ensures few { result.1 ≤ count_by (allows K.filter) (links_of page) }
-    ensures lines { Knows K.workers busy.old.worker.book.log met.old → result.1 ≡ 0 → AllLogged K.workers (allows K.filter) busy.new.worker.book.log (links_of page) }
-    ensures met { Knows K.workers busy.old.worker.book.log met.old → Knows K.workers busy.new.worker.book.log met.new }
+    ensures lines { Knows K.workers busy.old.worker.book.log recent.old → result.1 ≡ 0 → AllLogged K.workers (allows K.filter) busy.new.worker.book.log (links_of page) }
+    ensures recent { Knows K.workers busy.old.worker.book.log recent.old → Knows K.workers busy.new.worker.book.log recent.new }
 {
     match page {
         Page::Found { links, skipped } => {
             let mut urls = Vec::from(links);
-            let refused = offer_links(rt, alloc, frontier, busy, met, urls.as_mut_slice());
+            let refused = offer_links(rt, alloc, frontier, busy, recent, urls.as_mut_slice());
             let links = Links::from(urls);
             (Page::Found { links, skipped }, refused)
         }
         Page::Moved { to: Some(mut url) } => {
-            let refused = is_refused(rt, alloc, frontier, busy, met, &mut url);
+            let refused = is_refused(rt, alloc, frontier, busy, recent, &mut url);
             (Page::Moved { to: Some(url) }, u64::from(refused))
         }
         Page::Moved { to: None } => (Page::Moved { to: None }, 0),
@@ -112,42 +112,48 @@ fn offer_page<K: Name, R: Wait>(
 }
 
 // Fetches the URL, offers the links of its page, and keeps the result.
-fn work<K: Name, F: Fetch, R: Wait>(
+fn work<K: Name, F: SessionFetch, R: Wait>(
     rt: &R,
     alloc: Global,
     frontier: &Frontier<K>,
     busy: &mut BusyWorker<K>,
     fetcher: &F,
-    harvest: &mut Harvest,
+    session: &mut F::Session,
+    output: &mut WorkerOutput,
 )
+    requires { F.is_of fetcher.now session.old }
+    ensures right { F.is_of fetcher.now session.new }
     ensures same { SameBusy busy.old busy.new }
-    ensures finds { Knows K.workers busy.old.worker.book.log harvest.old.met → Finds K.workers (allows K.filter) (F.meaning fetcher.now) busy.old.message.entry.url busy.new.worker.book.log harvest.old harvest.new ⊎ Loses (most_lost_at (allows K.filter) (links_of (F.meaning fetcher.now busy.old.message.entry.url)) None) harvest.old harvest.new }
-    ensures met { Knows K.workers busy.old.worker.book.log harvest.old.met → Knows K.workers busy.new.worker.book.log harvest.new.met }
+    ensures finds { Knows K.workers busy.old.worker.book.log output.old.recent → Finds K.workers (allows K.filter) (F.meaning fetcher.now) busy.old.message.entry.url busy.new.worker.book.log output.old output.new ⊎ Loses (most_lost_at (allows K.filter) (links_of (F.meaning fetcher.now busy.old.message.entry.url)) None) output.old output.new }
+    ensures recent { Knows K.workers busy.old.worker.book.log output.old.recent → Knows K.workers busy.new.worker.book.log output.new.recent }
 {
-    let Ok(page) = fetcher.fetch(alloc, busy.url()) else {
-        harvest.lose(1);
+    let Ok(page) = fetcher.fetch_in(alloc, session, busy.url()) else {
+        output.lose(1);
         return;
     };
-    let (page, refused) = offer_page(rt, alloc, frontier, busy, &mut harvest.met, page);
-    harvest.lose(refused);
-    harvest.keep(busy.url(), page);
+    let (page, refused) = offer_page(rt, alloc, frontier, busy, &mut output.recent, page);
+    output.lose(refused);
+    output.keep(busy.url(), page);
 }
 
 /// A turn of a worker. A URL that is lost is still done, so that the gate can close.
-pub(crate) fn turn<K: Name, F: Fetch, R: Wait>(
+pub(crate) fn turn<K: Name, F: SessionFetch, R: Wait>(
     rt: &R,
     alloc: Global,
     frontier: &Frontier<K>,
     worker: Worker<K>,
     fetcher: &F,
-    harvest: &mut Harvest,
+    session: &mut F::Session,
+    output: &mut WorkerOutput,
 ) -> Step<K>
+    requires { F.is_of fetcher.now session.old }
+    ensures right { F.is_of fetcher.now session.new }
     // Whatever the run began with, the turn goes on with it.
-    ensures { (start : WorkerId) → Goes K.workers (allows K.filter) (F.meaning fetcher.now) start worker harvest.old → Goes K.workers (allows K.filter) (F.meaning fetcher.now) start (worker_in result) harvest.new }
+    ensures goes { (start : WorkerId) → Goes K.workers (allows K.filter) (F.meaning fetcher.now) start worker output.old → Goes K.workers (allows K.filter) (F.meaning fetcher.now) start (worker_in result) output.new }
 {
     match worker.next(rt, frontier) {
         Turn::Busy(mut busy) => {
-            work(rt, alloc, frontier, &mut busy, fetcher, harvest);
+            work(rt, alloc, frontier, &mut busy, fetcher, session, output);
             Step::Worked(busy.done(frontier))
         }
         Turn::Idle(worker, _) => Step::Waits(worker),

@@ -7,11 +7,11 @@ ghost use Rattle.crawl_workers.specs.Runs.{AllRan};
 ghost use Rattle.crawl_workers.specs.Rounds.{AllGo, RunnerRan, IsEnded, EndedBelow};
 
 use crate::error::RunError;
-use crate::harvest::Harvest;
+use crate::output::WorkerOutput;
 use crate::turn::{Step, turn};
 use crate::worker_end::WorkerEnd;
 use crawl_frontier::{Frontier, Name, Worker};
-use crawl_web::Fetch;
+use crawl_web::{Fetch, SessionFetch, WithoutSession};
 use std::alloc::Global;
 use std::mem;
 use std::sync::Wait;
@@ -19,36 +19,39 @@ use std::sync::Wait;
 /// A worker with what it has found, or its end.
 #[derive(Drop)]
 pub(crate) enum Runner<K: Name> {
-    Going(Worker<K>, Harvest),
+    Going(Worker<K>, WorkerOutput),
     Ended(WorkerEnd<K>),
     /// Its worker is in a turn.
     Moved,
 }
 
 // A turn, if the worker has not ended. Answers whether it goes on.
-fn advance<K: Name, F: Fetch, R: Wait>(
+fn advance<K: Name, F: SessionFetch, R: Wait>(
     rt: &R,
     alloc: Global,
     frontier: &Frontier<K>,
     runner: &mut Runner<K>,
     fetcher: &F,
+    session: &mut F::Session,
 ) -> bool
+    requires { F.is_of fetcher.now session.old }
+    ensures right { F.is_of fetcher.now session.new }
     ensures ran { (start : WorkerId) → RunnerRan K.workers (allows K.filter) (F.meaning fetcher.now) start runner.old → RunnerRan K.workers (allows K.filter) (F.meaning fetcher.now) start runner.new }
     ensures ended { (start : WorkerId) → RunnerRan K.workers (allows K.filter) (F.meaning fetcher.now) start runner.old → result ≡ false → IsEnded runner.new }
 {
     match mem::replace(runner, Runner::Moved) {
-        Runner::Going(worker, mut harvest) => {
-            match turn(rt, alloc, frontier, worker, fetcher, &mut harvest) {
+        Runner::Going(worker, mut output) => {
+            match turn(rt, alloc, frontier, worker, fetcher, session, &mut output) {
                 Step::Worked(worker) => {
-                    *runner = Runner::Going(worker, harvest);
+                    *runner = Runner::Going(worker, output);
                     true
                 }
                 Step::Waits(worker) => {
-                    *runner = Runner::Going(worker, harvest);
+                    *runner = Runner::Going(worker, output);
                     true
                 }
                 Step::Closes(closed) => {
-                    *runner = Runner::Ended(harvest.end(closed));
+                    *runner = Runner::Ended(output.end(closed));
                     false
                 }
             }
@@ -62,20 +65,23 @@ fn advance<K: Name, F: Fetch, R: Wait>(
 }
 
 // A turn of each, in order. Answers whether one goes on.
-fn round<K: Name, F: Fetch, R: Wait>(
+fn round<K: Name, F: SessionFetch, R: Wait>(
     rt: &R,
     alloc: Global,
     frontier: &Frontier<K>,
     runners: &mut [Runner<K>],
     fetcher: &F,
+    session: &mut F::Session,
 ) -> bool
+    requires { F.is_of fetcher.now session.old }
+    ensures right { F.is_of fetcher.now session.new }
     ensures ran { (starts : List WorkerId) → AllGo K.workers (allows K.filter) (F.meaning fetcher.now) starts runners.old → AllGo K.workers (allows K.filter) (F.meaning fetcher.now) starts runners.new }
     ensures ended { (starts : List WorkerId) → AllGo K.workers (allows K.filter) (F.meaning fetcher.now) starts runners.old → result ≡ false → EndedBelow (length runners.new) runners.new }
     ensures len { length runners.new ≡ length runners.old }
 {
     let mut going = false;
     for i in 0..runners.len() {
-        if advance(rt, alloc, frontier, &mut runners[i], fetcher) {
+        if advance(rt, alloc, frontier, &mut runners[i], fetcher, session) {
             going = true;
         }
     }
@@ -83,18 +89,20 @@ fn round<K: Name, F: Fetch, R: Wait>(
 }
 
 // Rounds until each has ended.
-fn rounds<K: Name, F: Fetch, R: Wait>(
+fn rounds<K: Name, F: SessionFetch, R: Wait>(
     rt: &R,
     alloc: Global,
     frontier: &Frontier<K>,
     runners: &mut [Runner<K>],
     fetcher: &F,
+    session: &mut F::Session,
 )
+    requires { F.is_of fetcher.now session.old }
     ensures ran { (starts : List WorkerId) → AllGo K.workers (allows K.filter) (F.meaning fetcher.now) starts runners.old → AllGo K.workers (allows K.filter) (F.meaning fetcher.now) starts runners.new × EndedBelow (length runners.new) runners.new }
     ensures len { length runners.new ≡ length runners.old }
 {
     for _ in rt.forever() {
-        if !round(rt, alloc, frontier, runners, fetcher) {
+        if !round(rt, alloc, frontier, runners, fetcher, session) {
             return;
         }
     }
@@ -117,7 +125,7 @@ fn runners_of<K: Name>(
         return runners;
     };
     let mut runners = runners_of(alloc, workers, runners);
-    runners.push_reserved(Runner::Going(worker, Harvest::new(alloc)));
+    runners.push_reserved(Runner::Going(worker, WorkerOutput::new(alloc)));
     runners
 }
 
@@ -158,6 +166,24 @@ pub fn run_turns<K: Name, F: Fetch, R: Wait>(
         (λ v. AllRan K.workers (allows K.filter) (F.meaning fetcher.now) workers.items v.items)
         (λ e. e ≡ RunError.NoMemory) }
 {
+    run_turns_in(rt, alloc, frontier, workers, &WithoutSession { fetcher })
+}
+
+/// As [`run_turns`], where all workers share a session of the fetcher.
+///
+/// # Errors
+/// Those of [`run_turns`].
+pub fn run_turns_in<K: Name, F: SessionFetch, R: Wait>(
+    rt: &R,
+    alloc: Global,
+    frontier: &Frontier<K>,
+    workers: Vec<Worker<K>>,
+    fetcher: &F,
+) -> Result<Vec<WorkerEnd<K>>, RunError>
+    ensures { MatchResult result
+        (λ v. AllRan K.workers (allows K.filter) (F.meaning fetcher.now) workers.items v.items)
+        (λ e. e ≡ RunError.NoMemory) }
+{
     let Ok(ends) = Vec::with_capacity(alloc, workers.len()) else {
         return Err(RunError::NoMemory);
     };
@@ -165,6 +191,14 @@ pub fn run_turns<K: Name, F: Fetch, R: Wait>(
         return Err(RunError::NoMemory);
     };
     let mut runners = runners_of(alloc, workers, runners);
-    rounds(rt, alloc, frontier, runners.as_mut_slice(), fetcher);
+    let mut session = fetcher.open_session(alloc, 1);
+    rounds(
+        rt,
+        alloc,
+        frontier,
+        runners.as_mut_slice(),
+        fetcher,
+        &mut session,
+    );
     Ok(ends_of(runners, ends))
 }

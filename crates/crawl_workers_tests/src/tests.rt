@@ -1,6 +1,7 @@
 //! What no clause says: that calls succeed and end, that workers run together, and how much they lose.
-mod met;
+mod recent;
 mod rows;
 mod runs;
+mod sessions;
 mod sources;
 mod threads;

@@ -14,7 +14,7 @@ mod named;
 use crawl_certificate::CrawlResult;
 use crawl_frontier::Setup;
 use crawl_keys::{CanonUrl, Filter};
-use crawl_web::Fetch;
+use crawl_web::{Fetch, SessionFetch, WithoutSession};
 pub use error::CrawlError;
 use named::crawl_named;
 use std::alloc::Global;
@@ -70,6 +70,30 @@ pub fn crawl<F: Fetch + Sync, R: Threads + Wait + Sync>(
     // That a thread cannot be started is told of workers in threads alone.
     ensures mode { IfErr result (ComesIn mode) }
     // A fault of the certificate is the first one of some entries and of results that have the fetcher's pages.
+    ensures judged { IfErr result (IsJudged (F.meaning fetcher.now) (allows filter.now) seeds.now) }
+{
+    let source = WithoutSession { fetcher };
+    crawl_in(rt, alloc, &source, filter, seeds, workers, max_pending, mode)
+}
+
+/// As [`crawl`], where each worker owns a session of the source.
+///
+/// # Errors
+/// Those of [`crawl`].
+pub fn crawl_in<F: SessionFetch + Sync, R: Threads + Wait + Sync>(
+    rt: &R,
+    alloc: Global,
+    fetcher: &F,
+    filter: &Filter,
+    seeds: &[CanonUrl],
+    workers: u32,
+    max_pending: u64,
+    mode: Mode,
+) -> Result<Crawled, CrawlError>
+    ensures pages { IfOk result (λ crawled. IsCrawl (F.meaning fetcher.now) (allows filter.now) seeds.now crawled.result) }
+    ensures counts { IfOk result (λ crawled. AreCounts workers (result_urls crawled.result) crawled.counts.items) }
+    ensures numbers { MatchResult result (λ _. IsWorkers workers × IsMaximum max_pending) (λ error. CrawlFails workers max_pending error) }
+    ensures mode { IfErr result (ComesIn mode) }
     ensures judged { IfErr result (IsJudged (F.meaning fetcher.now) (allows filter.now) seeds.now) }
 {
     let setup = Setup::new(alloc, workers, max_pending)?;

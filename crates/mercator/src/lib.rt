@@ -15,7 +15,7 @@ pub use commands::{
 };
 pub use crawl_certificate::{CertError, CrawlResult, certify};
 pub use crawl_replay::{Script, ScriptError, read_script, replay_text};
-pub use crawl_web::LINE_LIMIT;
+pub use crawl_web::{LINE_LIMIT, SessionFetch};
 pub use crawl_workers::{RunError, WorkerEnd, run_threads, run_turns, run_worker};
-pub use crawling::{CrawlError, Crawled, Mode, crawl};
+pub use crawling::{CrawlError, Crawled, Mode, crawl, crawl_in};
 pub use key::key_line;

@@ -13,16 +13,15 @@ use crate::saved_web::folder::Folder;
 use crate::saved_web::known_link::{copy_of, link_of};
 use crate::saved_web::known_links::KnownLinks;
 use crate::saved_web::line::{Line, line_of};
+use crate::saved_web::link_cache::{LinkCache, folder_hash};
 use crate::saved_web::link_text::LinkText;
-use crate::saved_web::memory::{Memories, Memory, place_of};
 use crawl_keys::{Base, CanonUrl, is_of_folder};
 use std::alloc::Global;
 
-/// The page of this URL, with its base, whose line these bytes follow, up to the next page or to the end.
+/// The page with this base, whose line these bytes follow, up to the next page or to the end.
 pub fn page_behind<'a>(
     alloc: Global,
-    memories: &Memories<'a>,
-    url: &CanonUrl,
+    cache: &mut LinkCache<'a>,
     base: Base,
     bytes: &'a [u8],
 ) -> Result<Page, FetchError>
@@ -31,13 +30,7 @@ pub fn page_behind<'a>(
 {
     match moved_text(bytes) {
         Some(text) => moved_page(alloc, &base, text),
-        None => match memories.free(url) {
-            Some(mut memory) => {
-                let place = place_of(base.as_str());
-                remembering(alloc, &mut memory, place, base, bytes)
-            }
-            None => found_page(alloc, &mut Folder::new(alloc, base), bytes),
-        },
+        None => remembering(alloc, cache, base, bytes),
     }
 }
 
@@ -50,20 +43,20 @@ fn moved_page(alloc: Global, base: &Base, text: &str) -> Result<Page, FetchError
     Ok(Page::Moved { to })
 }
 
-/// The page with the links among these lines, by what a memory has of its folder.
+/// The page with the links among these lines, by what the cache has of its folder.
 fn remembering<'a>(
     alloc: Global,
-    memory: &mut Memory<'a>,
-    place: usize,
+    cache: &mut LinkCache<'a>,
     base: Base,
     bytes: &'a [u8],
 ) -> Result<Page, FetchError>
     ensures page { IfOk result (λ page. page ≡ found_page base (link_texts (lines bytes.now))) }
     ensures refused { IfErr result (λ e. e ≡ FetchError.NoMemory) }
 {
-    let mut folder = memory.take(alloc, place, base);
+    let hash = folder_hash(base.as_str());
+    let mut folder = cache.take(alloc, hash, base);
     let page = found_page(alloc, &mut folder, bytes)?;
-    memory.put(alloc, place, folder)?;
+    cache.put(alloc, hash, folder);
     Ok(page)
 }
 

@@ -74,7 +74,7 @@ fn found_by<K: Name + Send + Sync, F: Fetch + Sync, R: Threads + Wait + Sync>(
 }
 
 // Offers the seeds.
-fn seeded<K: Name, R: Wait>(
+pub fn seeded<K: Name, R: Wait>(
     rt: &R,
     alloc: Global,
     frontier: &Frontier<K>,
@@ -168,7 +168,7 @@ fn found_in<K: Name>(ends: &[WorkerEnd<K>], run: Run<'_>) -> Option<Found> {
 }
 
 // Whether the frontier has an account.
-fn finishes<K: Name>(
+pub fn finishes<K: Name>(
     alloc: Global,
     frontier: Frontier<K>,
     sender: Sender<K>,

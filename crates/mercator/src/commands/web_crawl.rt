@@ -12,7 +12,7 @@ ghost use Rattle.mercator.specs.Crawls.{AreCounts};
 ghost use Rattle.mercator.specs.WebCrawl.{AreAllSeeds, AreSeeds, ComesOf, IsBegun, IsFound, IsSiteCrawl, IsCrawlReport, IsRefused, IsSeedFault, IsUnbegun, IsUnread};
 
 use crate::commands::fault::Fault;
-use crate::crawling::{Crawled, Mode, crawl};
+use crate::crawling::{Crawled, Mode, crawl_in};
 use crawl_keys::{CanonUrl, Filter, canonical};
 use crawl_sources::read_seeds;
 use crawl_web::{SavedWeb, report_text};
@@ -33,7 +33,7 @@ pub struct Report {
 /// the filter allows, and of no other. Neither the number of workers, nor their mode, nor what the threads did shows in it.
 ///
 /// The web is read before the seeds are, and both before anything is fetched. `workers` and `max_pending` are those of
-/// [`crawl`].
+/// [`crawl`](crate::crawl).
 ///
 /// # Errors
 /// `Web`; `Seed` with the first seed that has no canonical URL; `Crawl`, where a number is past its limit, or the crawl is
@@ -95,7 +95,7 @@ pub fn crawl_saved_web<R: Threads + Wait + Sync>(
     ensures mode { IfErr result (ComesOf mode) }
 {
     let (web, urls) = read_site(alloc, bytes, listed, seeds)?;
-    let found = crawl(rt, alloc, &web, filter, &urls, workers, max_pending, mode)?;
+    let found = crawl_in(rt, alloc, &web, filter, &urls, workers, max_pending, mode)?;
     Ok(found)
 }
 
@@ -122,7 +122,7 @@ pub(in crate::commands) fn crawl_with_web<'a, R: Threads + Wait + Sync>(
     if urls.is_empty() {
         return Err(Fault::NoSeed);
     }
-    let found = crawl(rt, alloc, &web, filter, &urls, workers, max_pending, mode)?;
+    let found = crawl_in(rt, alloc, &web, filter, &urls, workers, max_pending, mode)?;
     Ok((web, found))
 }
 

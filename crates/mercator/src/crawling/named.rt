@@ -13,14 +13,14 @@ use crate::crawling::gather::{counts_of, gathered};
 use crate::crawling::{CrawlError, Crawled, Mode};
 use crawl_frontier::{Frontier, Name, OfferError, Seeder, Setup, Worker};
 use crawl_keys::{CanonUrl, Filter};
-use crawl_web::Fetch;
-use crawl_workers::{RunError, WorkerEnd, run_threads, run_turns};
+use crawl_web::SessionFetch;
+use crawl_workers::{RunError, WorkerEnd, run_threads_in, run_turns_in};
 use std::alloc::Global;
 use std::sync::Wait;
 use std::thread::Threads;
 
 /// Crawls on the frontier of this setup: seeds, run, account, certificate.
-pub fn crawl_named<K: Name + Send + Sync, F: Fetch + Sync, R: Threads + Wait + Sync>(
+pub fn crawl_named<K: Name + Send + Sync, F: SessionFetch + Sync, R: Threads + Wait + Sync>(
     rt: &R,
     alloc: Global,
     setup: Setup,
@@ -90,7 +90,7 @@ fn is_refused<K: Name, R: Wait>(
 }
 
 /// Runs all workers to their ends. One alone runs on the calling thread in either mode.
-fn run<K: Name + Send + Sync, F: Fetch + Sync, R: Threads + Wait + Sync>(
+fn run<K: Name + Send + Sync, F: SessionFetch + Sync, R: Threads + Wait + Sync>(
     rt: &R,
     alloc: Global,
     frontier: &Frontier<K>,
@@ -103,7 +103,7 @@ fn run<K: Name + Send + Sync, F: Fetch + Sync, R: Threads + Wait + Sync>(
     ensures alone { vec_len workers ≤ 1 → IfErr result (λ error. error ≡ unrun.NoMemory) }
 {
     match mode {
-        Mode::Threads if workers.len() > 1 => { run_threads(rt, alloc, frontier, workers, fetcher) }
-        _ => run_turns(rt, alloc, frontier, workers, fetcher),
+        Mode::Threads if workers.len() > 1 => { run_threads_in(rt, alloc, frontier, workers, fetcher) }
+        _ => run_turns_in(rt, alloc, frontier, workers, fetcher),
     }
 }

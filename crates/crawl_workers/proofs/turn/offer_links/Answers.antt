@@ -29,7 +29,7 @@ loop-place-preserved g c =
                   (all_logged_more g.K.Name.workers (allows g.K.Name.filter) _ _ (take i links) (slice_index_or links i x) same.grows (before.0 (omega (arith, w.refused-is, none)))
                   (subst (λ ls. allows g.K.Name.filter (slice_index_or ls i x) ≡ true → HasLine g.K.Name.workers log (slice_index_or ls i x)) inv.3 (c.is_refused.ensures.line before.1 w.if-is_refused.false)))
             ],
-            c.is_refused.ensures.met before.1,
+            c.is_refused.ensures.recent before.1,
           ),
       unchanged_at c.loop-place.links i x c.is_refused.new.url c.is_refused.ensures.url ∙ inv.3,
       elim c.if-is_refused.branch [

@@ -2,7 +2,7 @@ use Rattle.std.proofs.Common.{◌≡◌, ◌≤◌, take}
 use Rattle.std.specs.List.{count_by}
 use Rattle.crawl_keys.specs.HostFilter.{allows}
 use Rattle.crawl_workers.specs.Logs.{AllLogged}
-use Rattle.crawl_workers.specs.Met.{Knows}
+use Rattle.crawl_workers.specs.Recent.{Knows}
 use Rattle.crawl_workers.specs.Turn.{SameBusy}
 use Rattle.crawl_workers.proofs.turn.offer_links.Given as goal
 
@@ -10,8 +10,8 @@ abbrev pub invariant-loop-place : goal.invariant-loop-place
 invariant-loop-place g l =
     (l.refused ≤ l.place)
     × SameBusy l.fn.busy l.busy
-    × (Knows g.K.Name.workers l.fn.busy.worker.book.log l.fn.met
+    × (Knows g.K.Name.workers l.fn.busy.worker.book.log l.fn.recent
     → (l.refused ≡ 0 → AllLogged g.K.Name.workers (allows g.K.Name.filter) l.busy.worker.book.log (take l.place l.fn.links))
-    × Knows g.K.Name.workers l.busy.worker.book.log l.met)
+    × Knows g.K.Name.workers l.busy.worker.book.log l.recent)
     × (l.links ≡ l.fn.links)
     × (l.refused ≤ count_by (allows g.K.Name.filter) (take l.place l.fn.links))

@@ -2,34 +2,34 @@ use Rattle.std.proofs.Common.{ap, sym, subst}
 use Rattle.crawl_frontier.specs.Books.{BookId}
 use Rattle.crawl_frontier.specs.Parts.{WorkerId}
 use Rattle.crawl_keys.specs.HostFilter.{allows}
-use Rattle.crawl_workers.specs.Met.{Knows}
+use Rattle.crawl_workers.specs.Recent.{Knows}
 use Rattle.crawl_workers.proofs.Running.{ran_worked, ran_on}
 use Rattle.crawl_workers.proofs.turn.turn.Goals as goal
 
-pub returns-in-Busy : goal.returns-in-Busy
-returns-in-Busy g c = λ start goes.
+pub returns-in-Busy-clause-goes : goal.returns-in-Busy-clause-goes
+returns-in-Busy-clause-goes g c = λ start goes.
     let is = c.done.ensures.1 in
     let takes = ap (λ (x : WorkerId). x.book) c.in-Busy.ensures.0 in
     let gives = ap (λ (x : WorkerId). x.book) is in
-    let known = subst (λ (b : BookId). Knows g.K.Name.workers b.log c.args.harvest.now.met) (sym takes) goes.1 in (
-      ran_worked g.K.Name.workers (allows g.K.Name.filter) _ start c.args.worker c.done.result c.in-Busy.busy c.work.new.busy c.args.harvest.now c.work.new.harvest
+    let known = subst (λ (b : BookId). Knows g.K.Name.workers b.log c.args.output.now.recent) (sym takes) goes.1 in (
+      ran_worked g.K.Name.workers (allows g.K.Name.filter) _ start c.args.worker c.done.result c.in-Busy.busy c.work.new.busy c.args.output.now c.work.new.output
           c.in-Busy.ensures.0 c.in-Busy.ensures.1 c.work.ensures.same (c.work.ensures.finds known)
           (ap (λ (x : WorkerId). x.place) is) (ap (λ (x : WorkerId). x.taken) is) gives goes.0,
-      subst (λ (b : BookId). Knows g.K.Name.workers b.log c.work.new.harvest.met) (sym gives) (c.work.ensures.met known),
+      subst (λ (b : BookId). Knows g.K.Name.workers b.log c.work.new.output.recent) (sym gives) (c.work.ensures.recent known),
     )
 
-pub returns-in-Idle : goal.returns-in-Idle
-returns-in-Idle g c = λ start goes.
+pub returns-in-Idle-clause-goes : goal.returns-in-Idle-clause-goes
+returns-in-Idle-clause-goes g c = λ start goes.
     let is = c.in-Idle.ensures.1 in
     let book = ap (λ (x : WorkerId). x.book) is in (
       ran_on g.K.Name.workers (allows g.K.Name.filter) _ start c.args.worker c.in-Idle.worker _ _ (ap (λ (x : WorkerId). x.place) is) (ap (λ (x : WorkerId). x.taken) is) book goes.0,
-      subst (λ (b : BookId). Knows g.K.Name.workers b.log c.args.harvest.now.met) (sym book) goes.1,
+      subst (λ (b : BookId). Knows g.K.Name.workers b.log c.args.output.now.recent) (sym book) goes.1,
     )
 
-pub returns-in-Closed : goal.returns-in-Closed
-returns-in-Closed g c = λ start goes.
+pub returns-in-Closed-clause-goes : goal.returns-in-Closed-clause-goes
+returns-in-Closed-clause-goes g c = λ start goes.
     let is = c.in-Closed.ensures.1 in
     let book = ap (λ (x : WorkerId). x.book) is in (
       ran_on g.K.Name.workers (allows g.K.Name.filter) _ start c.args.worker c.in-Closed.closed _ _ (ap (λ (x : WorkerId). x.place) is) (ap (λ (x : WorkerId). x.taken) is) book goes.0,
-      subst (λ (b : BookId). Knows g.K.Name.workers b.log c.args.harvest.now.met) (sym book) goes.1,
+      subst (λ (b : BookId). Knows g.K.Name.workers b.log c.args.output.now.recent) (sym book) goes.1,
     )

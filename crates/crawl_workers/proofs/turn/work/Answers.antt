@@ -3,7 +3,7 @@ use Rattle.std.specs.List.{count_by}
 use Rattle.crawl_keys.specs.HostFilter.{allows}
 use Rattle.crawl_web.specs.Pages.{links_of}
 use Rattle.crawl_workers.specs.Logs.{AllLogged}
-use Rattle.crawl_workers.specs.Met.{Knows}
+use Rattle.crawl_workers.specs.Recent.{Knows}
 use Rattle.crawl_workers.proofs.Running.{kept}
 use Rattle.crawl_workers.proofs.turn.work.Goals as goal
 
@@ -12,14 +12,14 @@ returns-clause-finds g c = λ known.
     let offered = c.offer_page-page in
     let log = offered.new.busy.worker.book.log in
     let url : c.url-2.result.now ≡ c.args.busy.now.message.entry.url = c.url-2.ensures ∙ ap (λ e. e.url) offered.ensures.same.entry in
-    kept g.K.Name.workers (allows g.K.Name.filter) (g.F.Fetch.meaning c.args.fetcher.now) c.args.busy.now.message.entry.url log
-    c.args.harvest.now c.lose-2.new.self c.keep.new.self offered.result.1 offered.result.0
-    (offered.ensures.page ∙ c.in-Ok.ensures.meaning ∙ ap (g.F.Fetch.meaning c.args.fetcher.now) c.url.ensures)
+    kept g.K.Name.workers (allows g.K.Name.filter) (g.F.SessionFetch.meaning c.args.fetcher.now) c.args.busy.now.message.entry.url log
+    c.args.output.now c.lose-2.new.self c.keep.new.self offered.result.1 offered.result.0
+    (offered.ensures.page ∙ c.in-Ok.ensures.meaning ∙ ap (g.F.SessionFetch.meaning c.args.fetcher.now) c.url.ensures)
     (subst (λ p. offered.result.1 ≤ count_by (allows g.K.Name.filter) (links_of p)) (sym offered.ensures.page) offered.ensures.few)
     (subst (λ p. offered.result.1 ≡ 0 → AllLogged g.K.Name.workers (allows g.K.Name.filter) log (links_of p)) (sym offered.ensures.page) (offered.ensures.lines known))
     c.lose-2.ensures.same c.lose-2.ensures.lost (rw url at c.keep.ensures.kept)
 
-pub returns-clause-met : goal.returns-clause-met
-returns-clause-met g c = λ known.
+pub returns-clause-recent : goal.returns-clause-recent
+returns-clause-recent g c = λ known.
     let offered = c.offer_page-page in
-    subst (Knows g.K.Name.workers offered.new.busy.worker.book.log) (sym (c.keep.ensures.met ∙ c.lose-2.ensures.met)) (offered.ensures.met known)
+    subst (Knows g.K.Name.workers offered.new.busy.worker.book.log) (sym (c.keep.ensures.recent ∙ c.lose-2.ensures.recent)) (offered.ensures.recent known)

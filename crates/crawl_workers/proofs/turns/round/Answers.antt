@@ -13,12 +13,13 @@ loop-i-preserved g c =
       length_set rs c.loop-i.i c.advance.new.runner ∙ inv.0,
       λ starts go.
           let before = inv.1 starts go in (
-            all_go_set g.K.Name.workers (allows g.K.Name.filter) (g.F.Fetch.meaning c.args.fetcher.now) starts rs c.loop-i.i r c.advance.new.runner at c.advance.ensures.ran before.0,
+            all_go_set g.K.Name.workers (allows g.K.Name.filter) (g.F.SessionFetch.meaning c.args.fetcher.now) starts rs c.loop-i.i r c.advance.new.runner at c.advance.ensures.ran before.0,
             elim c.if-advance.branch [
               | then-advance w ↦ λ none. absurd (let is = sym w.going-is ∙ none in cc)
               | else-advance w ↦ λ none.
-                  let ran = go_ran g.K.Name.workers (allows g.K.Name.filter) (g.F.Fetch.meaning c.args.fetcher.now) starts rs c.loop-i.i r at before.0 in
+                  let ran = go_ran g.K.Name.workers (allows g.K.Name.filter) (g.F.SessionFetch.meaning c.args.fetcher.now) starts rs c.loop-i.i r at before.0 in
                   ended_set rs c.loop-i.i c.advance.new.runner (c.advance.ensures.ended ran.0 ran.1 w.if-advance.false) (before.1 (sym w.going-is ∙ none))
             ],
           ),
+      c.advance.ensures.right,
     )

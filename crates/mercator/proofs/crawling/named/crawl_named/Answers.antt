@@ -11,7 +11,7 @@ use Rattle.mercator.proofs.crawling.named.crawl_named.Goals as goal
 
 pub returns-clause-pages : goal.returns-clause-pages
 returns-clause-pages g c =
-    let meaning = g.F.Fetch.meaning c.args.fetcher.now in
+    let meaning = g.F.SessionFetch.meaning c.args.fetcher.now in
     let found = c.in_ok-closed.ensures meaning (all_pages g.K.Name.workers (allows g.K.Name.filter) meaning _ _ c.in_ok-ends.ensures.ran) in
     whole_crawl meaning (allows c.args.filter.now) c.args.seeds.now (entries_of c.in_ok-account.account) _ _ (no_fault_from _ c.in_ok-result.ensures.fault) found c.in_ok-result.ensures.same c.in_ok-result.ensures.ascends
 
@@ -22,7 +22,7 @@ returns-clause-counts g c =
 
 pub returns-in_err-result-clause-judged : goal.returns-in_err-result-clause-judged
 returns-in_err-result-clause-judged g c =
-    let meaning = g.F.Fetch.meaning c.args.fetcher.now in
+    let meaning = g.F.SessionFetch.meaning c.args.fetcher.now in
     let means = c.in_ok-closed.ensures meaning (all_pages g.K.Name.workers (allows g.K.Name.filter) meaning _ _ c.in_ok-ends.ensures.ran) in
     let r = c.from_residual-in_err-result in
     let p = err_from_is_err_and r.result r.ensures.1 in

@@ -1,8 +1,8 @@
-//! The URLs that a worker has met: each has a line in its log, and is not offered again.
+//! The URLs that a worker offered not long ago: each has a line in its log, and is not offered again.
 ghost use Rattle.std.specs.Prelude.{◌≡◌, ◌<◌, ◌≤◌, ◌+◌, true, ℕ, List, IfOk, Some};
 ghost use Rattle.crawl_frontier.specs.declared.book.Logged.{Logged};
 ghost use Rattle.crawl_workers.specs.Logs.{HasLine};
-ghost use Rattle.crawl_workers.specs.Met.{AllKnown, Knows};
+ghost use Rattle.crawl_workers.specs.Recent.{AllKnown, Knows};
 
 use crawl_keys::CanonUrl;
 use std::alloc::{AllocError, Global};
@@ -16,23 +16,23 @@ const MOST_SLOTS: usize = 1 << 22;
 /// A table with two slots for each remainder of a text's hash, for the last two URLs that came there. Others were put out and
 /// are forgotten: such a URL is offered once more. So who picks URLs of one hash makes a worker remember nothing, no more.
 #[derive(Drop)]
-pub struct Met {
+pub struct RecentUrls {
     slots: Vec<Option<CanonUrl>>,
     /// How many were put out since the table has its size.
     put_out: usize,
 }
 
-impl Met {
-    pub fn new(alloc: Global) -> Met
+impl RecentUrls {
+    pub fn new(alloc: Global) -> RecentUrls
         ensures { (workers : ℕ) (log : List Logged) → Knows workers log result }
     {
-        Met {
+        RecentUrls {
             slots: Vec::new(alloc),
             put_out: 0,
         }
     }
 
-    /// Whether the URL was met. Then it shares the text that is kept of it.
+    /// Whether the URL is remembered. Then it shares the text that is kept of it.
     pub fn has(&self, url: &mut CanonUrl) -> bool
         ensures url { url.new ≡ url.old }
         ensures line { (workers : ℕ) (log : List Logged) → Knows workers log self.now → result ≡ true → HasLine workers log url.old }
@@ -40,12 +40,12 @@ impl Met {
         if self.slots.len() < 2 {
             return false;
         }
-        let place = pair_of(url, self.slots.len());
-        share(&self.slots[place], url) || share(&self.slots[place + 1], url)
+        let slot = pair_of(url, self.slots.len());
+        share(&self.slots[slot], url) || share(&self.slots[slot + 1], url)
     }
 
     /// Remembers the URL, where there is room for it.
-    pub fn meet(&mut self, alloc: Global, url: &CanonUrl)
+    pub fn remember(&mut self, alloc: Global, url: &CanonUrl)
         ensures { (workers : ℕ) (log : List Logged) → Knows workers log self.old → HasLine workers log url.now → Knows workers log self.new }
     {
         let slots = self.slots.len();
@@ -62,12 +62,12 @@ impl Met {
         if self.slots.len() < 2 {
             return;
         }
-        let place = pair_of(url, self.slots.len());
+        let slot = pair_of(url, self.slots.len());
         let Ok(copy) = url.copy() else {
             return;
         };
-        let before = mem::replace(&mut self.slots[place], Some(copy));
-        let out = mem::replace(&mut self.slots[place + 1], before);
+        let before = mem::replace(&mut self.slots[slot], Some(copy));
+        let out = mem::replace(&mut self.slots[slot + 1], before);
         if out.is_some() {
             self.put_out = self.put_out.saturating_add(1);
         }

@@ -1,40 +1,40 @@
 //! What a worker has found so far.
 ghost use Rattle.std.specs.Prelude.{◌≡◌, ◌⊎◌, ◌+◌, ◌-◌, ◌^◌, min, [], ℕ, List};
 ghost use Rattle.crawl_frontier.specs.declared.book.Logged.{Logged};
-ghost use Rattle.crawl_workers.specs.Met.{Knows};
+ghost use Rattle.crawl_workers.specs.Recent.{Knows};
 ghost use Rattle.crawl_workers.specs.Turn.{Keeps, Loses};
 
-use crate::met::Met;
+use crate::recent::RecentUrls;
 use crate::worker_end::WorkerEnd;
 use crawl_frontier::{ClosedWorker, Name};
 use crawl_keys::CanonUrl;
 use crawl_web::{Page, PageResult};
 use std::alloc::Global;
 
-/// The results so far, how much was lost, up to the greatest u64, and the URLs that were met.
+/// The results so far, how much was lost, up to the greatest u64, and the URLs that were offered not long ago.
 #[derive(Drop)]
-pub(crate) struct Harvest {
+pub(crate) struct WorkerOutput {
     pub results: Vec<PageResult>,
     pub lost: u64,
-    pub met: Met,
+    pub recent: RecentUrls,
 }
 
-impl Harvest {
-    pub fn new(alloc: Global) -> Harvest
+impl WorkerOutput {
+    pub fn new(alloc: Global) -> WorkerOutput
         ensures nothing { (result.results.items ≡ []) × (result.lost ≡ 0) }
-        ensures met { (workers : ℕ) (log : List Logged) → Knows workers log result.met }
+        ensures recent { (workers : ℕ) (log : List Logged) → Knows workers log result.recent }
     {
-        Harvest {
+        WorkerOutput {
             results: Vec::new(alloc),
             lost: 0,
-            met: Met::new(alloc),
+            recent: RecentUrls::new(alloc),
         }
     }
 
     /// Counts so many losses.
     pub fn lose(&mut self, count: u64)
         ensures same { self.new.results ≡ self.old.results }
-        ensures met { self.new.met ≡ self.old.met }
+        ensures recent { self.new.recent ≡ self.old.recent }
         ensures lost { self.new.lost ≡ min (self.old.lost + count) (2 ^ 64 - 1) }
     {
         self.lost = self.lost.saturating_add(count);
@@ -43,7 +43,7 @@ impl Harvest {
     /// Keeps a result, or counts it as lost where there is no room for it.
     pub fn keep(&mut self, url: &CanonUrl, page: Page)
         ensures kept { Keeps url.now page self.old self.new ⊎ Loses 1 self.old self.new }
-        ensures met { self.new.met ≡ self.old.met }
+        ensures recent { self.new.recent ≡ self.old.recent }
     {
         let Ok(url) = url.copy() else {
             self.lose(1);
@@ -59,7 +59,7 @@ impl Harvest {
         ensures results { result.results ≡ self.results }
         ensures lost { result.lost ≡ self.lost }
     {
-        let Harvest { results, lost, .. } = self;
+        let WorkerOutput { results, lost, .. } = self;
         WorkerEnd {
             closed,
             results,

@@ -1,7 +1,7 @@
 use Rattle.std.proofs.Common.{◌≡◌, ℕ, List}
 use Rattle.crawl_frontier.specs.declared.book.Logged.{Logged}
-use Rattle.crawl_workers.specs.Met.{AllKnown, Knows}
-use Rattle.crawl_workers.proofs.met.Met.grow.Given as goal
+use Rattle.crawl_workers.specs.Recent.{AllKnown, Knows}
+use Rattle.crawl_workers.proofs.recent.RecentUrls.grow.Given as goal
 
 abbrev pub invariant-loop-slot : goal.invariant-loop-slot
 invariant-loop-slot l =

@@ -1,8 +1,8 @@
 use Rattle.std.proofs.Common.{subst, sym, ◌∙◌, IfSome}
 use Rattle.crawl_workers.specs.Logs.{HasLine}
-use Rattle.crawl_workers.specs.Met.{AllKnown}
-use Rattle.crawl_workers.proofs.met.Met.grow.Goals.{in-Some, in_default-slot}
-use Rattle.crawl_workers.proofs.met.Met.grow.Goals as goal
+use Rattle.crawl_workers.specs.Recent.{AllKnown}
+use Rattle.crawl_workers.proofs.recent.RecentUrls.grow.Goals.{in-Some, in_default-slot}
+use Rattle.crawl_workers.proofs.recent.RecentUrls.grow.Goals as goal
 
 pub loop-slot-preserved : goal.loop-slot-preserved
 loop-slot-preserved c =

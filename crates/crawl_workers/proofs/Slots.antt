@@ -3,7 +3,7 @@ use Rattle.std.proofs.Common.{◌≡◌, ◌<◌, ℕ, List, length, Option, Som
 use Rattle.std.proofs.lemmas.List.Elements.{All-set}
 use Rattle.crawl_frontier.specs.declared.book.Logged.{Logged}
 use Rattle.crawl_workers.specs.Logs.{HasLine}
-use Rattle.crawl_workers.specs.Met.{AllKnown}
+use Rattle.crawl_workers.specs.Recent.{AllKnown}
 
 -- a URL with a line comes into a slot, and what was there into another
 pub moved_on : (workers : ℕ) (log : List Logged) (slots : List (Option (List ℕ))) (i j : ℕ) (first second d : Option (List ℕ)) (url : List ℕ) → AllKnown workers log slots → HasLine workers log url

@@ -1,6 +1,0 @@
-use Rattle.crawl_keys.specs.HostFilter.{allows}
-use Rattle.crawl_workers.specs.Turn.{Goes}
-use Rattle.crawl_workers.proofs.run.run_worker.Given as goal
-
-abbrev pub invariant-loop : goal.invariant-loop
-invariant-loop g l = Goes g.K.Name.workers (allows g.K.Name.filter) (g.F.Fetch.meaning l.fetcher) l.fn.worker l.worker l.harvest

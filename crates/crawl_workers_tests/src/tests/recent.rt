@@ -1,0 +1,50 @@
+//! That a worker remembers what it offered.
+use crawl_keys::{CanonUrl, canonical};
+use crawl_workers::RecentUrls;
+use std::alloc::Global;
+
+const URLS: u32 = 5_000;
+
+// The URL with this number.
+fn numbered(alloc: Global, number: u32) -> Option<CanonUrl> {
+    let text = format!(in alloc; "http://a.test/{number}").ok()?;
+    canonical(alloc, text.as_str()).ok()
+}
+
+// Remembers the URL if it is not known, and answers whether it was not.
+fn remember(alloc: Global, recent: &mut RecentUrls, number: u32) -> Option<bool> {
+    let mut url = numbered(alloc, number)?;
+    if recent.has(&mut url) {
+        return Some(false);
+    }
+    recent.remember(alloc, &url);
+    Some(true)
+}
+
+// Remembers each of the URLs that is not known, and answers how many those were.
+fn remember_unknown(alloc: Global, recent: &mut RecentUrls) -> Option<u32> {
+    let mut unknown = 0u32;
+    for number in 0..URLS {
+        if remember(alloc, recent, number)? {
+            unknown = unknown.saturating_add(1);
+        }
+    }
+    Some(unknown)
+}
+
+// None is known before it was remembered. After two rounds at most a sixth has to be told again: the table grows until few come
+// into the slots of others. A body of `remember` that forgets everything meets its clause too.
+fn remembers(alloc: Global) -> Option<bool> {
+    let mut recent = RecentUrls::new(alloc);
+    let first = remember_unknown(alloc, &mut recent)?;
+    let second = remember_unknown(alloc, &mut recent)?;
+    let third = remember_unknown(alloc, &mut recent)?;
+    let fourth = remember_unknown(alloc, &mut recent)?;
+    let few = URLS / 6;
+    Some(first == URLS && second <= URLS && third <= few && fourth <= few)
+}
+
+#[test]
+fn remembers_urls_that_were_offered(rt: HostRuntime) {
+    assert!(rt; remembers(rt.alloc()) == Some(true));
+}
