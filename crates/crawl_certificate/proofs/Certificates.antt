@@ -1,5 +1,5 @@
 -- What is said of the pages of a run of an account, from its verdict and its order.
-use Rattle.std.proofs.Common.{◌≡◌, ℕ, Bool, List, None, Ok, subst}
+use Rattle.std.proofs.Common.{◌≡◌, ℕ, Bool, List, None, subst}
 use Rattle.std.specs.Cmp.Lexicographic.{slice_cmp}
 use Rattle.std.specs.Ordering.{nat_cmp}
 use Rattle.std.specs.List.{All}
@@ -11,17 +11,16 @@ use Rattle.crawl_keys.specs.Assignment.{subqueue_of}
 use Rattle.crawl_web.specs.declared.page.PageResult.{PageResult}
 use Rattle.crawl_certificate.specs.AccountEntries.{entries_of, DifferByUrl}
 use Rattle.crawl_certificate.specs.CertFaults.{first_fault}
-use Rattle.crawl_certificate.specs.Certificate.{entry_urls, result_urls, unless_fault, IsAscending, AreReachable, CountsOf}
+use Rattle.crawl_certificate.specs.Certificate.{entry_urls, result_urls, IsAscending, AreReachable, CountsOf}
 use Rattle.crawl_certificate.specs.Queues.{AreQueues}
 use Rattle.crawl_certificate.specs.Reachable.{WalkOf}
 use Rattle.crawl_certificate.specs.ResultPages.{page_in}
 use Rattle.crawl_certificate.proofs.Crawls.{pages_reached, own_pages, pages_ascend, one_each, entries_walk}
 use Rattle.crawl_certificate.proofs.KeptRules.{account_counts}
-use Rattle.crawl_certificate.proofs.Verdicts.{no_fault_from}
 
 -- the pages are those of a certified run
 pub record AreCertified (account : AccountId) (allowed : List ℕ → Bool) (seeds : List (List ℕ)) (results pages : List PageResult) : Type 0 where
-  pub fault : unless_fault (first_fault allowed seeds (entries_of account) results) ≡ Ok tt
+  pub fault : first_fault allowed seeds (entries_of account) results ≡ None
   pub ascends : IsAscending (result_urls pages)
   pub one_each : IsPermutation (entry_urls (entries_of account)) (result_urls pages)
   pub counts : CountsOf account (result_urls pages)
@@ -31,14 +30,13 @@ pub record AreCertified (account : AccountId) (allowed : List ℕ → Bool) (see
 -- the entries that were looked at are those of the account
 pub certified : (account : AccountId) (allowed : List ℕ → Bool) (seeds : List (List ℕ)) (entries : List Entry) (results pages : List PageResult)
     → entries ≡ entries_of account → DifferByUrl (entries_of account) → AreQueues (λ url. subqueue_of url account.workers) (take account.workers account.queues)
-    → unless_fault (first_fault allowed seeds entries results) ≡ Ok tt → IsPermutation results pages → IsSortedByKey (λ r. r.url) (slice_cmp nat_cmp) pages
+    → first_fault allowed seeds entries results ≡ None → IsPermutation results pages → IsSortedByKey (λ r. r.url) (slice_cmp nat_cmp) pages
     → AreCertified account allowed seeds results pages
 certified account allowed seeds entries results pages all apart queues verdict moved sorted =
-    let fault' = subst (λ es. unless_fault (first_fault allowed seeds es results) ≡ Ok tt) all verdict in
-    let none : first_fault allowed seeds (entries_of account) results ≡ None = no_fault_from _ fault' in
+    let none = subst (λ es. first_fault allowed seeds es results ≡ None) all verdict in
     let each = one_each allowed seeds (entries_of account) results pages none apart moved in
     record {
-      fault = fault';
+      fault = none;
       ascends = pages_ascend allowed seeds (entries_of account) results pages none moved sorted;
       one_each = each;
       counts = account_counts account (result_urls pages) queues each;

@@ -7,8 +7,10 @@ pub mod NothingLost
 pub mod Queues
 pub mod KeptRules
 pub mod Places
-pub mod Faults
+pub mod LeastUrls
+pub mod Twice
+pub mod Culprits
+pub mod OneCulprit
 pub mod Indices
-pub mod Verdicts
 pub mod Certificates
 pub mod Together

@@ -1,18 +1,18 @@
 -- What is known while entries, seeds and results are looked up.
-use Rattle.std.proofs.Common.{◌≡◌, ◌⊎◌, inl, inr, ℕ, zero, suc, ◌+◌, ◌<◌, ◌==◌, Bool, true, false, ◌||◌, ◌&&◌, not, cond, List, [], ◌∷◌, ◌++◌, length, map, take, replicate, get_or, set, slice_get, Option, Some, None, refl, sym, ap, subst, ◌∙◌, arith, suc-le-suc, zero-le}
+use Rattle.std.proofs.Common.{◌≡◌, ◌⊎◌, inl, inr, ℕ, zero, suc, ◌+◌, ◌<◌, ◌==◌, Bool, true, false, ◌||◌, ◌&&◌, cond, List, [], ◌∷◌, ◌++◌, length, map, take, replicate, get_or, set, slice_get, Option, Some, None, refl, sym, ap, subst, ◌∙◌, arith, suc-le-suc, zero-le}
 use Rattle.std.specs.Borrow.{Bor}
 use Rattle.std.specs.BTreeSet as sorted
 use Rattle.hash_order.specs.HashOrder.{by_hash, by_hash_ties}
 use Rattle.std.specs.List.{Contains, list_any}
 use Rattle.std.specs.Str.{bytes_eq}
-use Rattle.std.proofs.lemmas.Bool.{cases_Bool, both_ways, false_from_ne_true, and_parts, and_from, or_right, or_parts}
+use Rattle.std.proofs.lemmas.Bool.{cases_Bool, both_ways, false_from_ne_true, and_parts, and_from, or_right}
 use Rattle.std.proofs.lemmas.Option.{slice_get_within, get_or_from_slice_get}
 use Rattle.std.proofs.lemmas.List.{get_or-map}
 use Rattle.std.proofs.Math.Seq.{take-append_seam}
 use Rattle.std.proofs.lemmas.List.Folds.{list_any-append}
 use Rattle.crawl_frontier.specs.declared.entry.Entry.{Entry}
 use Rattle.crawl_web.specs.declared.page.PageResult.{PageResult}
-use Rattle.crawl_certificate.specs.CertFaults.{has_result, stands_in, is_behind, is_linked, twice}
+use Rattle.crawl_certificate.specs.CertFaults.{has_result, stands_in, is_behind, is_linked}
 use Rattle.crawl_web.specs.Pages.{links_of}
 use Rattle.crawl_certificate.specs.Lookups.{Finds, Urls, is_in, pointed}
 use Rattle.crawl_certificate.proofs.Lists.{no_element, first_or_later, some_has, any_from, same_text, text_itself}
@@ -22,25 +22,6 @@ use Rattle.crawl_certificate.proofs.Lists.{no_element, first_or_later, some_has,
 or_false : (b : Bool) → (b || false) ≡ b
 or_false true = refl
 or_false false = refl
-
-pub not_not : (b : Bool) → not (not b) ≡ b
-not_not true = refl
-not_not false = refl
-
-or_swap : (a b : Bool) → (a || b) ≡ (b || a)
-or_swap true true = refl
-or_swap true false = refl
-or_swap false true = refl
-or_swap false false = refl
-
-or_regroup : (a b c d : Bool) → ((a || b) || (c || d)) ≡ ((a || c) || (b || d))
-or_regroup true b c d = refl
-or_regroup false true c d = sym (true_or c d)
-  where
-    true_or : (c d : Bool) → (c || true) ≡ true
-    true_or true d = refl
-    true_or false d = refl
-or_regroup false false c d = refl
 
 -- one more element to look at
 pub any_push : {X : Type 0} (p : X → Bool) (xs : List X) (x : X) → list_any p (xs ++ x ∷ []) ≡ (list_any p xs || p x)
@@ -289,26 +270,3 @@ fetched_before entries url k found known d =
 -- one more result
 pub fetched_push : (entries : List Entry) (results : List PageResult) (r : PageResult) → map (λ e. has_result results e.url || bytes_eq r.url e.url) entries ≡ map (λ e. has_result (results ++ r ∷ []) e.url) entries
 fetched_push entries results r = maps_agree _ _ entries (λ k e at. sym (any_push (λ (x : PageResult). bytes_eq x.url e.url) results r))
-
--- ---- results with one URL
-
-pub twice_push : (results : List PageResult) (r : PageResult) → twice (results ++ r ∷ []) ≡ (twice results || has_result results r.url)
-twice_push [] r = refl
-twice_push (x ∷ xs) r =
-    let swap : bytes_eq r.url x.url ≡ bytes_eq x.url r.url = text_swap r.url x.url in
-    ap (λ b. b || twice (xs ++ r ∷ [])) (any_push (λ (y : PageResult). bytes_eq y.url x.url) xs r)
-    ∙ ap (λ b. (has_result xs x.url || bytes_eq r.url x.url) || b) (twice_push xs r)
-    ∙ ap (λ b. (has_result xs x.url || b) || (twice xs || has_result xs r.url)) swap
-    ∙ or_regroup (has_result xs x.url) (bytes_eq x.url r.url) (twice xs) (has_result xs r.url)
-  where
-    text_swap : (a b : List ℕ) → bytes_eq a b ≡ bytes_eq b a
-    text_swap a b = elim (cases_Bool (bytes_eq b a)) [
-      | inl same ↦ subst (λ u. bytes_eq u b ≡ true) (same_text b a same) (text_itself b) ∙ sym same
-      | inr other ↦ false_from_ne_true _ (λ same. both_ways _ other (subst (λ u. bytes_eq u a ≡ true) (same_text a b same) (text_itself a))) ∙ sym other
-    ]
-
--- one more result, where no URL of a result is a stray
-pub twice_more : (results : List PageResult) (r : PageResult) (stray of_one told again : Bool) → (stray ≡ false → told ≡ twice results) → (of_one ≡ false → again ≡ has_result results r.url) → (stray || of_one) ≡ false → (told || again) ≡ twice (results ++ r ∷ [])
-twice_more results r stray of_one told again before now none =
-    let parts = or_parts stray of_one none in
-    ap (λ b. b || again) (before parts.0) ∙ ap (λ b. twice results || b) (now parts.1) ∙ sym (twice_push results r)

@@ -1,6 +1,8 @@
 pub mod AccountEntries
 pub mod CertFaults
 pub mod Certificate
+pub mod Culprits
+pub mod Least
 pub mod Lookups
 pub mod Marks
 pub mod Queues

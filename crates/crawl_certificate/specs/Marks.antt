@@ -1,27 +1,34 @@
 -- What a pass over results finds, and two such passes put together.
-use Rattle.std.specs.Prelude.{◌≡◌, ℕ, Bool, false, not, ◌&&◌, ◌||◌, List, [], ◌∷◌, map}
+use Rattle.std.specs.Prelude.{◌≡◌, ℕ, Bool, ◌&&◌, ◌||◌, List, [], ◌∷◌, map, Option, None}
 use Rattle.std.specs.List.{list_any}
+use Rattle.std.specs.Str.{bytes_eq}
 use Rattle.crawl_frontier.specs.declared.entry.Entry.{Entry}
 use Rattle.crawl_web.specs.declared.page.PageResult.{PageResult}
 use Rattle.crawl_certificate.specs.declared.marks.Marks.{Marks}
-use Rattle.crawl_certificate.specs.CertFaults.{is_accepted, has_result, is_linked, link_missing, twice}
+use Rattle.crawl_certificate.specs.CertFaults.{has_result, is_linked}
+use Rattle.crawl_certificate.specs.Culprits.{is_a_link, is_lost, is_a_stray, is_twice}
+use Rattle.crawl_certificate.specs.Least.{IsLeast, url_of, lesser}
 
 -- what a pass over these results finds
 pub record AreMarks (allowed : List ℕ → Bool) (entries : List Entry) (results : List PageResult) (marks : Marks) : Type 0 where
   pub fetched : marks.fetched.items ≡ map (λ e. has_result results e.url) entries
   pub linked : marks.linked.items ≡ map (is_linked entries results) entries
-  pub missing : marks.told.missing ≡ link_missing allowed entries results
-  pub stray : marks.told.stray ≡ list_any (λ r. not (is_accepted entries r.url)) results
-  pub twice : marks.told.stray ≡ false → marks.told.twice ≡ twice results
+  pub missing : IsLeast (λ url. is_a_link results url && is_lost allowed entries url) (url_of marks.told.missing)
+  pub stray : IsLeast (is_a_stray entries results) (url_of marks.told.stray)
+  pub twice : url_of marks.told.stray ≡ None → IsLeast (is_twice results) (url_of marks.told.twice)
 
--- place by place, whether it is marked in one of the two
+-- entry by entry, whether it is marked in one of the two
 abbrev pub in_one : List Bool → List Bool → List Bool
 in_one marks [] = marks
 in_one [] (y ∷ ys) = []
 in_one (x ∷ xs) (y ∷ ys) = (x || y) ∷ in_one xs ys
 
--- some place is marked in both
-abbrev pub some_in_both : List Bool → List Bool → Bool
-some_in_both marks [] = false
-some_in_both [] (y ∷ ys) = false
-some_in_both (x ∷ xs) (y ∷ ys) = (x && y) || some_in_both xs ys
+-- what is found is what two passes found together; `both` is the least URL of an entry that both found a result of
+pub record AreTogether (entries : List Entry) (first second found : Marks) : Type 0 where
+  pub both : Option (List ℕ)
+  pub fetched : found.fetched.items ≡ in_one first.fetched.items second.fetched.items
+  pub linked : found.linked.items ≡ in_one first.linked.items second.linked.items
+  pub missing : url_of found.told.missing ≡ lesser (url_of first.told.missing) (url_of second.told.missing)
+  pub stray : url_of found.told.stray ≡ lesser (url_of first.told.stray) (url_of second.told.stray)
+  pub twice : url_of found.told.twice ≡ lesser (lesser (url_of first.told.twice) (url_of second.told.twice)) both
+  pub shared : (own its : Entry → Bool) → first.fetched.items ≡ map own entries → second.fetched.items ≡ map its entries → IsLeast (λ url. list_any (λ e. bytes_eq e.url url && (own e && its e)) entries) both

@@ -11,13 +11,17 @@ ghost use Rattle.crawl_certificate.specs.Reachable.{WalkOf};
 ghost use Rattle.crawl_certificate.specs.Certificate.{Tells, IsAscending, AreReachable, CountsOf, entry_urls, result_urls};
 ghost use Rattle.crawl_web.specs.declared.page.PageResult.{PageResult};
 ghost use Rattle.crawl_certificate.specs.Marks.{AreMarks};
-ghost use Rattle.crawl_certificate.specs.CertFaults.{first_of, first_fault};
+ghost use Rattle.crawl_certificate.specs.CertFaults.{first_fault};
+ghost use Rattle.crawl_certificate.specs.Culprits.{NamesCulprit, NamesFirst, first_named};
+ghost use Rattle.crawl_certificate.specs.Least.{url_of};
 
+use crate::culprit::Culprit;
 use crate::error::CertError;
-use crate::founded::some_unfounded;
+use crate::founded::least_unfounded;
+use crate::least::lesser;
 use crate::lookups::{Accepted, url_set};
 use crate::marks::{Marks, Told, marks_of};
-use crate::missing::{some_missing, some_unmarked};
+use crate::missing::{least_missing, least_unmarked};
 use crate::threads::marks_in_threads;
 use crawl_frontier::Account;
 use crawl_keys::{CanonUrl, Filter};
@@ -78,22 +82,23 @@ pub fn certify(
     ensures hops { OnOk result (All (λ e. WalkOf (page_in results.now) (allows filter.now) seeds.now e.hops e.url) (entries_of account.now)) }
 {
     let copied = copies(alloc, results)?;
-    certify_moved(alloc, filter, seeds, account, copied)
+    Ok(certify_moved(alloc, filter, seeds, account, copied)?)
 }
 
-/// As [`certify`], of results that are moved into their order and not copied.
+/// As [`certify`], of results that are moved into their order and not copied; and where a fault holds, the least URL that has it.
 ///
 /// # Errors
-/// Those of [`certify`].
+/// The first fault that holds, in the order of [`CertError`], and the least URL, byte by byte, at which it does; or `NoMemory`, at
+/// no URL, where a growth was refused.
 pub fn certify_moved(
     alloc: Global,
     filter: &Filter,
     seeds: &[CanonUrl],
     account: &Account,
     results: Vec<PageResult>,
-) -> Result<CrawlResult, CertError>
-    // Ok exactly where no fault holds, else the first that holds, unless a growth was refused.
-    ensures fault { Tells result (first_fault (allows filter.now) seeds.now (entries_of account.now) results.items) }
+) -> Result<CrawlResult, Culprit>
+    // Ok exactly where no fault holds, else the first that holds and the least URL that has it, unless a growth was refused.
+    ensures fault { NamesCulprit (allows filter.now) seeds.now (entries_of account.now) results.items result }
     // The pages are the given results in ascending order of URL, one for each entry of each subqueue.
     ensures same { IfOk result (λ pages. IsPermutation results.items pages) }
     ensures ascends { IfOk result (λ pages. IsAscending (result_urls pages)) }
@@ -113,7 +118,7 @@ pub fn certify_moved(
 /// As [`certify_moved`], where four threads look up the links, and as many as there are processors sort the pages.
 ///
 /// # Errors
-/// Those of [`certify`]. A thread that cannot be started is none: its part is done by the thread that wanted it.
+/// Those of [`certify_moved`]. A thread that cannot be started is none: its part is done by the thread that wanted it.
 pub fn certify_in_threads<R: Threads + Sync>(
     rt: &R,
     alloc: Global,
@@ -121,9 +126,9 @@ pub fn certify_in_threads<R: Threads + Sync>(
     seeds: &[CanonUrl],
     account: &Account,
     results: Vec<PageResult>,
-) -> Result<CrawlResult, CertError>
-    // Ok exactly where no fault holds, else the first that holds, unless a growth was refused.
-    ensures fault { Tells result (first_fault (allows filter.now) seeds.now (entries_of account.now) results.items) }
+) -> Result<CrawlResult, Culprit>
+    // Ok exactly where no fault holds, else the first that holds and the least URL that has it, unless a growth was refused.
+    ensures fault { NamesCulprit (allows filter.now) seeds.now (entries_of account.now) results.items result }
     // The pages are the given results in ascending order of URL, one for each entry of each subqueue.
     ensures same { IfOk result (λ pages. IsPermutation results.items pages) }
     ensures ascends { IfOk result (λ pages. IsAscending (result_urls pages)) }
@@ -147,8 +152,8 @@ fn find_fault<'a>(
     seeds: &'a [CanonUrl],
     accepted: &Accepted<'a>,
     results: &[PageResult],
-) -> Result<(), CertError>
-    ensures { Tells result (first_fault (allows filter.now) seeds.now accepted.now results.now) }
+) -> Result<(), Culprit>
+    ensures { NamesCulprit (allows filter.now) seeds.now accepted.now results.now result }
 {
     let marks = marks_of(alloc, filter, accepted, 0, results)?;
     fault_by_marks(alloc, filter, seeds, accepted, marks)
@@ -162,8 +167,8 @@ fn find_fault_in_threads<'a, R: Threads + Sync>(
     seeds: &'a [CanonUrl],
     accepted: &Accepted<'a>,
     results: &[PageResult],
-) -> Result<(), CertError>
-    ensures { Tells result (first_fault (allows filter.now) seeds.now accepted.now results.now) }
+) -> Result<(), Culprit>
+    ensures { NamesCulprit (allows filter.now) seeds.now accepted.now results.now result }
 {
     let marks = marks_in_threads(rt, alloc, filter, accepted, results)?;
     fault_by_marks(alloc, filter, seeds, accepted, marks)
@@ -175,15 +180,17 @@ fn fault_by_marks<'a>(
     filter: &Filter,
     seeds: &'a [CanonUrl],
     accepted: &Accepted<'a>,
-    marks: Marks,
-) -> Result<(), CertError>
-    requires long { vec_len marks.linked ≡ length accepted.now }
-    ensures { (results : List PageResult) → AreMarks (allows filter.now) accepted.now results marks → Tells result (first_fault (allows filter.now) seeds.now accepted.now results) }
+    marks: Marks<'_, '_>,
+) -> Result<(), Culprit>
+    requires fetched { vec_len marks.fetched ≡ length accepted.now }
+    requires linked { vec_len marks.linked ≡ length accepted.now }
+    ensures { (results : List PageResult) → AreMarks (allows filter.now) accepted.now results marks.entry → NamesCulprit (allows filter.now) seeds.now accepted.now results result }
 {
-    let seed_missing = some_missing(filter, accepted, seeds);
-    let not_fetched = some_unmarked(&marks.fetched);
+    let entries = accepted.entries();
+    let seed_missing = least_missing(filter, accepted, seeds);
+    let not_fetched = least_unmarked(entries, &marks.fetched);
     let seed_set = url_set(alloc, seeds)?;
-    let groundless = some_unfounded(filter, &seed_set, accepted.entries(), &marks.linked);
+    let groundless = least_unfounded(filter, &seed_set, entries, &marks.linked);
     let Told {
         missing,
         stray,
@@ -193,35 +200,35 @@ fn fault_by_marks<'a>(
         seed_missing,
         not_fetched,
         missing,
-        groundless | stray,
+        lesser(groundless, stray),
         twice,
     )
 }
 
-/// The first of these that holds.
+/// The first of these that is there.
 fn verdict(
-    seed_missing: bool,
-    not_fetched: bool,
-    link_missing: bool,
-    unfounded: bool,
-    twice: bool,
-) -> Result<(), CertError>
-    ensures { Tells result (first_of seed_missing not_fetched link_missing unfounded twice) }
+    seed_missing: Option<&CanonUrl>,
+    not_fetched: Option<&CanonUrl>,
+    link_missing: Option<&CanonUrl>,
+    unfounded: Option<&CanonUrl>,
+    twice: Option<&CanonUrl>,
+) -> Result<(), Culprit>
+    ensures { NamesFirst (first_named (url_of seed_missing.entry) (url_of not_fetched.entry) (url_of link_missing.entry) (url_of unfounded.entry) (url_of twice.entry)) result }
 {
-    if seed_missing {
-        return Err(CertError::SeedMissing);
+    if let Some(url) = seed_missing {
+        return Err(Culprit::new(CertError::SeedMissing, url));
     }
-    if not_fetched {
-        return Err(CertError::NotFetched);
+    if let Some(url) = not_fetched {
+        return Err(Culprit::new(CertError::NotFetched, url));
     }
-    if link_missing {
-        return Err(CertError::LinkMissing);
+    if let Some(url) = link_missing {
+        return Err(Culprit::new(CertError::LinkMissing, url));
     }
-    if unfounded {
-        return Err(CertError::Unfounded);
+    if let Some(url) = unfounded {
+        return Err(Culprit::new(CertError::Unfounded, url));
     }
-    if twice {
-        return Err(CertError::Twice);
+    if let Some(url) = twice {
+        return Err(Culprit::new(CertError::Twice, url));
     }
     Ok(())
 }

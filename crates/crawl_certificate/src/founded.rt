@@ -1,30 +1,34 @@
 //! Whether an entry is unfounded: no seed and no link leads to it, or the filter does not allow it.
 ghost use Rattle.std.specs.Prelude.{◌≡◌, ◌==◌, Bool, not, ◌&&◌, map, length, if◌then◌else◌};
 ghost use Rattle.std.specs.List.{list_any};
+ghost use Rattle.std.specs.Str.{bytes_eq};
 ghost use Rattle.crawl_frontier.specs.declared.entry.Entry.{Entry};
 ghost use Rattle.crawl_keys.specs.HostFilter.{allows};
+ghost use Rattle.crawl_certificate.specs.Least.{IsLeast, url_of};
 ghost use Rattle.crawl_certificate.specs.Lookups.{pointed, is_in};
 
+use crate::least::{lesser, where_at_fault};
 use crate::lookups::Urls;
 use crawl_frontier::Entry;
-use crawl_keys::Filter;
+use crawl_keys::{CanonUrl, Filter};
 
-/// Whether an entry is not founded, by marks for those that are linked.
-pub fn some_unfounded<'a>(
+/// The least URL of an entry that is not founded, by marks for those that are linked.
+pub fn least_unfounded<'e, 'a>(
     filter: &Filter,
     seeds: &Urls<'a>,
-    entries: &[&'a Entry],
+    entries: &'e [&'a Entry],
     marks: &[bool],
-) -> bool
+) -> Option<&'e CanonUrl>
     requires { length marks.now ≡ length entries.now }
-    ensures { (linked : Entry → Bool) → marks.now ≡ map linked (pointed entries.now) → result ≡ list_any (λ e. not (allows filter.now e.url && (if e.hops == 0 then is_in seeds.now e.url else linked e))) (pointed entries.now) }
+    ensures { (linked : Entry → Bool) → marks.now ≡ map linked (pointed entries.now) → IsLeast (λ url. list_any (λ e. bytes_eq e.url url && not (allows filter.now e.url && (if e.hops == 0 then is_in seeds.now e.url else linked e))) (pointed entries.now)) (url_of result) }
 {
-    for (place, entry) in entries.iter().enumerate() {
-        if !is_founded(filter, seeds, entry, marks[place]) {
-            return true;
-        }
+    let mut least = None;
+    for (index, entry) in entries.iter().enumerate() {
+        let founded = is_founded(filter, seeds, entry, marks[index]);
+        let one = where_at_fault(&entry.url, !founded);
+        least = lesser(least, one);
     }
-    false
+    least
 }
 
 fn is_founded<'a>(filter: &Filter, seeds: &Urls<'a>, entry: &'a Entry, is_linked: bool) -> bool

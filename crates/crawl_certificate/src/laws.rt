@@ -1,5 +1,5 @@
 //! What holds of certificates. None does anything when it is called.
-ghost use Rattle.std.specs.Prelude.{◌≡◌, ◌↔◌, ℕ, ◌==◌, Bool, false, not, List, [], ◌∷◌, ◌++◌, None, Some, map, length, count_by, slice_get};
+ghost use Rattle.std.specs.Prelude.{◌≡◌, ◌↔◌, ℕ, ◌==◌, Bool, false, not, List, [], ◌∷◌, ◌++◌, Option, None, Some, map, length, count_by, slice_get};
 ghost use Rattle.std.specs.List.{All, Contains};
 ghost use Rattle.std.specs.List.Sorted.{IsPermutation};
 ghost use Rattle.crawl_frontier.specs.declared.entry.Entry.{Entry};
@@ -11,7 +11,10 @@ ghost use Rattle.crawl_certificate.specs.CertFaults.{first_fault, seed_missing, 
 ghost use Rattle.crawl_certificate.specs.Certificate.{entry_urls, result_urls, IsAscending, ArePages, AreReachable, IsCrawl, NothingLost};
 ghost use Rattle.crawl_certificate.specs.ResultPages.{page_in};
 ghost use Rattle.crawl_certificate.specs.AccountEntries.{entries_in, entries_of, DifferByUrl};
+ghost use Rattle.crawl_certificate.specs.Culprits.{is_at_fault, HasNoneAt, IsCulprit};
 ghost use Rattle.crawl_certificate.specs.Queues.{AreQueues};
+ghost use Rattle.crawl_certificate.specs.declared.culprit.Culprit.{Culprit};
+ghost use Rattle.crawl_certificate.specs.declared.error.CertError.{CertError};
 ghost use Rattle.std.specs.Str.{bytes_eq};
 ghost use Rattle.crawl_web.specs.declared.page.Page.TheVariants.{Found, Missing, Moved};
 ghost use Rattle.crawl_certificate.specs.declared.error.CertError.TheVariants as fault;
@@ -66,4 +69,11 @@ pub fn nothing_lost()
 /// The pages of a whole crawl are one list, whatever run found them.
 pub fn one_crawl()
     ensures { (meaning : List ℕ → Page) (allowed : List ℕ → Bool) (seeds : List (List ℕ)) (pages others : List PageResult) → IsCrawl meaning allowed seeds pages → IsCrawl meaning allowed seeds others → pages ≡ others }
+{}
+
+/// A fault of a run has one culprit. Where a run has not a fault no URL is at fault for it, so none is for a cause before a
+/// culprit's.
+pub fn culprits()
+    ensures one { (first : Option CertError) (at : CertError → List ℕ → Bool) (culprit other : Culprit) → IsCulprit first at culprit → IsCulprit first at other → culprit ≡ other }
+    ensures before { (allowed : List ℕ → Bool) (seeds : List (List ℕ)) (entries : List Entry) (results : List PageResult) → HasNoneAt allowed seeds entries results }
 {}

@@ -5,14 +5,17 @@
 #![tactic(auto)]
 
 mod certificate;
+mod culprit;
 mod error;
 mod founded;
 /// What holds of certificates.
 pub mod laws;
+mod least;
 mod lookups;
 mod marks;
 mod missing;
 mod threads;
 
 pub use certificate::{CrawlResult, certify, certify_in_threads, certify_moved};
+pub use culprit::Culprit;
 pub use error::CertError;

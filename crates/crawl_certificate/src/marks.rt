@@ -1,49 +1,54 @@
 //! One pass over the results: which entries have a result, and which are linked. The URL of each result, and each link, is
 //! looked up once.
-ghost use Rattle.std.specs.Prelude.{◌≡◌, ◌+◌, ◌==◌, ℕ, Bool, false, ◌&&◌, ◌||◌, not, List, map, length, IfOk};
-ghost use Rattle.std.specs.List.{list_any};
+ghost use Rattle.std.specs.Prelude.{◌≡◌, ◌+◌, ◌==◌, ℕ, Bool, false, ◌&&◌, ◌||◌, not, List, map, length, None, IfOk};
 ghost use Rattle.std.specs.Str.{bytes_eq};
 ghost use Rattle.crawl_frontier.specs.declared.entry.Entry.{Entry};
 ghost use Rattle.crawl_keys.specs.HostFilter.{allows};
 ghost use Rattle.crawl_web.specs.Pages.{links_of};
-ghost use Rattle.crawl_certificate.specs.CertFaults.{is_accepted, stands_in, has_result, is_behind, is_linked, some_missing, link_missing, twice};
+ghost use Rattle.crawl_certificate.specs.CertFaults.{is_accepted, stands_in, has_result, is_behind, is_linked};
+ghost use Rattle.crawl_certificate.specs.Culprits.{is_lost, is_a_link, is_a_stray, is_twice};
+ghost use Rattle.crawl_certificate.specs.Least.{IsLeast, url_of, url_if, lesser};
+ghost use Rattle.crawl_certificate.specs.Marks.{AreMarks};
 
+use crate::least::{lesser, where_at_fault};
 use crate::lookups::Accepted;
-use crate::missing::some_missing;
+use crate::missing::least_missing;
 use crawl_frontier::Entry;
 use crawl_keys::{CanonUrl, Filter};
 use crawl_web::{PageResult, links_of};
 use std::alloc::{AllocError, Global};
 
-/// What is told of results.
+/// What is told of results: of each fault the least URL that has it.
 #[derive(Clone, Copy)]
-pub struct Told {
+pub struct Told<'r, 'e> {
     /// A link that the filter allows is not accepted.
-    pub missing: bool,
+    pub missing: Option<&'r CanonUrl>,
     /// The URL of a result is not accepted.
-    pub stray: bool,
-    /// Two results have one URL, where no URL of a result is a stray.
-    pub twice: bool,
+    pub stray: Option<&'r CanonUrl>,
+    /// Two results have one URL, that of an entry, where no URL of a result is a stray.
+    pub twice: Option<&'e CanonUrl>,
 }
 
 /// What a pass over the results finds.
 #[derive(Drop)]
-pub struct Marks {
+pub struct Marks<'r, 'e> {
     /// For each entry whether a result has its URL.
     pub fetched: Vec<bool>,
     /// For each entry whether it is linked from a result of an entry with one hop less.
     pub linked: Vec<bool>,
-    pub told: Told,
+    pub told: Told<'r, 'e>,
 }
 
-impl Told {
-    pub fn and(self, more: Told) -> Told
-        ensures { result ≡ record { missing = self.missing || more.missing; stray = self.stray || more.stray; twice = self.twice || more.twice } }
+impl<'r, 'e> Told<'r, 'e> {
+    pub fn and(self, more: Told<'r, 'e>) -> Told<'r, 'e>
+        ensures missing { url_of result.missing ≡ lesser (url_of self.entry.missing) (url_of more.entry.missing) }
+        ensures stray { url_of result.stray ≡ lesser (url_of self.entry.stray) (url_of more.entry.stray) }
+        ensures twice { url_of result.twice ≡ lesser (url_of self.entry.twice) (url_of more.entry.twice) }
     {
         Told {
-            missing: self.missing || more.missing,
-            stray: self.stray || more.stray,
-            twice: self.twice || more.twice,
+            missing: lesser(self.missing, more.missing),
+            stray: lesser(self.stray, more.stray),
+            twice: lesser(self.twice, more.twice),
         }
     }
 }
@@ -52,18 +57,14 @@ impl Told {
 ///
 /// The entry of each result is looked for first behind that of the result before it, and of the first one at
 /// the index `first`: each worker's results come in the order of its subqueue's entries.
-pub fn marks_of(
+pub fn marks_of<'r, 'e>(
     alloc: Global,
     filter: &Filter,
-    accepted: &Accepted<'_>,
+    accepted: &'e Accepted<'_>,
     first: usize,
-    results: &[PageResult],
-) -> Result<Marks, AllocError>
-    ensures fetched { IfOk result (λ marks. marks.fetched.items ≡ map (λ e. has_result results.now e.url) accepted.now) }
-    ensures linked { IfOk result (λ marks. marks.linked.items ≡ map (is_linked accepted.now results.now) accepted.now) }
-    ensures missing { IfOk result (λ marks. marks.told.missing ≡ link_missing (allows filter.now) accepted.now results.now) }
-    ensures stray { IfOk result (λ marks. marks.told.stray ≡ list_any (λ r. not (is_accepted accepted.now r.url)) results.now) }
-    ensures twice { IfOk result (λ marks. marks.told.stray ≡ false → marks.told.twice ≡ twice results.now) }
+    results: &'r [PageResult],
+) -> Result<Marks<'r, 'e>, AllocError>
+    ensures { IfOk result (AreMarks (allows filter.now) accepted.now results.now) }
 {
     let mut fetched = no_marks(alloc, accepted)?;
     let mut linked = no_marks(alloc, accepted)?;
@@ -82,26 +83,26 @@ fn no_marks(alloc: Global, accepted: &Accepted<'_>) -> Result<Vec<bool>, AllocEr
     Ok(marks)
 }
 
-fn mark_results(
+fn mark_results<'r, 'e>(
     filter: &Filter,
-    accepted: &Accepted<'_>,
+    accepted: &'e Accepted<'_>,
     fetched: &mut [bool],
     linked: &mut [bool],
     first: usize,
-    results: &[PageResult],
-) -> Told
+    results: &'r [PageResult],
+) -> Told<'r, 'e>
     requires none_fetched { fetched.old ≡ map (λ _. false) accepted.now }
     requires none_linked { linked.old ≡ map (λ _. false) accepted.now }
     ensures fetched { fetched.new ≡ map (λ e. has_result results.now e.url) accepted.now }
     ensures linked { linked.new ≡ map (is_linked accepted.now results.now) accepted.now }
-    ensures missing { result.missing ≡ link_missing (allows filter.now) accepted.now results.now }
-    ensures stray { result.stray ≡ list_any (λ r. not (is_accepted accepted.now r.url)) results.now }
-    ensures twice { result.stray ≡ false → result.twice ≡ twice results.now }
+    ensures missing { IsLeast (λ url. is_a_link results.now url && is_lost (allows filter.now) accepted.now url) (url_of result.missing) }
+    ensures stray { IsLeast (is_a_stray accepted.now results.now) (url_of result.stray) }
+    ensures twice { url_of result.stray ≡ None → IsLeast (is_twice results.now) (url_of result.twice) }
 {
     let mut told = Told {
-        missing: false,
-        stray: false,
-        twice: false,
+        missing: None,
+        stray: None,
+        twice: None,
     };
     let mut guess = first;
     for one in results {
@@ -113,21 +114,21 @@ fn mark_results(
 
 /// Marks the entry that has the result, and those that are linked from it and have one hop more. `twice` tells whether the
 /// entry was marked before. The guess moves on behind what was found.
-fn mark_result(
+fn mark_result<'r, 'e>(
     filter: &Filter,
-    accepted: &Accepted<'_>,
+    accepted: &'e Accepted<'_>,
     fetched: &mut [bool],
     linked: &mut [bool],
     guess: &mut usize,
-    one: &PageResult,
-) -> Told
+    one: &'r PageResult,
+) -> Told<'r, 'e>
     requires long_fetched { length fetched.old ≡ length accepted.now }
     requires long_linked { length linked.old ≡ length accepted.now }
     ensures fetched { (known : List ℕ → Bool) → fetched.old ≡ map (λ e. known e.url) accepted.now → fetched.new ≡ map (λ e. known e.url || bytes_eq one.now.url e.url) accepted.now }
     ensures linked { (known : Entry → Bool) → linked.old ≡ map known accepted.now → linked.new ≡ map (λ e. known e || (stands_in (links_of one.now.page) e.url && is_behind accepted.now one.now.url e)) accepted.now }
-    ensures missing { result.missing ≡ some_missing (allows filter.now) (is_accepted accepted.now) (links_of one.now.page) }
-    ensures stray { result.stray ≡ not (is_accepted accepted.now one.now.url) }
-    ensures twice { (known : List ℕ → Bool) → fetched.old ≡ map (λ e. known e.url) accepted.now → result.stray ≡ false → result.twice ≡ known one.now.url }
+    ensures missing { IsLeast (λ url. stands_in (links_of one.now.page) url && is_lost (allows filter.now) accepted.now url) (url_of result.missing) }
+    ensures stray { url_of result.stray ≡ url_if (not (is_accepted accepted.now one.now.url)) one.now.url }
+    ensures twice { (known : List ℕ → Bool) → fetched.old ≡ map (λ e. known e.url) accepted.now → url_of result.stray ≡ None → url_of result.twice ≡ url_if (known one.now.url) one.now.url }
 {
     let links = links_of(&one.page);
     match accepted.find_by(*guess, &one.url) {
@@ -139,53 +140,54 @@ fn mark_result(
             let missing = mark_links(filter, accepted, linked, entry.hops, links);
             Told {
                 missing,
-                stray: false,
-                twice,
+                stray: None,
+                twice: where_at_fault(&entry.url, twice),
             }
         }
         None => Told {
-            missing: some_missing(filter, accepted, links),
-            stray: true,
-            twice: false,
+            missing: least_missing(filter, accepted, links),
+            stray: Some(&one.url),
+            twice: None,
         },
     }
 }
 
-/// Marks the entries of these links that have one hop more than so many, and tells whether an allowed link is not accepted.
+/// Marks the entries of these links that have one hop more than so many, and tells the least allowed link that is not accepted.
 ///
 /// Links that were new on one page are entries one behind the other, so the entry of each link is looked for first behind that
 /// of the link before it.
-fn mark_links(
+fn mark_links<'a>(
     filter: &Filter,
     accepted: &Accepted<'_>,
     linked: &mut [bool],
     hops: u32,
-    links: &[CanonUrl],
-) -> bool
+    links: &'a [CanonUrl],
+) -> Option<&'a CanonUrl>
     requires long { length linked.old ≡ length accepted.now }
     ensures linked { (known : Entry → Bool) → linked.old ≡ map known accepted.now → linked.new ≡ map (λ e. known e || (stands_in links.now e.url && e.hops == hops + 1)) accepted.now }
-    ensures missing { result ≡ some_missing (allows filter.now) (is_accepted accepted.now) links.now }
+    ensures missing { IsLeast (λ url. stands_in links.now url && is_lost (allows filter.now) accepted.now url) (url_of result) }
 {
-    let mut missing = false;
+    let mut missing = None;
     let mut guess = 0;
     for link in links {
-        let is_missing = mark(filter, accepted, linked, hops, &mut guess, link);
-        missing = missing | is_missing;
+        let one = mark(filter, accepted, linked, hops, &mut guess, link);
+        missing = lesser(missing, one);
     }
     missing
 }
 
-fn mark(
+/// Marks the entry of the link, if it has one hop more than so many. Answers the link where it is allowed and not accepted.
+fn mark<'a>(
     filter: &Filter,
     accepted: &Accepted<'_>,
     linked: &mut [bool],
     hops: u32,
     guess: &mut usize,
-    link: &CanonUrl,
-) -> bool
+    link: &'a CanonUrl,
+) -> Option<&'a CanonUrl>
     requires long { length linked.old ≡ length accepted.now }
     ensures linked { (known : Entry → Bool) → linked.old ≡ map known accepted.now → linked.new ≡ map (λ e. known e || (bytes_eq link.now e.url && e.hops == hops + 1)) accepted.now }
-    ensures missing { result ≡ (allows filter.now link.now && not (is_accepted accepted.now link.now)) }
+    ensures missing { url_of result ≡ url_if (is_lost (allows filter.now) accepted.now link.now) link.now }
 {
     match accepted.find_by(*guess, link) {
         Some(index) => {
@@ -193,10 +195,11 @@ fn mark(
             let entry = accepted.entry(index);
             if is_next(hops, entry) {
                 linked[index] = true;
+                return None;
             }
-            false
+            None
         }
-        None => filter.allows(link),
+        None => where_at_fault(link, filter.allows(link)),
     }
 }
 

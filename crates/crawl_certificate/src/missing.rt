@@ -1,33 +1,49 @@
-//! What a run misses: accepted seeds and links, results of entries.
-ghost use Rattle.std.specs.Prelude.{◌≡◌, not, ◌&&◌};
+//! What a run misses: accepted seeds and links, results of entries. Of each fault the least URL that has it.
+ghost use Rattle.std.specs.Prelude.{◌≡◌, ℕ, List, Bool, not, ◌&&◌, map, length};
 ghost use Rattle.std.specs.List.{list_any};
+ghost use Rattle.std.specs.Str.{bytes_eq};
 ghost use Rattle.crawl_keys.specs.HostFilter.{allows};
-ghost use Rattle.crawl_certificate.specs.CertFaults.{is_accepted, some_missing};
+ghost use Rattle.crawl_certificate.specs.CertFaults.{stands_in};
+ghost use Rattle.crawl_certificate.specs.Least.{IsLeast, url_of};
+ghost use Rattle.crawl_certificate.specs.Culprits.{is_lost};
+ghost use Rattle.crawl_certificate.specs.Lookups.{pointed};
 
+use crate::least::{lesser, where_at_fault};
 use crate::lookups::Accepted;
+use crawl_frontier::Entry;
 use crawl_keys::{CanonUrl, Filter};
 
 fn is_missing(filter: &Filter, accepted: &Accepted<'_>, url: &CanonUrl) -> bool
-    ensures { result ≡ (allows filter.now url.now && not (is_accepted accepted.now url.now)) }
+    ensures { result ≡ is_lost (allows filter.now) accepted.now url.now }
 {
     filter.allows(url) && accepted.find(url).is_none()
 }
 
-/// Whether an allowed URL among these is not accepted.
-pub fn some_missing(filter: &Filter, accepted: &Accepted<'_>, urls: &[CanonUrl]) -> bool
-    ensures { result ≡ some_missing (allows filter.now) (is_accepted accepted.now) urls.now }
+/// The least allowed URL among these that is not accepted.
+pub fn least_missing<'a>(
+    filter: &Filter,
+    accepted: &Accepted<'_>,
+    urls: &'a [CanonUrl],
+) -> Option<&'a CanonUrl>
+    ensures { IsLeast (λ url. stands_in urls.now url && is_lost (allows filter.now) accepted.now url) (url_of result) }
 {
-    let mut missing = false;
+    let mut least = None;
     for url in urls {
-        let is_missing = is_missing(filter, accepted, url);
-        missing = missing | is_missing;
+        let one = where_at_fault(url, is_missing(filter, accepted, url));
+        least = lesser(least, one);
     }
-    missing
+    least
 }
 
-/// Whether some mark is not set.
-pub fn some_unmarked(marks: &[bool]) -> bool
-    ensures { result ≡ list_any not marks.now }
+/// The least URL of an entry whose mark is not set.
+pub fn least_unmarked<'e>(entries: &'e [&Entry], marks: &[bool]) -> Option<&'e CanonUrl>
+    requires { length marks.now ≡ length entries.now }
+    ensures { (marked : List ℕ → Bool) → marks.now ≡ map (λ e. marked e.url) (pointed entries.now) → IsLeast (λ url. list_any (λ e. bytes_eq e.url url && not (marked e.url)) (pointed entries.now)) (url_of result) }
 {
-    marks.iter().any(|mark| !*mark)
+    let mut least = None;
+    for (index, entry) in entries.iter().enumerate() {
+        let one = where_at_fault(&entry.url, !marks[index]);
+        least = lesser(least, one);
+    }
+    least
 }

@@ -31,8 +31,8 @@ pub fn certified<R: Threads + Sync>(
 {
     match mode {
         Mode::Threads if account.workers() > 1 => {
-            certify_in_threads(rt, alloc, filter, seeds, account, results)
+            Ok(certify_in_threads(rt, alloc, filter, seeds, account, results)?)
         }
-        _ => certify_moved(alloc, filter, seeds, account, results),
+        _ => Ok(certify_moved(alloc, filter, seeds, account, results)?),
     }
 }

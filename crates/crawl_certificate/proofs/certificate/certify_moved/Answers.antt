@@ -1,11 +1,9 @@
-use Rattle.std.proofs.Common.{subst}
+use Rattle.std.proofs.Common.{◌≡◌, ◌⊎◌, subst}
 use Rattle.std.proofs.lemmas.Result.{err_from_is_err_and}
-use Rattle.crawl_certificate.specs.declared.error.CertError.TheVariants as fault
 use Rattle.crawl_certificate.specs.CertFaults.{first_fault}
 use Rattle.crawl_keys.specs.HostFilter.{allows}
 use Rattle.crawl_certificate.specs.AccountEntries.{DifferByUrl}
-use Rattle.crawl_keys.specs.Outcome.{IsRefusal}
-use Rattle.crawl_certificate.specs.Certificate.{unless_fault}
+use Rattle.crawl_certificate.specs.Culprits.{IsCulprit, is_at_fault, no_memory}
 use Rattle.crawl_certificate.proofs.Certificates.{certified}
 use Rattle.crawl_certificate.proofs.certificate.certify_moved.Goals as goal
 
@@ -14,7 +12,10 @@ returns-in_err-find_fault-clause-fault c =
     let r = c.from_residual-in_err-find_fault in
     let p = err_from_is_err_and r.result r.ensures.1 in
     let told = c.in_err-find_fault.field-0.0 in
-    rw (p.1, p.2) (subst (λ es. IsRefusal fault.NoMemory (unless_fault (first_fault (allows c.args.filter.now) c.args.seeds.now es c.args.results.items)) told) c.in_ok-accepted.ensures.all (rw c.deref.ensures.value at c.in_err-find_fault.ensures))
+    let allowed = allows c.args.filter.now in
+    let results = c.args.results.items in
+    rw (p.1, p.2) (subst (λ es. IsCulprit (first_fault allowed c.args.seeds.now es results) (is_at_fault allowed c.args.seeds.now es results) told ⊎ (told ≡ no_memory))
+    c.in_ok-accepted.ensures.all (rw c.deref.ensures.value at c.in_err-find_fault.ensures))
 
 pub returns : goal.returns
 returns c =

@@ -1,7 +1,8 @@
-use Rattle.std.proofs.Common.{◌+◌, ◌==◌, true, ◌&&◌, ◌||◌, map, set, ap, ◌∙◌}
+use Rattle.std.proofs.Common.{◌≡◌, ◌+◌, ◌==◌, true, false, ◌&&◌, ◌||◌, map, set, get_or, Option, Some, sym, ap, ◌∙◌}
 use Rattle.crawl_frontier.specs.declared.entry.Entry.{Entry}
 use Rattle.crawl_certificate.specs.CertFaults.{stands_in}
-use Rattle.crawl_certificate.proofs.Places.{behind_marks, behind_no_marks, fetched_marked, fetched_unmarked}
+use Rattle.crawl_certificate.specs.Least.{url_if}
+use Rattle.crawl_certificate.proofs.Places.{behind_marks, behind_no_marks, fetched_before, fetched_marked, fetched_unmarked}
 use Rattle.crawl_certificate.proofs.marks.mark_result.Goals as goal
 
 pub returns-in-Some-clause-fetched : goal.returns-in-Some-clause-fetched
@@ -23,3 +24,15 @@ returns-in-None-clause-fetched c = λ known is.
 pub returns-in-None-clause-linked : goal.returns-in-None-clause-linked
 returns-in-None-clause-linked c = λ known is.
     is ∙ behind_no_marks c.args.accepted.now c.args.one.now c.in-None.ensures.found known
+
+pub returns-in-Some-clause-twice : goal.returns-in-Some-clause-twice
+returns-in-Some-clause-twice c = λ known is none.
+    let entries = c.args.accepted.now in
+    let url = c.args.one.now.url in
+    let index = c.in-Some.index in
+    let found = c.in-Some.ensures.found in
+    let both : ◌≡◌ {A = Option Entry} (Some found.0.0) (Some c.entry-entry.result.now) = sym found.0.1 ∙ c.entry-entry.ensures in
+    let same : found.0.0 ≡ c.entry-entry.result.now = cc in
+    let text : c.entry-entry.result.now.url ≡ url = sym (ap (λ (e : Entry). e.url) same) ∙ found.0.2 in
+    let before = ap (λ ms. get_or ms index false) is ∙ fetched_before entries url index found known false in
+    c.where_at_fault.ensures ∙ (λ i. url_if (before i) (text i))

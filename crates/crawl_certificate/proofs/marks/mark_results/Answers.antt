@@ -1,12 +1,16 @@
-use Rattle.std.proofs.Common.{Bool, false, not, [], ◌∷◌, ◌++◌, map, take, sym, ap, ◌∙◌}
+use Rattle.std.proofs.Common.{ℕ, List, Bool, false, not, ◌&&◌, [], ◌∷◌, ◌++◌, map, take, sym, ap, subst, ◌∙◌}
+use Rattle.std.specs.Str.{bytes_eq}
 use Rattle.std.proofs.lemmas.List.{take_more}
-use Rattle.std.specs.List.{list_any}
 use Rattle.crawl_frontier.specs.declared.entry.Entry.{Entry}
 use Rattle.crawl_web.specs.declared.page.PageResult.{PageResult}
 use Rattle.crawl_keys.specs.HostFilter.{allows}
 use Rattle.crawl_web.specs.Pages.{links_of}
-use Rattle.crawl_certificate.specs.CertFaults.{is_accepted, has_result, is_linked, some_missing, twice}
-use Rattle.crawl_certificate.proofs.Places.{any_push, linked_push, fetched_push, twice_more, or_together}
+use Rattle.crawl_certificate.specs.CertFaults.{is_accepted, has_result, is_linked, stands_in}
+use Rattle.crawl_certificate.specs.Culprits.{is_lost, is_a_link, is_twice}
+use Rattle.crawl_certificate.specs.Least.{IsLeast, url_of}
+use Rattle.crawl_certificate.proofs.LeastUrls.{only_one, least_more}
+use Rattle.crawl_certificate.proofs.Places.{linked_push, fetched_push}
+use Rattle.crawl_certificate.proofs.Twice.{least_twice}
 use Rattle.crawl_certificate.proofs.marks.mark_results.Goals as goal
 
 pub loop-one-preserved : goal.loop-one-preserved
@@ -16,27 +20,33 @@ loop-one-preserved c =
     let i = c.loop-one.one-index in
     let r = c.one-item.result in
     let more = ap (λ x. take i all ++ x ∷ []) c.one-item.is ∙ sym (take_more all i r c.loop-one-test.true) in
-    let stray' : PageResult → Bool = λ x. not (is_accepted c.args.accepted.now x.url) in
-    let missing' : PageResult → Bool = λ x. some_missing (allows c.args.filter.now) (is_accepted c.args.accepted.now) (links_of x.page) in
+    let unlisted : List ℕ → Bool = λ url. not (is_accepted entries url) in
+    let lost = is_lost (allows c.args.filter.now) entries in
+    let told = c.loop-one.told in
+    let one = c.mark_result-of_one.result in
+    let before = c.loop-one.invariant in
+    let now = c.mark_result-of_one.ensures in
+    let both = c.and-told.ensures in
+    let stray' = subst (IsLeast (λ url. bytes_eq r.url url && unlisted url)) (sym now.stray) (only_one r.url unlisted) in
     record {
       fetched =
-          c.mark_result-of_one.ensures.fetched (has_result (take i all)) c.loop-one.invariant.fetched
+          now.fetched (has_result (take i all)) before.fetched
           ∙ fetched_push entries (take i all) r
           ∙ ap (λ rs. map (λ (e : Entry). has_result rs e.url) entries) more;
       linked =
-          c.mark_result-of_one.ensures.linked (is_linked entries (take i all)) c.loop-one.invariant.linked
+          now.linked (is_linked entries (take i all)) before.linked
           ∙ linked_push entries (take i all) r (λ _. false)
           ∙ ap (λ rs. map (is_linked entries rs) entries) more;
       missing =
-          ap (λ t. t.missing) c.and-told.ensures
-          ∙ or_together c.loop-one.invariant.missing c.mark_result-of_one.ensures.missing
-          ∙ sym (any_push missing' (take i all) r) ∙ ap (list_any missing') more;
+          subst (λ rs. IsLeast (λ url. is_a_link rs url && lost url) (url_of c.and-told.result.missing)) more
+          (subst (IsLeast (λ url. is_a_link (take i all ++ r ∷ []) url && lost url)) (sym both.missing)
+          (least_more (λ (x : PageResult) url. stands_in (links_of x.page) url) lost (take i all) r (url_of told.missing) (url_of one.missing) before.missing now.missing));
       stray =
-          ap (λ t. t.stray) c.and-told.ensures
-          ∙ or_together c.loop-one.invariant.stray c.mark_result-of_one.ensures.stray
-          ∙ sym (any_push stray' (take i all) r) ∙ ap (list_any stray') more;
+          subst (λ rs. IsLeast (λ url. has_result rs url && unlisted url) (url_of c.and-told.result.stray)) more
+          (subst (IsLeast (λ url. has_result (take i all ++ r ∷ []) url && unlisted url)) (sym both.stray)
+          (least_more (λ (x : PageResult) url. bytes_eq x.url url) unlisted (take i all) r (url_of told.stray) (url_of one.stray) before.stray stray'));
       twice = λ none.
-          ap (λ t. t.twice) c.and-told.ensures
-          ∙ twice_more (take i all) r c.loop-one.told.stray c.mark_result-of_one.result.stray c.loop-one.told.twice c.mark_result-of_one.result.twice c.loop-one.invariant.twice (c.mark_result-of_one.ensures.twice (has_result (take i all)) c.loop-one.invariant.fetched) (sym (ap (λ t. t.stray) c.and-told.ensures) ∙ none)
-          ∙ ap twice more;
+          subst (λ rs. IsLeast (is_twice rs) (url_of c.and-told.result.twice)) more
+          (subst (IsLeast (is_twice (take i all ++ r ∷ []))) (sym both.twice)
+          (least_twice (take i all) r (url_of told.stray) (url_of one.stray) (url_of told.twice) (url_of one.twice) before.twice (now.twice (has_result (take i all)) before.fetched) (sym both.stray ∙ none)));
     }

@@ -1,9 +1,14 @@
-use Rattle.std.proofs.Common.{◌≡◌, take}
-use Rattle.crawl_certificate.specs.Marks.{in_one, some_in_both}
+use Rattle.std.proofs.Common.{◌≡◌, Bool, ◌&&◌, map, take}
+use Rattle.std.specs.List.{list_any}
+use Rattle.std.specs.Str.{bytes_eq}
+use Rattle.crawl_frontier.specs.declared.entry.Entry.{Entry}
+use Rattle.crawl_certificate.specs.Least.{IsLeast, url_of}
+use Rattle.crawl_certificate.specs.Marks.{in_one}
+use Rattle.crawl_certificate.specs.Lookups.{pointed}
 use Rattle.crawl_certificate.proofs.threads.add_marks.Given as goal
 
 abbrev pub invariant-loop-index : goal.invariant-loop-index
 invariant-loop-index l = record {
   marks : l.marks ≡ in_one l.fn.marks (take l.index l.more);
-  both : l.both ≡ some_in_both l.fn.marks (take l.index l.more);
+  both : (own its : Entry → Bool) → l.fn.marks ≡ map own (pointed l.entries) → l.more ≡ map its (pointed l.entries) → IsLeast (λ url. list_any (λ e. bytes_eq e.url url && (own e && its e)) (pointed (take l.index l.entries))) (url_of l.both);
 }

@@ -1,0 +1,232 @@
+-- The least text that passes a test, and how two such are put together.
+use Rattle.std.proofs.Common.{◌≡◌, ◌⊎◌, inl, inr, ℕ, ◌+◌, ◌<◌, ◌≤◌, Bool, true, false, ◌||◌, ◌&&◌, List, [], ◌∷◌, ◌++◌, length, take, get_or, Option, Some, None, is_some, refl, sym, ap, subst, ◌∙◌}
+use Rattle.std.specs.Borrow.{Bor}
+use Rattle.std.specs.Bool.{if◌then◌else◌}
+use Rattle.std.specs.Cmp.{IsStrictWeakOrder}
+use Rattle.std.specs.Cmp.Lexicographic.{slice_cmp}
+use Rattle.std.specs.Ordering.{nat_cmp, is_lt, is_eq, ordering_reverse}
+use Rattle.std.specs.declared.cmp.Ordering.{Ordering}
+use Rattle.std.specs.declared.cmp.Ordering.TheVariants.{Less, Equal, Greater}
+use Rattle.std.proofs.lemmas.Map.Text.{is_eq-slice_cmp}
+use Rattle.std.specs.List.{list_any}
+use Rattle.std.specs.Str.{bytes_eq}
+use Rattle.std.proofs.lemmas.Bool.{cases_Bool, and_parts, and_from, or_cases, or_left, or_right, or_from, both_ways, false_from_ne_true}
+use Rattle.std.proofs.lemmas.Cmp.{nat_list_cmp_total}
+use Rattle.std.proofs.lemmas.List.{take_more, take_all, map_more}
+use Rattle.std.proofs.lemmas.List.Folds.{list_any-append}
+use Rattle.std.proofs.lemmas.List.Sorted.{ranks_by}
+use Rattle.crawl_frontier.specs.declared.entry.Entry.{Entry}
+use Rattle.crawl_certificate.specs.Least.{is_below, IsLeast, url_if, lesser}
+use Rattle.crawl_certificate.specs.Lookups.{pointed}
+use Rattle.crawl_certificate.proofs.Lists.{some_has, any_from, same_text, text_itself}
+use Rattle.crawl_certificate.proofs.Places.{any_push}
+
+-- ---- the order
+
+ranks : IsStrictWeakOrder is_below
+ranks = ranks_by nat_list_cmp_total (λ t. t)
+
+not_below_itself : (t : List ℕ) → is_below t t ≡ false
+not_below_itself t = elim (cases_Bool (is_below t t)) [ inl h ↦ ranks.one_way t t h | inr h ↦ h ]
+
+-- two texts of which neither is below the other are one
+pub neither_below : (a b : List ℕ) → is_below a b ≡ false → is_below b a ≡ false → a ≡ b
+neither_below a b p q = by (slice_cmp nat_cmp a b) refl
+  where
+    by : (o : Ordering) → slice_cmp nat_cmp a b ≡ o → a ≡ b
+    by Less is = absurd (both_ways _ p (ap is_lt is))
+    by Equal is = same_text a b (sym (is_eq-slice_cmp a b) ∙ ap is_eq is)
+    by Greater is = absurd (both_ways _ q (ap is_lt (nat_list_cmp_total.antisymm b a ∙ ap ordering_reverse is)))
+
+-- ---- tests
+
+pub same_bool : (a b : Bool) → (a ≡ true → b ≡ true) → (b ≡ true → a ≡ true) → a ≡ b
+same_bool true b there' back = sym (there' refl)
+same_bool false b there' back = sym (false_from_ne_true b (λ yes. both_ways false refl (back yes)))
+
+or_and : (a b c : Bool) → ((a && c) || (b && c)) ≡ ((a || b) && c)
+or_and true b true = refl
+or_and true b false = and_false b
+  where
+    and_false : (b : Bool) → (b && false) ≡ false
+    and_false true = refl
+    and_false false = refl
+or_and false b c = refl
+
+-- the same test in other words
+pub by_test : (p q : List ℕ → Bool) (told : Option (List ℕ)) → ((text : List ℕ) → p text ≡ q text) → IsLeast p told → IsLeast q told
+by_test p q told same is = subst (λ t. IsLeast t told) (λ i text. same text i) is
+
+-- ---- one, and two
+
+-- a text alone, where it passes the test
+pub only_one : (text : List ℕ) (test : List ℕ → Bool) → IsLeast (λ t. bytes_eq text t && test t) (url_if (test text) text)
+only_one text test = by (test text) refl
+  where
+    by : (b : Bool) → test text ≡ b → IsLeast (λ t. bytes_eq text t && test t) (url_if b text)
+    by true is = (
+      and_from _ _ (text_itself text) is,
+      λ t passes.
+          let parts = and_parts (bytes_eq text t) (test t) passes in
+          subst (λ u. is_below u text ≡ false) (same_text text t parts.0) (not_below_itself text),
+    )
+    by false is = λ t. false_from_ne_true _ (λ passes.
+        let parts = and_parts (bytes_eq text t) (test t) passes in
+        both_ways _ is (subst (λ u. test u ≡ true) (sym (same_text text t parts.0)) parts.1))
+
+two_least : (p q : List ℕ → Bool) (a b : List ℕ) → IsLeast p (Some a) → IsLeast q (Some b) → (below : Bool) → is_below b a ≡ below → IsLeast (λ t. p t || q t) (Some (if below then b else a))
+two_least p q a b of_a of_b true is = (
+  or_right _ _ of_b.0,
+  λ t passes. elim (or_cases (p t) (q t) passes) [
+    | inl first ↦ ranks.chain t a b (of_a.1 t first) (ranks.one_way b a is)
+    | inr second ↦ of_b.1 t second
+  ],
+)
+two_least p q a b of_a of_b false is = (
+  or_left _ _ of_a.0,
+  λ t passes. elim (or_cases (p t) (q t) passes) [
+    | inl first ↦ of_a.1 t first
+    | inr second ↦ ranks.chain t b a (of_b.1 t second) is
+  ],
+)
+
+-- the least of what passes one of two tests is the lesser of the two least
+pub least_of_both : (p q : List ℕ → Bool) (a b : Option (List ℕ)) → IsLeast p a → IsLeast q b → IsLeast (λ t. p t || q t) (lesser a b)
+least_of_both p q None None of_a of_b = λ t. or_from (p t) (q t) (of_a t) (of_b t)
+least_of_both p q (Some a) None of_a of_b = (
+  or_left _ _ of_a.0,
+  λ t passes. elim (or_cases (p t) (q t) passes) [
+    | inl first ↦ of_a.1 t first
+    | inr second ↦ absurd (both_ways _ (of_b t) second)
+  ],
+)
+least_of_both p q None (Some b) of_a of_b = (
+  or_right _ _ of_b.0,
+  λ t passes. elim (or_cases (p t) (q t) passes) [
+    | inl first ↦ absurd (both_ways _ (of_a t) first)
+    | inr second ↦ of_b.1 t second
+  ],
+)
+least_of_both p q (Some a) (Some b) of_a of_b = two_least p q a b of_a of_b (is_below b a) refl
+
+pub lesser_none : (a b : Option (List ℕ)) → lesser a b ≡ None → (a ≡ None) × (b ≡ None)
+lesser_none None None none = (refl, refl)
+lesser_none (Some a) None none = absurd (cc)
+lesser_none None (Some b) none = absurd (cc)
+lesser_none (Some a) (Some b) none = absurd (cc)
+
+pub some_lesser : (a b : Option (List ℕ)) → is_some (lesser a b) ≡ (is_some a || is_some b)
+some_lesser None None = refl
+some_lesser (Some a) None = refl
+some_lesser None (Some b) = refl
+some_lesser (Some a) (Some b) = refl
+
+-- ---- lists
+
+-- one more element, each of which is at fault with some texts
+pub least_push : {X : Type 0} (at : X → List ℕ → Bool) (xs : List X) (x : X) (told one : Option (List ℕ)) → IsLeast (λ t. list_any (λ y. at y t) xs) told → IsLeast (at x) one → IsLeast (λ t. list_any (λ y. at y t) (xs ++ x ∷ [])) (lesser told one)
+least_push at xs x told one before now =
+    by_test _ _ (lesser told one) (λ t. sym (any_push (λ y. at y t) xs x)) (least_of_both (λ t. list_any (λ y. at y t) xs) (at x) told one before now)
+
+-- the same, of texts that pass a test besides
+pub least_append : {X : Type 0} (at : X → List ℕ → Bool) (bad : List ℕ → Bool) (xs ys : List X) (told one : Option (List ℕ)) → IsLeast (λ t. list_any (λ y. at y t) xs && bad t) told → IsLeast (λ t. list_any (λ y. at y t) ys && bad t) one → IsLeast (λ t. list_any (λ y. at y t) (xs ++ ys) && bad t) (lesser told one)
+least_append at bad xs ys told one before now =
+    by_test _ _ (lesser told one)
+    (λ t. or_and (list_any (λ y. at y t) xs) (list_any (λ y. at y t) ys) (bad t) ∙ ap (λ b. b && bad t) (sym (list_any-append (λ y. at y t) xs ys)))
+    (least_of_both (λ t. list_any (λ y. at y t) xs && bad t) (λ t. list_any (λ y. at y t) ys && bad t) told one before now)
+
+or_false : (b : Bool) → (b || false) ≡ b
+or_false true = refl
+or_false false = refl
+
+pub least_more : {X : Type 0} (at : X → List ℕ → Bool) (bad : List ℕ → Bool) (xs : List X) (x : X) (told one : Option (List ℕ)) → IsLeast (λ t. list_any (λ y. at y t) xs && bad t) told → IsLeast (λ t. at x t && bad t) one → IsLeast (λ t. list_any (λ y. at y t) (xs ++ x ∷ []) && bad t) (lesser told one)
+least_more at bad xs x told one before now =
+    least_append at bad xs (x ∷ []) told one before (by_test _ _ one (λ t. ap (λ b. b && bad t) (sym (or_false (at x t)))) now)
+
+-- the URLs of elements that pass a test are those that pass it themselves
+pub at_urls : {X : Type 0} (url : X → List ℕ) (test : List ℕ → Bool) (xs : List X) (text : List ℕ) → list_any (λ x. bytes_eq (url x) text && test (url x)) xs ≡ (list_any (λ x. bytes_eq (url x) text) xs && test text)
+at_urls url test [] text = refl
+at_urls url test (x ∷ xs) text =
+    (λ i. here' (cases_Bool (bytes_eq (url x) text)) i || at_urls url test xs text i)
+    ∙ or_and (bytes_eq (url x) text) (list_any (λ y. bytes_eq (url y) text) xs) (test text)
+  where
+    here' : (bytes_eq (url x) text ≡ true) ⊎ (bytes_eq (url x) text ≡ false) → (bytes_eq (url x) text && test (url x)) ≡ (bytes_eq (url x) text && test text)
+    here' (inl same) = ap (λ u. bytes_eq (url x) text && test u) (same_text (url x) text same)
+    here' (inr other) = ap (λ b. b && test (url x)) other ∙ sym (ap (λ b. b && test text) other)
+
+-- ---- whether there is one
+
+-- there is one exactly where something is the case that goes with it
+pub some_least : (holds : Bool) (test : List ℕ → Bool) (told : Option (List ℕ)) → IsLeast test told → (holds ≡ true → (t : List ℕ) × (test t ≡ true)) → ((t : List ℕ) → test t ≡ true → holds ≡ true) → is_some told ≡ holds
+some_least holds test None is found back = sym (false_from_ne_true holds (λ yes. let t = found yes in both_ways _ (is t.0) t.1))
+some_least holds test (Some least) is found back = sym (back least is.0)
+
+-- elements whose own URL is at fault
+pub urls_at : {X : Type 0} (url : X → List ℕ) (bad : List ℕ → Bool) (xs : List X) (t : List ℕ) → (list_any (λ x. bytes_eq (url x) t) xs && bad t) ≡ true → list_any (λ x. bad (url x)) xs ≡ true
+urls_at url bad xs t passes =
+    let parts = and_parts (list_any (λ x. bytes_eq (url x) t) xs) (bad t) passes in
+    let x = some_has (λ y. bytes_eq (url y) t) xs parts.0 in
+    any_from (λ y. bad (url y)) xs x.0 x.1 (subst (λ u. bad u ≡ true) (sym (same_text (url x.0) t x.2)) parts.1)
+
+pub some_of_urls : {X : Type 0} (url : X → List ℕ) (bad : List ℕ → Bool) (xs : List X) (told : Option (List ℕ)) → IsLeast (λ t. list_any (λ x. bytes_eq (url x) t) xs && bad t) told → is_some told ≡ list_any (λ x. bad (url x)) xs
+some_of_urls url bad xs told is =
+    some_least (list_any (λ x. bad (url x)) xs) (λ t. list_any (λ x. bytes_eq (url x) t) xs && bad t) told is
+    (λ yes.
+    let x = some_has (λ y. bad (url y)) xs yes in
+    (url x.0, and_from _ _ (any_from (λ y. bytes_eq (url y) (url x.0)) xs x.0 x.1 (text_itself (url x.0))) x.2))
+    (urls_at url bad xs)
+
+-- elements that are at fault themselves
+pub elements_at : {X : Type 0} (url : X → List ℕ) (bad : X → Bool) (xs : List X) (t : List ℕ) → list_any (λ x. bytes_eq (url x) t && bad x) xs ≡ true → list_any bad xs ≡ true
+elements_at url bad xs t passes =
+    let x = some_has (λ y. bytes_eq (url y) t && bad y) xs passes in
+    any_from bad xs x.0 x.1 (and_parts (bytes_eq (url x.0) t) (bad x.0) x.2).1
+
+pub some_of_elements : {X : Type 0} (url : X → List ℕ) (bad : X → Bool) (xs : List X) (told : Option (List ℕ)) → IsLeast (λ t. list_any (λ x. bytes_eq (url x) t && bad x) xs) told → is_some told ≡ list_any bad xs
+some_of_elements url bad xs told is =
+    some_least (list_any bad xs) (λ t. list_any (λ x. bytes_eq (url x) t && bad x) xs) told is
+    (λ yes.
+    let x = some_has bad xs yes in
+    (url x.0, any_from (λ y. bytes_eq (url y) (url x.0) && bad y) xs x.0 x.1 (and_from _ _ (text_itself (url x.0)) x.2)))
+    (elements_at url bad xs)
+
+-- elements each of which has texts, some of which are at fault
+pub lists_at : {X : Type 0} (texts : X → List (List ℕ)) (bad : List ℕ → Bool) (xs : List X) (t : List ℕ) → (list_any (λ x. list_any (λ own. bytes_eq own t) (texts x)) xs && bad t) ≡ true → list_any (λ x. list_any bad (texts x)) xs ≡ true
+lists_at texts bad xs t passes =
+    let parts = and_parts (list_any (λ x. list_any (λ own. bytes_eq own t) (texts x)) xs) (bad t) passes in
+    let x = some_has (λ y. list_any (λ own. bytes_eq own t) (texts y)) xs parts.0 in
+    let own = some_has (λ y. bytes_eq y t) (texts x.0) x.2 in
+    any_from (λ y. list_any bad (texts y)) xs x.0 x.1 (any_from bad (texts x.0) own.0 own.1 (subst (λ u. bad u ≡ true) (sym (same_text own.0 t own.2)) parts.1))
+
+pub some_of_lists : {X : Type 0} (texts : X → List (List ℕ)) (bad : List ℕ → Bool) (xs : List X) (told : Option (List ℕ)) → IsLeast (λ t. list_any (λ x. list_any (λ own. bytes_eq own t) (texts x)) xs && bad t) told → is_some told ≡ list_any (λ x. list_any bad (texts x)) xs
+some_of_lists texts bad xs told is =
+    some_least (list_any (λ x. list_any bad (texts x)) xs) (λ t. list_any (λ x. list_any (λ own. bytes_eq own t) (texts x)) xs && bad t) told is
+    (λ yes.
+    let x = some_has (λ y. list_any bad (texts y)) xs yes in
+    let t = some_has bad (texts x.0) x.2 in
+    (t.0, and_from _ _ (any_from (λ y. list_any (λ own. bytes_eq own t.0) (texts y)) xs x.0 x.1 (any_from (λ own. bytes_eq own t.0) (texts x.0) t.0 t.1 (text_itself t.0))) t.2))
+    (lists_at texts bad xs)
+
+-- ---- loops
+
+-- one more text of a list
+pub text_more : (bad : List ℕ → Bool) (texts : List (List ℕ)) (k : ℕ) (text : List ℕ) (told one new : Option (List ℕ)) → k < length texts → text ≡ get_or texts k text → one ≡ url_if (bad text) text → new ≡ lesser told one → IsLeast (λ t. list_any (λ own. bytes_eq own t) (take k texts) && bad t) told → IsLeast (λ t. list_any (λ own. bytes_eq own t) (take (k + 1) texts) && bad t) new
+text_more bad texts k text told one new below at is put before =
+    let more : take k texts ++ text ∷ [] ≡ take (k + 1) texts = ap (λ x. take k texts ++ x ∷ []) at ∙ sym (take_more texts k text below) in
+    let now : IsLeast (λ t. bytes_eq text t && bad t) one = subst (IsLeast (λ t. bytes_eq text t && bad t)) (sym is) (only_one text bad) in
+    subst (λ ts. IsLeast (λ t. list_any (λ own. bytes_eq own t) ts && bad t) new) more
+    (subst (IsLeast (λ t. list_any (λ own. bytes_eq own t) (take k texts ++ text ∷ []) && bad t)) (sym put)
+    (least_more (λ own t. bytes_eq own t) bad (take k texts) text told one before now))
+
+-- one more entry
+pub entry_more : (test : Entry → Bool) (xs : List (Bor Entry)) (k : ℕ) (x : Bor Entry) (bad : Bool) (told one new : Option (List ℕ)) → k < length xs → x ≡ get_or xs k x → bad ≡ test x.now → one ≡ url_if bad x.now.url → new ≡ lesser told one → IsLeast (λ t. list_any (λ e. bytes_eq e.url t && test e) (pointed (take k xs))) told → IsLeast (λ t. list_any (λ e. bytes_eq e.url t && test e) (pointed (take (k + 1) xs))) new
+entry_more test xs k x bad told one new below at same is put before =
+    let more : pointed (take k xs) ++ x.now ∷ [] ≡ pointed (take (k + 1) xs) = ap (λ (y : Bor Entry). pointed (take k xs) ++ y.now ∷ []) at ∙ sym (map_more (λ (y : Bor Entry). y.now) xs k x below) in
+    let now : IsLeast (λ t. bytes_eq x.now.url t && test x.now) one = subst (IsLeast (λ t. bytes_eq x.now.url t && test x.now)) (sym (is ∙ ap (λ b. url_if b x.now.url) same)) (only_one x.now.url (λ _. test x.now)) in
+    subst (λ es. IsLeast (λ t. list_any (λ (e : Entry). bytes_eq e.url t && test e) es) new) more
+    (subst (IsLeast (λ t. list_any (λ (e : Entry). bytes_eq e.url t && test e) (pointed (take k xs) ++ x.now ∷ []))) (sym put)
+    (least_push (λ (e : Entry) t. bytes_eq e.url t && test e) (pointed (take k xs)) x.now told one before now))
+
+-- all entries were looked at
+pub entries_all : (test : Entry → Bool) (xs : List (Bor Entry)) (k : ℕ) (told : Option (List ℕ)) → length xs ≤ k → IsLeast (λ t. list_any (λ e. bytes_eq e.url t && test e) (pointed (take k xs))) told → IsLeast (λ t. list_any (λ e. bytes_eq e.url t && test e) (pointed xs)) told
+entries_all test xs k told past is = subst (λ ys. IsLeast (λ t. list_any (λ (e : Entry). bytes_eq e.url t && test e) (pointed ys)) told) (take_all k xs past) is

@@ -1,0 +1,157 @@
+-- URLs that two results have.
+use Rattle.std.proofs.Common.{◌≡◌, inl, inr, ℕ, ◌+◌, ◌<◌, Bool, true, false, cond, ◌||◌, ◌&&◌, not, List, [], ◌∷◌, ◌++◌, Option, None, is_some, refl, sym, ap, subst, ◌∙◌, arith}
+use Rattle.std.specs.List.{list_any, count_by}
+use Rattle.std.specs.Str.{bytes_eq}
+use Rattle.std.proofs.Math.Dec.{ltb}
+use Rattle.std.proofs.lemmas.Bool.{cases_lt, and_parts, and_from, or_cases, or_left, or_right, both_ways, true_from_ne_false, lt-ltb, ltb-true}
+use Rattle.std.proofs.lemmas.List.Sums.{sum_by-append, sum_by-cons}
+use Rattle.crawl_frontier.specs.declared.entry.Entry.{Entry}
+use Rattle.crawl_web.specs.declared.page.PageResult.{PageResult}
+use Rattle.crawl_certificate.specs.CertFaults.{has_result, is_accepted, twice}
+use Rattle.crawl_certificate.specs.Culprits.{is_a_stray, is_twice}
+use Rattle.crawl_certificate.specs.Least.{IsLeast, url_if, lesser}
+use Rattle.crawl_certificate.proofs.LeastUrls.{same_bool, by_test, only_one, least_of_both, lesser_none, at_urls, some_least}
+use Rattle.crawl_certificate.proofs.Lists.{same_text, text_itself}
+
+-- ---- counts
+
+count_append : {X : Type 0} (p : X → Bool) (xs ys : List X) → count_by p (xs ++ ys) ≡ count_by p xs + count_by p ys
+count_append p xs ys = sum_by-append (λ x. cond (p x) 1 0) xs ys
+
+count_more : {X : Type 0} (p : X → Bool) (x : X) (xs : List X) → count_by p (x ∷ xs) ≡ cond (p x) 1 0 + count_by p xs
+count_more p x xs = sum_by-cons (λ y. cond (p y) 1 0) x xs
+
+one_count : (b : Bool) → ltb 0 (cond b 1 0) ≡ b
+one_count true = refl
+one_count false = refl
+
+-- two numbers together
+some_of : (a b : ℕ) → ltb 0 (a + b) ≡ (ltb 0 a || ltb 0 b)
+some_of a b = same_bool _ _
+    (λ h.
+    let more : 0 < a + b = ltb-true 0 (a + b) h in
+    elim (cases_lt 0 a) [
+      | inl some ↦ or_left _ _ (lt-ltb 0 a some)
+      | inr none ↦ or_right _ _ (lt-ltb 0 b (omega (arith, more, none)))
+    ])
+    (λ h. elim (or_cases (ltb 0 a) (ltb 0 b) h) [
+      | inl some ↦ lt-ltb 0 (a + b) (omega (arith, ltb-true 0 a some))
+      | inr some ↦ lt-ltb 0 (a + b) (omega (arith, ltb-true 0 b some))
+    ])
+
+two_of : (a b : ℕ) → ltb 1 (a + b) ≡ ((ltb 1 a || ltb 1 b) || (ltb 0 a && ltb 0 b))
+two_of a b = same_bool _ _
+    (λ h.
+    let more : 1 < a + b = ltb-true 1 (a + b) h in
+    elim (cases_lt 1 a) [
+      | inl two ↦ or_left _ _ (or_left _ _ (lt-ltb 1 a two))
+      | inr few ↦ elim (cases_lt 1 b) [
+        | inl two ↦ or_left _ _ (or_right _ _ (lt-ltb 1 b two))
+        | inr few' ↦ or_right _ _ (and_from _ _ (lt-ltb 0 a (omega (arith, more, few, few'))) (lt-ltb 0 b (omega (arith, more, few, few'))))
+      ]
+    ])
+    (λ h. elim (or_cases (ltb 1 a || ltb 1 b) (ltb 0 a && ltb 0 b) h) [
+      | inl either ↦ elim (or_cases (ltb 1 a) (ltb 1 b) either) [
+        | inl two ↦ lt-ltb 1 (a + b) (omega (arith, ltb-true 1 a two))
+        | inr two ↦ lt-ltb 1 (a + b) (omega (arith, ltb-true 1 b two))
+      ]
+      | inr both ↦
+          let parts = and_parts (ltb 0 a) (ltb 0 b) both in
+          lt-ltb 1 (a + b) (omega (arith, ltb-true 0 a parts.0, ltb-true 0 b parts.1))
+    ])
+
+any_counts : {X : Type 0} (p : X → Bool) (xs : List X) → list_any p xs ≡ ltb 0 (count_by p xs)
+any_counts p [] = refl
+any_counts p (x ∷ xs) =
+    (λ i. sym (one_count (p x)) i || any_counts p xs i)
+    ∙ sym (some_of (cond (p x) 1 0) (count_by p xs))
+    ∙ ap (ltb 0) (sym (count_more p x xs))
+
+-- ---- results
+
+-- two results of two lists
+pub twice_of_both : (xs ys : List PageResult) (url : List ℕ) → is_twice (xs ++ ys) url ≡ ((is_twice xs url || is_twice ys url) || (has_result xs url && has_result ys url))
+twice_of_both xs ys url =
+    let p : PageResult → Bool = λ r. bytes_eq r.url url in
+    ap (ltb 1) (count_append p xs ys) ∙ two_of (count_by p xs) (count_by p ys)
+    ∙ (λ i. (is_twice xs url || is_twice ys url) || (sym (any_counts p xs) i && sym (any_counts p ys) i))
+
+one_result : (r : PageResult) (url : List ℕ) → is_twice (r ∷ []) url ≡ false
+one_result r url = ap (ltb 1) (count_more (λ (x : PageResult). bytes_eq x.url url) r []) ∙ one (bytes_eq r.url url)
+  where
+    one : (b : Bool) → ltb 1 (cond b 1 0 + 0) ≡ false
+    one true = refl
+    one false = refl
+
+tidy : (a b c d : Bool) → b ≡ false → ((a || b) || (c && (d || false))) ≡ (a || (d && c))
+tidy true b c d none = refl
+tidy false true c d none = absurd (cc)
+tidy false false true true none = refl
+tidy false false true false none = refl
+tidy false false false true none = refl
+tidy false false false false none = refl
+
+-- one more result
+pub twice_push : (xs : List PageResult) (r : PageResult) (url : List ℕ) → is_twice (xs ++ r ∷ []) url ≡ (is_twice xs url || (bytes_eq r.url url && has_result xs url))
+twice_push xs r url =
+    twice_of_both xs (r ∷ []) url ∙ tidy (is_twice xs url) (is_twice (r ∷ []) url) (has_result xs url) (bytes_eq r.url url) (one_result r url)
+
+-- one more result, where no URL of a result is a stray
+pub least_twice : (xs : List PageResult) (r : PageResult) (stray of_one told again : Option (List ℕ)) → (stray ≡ None → IsLeast (is_twice xs) told) → (of_one ≡ None → again ≡ url_if (has_result xs r.url) r.url) → lesser stray of_one ≡ None → IsLeast (is_twice (xs ++ r ∷ [])) (lesser told again)
+least_twice xs r stray of_one told again before now none =
+    let parts = lesser_none stray of_one none in
+    let one : IsLeast (λ u. bytes_eq r.url u && has_result xs u) again = subst (IsLeast (λ u. bytes_eq r.url u && has_result xs u)) (sym (now parts.1)) (only_one r.url (has_result xs)) in
+    by_test _ _ (lesser told again) (λ u. sym (twice_push xs r u)) (least_of_both (is_twice xs) (λ u. bytes_eq r.url u && has_result xs u) told again (before parts.0) one)
+
+-- ---- two lists
+
+-- where no URL of a result is a stray, those that two lists share are URLs of entries
+shared_url : (entries : List Entry) (xs ys : List PageResult) → ((u : List ℕ) → is_a_stray entries xs u ≡ false) → (url : List ℕ) → list_any (λ e. bytes_eq e.url url && (has_result xs e.url && has_result ys e.url)) entries ≡ (has_result xs url && has_result ys url)
+shared_url entries xs ys none url =
+    let both : List ℕ → Bool = λ u. has_result xs u && has_result ys u in
+    at_urls (λ (e : Entry). e.url) both entries url
+    ∙ same_bool _ _
+    (λ h. (and_parts (list_any (λ (e : Entry). bytes_eq e.url url) entries) (both url) h).1)
+    (λ h. and_from _ _ (accepted (and_parts (has_result xs url) (has_result ys url) h).0) h)
+  where
+    accepted : has_result xs url ≡ true → list_any (λ (e : Entry). bytes_eq e.url url) entries ≡ true
+    accepted has = true_from_ne_false (is_accepted entries url) (λ no. both_ways _ (none url) (and_from _ _ has (ap not no)))
+
+-- the least URL that two results have, of two lists
+pub least_twice_of_both : (entries : List Entry) (xs ys : List PageResult) (first second both : Option (List ℕ)) → IsLeast (is_a_stray entries xs) None → IsLeast (is_twice xs) first → IsLeast (is_twice ys) second → IsLeast (λ u. list_any (λ e. bytes_eq e.url u && (has_result xs e.url && has_result ys e.url)) entries) both → IsLeast (is_twice (xs ++ ys)) (lesser (lesser first second) both)
+least_twice_of_both entries xs ys first second both none p q shared =
+    by_test _ _ (lesser (lesser first second) both) (λ u. sym (twice_of_both xs ys u))
+    (least_of_both (λ u. is_twice xs u || is_twice ys u) (λ u. has_result xs u && has_result ys u) (lesser first second) both
+    (least_of_both (is_twice xs) (is_twice ys) first second p q)
+    (by_test _ _ both (shared_url entries xs ys none) shared))
+
+-- ---- whether there is one
+
+-- a result whose URL a later one has too, or two later ones
+more_twice : (r : PageResult) (rest : List PageResult) (url : List ℕ) → is_twice (r ∷ rest) url ≡ (is_twice rest url || (bytes_eq r.url url && has_result rest url))
+more_twice r rest url =
+    let p : PageResult → Bool = λ x. bytes_eq x.url url in
+    ap (ltb 1) (count_more p r rest) ∙ two_of (cond (p r) 1 0) (count_by p rest) ∙ sides (p r)
+  where
+    sides : (b : Bool) → ((ltb 1 (cond b 1 0) || is_twice rest url) || (ltb 0 (cond b 1 0) && ltb 0 (count_by (λ (x : PageResult). bytes_eq x.url url) rest))) ≡ (is_twice rest url || (b && has_result rest url))
+    sides true = ap (λ c. is_twice rest url || c) (sym (any_counts (λ (x : PageResult). bytes_eq x.url url) rest))
+    sides false = refl
+
+some_url_twice : (results : List PageResult) → twice results ≡ true → (u : List ℕ) × (is_twice results u ≡ true)
+some_url_twice [] h = absurd (cc)
+some_url_twice (r ∷ rest) h = elim (or_cases (has_result rest r.url) (twice rest) h) [
+  | inl again ↦ (r.url, more_twice r rest r.url ∙ or_right _ _ (and_from _ _ (text_itself r.url) again))
+  | inr later ↦ let u = some_url_twice rest later in (u.0, more_twice r rest u.0 ∙ or_left _ _ u.1)
+]
+
+pub url_is_twice : (results : List PageResult) (u : List ℕ) → is_twice results u ≡ true → twice results ≡ true
+url_is_twice [] u h = absurd (cc)
+url_is_twice (r ∷ rest) u h = elim (or_cases (is_twice rest u) (bytes_eq r.url u && has_result rest u) (sym (more_twice r rest u) ∙ h)) [
+  | inl later ↦ or_right _ _ (url_is_twice rest u later)
+  | inr here' ↦
+      let parts = and_parts (bytes_eq r.url u) (has_result rest u) here' in
+      or_left _ _ (subst (λ t. has_result rest t ≡ true) (sym (same_text r.url u parts.0)) parts.1)
+]
+
+pub some_twice : (results : List PageResult) (told : Option (List ℕ)) → IsLeast (is_twice results) told → is_some told ≡ twice results
+some_twice results told is = some_least (twice results) (is_twice results) told is (some_url_twice results) (url_is_twice results)

@@ -1,0 +1,12 @@
+use Rattle.std.proofs.Common.{◌≡◌, ◌==◌, Bool, not, ◌&&◌, map, take, if◌then◌else◌}
+use Rattle.std.specs.List.{list_any}
+use Rattle.std.specs.Str.{bytes_eq}
+use Rattle.crawl_frontier.specs.declared.entry.Entry.{Entry}
+use Rattle.crawl_keys.specs.HostFilter.{allows}
+use Rattle.crawl_certificate.specs.Least.{IsLeast, url_of}
+use Rattle.crawl_certificate.specs.Lookups.{pointed, is_in}
+use Rattle.crawl_certificate.proofs.founded.least_unfounded.Given as goal
+
+abbrev pub invariant-loop-index : goal.invariant-loop-index
+invariant-loop-index l =
+    (linked : Entry → Bool) → l.marks ≡ map linked (pointed l.entries) → IsLeast (λ url. list_any (λ e. bytes_eq e.url url && not (allows l.filter e.url && (if e.hops == 0 then is_in l.seeds e.url else linked e))) (pointed (take l.index l.entries))) (url_of l.least)

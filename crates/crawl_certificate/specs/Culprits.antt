@@ -1,0 +1,93 @@
+-- Which URL is at fault where a run is not certified.
+use Rattle.std.specs.Prelude.{◌≡◌, ◌⊎◌, ℕ, Bool, false, not, ◌&&◌, ◌||◌, List, nat_lt, count_by, Option, Some, None, Result, Ok, Err}
+use Rattle.std.specs.List.{list_any}
+use Rattle.std.specs.Str.{bytes_eq}
+use Rattle.crawl_frontier.specs.declared.entry.Entry.{Entry}
+use Rattle.crawl_web.specs.declared.page.PageResult.{PageResult}
+use Rattle.crawl_web.specs.Pages.{links_of}
+use Rattle.crawl_certificate.specs.declared.error.CertError.{CertError}
+use Rattle.crawl_certificate.specs.declared.error.CertError.TheVariants as fault
+use Rattle.crawl_certificate.specs.declared.culprit.Culprit.{Culprit}
+use Rattle.crawl_certificate.specs.CertFaults.{is_accepted, has_result, stands_in, is_founded, first_fault, seed_missing, not_fetched, link_missing, unfounded, twice}
+use Rattle.crawl_certificate.specs.Least.{IsLeast}
+
+-- ---- the URLs at fault
+
+-- the URL is allowed and not accepted
+abbrev pub is_lost : (List ℕ → Bool) → List Entry → List ℕ → Bool
+is_lost allowed entries url = allowed url && not (is_accepted entries url)
+
+-- some result links to the URL
+abbrev pub is_a_link : List PageResult → List ℕ → Bool
+is_a_link results url = list_any (λ r. stands_in (links_of r.page) url) results
+
+-- some result has the URL, and it is not accepted
+abbrev pub is_a_stray : List Entry → List PageResult → List ℕ → Bool
+is_a_stray entries results url = has_result results url && not (is_accepted entries url)
+
+-- some entry with the URL is not founded
+abbrev pub is_unfounded : (List ℕ → Bool) → List (List ℕ) → List Entry → List PageResult → List ℕ → Bool
+is_unfounded allowed seeds entries results url =
+    list_any (λ e. bytes_eq e.url url && not (is_founded allowed seeds entries results e)) entries
+
+-- two results have the URL
+abbrev pub is_twice : List PageResult → List ℕ → Bool
+is_twice results url = nat_lt 1 (count_by (λ r. bytes_eq r.url url) results)
+
+-- the run has the fault at this URL
+abbrev pub is_at_fault : (List ℕ → Bool) → List (List ℕ) → List Entry → List PageResult → CertError → List ℕ → Bool
+is_at_fault allowed seeds entries results fault.SeedMissing url = stands_in seeds url && is_lost allowed entries url
+is_at_fault allowed seeds entries results fault.NotFetched url = is_accepted entries url && not (has_result results url)
+is_at_fault allowed seeds entries results fault.LinkMissing url = is_a_link results url && is_lost allowed entries url
+is_at_fault allowed seeds entries results fault.Unfounded url =
+    is_unfounded allowed seeds entries results url || is_a_stray entries results url
+is_at_fault allowed seeds entries results fault.Twice url = is_twice results url
+is_at_fault allowed seeds entries results fault.NoMemory url = false
+
+-- ---- the culprit
+
+-- out of memory, at no URL
+abbrev pub no_memory : Culprit
+no_memory = record { cause = fault.NoMemory; url = None }
+
+-- the cause is the fault, and the URL the least that has it
+pub record IsCulprit (fault : Option CertError) (at : CertError → List ℕ → Bool) (culprit : Culprit) : Type 0 where
+  pub url : List ℕ
+  pub cause : fault ≡ Some culprit.cause
+  pub named : culprit.url ≡ Some url
+  pub least : IsLeast (at culprit.cause) (Some url)
+
+-- the result is Ok where there is no fault, and else names its culprit, unless memory ran out
+abbrev pub Names : {T : Type 0} → Result T Culprit → Option CertError → (CertError → List ℕ → Bool) → Type 0
+Names (Ok x) fault at = fault ≡ None
+Names (Err culprit) fault at = IsCulprit fault at culprit ⊎ (culprit ≡ no_memory)
+
+-- as above, of a whole run
+abbrev pub NamesCulprit : {T : Type 0} → (List ℕ → Bool) → List (List ℕ) → List Entry → List PageResult → Result T Culprit → Type 0
+NamesCulprit allowed seeds entries results result =
+    Names result (first_fault allowed seeds entries results) (is_at_fault allowed seeds entries results)
+
+-- where a run has not a fault, no URL is at fault: so no URL has a fault that comes before a culprit's
+pub record HasNoneAt (allowed : List ℕ → Bool) (seed_urls : List (List ℕ)) (entries : List Entry) (results : List PageResult) : Type 0 where
+  pub seeds : seed_missing allowed seed_urls entries ≡ false → (url : List ℕ) → is_at_fault allowed seed_urls entries results fault.SeedMissing url ≡ false
+  pub fetched : not_fetched entries results ≡ false → (url : List ℕ) → is_at_fault allowed seed_urls entries results fault.NotFetched url ≡ false
+  pub links : link_missing allowed entries results ≡ false → (url : List ℕ) → is_at_fault allowed seed_urls entries results fault.LinkMissing url ≡ false
+  pub founded : unfounded allowed seed_urls entries results ≡ false → (url : List ℕ) → is_at_fault allowed seed_urls entries results fault.Unfounded url ≡ false
+  pub once : twice results ≡ false → (url : List ℕ) → is_at_fault allowed seed_urls entries results fault.Twice url ≡ false
+
+-- ---- how it is found
+
+-- the first of these that is there, with its cause
+abbrev pub first_named : (a b c d e : Option (List ℕ)) → Option (CertError × List ℕ)
+first_named (Some url) b c d e = Some (fault.SeedMissing, url)
+first_named None (Some url) c d e = Some (fault.NotFetched, url)
+first_named None None (Some url) d e = Some (fault.LinkMissing, url)
+first_named None None None (Some url) e = Some (fault.Unfounded, url)
+first_named None None None None (Some url) = Some (fault.Twice, url)
+first_named None None None None None = None
+
+-- the result is Ok where there is none, and else names it, unless memory ran out
+abbrev pub NamesFirst : Option (CertError × List ℕ) → Result (Unit {0}) Culprit → Type 0
+NamesFirst first (Ok x) = first ≡ None
+NamesFirst first (Err culprit) =
+    ((url : List ℕ) × (first ≡ Some (culprit.cause, url)) × (culprit.url ≡ Some url)) ⊎ (culprit ≡ no_memory)

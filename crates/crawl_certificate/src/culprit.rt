@@ -1,0 +1,64 @@
+//! Which URL is at fault where a run is not certified.
+ghost use Rattle.std.specs.Prelude.{◌≡◌, ◌⊎◌, Some};
+ghost use Rattle.crawl_certificate.specs.Culprits.{no_memory};
+
+use crate::error::CertError;
+use crawl_keys::CanonUrl;
+use std::alloc::{AllocError, AllocFailed};
+
+/// Why a run is not certified, and where.
+#[derive(Debug, Drop)]
+pub struct Culprit {
+    /// The first fault of the run.
+    pub cause: CertError,
+    /// The least URL, byte by byte, at which the run has the fault; none where memory ran out.
+    pub url: Option<CanonUrl>,
+}
+
+impl Culprit {
+    /// The fault at this URL. There may be no memory to name it.
+    pub fn new(cause: CertError, url: &CanonUrl) -> Culprit
+        ensures { (result ≡ record { cause = cause; url = Some url.now }) ⊎ (result ≡ no_memory) }
+    {
+        match url.copy() {
+            Ok(url) => Culprit {
+                cause,
+                url: Some(url),
+            },
+            Err(_) => Culprit {
+                cause: CertError::NoMemory,
+                url: None,
+            },
+        }
+    }
+}
+
+impl From<Culprit> for CertError {
+    ghost from_gives = { λ culprit cause. cause ≡ culprit.cause };
+
+    fn from(culprit: Culprit) -> CertError {
+        culprit.cause
+    }
+}
+
+impl From<AllocError> for Culprit {
+    ghost from_gives = { λ _ culprit. culprit ≡ no_memory };
+
+    fn from(_refused: AllocError) -> Culprit {
+        Culprit {
+            cause: CertError::NoMemory,
+            url: None,
+        }
+    }
+}
+
+impl<T: Drop> From<AllocFailed<T>> for Culprit {
+    ghost from_gives = { λ _ culprit. culprit ≡ no_memory };
+
+    fn from(_refused: AllocFailed<T>) -> Culprit {
+        Culprit {
+            cause: CertError::NoMemory,
+            url: None,
+        }
+    }
+}

@@ -1,0 +1,32 @@
+//! The least URL at fault.
+ghost use Rattle.std.specs.Prelude.{◌≡◌, if◌then◌else◌};
+ghost use Rattle.crawl_certificate.specs.Least.{is_below, url_of, url_if, lesser};
+
+use crawl_keys::CanonUrl;
+
+/// The URL, where it is at fault.
+pub fn where_at_fault<'a>(url: &'a CanonUrl, at_fault: bool) -> Option<&'a CanonUrl>
+    ensures { url_of result ≡ url_if at_fault url.now }
+{
+    if at_fault { Some(url) } else { None }
+}
+
+/// The lesser of two URLs, where there are two.
+pub fn lesser<'a>(first: Option<&'a CanonUrl>, second: Option<&'a CanonUrl>) -> Option<&'a CanonUrl>
+    ensures { url_of result ≡ lesser (url_of first.entry) (url_of second.entry) }
+{
+    let Some(other) = second else {
+        return first;
+    };
+    let Some(url) = first else {
+        return Some(other);
+    };
+    Some(lesser_of(url, other))
+}
+
+/// The lesser of two URLs, byte by byte.
+fn lesser_of<'a>(url: &'a CanonUrl, other: &'a CanonUrl) -> &'a CanonUrl
+    ensures { result.now ≡ (if is_below other.now url.now then other.now else url.now) }
+{
+    if other < url { other } else { url }
+}
