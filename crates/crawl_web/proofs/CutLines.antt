@@ -1,11 +1,16 @@
 -- The lines of bytes, by their first line, and when a line is a text.
-use Rattle.std.proofs.Common.{◌≡◌, ℕ, zero, suc, ◌+◌, ◌<◌, ◌≤◌, ◌==◌, Bool, true, false, cond, List, [], ◌∷◌, length, take, drop, nat_lt, get_or, Option, Some, None, Ok, Err, refl, ap, ◌∙◌, arith, ltb-true, ltb-false, le-ltb, lt-ltb, ne_eqb}
+use Rattle.std.proofs.Common.{◌≡◌, ℕ, zero, suc, ◌+◌, ◌<◌, ◌≤◌, ◌-◌, ◌==◌, Bool, true, false, cond, List, [], ◌∷◌, ◌++◌, length, take, drop, nat_lt, get_or, Option, Some, None, Ok, Err, refl, sym, ap, subst, ◌∙◌, arith, ltb-true, ltb-false, le-ltb, lt-ltb, ne_eqb}
 use Rattle.std.specs.List.{position, position_or_len, before_first, after_first, slice_split}
 use Rattle.std.specs.Str.{is_utf8, IsUtf8}
 use Rattle.std.specs.Str.Lines.{lines, lines_of_parts, strip_carriage_return}
-use Rattle.std.proofs.lemmas.Str.{is_utf8-from_IsUtf8, IsUtf8-from_is_utf8}
+use Rattle.std.specs.Bool.{if◌then◌else◌}
+use Rattle.std.proofs.lemmas.Bool.{eqb-true}
+use Rattle.std.proofs.lemmas.Str.{is_utf8-from_IsUtf8, IsUtf8-from_is_utf8, IsUtf8-nil, IsUtf8-append, IsUtf8-from_ascii}
+use Rattle.std.proofs.lemmas.Str.Ascii.{IsAscii-from_all}
+use Rattle.std.proofs.lemmas.List.{take_all, take_more, take-append-drop}
+use Rattle.std.proofs.lemmas.List.Elements.{All-nil, All-push}
 use Rattle.std.proofs.lemmas.List.Splits.{slice_split_first, slice_split_none, length-slice_split}
-use Rattle.std.proofs.lemmas.List.Sums.{fails_before_first, position_or_len_is}
+use Rattle.std.proofs.lemmas.List.Sums.{fails_before_first, passes_at_first, position_or_len_is}
 use Rattle.memchr.specs.Find.{IsFirstByte}
 use Rattle.crawl_web.specs.declared.lines.LineError.TheVariants.{NotText}
 use Rattle.crawl_web.specs.Limits.{line_limit}
@@ -69,3 +74,46 @@ text_of-utf8 number line short utf8 = rw (le-ltb line_limit (length line) short,
 
 pub text_of-other : (number : ℕ) (line : List ℕ) → length line ≤ line_limit → ¬ (IsUtf8 line) → text_of number line ≡ Err (NotText number)
 text_of-other number line short other = rw (le-ltb line_limit (length line) short, refuted (is_utf8 line) (λ e. other (IsUtf8-from_is_utf8 line e))) refl
+
+-- ---- lines that are UTF-8
+
+ascii_one : (b : ℕ) → b < 128 → IsUtf8 (b ∷ [])
+ascii_one b low = IsUtf8-from_ascii (b ∷ []) (IsAscii-from_all (b ∷ []) (All-push (λ (x : ℕ). x < 128) [] b (All-nil (λ (x : ℕ). x < 128)) low))
+
+last_back : (line : List ℕ) → 0 < length line → line ≡ take (length line - 1) line ++ get_or line (length line - 1) 0 ∷ []
+last_back line some =
+    let all : length line - 1 + 1 ≡ length line = omega (arith, some) in
+    sym (take_all (length line) line (omega arith)) ∙ ap (λ n. take n line) (sym all) ∙ take_more line (length line - 1) 0 (omega (arith, some))
+
+-- a line is UTF-8 where it is without the CR at its end
+cr_back : (line : List ℕ) (b : Bool) → (get_or line (length line - 1) 0 == 13) ≡ b → IsUtf8 (if b then take (length line - 1) line else line) → IsUtf8 line
+cr_back line false at utf8 = utf8
+cr_back [] true at utf8 = absurd (cc)
+cr_back (x ∷ xs) true at utf8 =
+    let line : List ℕ = x ∷ xs in
+    let last : get_or line (length line - 1) 0 ≡ 13 = eqb-true _ 13 at in
+    subst IsUtf8 (sym (last_back line (omega arith))) (IsUtf8-append (take (length line - 1) line) (get_or line (length line - 1) 0 ∷ []) utf8 (ascii_one _ (omega (arith, last))))
+
+-- the first LF stands there
+pub lf_at : (bytes : List ℕ) (end : ℕ) → position is_lf bytes ≡ Some end → (end < length bytes) × (get_or bytes end 0 ≡ 10)
+lf_at bytes end e =
+    let place = found (nat_lt (position_or_len is_lf bytes) (length bytes)) (position_or_len is_lf bytes) end e in
+    let inside : position_or_len is_lf bytes < length bytes = ltb-true _ _ place.0 in
+    let byte : get_or bytes (position_or_len is_lf bytes) 0 ≡ 10 = eqb-true _ 10 (passes_at_first is_lf bytes 0 inside) in
+    (subst (λ n. n < length bytes) place.1 inside, subst (λ n. get_or bytes n 0 ≡ 10) place.1 byte)
+
+-- where the first line and what follows it are UTF-8, all is
+pub whole_utf8 : (bytes : List ℕ) (end : ℕ) → position is_lf bytes ≡ Some end → IsUtf8 (strip_carriage_return (take end bytes)) → IsUtf8 (drop (end + 1) bytes) → IsUtf8 bytes
+whole_utf8 bytes end e line more =
+    let at = lf_at bytes end e in
+    let front : take (end + 1) bytes ≡ take end bytes ++ 10 ∷ [] = take_more bytes end 0 at.0 ∙ ap (λ b. take end bytes ++ b ∷ []) at.1 in
+    let own : IsUtf8 (take end bytes) = cr_back (take end bytes) _ refl line in
+    subst IsUtf8 (take-append-drop (end + 1) bytes)
+    (IsUtf8-append (take (end + 1) bytes) (drop (end + 1) bytes)
+    (subst IsUtf8 (sym front) (IsUtf8-append (take end bytes) (10 ∷ []) own (ascii_one 10 (omega arith)))) more)
+
+-- bytes that are one line, or none
+
+pub no_bytes : (bytes : List ℕ) → (length bytes == 0) ≡ true → IsUtf8 bytes
+no_bytes [] e = IsUtf8-nil
+no_bytes (x ∷ xs) e = absurd (omega (arith, eqb-true (length (x ∷ xs)) 0 e))

@@ -18,7 +18,7 @@ use Rattle.crawl_web.specs.declared.saved_web.add.Above.{Above}
 use Rattle.crawl_web.specs.declared.saved_web.error.WebError.{WebError}
 use Rattle.crawl_web.specs.declared.saved_web.error.WebError.TheVariants as wrong
 
--- the earlier lines are sound and their pages are known; what is left holds the others
+-- the earlier lines are sound, and what the checks ask of them is known; what is left holds the others
 pub record ReadTo (bytes rest : List ℕ) (number : ℕ) (above : Above) (pages : KnownPages) : Type 0 where
   pub earlier : List (List ℕ)
   pub cut : lines bytes ≡ earlier ++ lines rest
@@ -29,7 +29,6 @@ pub record ReadTo (bytes rest : List ℕ) (number : ℕ) (above : Above) (pages 
   pub moved : above.moved ≡ list_any is_moved_line (under_last_page earlier)
   pub some_page : has_some pages ≡ list_any is_page earlier
   pub known : (url : List ℕ) → has pages url ≡ list_any (is_page_at url) earlier
-  pub found : (url : List ℕ) → lines_behind (lines bytes) url ≡ option_or (known_behind pages url) (lines_behind (lines rest) url)
 
 or_false : (b : Bool) → b ≡ (b || false)
 or_false true = refl
@@ -151,8 +150,8 @@ some_expected : (expected : Option WebError) (fault : WebError) → checked expe
 some_expected None fault e = absurd (cc)
 some_expected (Some other) fault e = cc
 
-pub read_more : (bytes rest : List ℕ) (number : ℕ) (above : Above) (pages : KnownPages) (line more : List ℕ) (after : Above) (new : KnownPages) → lines rest ≡ line ∷ lines more → checked (line_fault (kept_before (number + 1) pages above) line) ≡ Ok tt → Adds pages new (page_url line) more → is_page line ≡ is_some (page_url line) → Follows (number + 1) line above after → ReadTo bytes rest number above pages → ReadTo bytes more (number + 1) after new
-read_more bytes rest number above pages line more after new first passes adds page follows k = record {
+pub read_more : (bytes rest : List ℕ) (number : ℕ) (above : Above) (pages : KnownPages) (line more behind : List ℕ) (after : Above) (new : KnownPages) → lines rest ≡ line ∷ lines more → checked (line_fault (kept_before (number + 1) pages above) line) ≡ Ok tt → Adds pages new (page_url line) behind → is_page line ≡ is_some (page_url line) → Follows (number + 1) line above after → ReadTo bytes rest number above pages → ReadTo bytes more (number + 1) after new
+read_more bytes rest number above pages line more behind after new first passes adds page follows k = record {
   earlier = k.earlier ++ line ∷ [];
   cut = k.cut ∙ ap (λ ls. k.earlier ++ ls) first ∙ sym (append_assoc k.earlier (line ∷ []) (lines more));
   numbered = ap (λ n. n + 1) k.numbered ∙ sym (length-append k.earlier (line ∷ []));
@@ -161,15 +160,18 @@ read_more bytes rest number above pages line more after new first passes adds pa
   link = follows.link ∙ any_under is_link above.link k.earlier line k.link;
   moved = follows.moved ∙ any_under is_moved_line above.moved k.earlier line k.moved;
   some_page =
-      adds_some pages new (page_url line) more adds ∙ ap (λ b. b || is_some (page_url line)) k.some_page
+      adds_some pages new (page_url line) behind adds ∙ ap (λ b. b || is_some (page_url line)) k.some_page
       ∙ any_more is_page (is_some (page_url line)) k.earlier line page;
   known = λ url.
-      adds_has pages new (page_url line) more adds url ∙ ap (λ b. b || is_page_at url line) (k.known url)
+      adds_has pages new (page_url line) behind adds url ∙ ap (λ b. b || is_page_at url line) (k.known url)
       ∙ any_more (is_page_at url) (is_page_at url line) k.earlier line refl;
-  found = λ url.
-      k.found url ∙ ap (λ ls. option_or (known_behind pages url) (lines_behind ls url)) first
-      ∙ adds_behind pages new (page_url line) more (lines_behind (lines more) url) adds url;
 }
+
+-- every page of the lines is known, or stands among those that are left
+pub found_more : (bytes rest : List ℕ) (pages : KnownPages) (line more : List ℕ) (new : KnownPages) → lines rest ≡ line ∷ lines more → Adds pages new (page_url line) more → ((url : List ℕ) → lines_behind (lines bytes) url ≡ option_or (known_behind pages url) (lines_behind (lines rest) url)) → (url : List ℕ) → lines_behind (lines bytes) url ≡ option_or (known_behind new url) (lines_behind (lines more) url)
+found_more bytes rest pages line more new first adds found url =
+    found url ∙ ap (λ ls. option_or (known_behind pages url) (lines_behind ls url)) first
+    ∙ adds_behind pages new (page_url line) more (lines_behind (lines more) url) adds url
 
 -- ---- a line that fails
 

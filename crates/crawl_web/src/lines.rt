@@ -1,5 +1,5 @@
 //! Lines: bytes cut at each LF, and the text of a line.
-ghost use Rattle.std.specs.Prelude.{◌≡◌, ◌==◌, ◌∷◌, ◌<◌, [], length, position, IfSome, MatchOption};
+ghost use Rattle.std.specs.Prelude.{◌≡◌, ◌==◌, ◌∷◌, ◌<◌, [], length, position, IfSome, IsUtf8, MatchOption};
 ghost use Rattle.std.specs.Str.Lines.{lines, strip_carriage_return};
 ghost use Rattle.crawl_web.specs.Lines.{text_of, bytes_at};
 
@@ -23,11 +23,25 @@ pub enum LineError {
 pub fn first_line(bytes: &[u8]) -> Option<(&[u8], &[u8])>
     ensures cut { MatchOption result (lines bytes.now ≡ []) (λ x. lines bytes.now ≡ x.0.now ∷ lines x.1.now) }
     ensures shorter { IfSome result (λ x. length x.1.now < length bytes.now) }
+    // Lines that are UTF-8 are so together.
+    ensures utf8 { MatchOption result (IsUtf8 bytes.now) (λ x. IsUtf8 x.0.now → IsUtf8 x.1.now → IsUtf8 bytes.now) }
 {
     match newline_in(bytes) {
         Some(end) => Some((without_return(&bytes[..end]), &bytes[end + 1..])),
         None if bytes.is_empty() => None,
         None => Some((bytes, &[])),
+    }
+}
+
+/// The same of a text, whose lines are texts.
+pub fn first_text(text: &str) -> Option<(&str, &str)>
+    ensures cut { MatchOption result (lines text.now ≡ []) (λ x. lines text.now ≡ x.0.now ∷ lines x.1.now) }
+    ensures shorter { IfSome result (λ x. length x.1.now < length text.now) }
+{
+    match newline_in(text.as_bytes()) {
+        Some(end) => Some((text_without_return(&text[..end]), &text[end + 1..])),
+        None if text.is_empty() => None,
+        None => Some((text, "")),
     }
 }
 
@@ -45,6 +59,29 @@ fn without_return(line: &[u8]) -> &[u8]
     } else {
         line
     }
+}
+
+fn text_without_return(line: &str) -> &str
+    ensures { result.now ≡ strip_carriage_return line.now }
+{
+    if line.as_bytes().last() == Some(&b'\r') {
+        &line[..line.len() - 1]
+    } else {
+        line
+    }
+}
+
+/// The text of the line with this number, whose bytes are UTF-8.
+///
+/// # Errors
+/// `TooLong` alone.
+pub fn short_text(number: u64, line: &str) -> Result<&str, LineError>
+    ensures { bytes_at result ≡ text_of number line.now }
+{
+    if line.len() > LINE_LIMIT {
+        return Err(LineError::TooLong(number));
+    }
+    Ok(line)
 }
 
 /// The text of the line with this number.

@@ -1,5 +1,5 @@
 //! Saved webs: pages and their links, written down in lines.
-ghost use Rattle.std.specs.Prelude.{◌≡◌, ℕ, List, Ok, Err, IfOk, IfErr};
+ghost use Rattle.std.specs.Prelude.{◌≡◌, ℕ, List, Ok, Err, IfOk, IfErr, IsUtf8};
 ghost use Rattle.crawl_keys.specs.Outcome.{Gives};
 ghost use Rattle.std.specs.Str.Lines.{lines};
 ghost use Rattle.crawl_web.specs.SavedWeb.{page_of};
@@ -19,21 +19,22 @@ mod links;
 mod pages;
 
 use crate::fetch::{Fetch, FetchError};
-use crate::lines::first_line;
+use crate::lines::{first_line, first_text};
 use crate::page::Page;
 use crate::session::SessionFetch;
-use add::{Above, add_line};
+use add::{Above, add_line, check_line};
 use crawl_keys::CanonUrl;
 pub use error::WebError;
 use link_cache::LinkCache;
 use links::page_behind;
 use pages::Pages;
+use simdutf8::compat::from_utf8;
 use std::alloc::Global;
 
 /// The pages of a saved web, each with its links. It borrows the bytes that it was read from.
 #[derive(Drop)]
 pub struct SavedWeb<'a> {
-    /// Each page with the bytes behind its line.
+    /// Each page with the text behind its line.
     pages: Pages<'a>,
 }
 
@@ -59,21 +60,29 @@ impl<'a> SavedWeb<'a> {
     }
 }
 
-/// The pages that the lines are, each with the bytes behind its line.
+/// The pages that the lines are.
 fn known_pages(alloc: Global, bytes: &[u8]) -> Result<Pages<'_>, WebError>
     ensures sound { IfOk result (λ _. IsSound (lines bytes.now)) }
     ensures pages { IfOk result (λ pages. (url : List ℕ) → known_page pages url ≡ page_of (lines bytes.now) url) }
     ensures fault { IfErr result (λ told. IsWebRefusal (lines bytes.now) told) }
 {
+    match from_utf8(bytes) {
+        Ok(text) => pages_in(alloc, text),
+        Err(_) => Err(fault_in(alloc, bytes)),
+    }
+}
+
+/// The pages that the lines of a text are, each with the text behind its line.
+fn pages_in(alloc: Global, text: &str) -> Result<Pages<'_>, WebError>
+    ensures sound { IfOk result (λ _. IsSound (lines text.now)) }
+    ensures pages { IfOk result (λ pages. (url : List ℕ) → known_page pages url ≡ page_of (lines text.now) url) }
+    ensures fault { IfErr result (λ told. IsWebRefusal (lines text.now) told) }
+{
     let mut pages = Pages::new(alloc);
-    let mut rest = bytes;
+    let mut rest = text;
     let mut number: u64 = 0;
-    let mut above = Above {
-        second: false,
-        link: false,
-        moved: false,
-    };
-    while let Some((line, more)) = first_line(rest) {
+    let mut above = Above::nothing();
+    while let Some((line, more)) = first_text(rest) {
         rest = more;
         number += 1;
         above = add_line(alloc, &mut pages, number, above, line, more)?;
@@ -82,6 +91,26 @@ fn known_pages(alloc: Global, bytes: &[u8]) -> Result<Pages<'_>, WebError>
         return Err(WebError::BadHeader);
     }
     Ok(pages)
+}
+
+/// The fault of bytes that are not UTF-8.
+fn fault_in(alloc: Global, bytes: &[u8]) -> WebError
+    requires { ¬ (IsUtf8 bytes.now) }
+    ensures { IsWebRefusal (lines bytes.now) result }
+{
+    let mut pages = Pages::new(alloc);
+    let mut rest = bytes;
+    let mut number: u64 = 0;
+    let mut above = Above::nothing();
+    while let Some((line, more)) = first_line(rest) {
+        rest = more;
+        number += 1;
+        match check_line(alloc, &mut pages, number, above, line) {
+            Ok(next) => above = next,
+            Err(fault) => return fault,
+        }
+    }
+    unreachable!()
 }
 
 impl Fetch for SavedWeb<'_> {

@@ -26,8 +26,8 @@ use Rattle.crawl_workers.specs.declared.recent.RecentUrls.{RecentUrls}
 use Rattle.crawl_workers.specs.Logs.{line_of, HasLine, AllLogged, Grows}
 use Rattle.crawl_workers.specs.Recent.{Knows}
 use Rattle.crawl_workers.specs.Ran.{Fate, result_at, results_of, taken_in, most_lost_at, most_lost, Ran}
-use Rattle.crawl_workers.specs.Turn.{Finds, Loses, SameBusy}
-use Rattle.crawl_workers.specs.Runs.{AllRan}
+use Rattle.crawl_workers.specs.Turn.{CountsLinks, Finds, Loses, SameBusy}
+use Rattle.crawl_workers.specs.Runs.{RanTo, AllRan}
 
 append_nil : {A : Type 0} (xs : List A) → xs ++ [] ≡ xs
 append_nil [] = refl
@@ -223,6 +223,12 @@ ran_lost workers allowed meaning start w v e old new may place taken grows loses
       links = λ none. let more = loses.more (omega (arith, none)) in absurd (omega (arith, more, none));
     }
 
+-- a turn with a URL takes it
+pub taken_one : (w v : WorkerId) (b b' : BusyId) → (b.worker ≡ worker w.place w.seat (w.taken ++ b.message.entry ∷ []) w.empty_pops w.book) → SameBusy b b' → v.taken ≡ b'.worker.taken → length v.taken ≡ length w.taken + 1
+taken_one w v b b' takes same taken =
+    let all : v.taken ≡ w.taken ++ b.message.entry ∷ [] = taken ∙ (ap (λ (x : WorkerId). x.taken) same.worker ∙ ap (λ (x : WorkerId). x.taken) takes) in
+    ap (λ (es : List Entry). length es) all ∙ rw length_push (omega arith)
+
 -- a turn with a URL
 pub ran_worked : (workers : ℕ) (allowed : List ℕ → Bool) (meaning : List ℕ → Page) (start w v : WorkerId) (b b' : BusyId) (old new : WorkerOutput)
     → (b.worker ≡ worker w.place w.seat (w.taken ++ b.message.entry ∷ []) w.empty_pops w.book) → MayFollow workers w.place w.taken b.message.entry
@@ -242,23 +248,23 @@ ran_worked workers allowed meaning start w v b b' old new takes may same finds p
 -- a page was fetched, its links were offered, and its result kept or lost
 pub kept : (workers : ℕ) (allowed : List ℕ → Bool) (meaning : List ℕ → Page) (url : List ℕ) (log : List Logged) (old mid new : WorkerOutput) (refused : ℕ) (page : Page)
     → page ≡ meaning url → refused ≤ count_by allowed (links_of page) → (refused ≡ 0 → AllLogged workers allowed log (links_of page))
-    → mid.results ≡ old.results → mid.lost ≡ min (old.lost + refused) (2 ^ 64 - 1)
+    → CountsLinks refused old mid
     → ((new.results.items ≡ mid.results.items ++ record { url = url; page = page } ∷ []) × (new.lost ≡ mid.lost)) ⊎ Loses 1 mid new
     → Finds workers allowed meaning url log old new ⊎ Loses (most_lost_at allowed (links_of (meaning url)) None) old new
-kept workers allowed meaning url log old mid new refused page means refuses links same lost keeps =
+kept workers allowed meaning url log old mid new refused page means refuses links counts keeps =
     let few : refused ≤ count_by allowed (links_of (meaning url)) = rw (← means) refuses in elim keeps [
       | inl k ↦ inl (record {
         page = page;
         means = means;
-        results = k.0 ∙ ap (λ (v : _). v.items ++ record { url = url; page = page } ∷ []) same;
-        more = λ less. omega (arith, lost, k.1, less);
-        few = omega (arith, lost, k.1, few);
-        links = λ zero. (omega (arith, lost, k.1, zero), links (omega (arith, lost, k.1, zero)));
+        results = k.0 ∙ ap (λ (v : _). v.items ++ record { url = url; page = page } ∷ []) counts.results;
+        more = λ less. let m = counts.more (omega (arith, k.1, less)) in omega (arith, m, k.1);
+        few = omega (arith, counts.few, k.1, few);
+        links = λ zero. let m = counts.more (omega (arith, k.1, zero)) in (omega (arith, m, k.1, zero), links (omega (arith, m, k.1, zero)));
       })
       | inr l ↦ inr (record {
-        results = l.results ∙ ap (λ (v : _). v.items) same;
-        more = λ less. let m = l.more less in omega (arith, m, lost, less);
-        few = let f = l.few in omega (arith, f, lost, few);
+        results = l.results ∙ ap (λ (v : _). v.items) counts.results;
+        more = λ less. let m = l.more less in let n = counts.more (omega (arith, m, less)) in omega (arith, m, n);
+        few = let f = l.few in omega (arith, f, counts.few, few);
       })
     ]
 
@@ -276,10 +282,10 @@ all_zip_length R (a ∷ xs) (b ∷ ys) all = ap (λ n. suc n) (all_zip_length R 
 
 -- the ends of all workers but the last, and that of the last
 pub all_ran_push : {K : _} (workers : ℕ) (allowed : List ℕ → Bool) (meaning : List ℕ → Page) (starts : List WorkerId) (ends : List (WorkerEnd K)) (w : WorkerId) (e : WorkerEnd K)
-    → AllRan workers allowed meaning starts ends → Ran workers allowed meaning w e.closed e.results.items e.lost → AllRan workers allowed meaning (starts ++ w ∷ []) (ends ++ e ∷ [])
+    → AllRan workers allowed meaning starts ends → RanTo workers allowed meaning w e → AllRan workers allowed meaning (starts ++ w ∷ []) (ends ++ e ∷ [])
 all_ran_push {K} workers allowed meaning starts ends w e all ran =
-    all_zip_push (λ (v : WorkerId) (f : WorkerEnd K). Ran workers allowed meaning v f.closed f.results.items f.lost) starts ends w e all ran
+    all_zip_push (λ (v : WorkerId) (f : WorkerEnd K). RanTo workers allowed meaning v f) starts ends w e all ran
 
 pub all_ran_length : {K : _} (workers : ℕ) (allowed : List ℕ → Bool) (meaning : List ℕ → Page) (starts : List WorkerId) (ends : List (WorkerEnd K)) → AllRan workers allowed meaning starts ends → length ends ≡ length starts
 all_ran_length {K} workers allowed meaning starts ends all =
-    all_zip_length (λ (v : WorkerId) (f : WorkerEnd K). Ran workers allowed meaning v f.closed f.results.items f.lost) starts ends all
+    all_zip_length (λ (v : WorkerId) (f : WorkerEnd K). RanTo workers allowed meaning v f) starts ends all

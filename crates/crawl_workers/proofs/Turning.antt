@@ -8,8 +8,7 @@ use Rattle.crawl_frontier.specs.Parts.{WorkerId}
 use Rattle.crawl_workers.specs.declared.worker_end.WorkerEnd.{WorkerEnd}
 use Rattle.crawl_workers.specs.declared.turns.Runner.{Runner}
 use Rattle.crawl_workers.specs.declared.turns.Runner.TheVariants.{Going, Ended, Moved}
-use Rattle.crawl_workers.specs.Ran.{Ran}
-use Rattle.crawl_workers.specs.Runs.{AllRan}
+use Rattle.crawl_workers.specs.Runs.{RanTo, AllRan}
 use Rattle.crawl_workers.specs.Rounds.{AllGo, RunnerRan, IsEnded, EndedBelow}
 use Rattle.crawl_workers.proofs.Running.{all_zip_push}
 
@@ -118,4 +117,4 @@ ends_push {K} workers allowed meaning starts rs all r e ends is end rest go =
     let R : WorkerId → Runner K → Type 0 = λ w x. RunnerRan workers allowed meaning w x in
     let cut = all_zip_unsnoc R starts rs r (subst (λ (xs : List (Runner K)). AllZip R starts xs) is go) in
     let ran : RunnerRan workers allowed meaning cut.last (Ended e) = subst (λ (x : Runner K). RunnerRan workers allowed meaning cut.last x) end cut.ran in
-    rw cut.is (all_zip_push (λ (w : WorkerId) (f : WorkerEnd K). Ran workers allowed meaning w f.closed f.results.items f.lost) cut.front ends cut.last e (rest cut.front cut.all) ran)
+    rw cut.is (all_zip_push (λ (w : WorkerId) (f : WorkerEnd K). RanTo workers allowed meaning w f) cut.front ends cut.last e (rest cut.front cut.all) ran)

@@ -1,5 +1,6 @@
 pub mod ErrorTexts
 pub mod Logs
+pub mod Losses
 pub mod Lossless
 pub mod Ran
 pub mod Recent

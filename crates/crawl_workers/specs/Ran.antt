@@ -1,5 +1,5 @@
 -- What a worker has done in a run.
-use Rattle.std.specs.Prelude.{◌≡◌, ℕ, ◌+◌, ◌-◌, ◌^◌, ◌<◌, ◌≤◌, Bool, List, [], ◌∷◌, ◌++◌, length, map, Option, None, Some}
+use Rattle.std.specs.Prelude.{◌≡◌, ℕ, ◌+◌, ◌-◌, ◌^◌, ◌<◌, ◌≤◌, min, Bool, List, [], ◌∷◌, ◌++◌, length, map, Option, None, Some}
 use Rattle.std.specs.List.{All, flat_map, count_by, sum_by}
 use Rattle.crawl_web.specs.declared.page.Page.{Page}
 use Rattle.crawl_web.specs.declared.page.PageResult.{PageResult}
@@ -8,6 +8,8 @@ use Rattle.crawl_frontier.specs.declared.entry.Entry.{Entry}
 use Rattle.crawl_frontier.specs.Entries.{KeepsRule}
 use Rattle.crawl_frontier.specs.Parts.{WorkerId}
 use Rattle.crawl_workers.specs.Logs.{AllLogged, Grows}
+use Rattle.crawl_workers.specs.Losses.{all_losses}
+use Rattle.crawl_workers.specs.declared.losses.Losses.{Losses}
 
 -- what became of a URL that was taken: its page, if there is a result of it
 abbrev pub Fate : Type 0
@@ -53,3 +55,9 @@ pub record Ran (workers : ℕ) (allowed : List ℕ → Bool) (meaning : List ℕ
   pub few : lost ≤ most_lost allowed meaning fates
   pub grows : Grows start.book now.book
   pub links : lost ≡ 0 → All (λ r. AllLogged workers allowed now.book.log (links_of r.page)) results
+
+-- What was lost, by why: `lost` is the sum of all, or no more can be counted; and each URL that was taken has a result, or its
+-- fetch failed, or there was no room for its result.
+pub record IsTally (start now : WorkerId) (results : List PageResult) (lost : ℕ) (losses : Losses) : Type 0 where
+  pub all : lost ≡ min (all_losses losses) (2 ^ 64 - 1)
+  pub urls : losses.failed + losses.unkept < 2 ^ 64 - 1 → length start.taken + length results + losses.failed + losses.unkept ≡ length now.taken

@@ -1,5 +1,5 @@
 -- What one turn of a worker does.
-use Rattle.std.specs.Prelude.{◌≡◌, ℕ, ◌+◌, ◌≤◌, Bool, List, [], ◌∷◌, ◌++◌, Some}
+use Rattle.std.specs.Prelude.{◌≡◌, ℕ, ◌+◌, ◌-◌, ◌^◌, ◌<◌, ◌≤◌, min, Bool, List, [], ◌∷◌, ◌++◌, length, Some}
 use Rattle.crawl_web.specs.declared.page.Page.{Page}
 use Rattle.crawl_web.specs.Pages.{links_of}
 use Rattle.crawl_frontier.specs.declared.book.Logged.{Logged}
@@ -8,8 +8,9 @@ use Rattle.crawl_workers.specs.declared.output.WorkerOutput.{WorkerOutput}
 use Rattle.crawl_workers.specs.declared.turn.Step.{Step}
 use Rattle.crawl_workers.specs.declared.turn.Step.TheVariants.{Worked, Waits, Closes}
 use Rattle.crawl_workers.specs.Logs.{AllLogged, Grows}
+use Rattle.crawl_workers.specs.Losses.{all_losses}
 use Rattle.crawl_workers.specs.Recent.{Knows}
-use Rattle.crawl_workers.specs.Ran.{AtLeast, most_lost_at, Ran}
+use Rattle.crawl_workers.specs.Ran.{AtLeast, most_lost_at, Ran, IsTally}
 
 -- the worker after a turn
 abbrev pub worker_in : {K : _} → Step K → WorkerId
@@ -17,10 +18,30 @@ worker_in (Worked w) = w
 worker_in (Waits w) = w
 worker_in (Closes w) = w
 
--- so far as in `Ran`, with this output; and the log has a line of each URL that it remembers
+-- so far as in `Ran`, with this output; the log has a line of each URL that it remembers; and the losses are told by why
 abbrev pub Goes : ℕ → (List ℕ → Bool) → (List ℕ → Page) → WorkerId → WorkerId → WorkerOutput → Type 0
 Goes workers allowed meaning start now output =
     Ran workers allowed meaning start now output.results.items output.lost × Knows workers now.book.log output.recent
+    × IsTally start now output.results.items output.lost output.losses
+
+-- what was lost is the sum by why, or no more can be counted
+abbrev pub IsSum : WorkerOutput → Type 0
+IsSum output = output.lost ≡ min (all_losses output.losses) (2 ^ 64 - 1)
+
+-- so many losses more, all of links
+pub record CountsLinks (count : ℕ) (old new : WorkerOutput) : Type 0 where
+  pub results : new.results ≡ old.results
+  pub more : AtLeast (old.lost + count) new.lost
+  pub few : new.lost ≤ old.lost + count
+  pub failed : new.losses.failed ≡ old.losses.failed
+  pub unkept : new.losses.unkept ≡ old.losses.unkept
+  pub all : IsSum old → IsSum new
+
+-- one URL more has a result, or is lost as a URL
+pub record Tallies (old new : WorkerOutput) : Type 0 where
+  pub all : IsSum old → IsSum new
+  pub below : new.losses.failed + new.losses.unkept < 2 ^ 64 - 1 → old.losses.failed + old.losses.unkept < 2 ^ 64 - 1
+  pub urls : new.losses.failed + new.losses.unkept < 2 ^ 64 - 1 → length new.results.items + new.losses.failed + new.losses.unkept ≡ length old.results.items + old.losses.failed + old.losses.unkept + 1
 
 -- one result more
 abbrev pub Keeps : List ℕ → Page → WorkerOutput → WorkerOutput → Type 0

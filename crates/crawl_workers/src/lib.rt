@@ -8,6 +8,7 @@
 
 mod error;
 pub mod laws;
+mod losses;
 mod output;
 mod recent;
 mod run;
@@ -17,6 +18,7 @@ mod turns;
 mod worker_end;
 
 pub use error::RunError;
+pub use losses::Losses;
 pub use recent::RecentUrls;
 pub use run::{run_worker, run_worker_in};
 pub use threads::{run_threads, run_threads_in};

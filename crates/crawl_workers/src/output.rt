@@ -2,8 +2,11 @@
 ghost use Rattle.std.specs.Prelude.{◌≡◌, ◌⊎◌, ◌+◌, ◌-◌, ◌^◌, min, [], ℕ, List};
 ghost use Rattle.crawl_frontier.specs.declared.book.Logged.{Logged};
 ghost use Rattle.crawl_workers.specs.Recent.{Knows};
-ghost use Rattle.crawl_workers.specs.Turn.{Keeps, Loses};
+ghost use Rattle.crawl_workers.specs.Losses.{no_losses, with_loss};
+ghost use Rattle.crawl_workers.specs.declared.losses.Loss.TheVariants as loss;
+ghost use Rattle.crawl_workers.specs.Turn.{Keeps, Loses, Tallies};
 
+use crate::losses::{Loss, Losses};
 use crate::recent::RecentUrls;
 use crate::worker_end::WorkerEnd;
 use crawl_frontier::{ClosedWorker, Name};
@@ -11,46 +14,55 @@ use crawl_keys::CanonUrl;
 use crawl_web::{Page, PageResult};
 use std::alloc::Global;
 
-/// The results so far, how much was lost, up to the greatest u64, and the URLs that were offered not long ago.
+/// The results so far, how much was lost, up to the greatest u64, in all and by why, and the URLs that were offered not long
+/// ago.
 #[derive(Drop)]
 pub(crate) struct WorkerOutput {
     pub results: Vec<PageResult>,
     pub lost: u64,
+    pub losses: Losses,
     pub recent: RecentUrls,
 }
 
 impl WorkerOutput {
     pub fn new(alloc: Global) -> WorkerOutput
         ensures nothing { (result.results.items ≡ []) × (result.lost ≡ 0) }
+        ensures losses { result.losses ≡ no_losses }
         ensures recent { (workers : ℕ) (log : List Logged) → Knows workers log result.recent }
     {
         WorkerOutput {
             results: Vec::new(alloc),
             lost: 0,
+            losses: Losses::none(),
             recent: RecentUrls::new(alloc),
         }
     }
 
-    /// Counts so many losses.
-    pub fn lose(&mut self, count: u64)
+    /// Counts a loss.
+    pub fn lose(&mut self, loss: Loss)
         ensures same { self.new.results ≡ self.old.results }
         ensures recent { self.new.recent ≡ self.old.recent }
-        ensures lost { self.new.lost ≡ min (self.old.lost + count) (2 ^ 64 - 1) }
+        ensures lost { self.new.lost ≡ min (self.old.lost + 1) (2 ^ 64 - 1) }
+        ensures losses { self.new.losses ≡ with_loss loss self.old.losses }
     {
-        self.lost = self.lost.saturating_add(count);
+        self.lost = self.lost.saturating_add(1);
+        self.losses.count(loss);
     }
 
     /// Keeps a result, or counts it as lost where there is no room for it.
     pub fn keep(&mut self, url: &CanonUrl, page: Page)
         ensures kept { Keeps url.now page self.old self.new ⊎ Loses 1 self.old self.new }
         ensures recent { self.new.recent ≡ self.old.recent }
+        // Its URL was fetched.
+        ensures why { (self.new.losses ≡ self.old.losses) ⊎ (self.new.losses ≡ with_loss loss.Unkept self.old.losses) }
+        ensures tally { Tallies self.old self.new }
     {
         let Ok(url) = url.copy() else {
-            self.lose(1);
+            self.lose(Loss::Unkept);
             return;
         };
         if self.results.push(PageResult { url, page }).is_err() {
-            self.lose(1);
+            self.lose(Loss::Unkept);
         }
     }
 
@@ -58,12 +70,19 @@ impl WorkerOutput {
         ensures closed { result.closed ≡ closed }
         ensures results { result.results ≡ self.results }
         ensures lost { result.lost ≡ self.lost }
+        ensures losses { result.losses ≡ self.losses }
     {
-        let WorkerOutput { results, lost, .. } = self;
+        let WorkerOutput {
+            results,
+            lost,
+            losses,
+            ..
+        } = self;
         WorkerEnd {
             closed,
             results,
             lost,
+            losses,
         }
     }
 }

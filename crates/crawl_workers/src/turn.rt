@@ -1,15 +1,15 @@
 //! One turn of a worker: it takes a URL, fetches it, offers its links, and is done.
-ghost use Rattle.std.specs.Prelude.{◌≡◌, ◌⊎◌, ◌≤◌, true, false, None, count_by};
+ghost use Rattle.std.specs.Prelude.{◌≡◌, ◌⊎◌, ◌≤◌, true, false, None, count_by, if◌then◌else◌};
 ghost use Rattle.crawl_keys.specs.HostFilter.{allows};
 ghost use Rattle.crawl_frontier.specs.Parts.{WorkerId};
 ghost use Rattle.crawl_web.specs.Pages.{links_of};
 ghost use Rattle.crawl_workers.specs.Logs.{AllLogged, HasLine};
 ghost use Rattle.crawl_workers.specs.Recent.{Knows};
 ghost use Rattle.crawl_workers.specs.Ran.{most_lost_at};
-ghost use Rattle.crawl_workers.specs.Turn.{Finds, Goes, Loses, SameBusy, worker_in};
+ghost use Rattle.crawl_workers.specs.Turn.{CountsLinks, Finds, Goes, Loses, SameBusy, Tallies, worker_in};
 
+use crate::losses::{Loss, loss_of};
 use crate::output::WorkerOutput;
-use crate::recent::RecentUrls;
 use crawl_frontier::{BusyWorker, ClosedWorker, Frontier, Name, OfferError, Turn, Worker};
 use crawl_keys::CanonUrl;
 use crawl_web::{Links, Page, SessionFetch};
@@ -27,83 +27,89 @@ pub(crate) enum Step<K: Name> {
     Closes(ClosedWorker<K>),
 }
 
-// Offers a link that is not remembered, and answers whether it is lost. One that the filter does not allow is not. A link
-// that is remembered or was seen shares the text of the frontier's from then on.
+// Offers a link that is not remembered, counts it where it is lost, and answers whether it is. One that the filter does not
+// allow is not. A link that is remembered or was seen shares the text of the frontier's from then on.
 fn is_refused<K: Name, R: Wait>(
     rt: &R,
     alloc: Global,
     frontier: &Frontier<K>,
     busy: &mut BusyWorker<K>,
-    recent: &mut RecentUrls,
+    output: &mut WorkerOutput,
     url: &mut CanonUrl,
 ) -> bool
     ensures url { url.new ≡ url.old }
     ensures same { SameBusy busy.old busy.new }
     ensures filtered { allows K.filter url.old ≡ false → result ≡ false }
-    ensures line { Knows K.workers busy.old.worker.book.log recent.old → result ≡ false → allows K.filter url.old ≡ true → HasLine K.workers busy.new.worker.book.log url.old }
-    ensures recent { Knows K.workers busy.old.worker.book.log recent.old → Knows K.workers busy.new.worker.book.log recent.new }
+    ensures line { Knows K.workers busy.old.worker.book.log output.old.recent → result ≡ false → allows K.filter url.old ≡ true → HasLine K.workers busy.new.worker.book.log url.old }
+    ensures recent { Knows K.workers busy.old.worker.book.log output.old.recent → Knows K.workers busy.new.worker.book.log output.new.recent }
+    ensures counts { CountsLinks (if result then 1 else 0) output.old output.new }
 {
-    if recent.has(url) {
+    if output.recent.has(url) {
         return false;
     }
     match busy.offer_shared(rt, frontier, url) {
         Ok(_) => {
-            recent.remember(alloc, url);
+            output.recent.remember(alloc, url);
             false
         }
         Err(OfferError::Filtered) => false,
-        Err(_) => true,
+        Err(refused) => {
+            output.lose(loss_of(refused));
+            true
+        }
     }
 }
 
-// Offers all links, in order, and answers how many are lost.
+// Offers all links, in order, and counts those that are lost.
 fn offer_links<K: Name, R: Wait>(
     rt: &R,
     alloc: Global,
     frontier: &Frontier<K>,
     busy: &mut BusyWorker<K>,
-    recent: &mut RecentUrls,
+    output: &mut WorkerOutput,
     links: &mut [CanonUrl],
 ) -> u64
     ensures links { links.new ≡ links.old }
     ensures same { SameBusy busy.old busy.new }
     ensures few { result ≤ count_by (allows K.filter) links.old }
-    ensures lines { Knows K.workers busy.old.worker.book.log recent.old → result ≡ 0 → AllLogged K.workers (allows K.filter) busy.new.worker.book.log links.old }
-    ensures recent { Knows K.workers busy.old.worker.book.log recent.old → Knows K.workers busy.new.worker.book.log recent.new }
+    ensures lines { Knows K.workers busy.old.worker.book.log output.old.recent → result ≡ 0 → AllLogged K.workers (allows K.filter) busy.new.worker.book.log links.old }
+    ensures recent { Knows K.workers busy.old.worker.book.log output.old.recent → Knows K.workers busy.new.worker.book.log output.new.recent }
+    ensures counts { CountsLinks result output.old output.new }
 {
     let mut refused = 0;
     for place in 0..links.len() {
-        if is_refused(rt, alloc, frontier, busy, recent, &mut links[place]) {
+        if is_refused(rt, alloc, frontier, busy, output, &mut links[place]) {
             refused += 1;
         }
     }
     refused
 }
 
-// Offers the links of a page, in order, and answers how many are lost, with the page as it was.
+// Offers the links of a page, in order, counts those that are lost, and answers the page as it was.
 fn offer_page<K: Name, R: Wait>(
     rt: &R,
     alloc: Global,
     frontier: &Frontier<K>,
     busy: &mut BusyWorker<K>,
-    recent: &mut RecentUrls,
+    output: &mut WorkerOutput,
     page: Page,
 ) -> (Page, u64)
     ensures page { result.0 ≡ page }
     ensures same { SameBusy busy.old busy.new }
     ensures few { result.1 ≤ count_by (allows K.filter) (links_of page) }
-    ensures lines { Knows K.workers busy.old.worker.book.log recent.old → result.1 ≡ 0 → AllLogged K.workers (allows K.filter) busy.new.worker.book.log (links_of page) }
-    ensures recent { Knows K.workers busy.old.worker.book.log recent.old → Knows K.workers busy.new.worker.book.log recent.new }
+    ensures lines { Knows K.workers busy.old.worker.book.log output.old.recent → result.1 ≡ 0 → AllLogged K.workers (allows K.filter) busy.new.worker.book.log (links_of page) }
+    ensures recent { Knows K.workers busy.old.worker.book.log output.old.recent → Knows K.workers busy.new.worker.book.log output.new.recent }
+    ensures counts { CountsLinks result.1 output.old output.new }
 {
     match page {
         Page::Found { links, skipped } => {
             let mut urls = Vec::from(links);
-            let refused = offer_links(rt, alloc, frontier, busy, recent, urls.as_mut_slice());
+            let refused = offer_links(rt, alloc, frontier, busy, output, urls.as_mut_slice());
             let links = Links::from(urls);
             (Page::Found { links, skipped }, refused)
         }
         Page::Moved { to: Some(mut url) } => {
-            let refused = is_refused(rt, alloc, frontier, busy, recent, &mut url);
+            let refused = is_refused(rt, alloc, frontier, busy, output, &mut url);
             (Page::Moved { to: Some(url) }, u64::from(refused))
         }
         Page::Moved { to: None } => (Page::Moved { to: None }, 0),
@@ -124,15 +130,15 @@ fn work<K: Name, F: SessionFetch, R: Wait>(
     requires { F.is_of fetcher.now session.old }
     ensures right { F.is_of fetcher.now session.new }
     ensures same { SameBusy busy.old busy.new }
+    ensures tally { Tallies output.old output.new }
     ensures finds { Knows K.workers busy.old.worker.book.log output.old.recent → Finds K.workers (allows K.filter) (F.meaning fetcher.now) busy.old.message.entry.url busy.new.worker.book.log output.old output.new ⊎ Loses (most_lost_at (allows K.filter) (links_of (F.meaning fetcher.now busy.old.message.entry.url)) None) output.old output.new }
     ensures recent { Knows K.workers busy.old.worker.book.log output.old.recent → Knows K.workers busy.new.worker.book.log output.new.recent }
 {
     let Ok(page) = fetcher.fetch_in(alloc, session, busy.url()) else {
-        output.lose(1);
+        output.lose(Loss::Failed);
         return;
     };
-    let (page, refused) = offer_page(rt, alloc, frontier, busy, &mut output.recent, page);
-    output.lose(refused);
+    let (page, _refused) = offer_page(rt, alloc, frontier, busy, output, page);
     output.keep(busy.url(), page);
 }
 

@@ -1,4 +1,5 @@
 //! What a worker ends with.
+use crate::losses::Losses;
 use crawl_frontier::{ClosedWorker, Name};
 use crawl_web::PageResult;
 
@@ -12,4 +13,6 @@ pub struct WorkerEnd<K: Name> {
     /// How many URLs got no result (their fetch failed, or there was no room for it) and how many offers of links were
     /// refused, together. It stays at the greatest u64 once there. A link that the filter does not allow is not lost.
     pub lost: u64,
+    /// The same by why: `lost` is the sum of these counts, up to the greatest u64.
+    pub losses: Losses,
 }

@@ -21,7 +21,7 @@ pub all_pages : {K : _} (workers : ℕ) (allowed : List ℕ → Bool) (meaning :
 all_pages {K} workers allowed meaning [] [] ran = All-nil (λ (e : WorkerEnd K). ArePages meaning e.results.items)
 all_pages {K} workers allowed meaning [] (e ∷ es) ran = absurd ran
 all_pages {K} workers allowed meaning (s ∷ ss) [] ran = absurd ran
-all_pages {K} workers allowed meaning (s ∷ ss) (e ∷ es) ran = All-cons (λ (x : WorkerEnd K). ArePages meaning x.results.items) e es ran.0.pages (all_pages workers allowed meaning ss es ran.1)
+all_pages {K} workers allowed meaning (s ∷ ss) (e ∷ es) ran = All-cons (λ (x : WorkerEnd K). ArePages meaning x.results.items) e es ran.0.0.pages (all_pages workers allowed meaning ss es ran.1)
 
 -- one worker's results go to the others'
 pub pages_on : {K : _} (meaning : List ℕ → Page) (e : WorkerEnd K) (rest all : List (WorkerEnd K)) (results : List PageResult) → all ≡ e ∷ rest → AllPages meaning all → ArePages meaning results → AllPages meaning rest × ArePages meaning (results ++ e.results.items)

@@ -1,15 +1,16 @@
 //! The checks of a line of a saved web, and the page that it adds.
-ghost use Rattle.std.specs.Prelude.{◌≡◌, true, false, OnOk, IfOk, is_some};
+ghost use Rattle.std.specs.Prelude.{◌≡◌, true, false, [], Ok, OnOk, IfOk, IsUtf8, is_some};
 ghost use Rattle.crawl_keys.specs.CanonicalText.{canonical};
 ghost use Rattle.crawl_keys.specs.Outcome.{Gives};
 ghost use Rattle.std.specs.Result.{result_ok};
+ghost use Rattle.crawl_web.specs.Lines.{text_of};
 ghost use Rattle.crawl_web.specs.WebChecks.{header_of, page_fault, under_fault, line_fault};
 ghost use Rattle.crawl_web.specs.WebLines.{page_url, is_page};
 ghost use Rattle.crawl_web.specs.WebFaults.{Tells};
 ghost use Rattle.crawl_web.specs.KnownPages.{kept_before, Adds, Follows};
 ghost use Rattle.crawl_web.specs.PageLists.{has};
 
-use crate::lines::text_of;
+use crate::lines::{short_text, text_of};
 use crate::saved_web::error::WebError;
 use crate::saved_web::line::{Line, line_of_text};
 use crate::saved_web::pages::Pages;
@@ -28,6 +29,17 @@ pub struct Above {
 }
 
 impl Above {
+    /// Above the first line.
+    pub fn nothing() -> Above
+        ensures { result ≡ record { second = false; link = false; moved = false } }
+    {
+        Above {
+            second: false,
+            link: false,
+            moved: false,
+        }
+    }
+
     fn in_version(self, second: bool) -> Above
         ensures { result ≡ record self { second = second } }
     {
@@ -70,14 +82,14 @@ impl Above {
 }
 
 /// Checks the line with this number, behind the lines whose pages are known, and adds the page that it is, if it is
-/// one, with the bytes behind it.
+/// one, with the text behind it.
 pub fn add_line<'a>(
     alloc: Global,
     pages: &mut Pages<'a>,
     number: u64,
     above: Above,
-    line: &[u8],
-    behind: &'a [u8],
+    line: &str,
+    behind: &'a str,
 ) -> Result<Above, WebError>
     ensures tells { Tells result (line_fault (kept_before number pages.old above) line.now) }
     ensures adds { OnOk result (Adds pages.old pages.new (page_url line.now) behind.now) }
@@ -85,7 +97,43 @@ pub fn add_line<'a>(
     ensures page { OnOk result (is_page line.now ≡ is_some (page_url line.now)) }
     ensures follows { IfOk result (λ new. Follows number line.now above new) }
 {
+    let text = short_text(number, line)?;
+    add_text(alloc, pages, number, above, text, behind)
+}
+
+/// The same of a line that may be no text, for its fault: its page is added with no text behind it.
+pub fn check_line(
+    alloc: Global,
+    pages: &mut Pages<'_>,
+    number: u64,
+    above: Above,
+    line: &[u8],
+) -> Result<Above, WebError>
+    ensures tells { Tells result (line_fault (kept_before number pages.old above) line.now) }
+    ensures adds { OnOk result (Adds pages.old pages.new (page_url line.now) []) }
+    ensures page { OnOk result (is_page line.now ≡ is_some (page_url line.now)) }
+    ensures follows { IfOk result (λ new. Follows number line.now above new) }
+    ensures utf8 { OnOk result (IsUtf8 line.now) }
+{
     let text = text_of(number, line)?;
+    add_text(alloc, pages, number, above, text, "")
+}
+
+/// The same of a line with this text.
+fn add_text<'a>(
+    alloc: Global,
+    pages: &mut Pages<'a>,
+    number: u64,
+    above: Above,
+    text: &str,
+    behind: &'a str,
+) -> Result<Above, WebError>
+    requires { text_of number text.now ≡ Ok text.now }
+    ensures tells { Tells result (line_fault (kept_before number pages.old above) text.now) }
+    ensures adds { OnOk result (Adds pages.old pages.new (page_url text.now) behind.now) }
+    ensures page { OnOk result (is_page text.now ≡ is_some (page_url text.now)) }
+    ensures follows { IfOk result (λ new. Follows number text.now above new) }
+{
     if number == 1 {
         return Ok(above.in_version(header(text)?));
     }
@@ -124,7 +172,7 @@ fn add_page<'a>(
     pages: &mut Pages<'a>,
     number: u64,
     text: &str,
-    behind: &'a [u8],
+    behind: &'a str,
 ) -> Result<(), WebError>
     ensures tells { Tells result (page_fault number (has pages.old) (canonical text.now)) }
     ensures adds { OnOk result (Adds pages.old pages.new (result_ok (canonical text.now)) behind.now) }

@@ -7,16 +7,16 @@ use hash_order::hash_of;
 use std::alloc::AllocError;
 use std::marker::Model;
 
-/// A page of a saved web: its URL, parsed once, when the web is read, and the bytes behind its line.
+/// A page of a saved web: its URL, parsed once, when the web is read, and the text behind its line.
 #[derive(Drop)]
 pub struct KnownPage<'a> {
     /// The hash of the URL's text, which the index of pages asks for as it grows.
     hash: u64,
     base: Base,
-    behind: &'a [u8],
+    behind: &'a str,
 }
 
-// Contracts see the text of the URL and the bytes.
+// Contracts see the text of the URL and that text.
 impl<'a> Model for KnownPage<'a> {
     ghost use Rattle.std.specs.Prelude.{◌≡◌};
     ghost use Rattle.hash_order.specs.HashOrder.{hash_of};
@@ -33,7 +33,7 @@ impl<'a> Model for KnownPage<'a> {
 
 impl<'a> KnownPage<'a> {
     /// The page with this URL.
-    pub fn new(base: Base, behind: &'a [u8]) -> KnownPage<'a>
+    pub fn new(base: Base, behind: &'a str) -> KnownPage<'a>
         ensures { result ≡ record { url = base; behind = behind.now } }
     {
         KnownPage {
@@ -50,8 +50,8 @@ impl<'a> KnownPage<'a> {
         self.base.clone()
     }
 
-    /// The bytes behind its line.
-    pub fn behind(&self) -> &'a [u8]
+    /// The text behind its line.
+    pub fn behind(&self) -> &'a str
         ensures { result.now ≡ self.now.behind }
     {
         self.behind

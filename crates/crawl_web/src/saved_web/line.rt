@@ -43,12 +43,9 @@ fn by_first_word(text: &str) -> Line<&str>
     }
 }
 
-/// What a line says, whatever its bytes are.
-pub fn line_of(line: &[u8]) -> Line<&str>
+/// What a line says, as the definition has it of any bytes.
+pub fn line_of(line: &str) -> Line<&str>
     ensures { pointed result ≡ line_of line.now }
 {
-    match str::from_utf8(line) {
-        Ok(text) => line_of_text(text),
-        Err(_) => Line::Other,
-    }
+    line_of_text(line)
 }

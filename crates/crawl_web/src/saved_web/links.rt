@@ -1,4 +1,4 @@
-//! What stands under a page of a saved web, read from the lines behind the page's own.
+//! What stands under a page of a saved web, read from the text behind the page's line.
 ghost use Rattle.std.specs.Prelude.{◌≡◌, ◌<◌, ℕ, List, ◌∷◌, [], Some, length, IfOk, IfErr, IfSome, MatchOption};
 ghost use Rattle.std.specs.Option.{option_map};
 ghost use Rattle.std.specs.Str.Lines.{lines};
@@ -7,7 +7,7 @@ ghost use Rattle.crawl_web.specs.SavedWeb.{link_texts, link_url, moved_text, fou
 ghost use Rattle.crawl_web.specs.declared.page.Page.TheVariants.{Moved};
 
 use crate::fetch::FetchError;
-use crate::lines::first_line;
+use crate::lines::first_text;
 use crate::page::{Links, Page};
 use crate::saved_web::folder::Folder;
 use crate::saved_web::known_link::{copy_of, link_of};
@@ -18,19 +18,19 @@ use crate::saved_web::link_text::LinkText;
 use crawl_keys::{Base, CanonUrl, is_of_folder};
 use std::alloc::Global;
 
-/// The page with this base, whose line these bytes follow, up to the next page or to the end.
+/// The page with this base, whose line this text follows, up to the next page or to the end.
 pub fn page_behind<'a>(
     alloc: Global,
     cache: &mut LinkCache<'a>,
     base: Base,
-    bytes: &'a [u8],
+    behind: &'a str,
 ) -> Result<Page, FetchError>
-    ensures page { IfOk result (λ page. page ≡ page_behind base (Some (lines bytes.now))) }
+    ensures page { IfOk result (λ page. page ≡ page_behind base (Some (lines behind.now))) }
     ensures refused { IfErr result (λ e. e ≡ FetchError.NoMemory) }
 {
-    match moved_text(bytes) {
+    match moved_text(behind) {
         Some(text) => moved_page(alloc, &base, text),
-        None => remembering(alloc, cache, base, bytes),
+        None => remembering(alloc, cache, base, behind),
     }
 }
 
@@ -48,14 +48,14 @@ fn remembering<'a>(
     alloc: Global,
     cache: &mut LinkCache<'a>,
     base: Base,
-    bytes: &'a [u8],
+    behind: &'a str,
 ) -> Result<Page, FetchError>
-    ensures page { IfOk result (λ page. page ≡ found_page base (link_texts (lines bytes.now))) }
+    ensures page { IfOk result (λ page. page ≡ found_page base (link_texts (lines behind.now))) }
     ensures refused { IfErr result (λ e. e ≡ FetchError.NoMemory) }
 {
     let hash = folder_hash(base.as_str());
     let mut folder = cache.take(alloc, hash, base);
-    let page = found_page(alloc, &mut folder, bytes)?;
+    let page = found_page(alloc, &mut folder, behind)?;
     cache.put(alloc, hash, folder);
     Ok(page)
 }
@@ -64,15 +64,15 @@ fn remembering<'a>(
 fn found_page<'a>(
     alloc: Global,
     folder: &mut Folder<'a>,
-    bytes: &'a [u8],
+    behind: &'a str,
 ) -> Result<Page, FetchError>
-    ensures page { IfOk result (λ page. page ≡ found_page folder.old (link_texts (lines bytes.now))) }
+    ensures page { IfOk result (λ page. page ≡ found_page folder.old (link_texts (lines behind.now))) }
     ensures refused { IfErr result (λ e. e ≡ FetchError.NoMemory) }
 {
     let mut known = KnownLinks::new(alloc);
     let mut links = Vec::new(alloc);
     let mut skipped: u64 = 0;
-    let mut rest = bytes;
+    let mut rest = behind;
     while let Some((text, more)) = next_link(rest) {
         rest = more;
         match link_on(alloc, folder, &mut known, text)? {
@@ -113,12 +113,12 @@ fn link_on<'a>(
 }
 
 /// The text of the first link before the next page, and what follows that line.
-fn next_link(bytes: &[u8]) -> Option<(&str, &[u8])>
-    ensures first { MatchOption result (link_texts (lines bytes.now) ≡ []) (λ x. link_texts (lines bytes.now) ≡ x.0.now ∷ link_texts (lines x.1.now)) }
-    ensures shorter { IfSome result (λ x. length x.1.now < length bytes.now) }
+fn next_link(behind: &str) -> Option<(&str, &str)>
+    ensures first { MatchOption result (link_texts (lines behind.now) ≡ []) (λ x. link_texts (lines behind.now) ≡ x.0.now ∷ link_texts (lines x.1.now)) }
+    ensures shorter { IfSome result (λ x. length x.1.now < length behind.now) }
 {
-    let mut rest = bytes;
-    while let Some((line, more)) = first_line(rest) {
+    let mut rest = behind;
+    while let Some((line, more)) = first_text(rest) {
         rest = more;
         match line_of(line) {
             Line::Page(_) => return None,
@@ -130,11 +130,11 @@ fn next_link(bytes: &[u8]) -> Option<(&str, &[u8])>
 }
 
 /// The text of the moved line, where one comes before any page or link.
-fn moved_text(bytes: &[u8]) -> Option<&str>
-    ensures { option_map (λ text. text.now) result ≡ moved_text (lines bytes.now) }
+fn moved_text(behind: &str) -> Option<&str>
+    ensures { option_map (λ text. text.now) result ≡ moved_text (lines behind.now) }
 {
-    let mut rest = bytes;
-    while let Some((line, more)) = first_line(rest) {
+    let mut rest = behind;
+    while let Some((line, more)) = first_text(rest) {
         rest = more;
         match line_of(line) {
             Line::Page(_) | Line::Link(_) => return None,

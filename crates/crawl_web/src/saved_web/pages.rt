@@ -53,7 +53,7 @@ impl<'a> Pages<'a> {
 
     /// Adds a page, unless there is one with its URL, and tells whether it did.
     #[tactic(auto, using(crate::proofs::PageIndex::has_index_there))]
-    pub fn add(&mut self, page: Base, behind: &'a [u8]) -> Result<bool, AllocError>
+    pub fn add(&mut self, page: Base, behind: &'a str) -> Result<bool, AllocError>
         ensures added { IfOk result (λ added. added ≡ not (has self.old page)) }
         ensures pages { IfOk result (λ added. self.new ≡ (if added then self.old ++ record { url = page; behind = behind.now } ∷ [] else self.old)) }
     {

@@ -24,6 +24,7 @@ pub fn gathered<K: Name>(
             closed: worker,
             results: mut found,
             lost: _,
+            losses: _,
         } = end;
         closed.push(worker)?;
         results.append(&mut found)?;

@@ -1,6 +1,6 @@
 use Rattle.std.proofs.Common.{arith, ◌∙◌}
 use Rattle.crawl_keys.specs.HostFilter.{allows}
-use Rattle.crawl_workers.specs.Ran.{Ran}
+use Rattle.crawl_workers.specs.Runs.{RanTo}
 use Rattle.crawl_workers.proofs.Running.{all_ran_push, all_ran_length}
 use Rattle.crawl_workers.proofs.threads.+fn-run_all-scope+run_all.Goals as goal
 
@@ -12,7 +12,7 @@ scope-push_reserved-requires g t c =
 pub scope-returns : goal.scope-returns
 scope-returns g t c =
     let kept = c.in-Some.ensures in
-    let ran : Ran g.K.Name.workers (allows g.K.Name.filter) (g.F.SessionFetch.meaning c.captures.fetcher.now) c.captures.worker c.in-Some.end.closed c.in-Some.end.results.items c.in-Some.end.lost = rw (c.in-Ok.ensures.ok, c.of.ensures) at kept in
+    let ran : RanTo g.K.Name.workers (allows g.K.Name.filter) (g.F.SessionFetch.meaning c.captures.fetcher.now) c.captures.worker c.in-Some.end = rw (c.in-Ok.ensures.ok, c.of.ensures) at kept in
     record {
       ran = rw c.push_reserved.ensures.items (all_ran_push _ _ _ c.captures.workers.items c.in_ok-ends.ends.items c.captures.worker c.in-Some.end c.in_ok-ends.ensures.ran ran);
       error = tt;

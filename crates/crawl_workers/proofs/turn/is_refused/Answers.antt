@@ -1,7 +1,12 @@
-use Rattle.std.proofs.Common.{sym, subst}
+use Rattle.std.proofs.Common.{refl, sym, subst, Err}
+use Rattle.crawl_frontier.specs.Offers.{OfferWordsBeside}
 use Rattle.crawl_workers.specs.Logs.{HasLine}
 use Rattle.crawl_workers.proofs.Running.{offer_grows, offer_line, knows_on}
+use Rattle.crawl_workers.proofs.Tallies.{counts_one, counts_none, link_of}
 use Rattle.crawl_workers.proofs.turn.is_refused.Goals as goal
+
+pub returns-then-has-clause-counts : goal.returns-then-has-clause-counts
+returns-then-has-clause-counts g c = counts_none _ _ refl refl refl
 
 pub returns-in-Ok-clause-line : goal.returns-in-Ok-clause-line
 returns-in-Ok-clause-line g c = λ _ _ _.
@@ -12,5 +17,15 @@ returns-in-Ok-clause-recent g c = λ known.
     let log = c.offer_shared.new.self.worker.book.log in
     let line = offer_line g.K.Name.workers _ _ c.has.new.url _ c.in-Ok.field-0 c.in-Ok.ensures.books in
     c.remember.ensures g.K.Name.workers log
-    (knows_on g.K.Name.workers _ _ c.args.recent.now (offer_grows g.K.Name.workers _ _ c.has.new.url _ _ c.offer_shared.ensures.books) known)
+    (knows_on g.K.Name.workers _ _ c.args.output.now.recent (offer_grows g.K.Name.workers _ _ c.has.new.url _ _ c.offer_shared.ensures.books) known)
     (subst (HasLine g.K.Name.workers log) (sym c.offer_shared.ensures.url) line)
+
+pub returns-in-Ok-clause-counts : goal.returns-in-Ok-clause-counts
+returns-in-Ok-clause-counts g c = counts_none _ _ refl refl refl
+
+pub returns-in-Err-Filtered-clause-counts : goal.returns-in-Err-Filtered-clause-counts
+returns-in-Err-Filtered-clause-counts g c = counts_none _ _ refl refl refl
+
+pub returns-in-Err-clause-counts : goal.returns-in-Err-clause-counts
+returns-in-Err-clause-counts g c =
+    counts_one c.loss_of.result _ _ (link_of c.in-Err.refused c.loss_of.result c.loss_of.ensures) c.lose.ensures.same c.lose.ensures.lost c.lose.ensures.losses

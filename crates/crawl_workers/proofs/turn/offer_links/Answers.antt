@@ -1,9 +1,12 @@
-use Rattle.std.proofs.Common.{◌≡◌, true, false, arith, take, subst, ◌∙◌, slice_index_or}
+use Rattle.std.proofs.Common.{◌≡◌, ◌+◌, true, false, arith, take, sym, subst, ◌∙◌, slice_index_or}
+use Rattle.std.specs.Bool.{if◌then◌else◌}
 use Rattle.std.proofs.lemmas.List.{take_more}
 use Rattle.std.proofs.lemmas.List.Sums.{count_by_more_yes}
 use Rattle.crawl_keys.specs.HostFilter.{allows}
 use Rattle.crawl_workers.specs.Logs.{HasLine}
+use Rattle.crawl_workers.specs.Turn.{CountsLinks}
 use Rattle.crawl_workers.proofs.Running.{busy_on, all_logged_more, unchanged_at, is_allowed, count_more}
+use Rattle.crawl_workers.proofs.Tallies.{counts_on}
 use Rattle.crawl_workers.proofs.turn.offer_links.Goals.{then-is_refused, else-is_refused}
 use Rattle.crawl_workers.proofs.turn.offer_links.Goals as goal
 
@@ -40,5 +43,14 @@ loop-place-preserved g c =
         | else-is_refused w ↦
             let more = count_more (allows g.K.Name.filter) links i x c.loop-place-test.true in
             omega (arith, w.refused-is, more, inv.4)
+      ],
+      elim c.if-is_refused.branch [
+        | then-is_refused w ↦
+            let one : CountsLinks 1 c.loop-place.output c.is_refused.new.output = subst (λ b. CountsLinks (if b then 1 else 0) c.loop-place.output c.is_refused.new.output) w.if-is_refused.true c.is_refused.ensures.counts in
+            subst (λ n. CountsLinks n c.args.output.now c.is_refused.new.output) (sym w.refused-is) (counts_on c.loop-place.refused 1 c.args.output.now c.loop-place.output c.is_refused.new.output inv.5 one)
+        | else-is_refused w ↦
+            let none : CountsLinks 0 c.loop-place.output c.is_refused.new.output = subst (λ b. CountsLinks (if b then 1 else 0) c.loop-place.output c.is_refused.new.output) w.if-is_refused.false c.is_refused.ensures.counts in
+            let same : c.loop-place.refused + 0 ≡ c.loop-place.refused = omega arith in
+            subst (λ n. CountsLinks n c.args.output.now c.is_refused.new.output) (same ∙ sym w.refused-is) (counts_on c.loop-place.refused 0 c.args.output.now c.loop-place.output c.is_refused.new.output inv.5 none)
       ],
     )

@@ -5,6 +5,7 @@ use Rattle.crawl_web.specs.Pages.{links_of}
 use Rattle.crawl_workers.specs.Logs.{AllLogged}
 use Rattle.crawl_workers.specs.Recent.{Knows}
 use Rattle.crawl_workers.proofs.Running.{kept}
+use Rattle.crawl_workers.proofs.Tallies.{url_after_links, url_failed}
 use Rattle.crawl_workers.proofs.turn.work.Goals as goal
 
 pub returns-clause-finds : goal.returns-clause-finds
@@ -13,13 +14,21 @@ returns-clause-finds g c = λ known.
     let log = offered.new.busy.worker.book.log in
     let url : c.url-2.result.now ≡ c.args.busy.now.message.entry.url = c.url-2.ensures ∙ ap (λ e. e.url) offered.ensures.same.entry in
     kept g.K.Name.workers (allows g.K.Name.filter) (g.F.SessionFetch.meaning c.args.fetcher.now) c.args.busy.now.message.entry.url log
-    c.args.output.now c.lose-2.new.self c.keep.new.self offered.result.1 offered.result.0
+    c.args.output.now offered.new.output c.keep.new.self offered.result.1 offered.result.0
     (offered.ensures.page ∙ c.in-Ok.ensures.meaning ∙ ap (g.F.SessionFetch.meaning c.args.fetcher.now) c.url.ensures)
     (subst (λ p. offered.result.1 ≤ count_by (allows g.K.Name.filter) (links_of p)) (sym offered.ensures.page) offered.ensures.few)
     (subst (λ p. offered.result.1 ≡ 0 → AllLogged g.K.Name.workers (allows g.K.Name.filter) log (links_of p)) (sym offered.ensures.page) (offered.ensures.lines known))
-    c.lose-2.ensures.same c.lose-2.ensures.lost (rw url at c.keep.ensures.kept)
+    offered.ensures.counts (rw url at c.keep.ensures.kept)
+
+pub returns-clause-tally : goal.returns-clause-tally
+returns-clause-tally g c =
+    let offered = c.offer_page-page in
+    url_after_links offered.result.1 c.args.output.now offered.new.output c.keep.new.self offered.ensures.counts c.keep.ensures.tally
+
+pub returns-in_default-clause-tally : goal.returns-in_default-clause-tally
+returns-in_default-clause-tally g c = url_failed c.args.output.now c.lose.new.self c.lose.ensures.same c.lose.ensures.lost c.lose.ensures.losses
 
 pub returns-clause-recent : goal.returns-clause-recent
 returns-clause-recent g c = λ known.
     let offered = c.offer_page-page in
-    subst (Knows g.K.Name.workers offered.new.busy.worker.book.log) (sym (c.keep.ensures.recent ∙ c.lose-2.ensures.recent)) (offered.ensures.recent known)
+    subst (Knows g.K.Name.workers offered.new.busy.worker.book.log) (sym c.keep.ensures.recent) (offered.ensures.recent known)

@@ -10,13 +10,14 @@ loop-text-preserved-in-Continue-branch-3 c =
     let url = c.loop-text.folder in
     let links = c.loop-text.links.items in
     let more = link_texts (lines c.in-Some.more.now) in
-    let all = link_texts (lines c.args.bytes.now) in
+    let all = link_texts (lines c.args.behind.now) in
     let same : c.link_on.new.folder ≡ url = search rules in
     let pushed : c.push.new.self.items ≡ links ++ c.in-Some-2.link ∷ [] = search rules in
     let is : Some c.in-Some-2.link ≡ link_url url c.in-Some.text.now = search rules in
     let kept : links ++ filter_map (link_url url) (c.in-Some.text.now ∷ more) ≡ filter_map (link_url url) all =
     ap (λ texts. links ++ filter_map (link_url url) texts) (sym c.in-Some.ensures.first) ∙ c.loop-text.invariant.kept in
     record {
+      text = search rules;
       page = search rules;
       known = search rules;
       few = search rules;

@@ -1,3 +1,5 @@
+use denote.Shadow.{shadow}
+use denote.Text.{Utf8}
 use Rattle.std.proofs.Common.{◌≡◌, ◌≤◌, length}
 use Rattle.std.specs.Str.Lines.{lines}
 use Rattle.crawl_web.specs.SavedWeb.{link_texts}
@@ -5,8 +7,9 @@ use Rattle.crawl_web.proofs.saved_web.links.next_link.Given as goal
 
 abbrev pub invariant-loop-line : goal.invariant-loop-line
 invariant-loop-line l = record {
-  same : link_texts (lines l.rest) ≡ link_texts (lines l.bytes);
-  within : length l.rest ≤ length l.bytes;
+  text : shadow (Utf8 l.rest);
+  same : link_texts (lines l.rest) ≡ link_texts (lines l.behind);
+  within : length l.rest ≤ length l.behind;
 }
 
 abbrev pub decreases-loop-line : goal.decreases-loop-line

@@ -1,0 +1,41 @@
+-- What a worker lost, by why.
+use Rattle.std.specs.Prelude.{◌≡◌, ℕ, ◌+◌, ◌-◌, ◌^◌, min, Bool, true, false, Option, Some, None}
+use Rattle.crawl_frontier.specs.declared.error.OfferError.{OfferError}
+use Rattle.crawl_frontier.specs.declared.error.OfferError.TheVariants as refused
+use Rattle.crawl_workers.specs.declared.losses.Loss.{Loss}
+use Rattle.crawl_workers.specs.declared.losses.Loss.TheVariants as loss
+use Rattle.crawl_workers.specs.declared.losses.Losses.{Losses}
+
+abbrev pub no_losses : Losses
+no_losses = record { failed = 0; unkept = 0; full = 0; too_far = 0; crossed = 0; no_memory = 0 }
+
+-- one more, up to the greatest count
+abbrev pub one_more : ℕ → ℕ
+one_more n = min (n + 1) (2 ^ 64 - 1)
+
+-- one loss more, in the count of its reason
+abbrev pub with_loss : Loss → Losses → Losses
+with_loss loss.Failed losses = record losses { failed = one_more losses.failed }
+with_loss loss.Unkept losses = record losses { unkept = one_more losses.unkept }
+with_loss loss.Full losses = record losses { full = one_more losses.full }
+with_loss loss.TooFar losses = record losses { too_far = one_more losses.too_far }
+with_loss loss.Crossed losses = record losses { crossed = one_more losses.crossed }
+with_loss loss.NoMemory losses = record losses { no_memory = one_more losses.no_memory }
+
+abbrev pub all_losses : Losses → ℕ
+all_losses losses = losses.failed + losses.unkept + losses.full + losses.too_far + losses.crossed + losses.no_memory
+
+-- why a link is lost whose offer was refused
+abbrev pub loss_of : OfferError → Option Loss
+loss_of refused.Filtered = None
+loss_of refused.Closed = None
+loss_of refused.Full = Some loss.Full
+loss_of (refused.Crossed own found) = Some loss.Crossed
+loss_of refused.TooFar = Some loss.TooFar
+loss_of refused.NoMemory = Some loss.NoMemory
+
+-- the loss of a link, and not of a URL that was taken
+abbrev pub is_of_link : Loss → Bool
+is_of_link loss.Failed = false
+is_of_link loss.Unkept = false
+is_of_link _ = true
