@@ -1,5 +1,5 @@
 -- How a worker's run goes on.
-use Rattle.std.proofs.Common.{◌≡◌, ◌⊎◌, inl, inr, ℕ, suc, ◌+◌, ◌-◌, ◌^◌, ◌<◌, ◌≤◌, min, Bool, true, false, cond, List, [], ◌∷◌, ◌++◌, length, map, take, Option, None, Some, Result, Ok, Err, refl, sym, ap, subst, ◌∙◌, arith, IsTrue, IfSome, slice_set, slice_index_or}
+use Rattle.std.proofs.Common.{◌≡◌, ◌⊎◌, inl, inr, ℕ, suc, ◌+◌, ◌-◌, ◌^◌, ◌<◌, ◌≤◌, Bool, true, false, cond, List, [], ◌∷◌, ◌++◌, length, map, take, Option, None, Some, Result, Ok, Err, refl, sym, ap, subst, ◌∙◌, arith, IsTrue, IfSome, slice_set, slice_index_or}
 use Rattle.std.specs.List.{All, AllZip, count_by}
 use Rattle.std.proofs.lemmas.List.{append_assoc, map-append, length_push, set-get_or, take_more}
 use Rattle.std.proofs.lemmas.List.Sums.{sum_by_push, sum_by-append}

@@ -1,5 +1,4 @@
-use Rattle.std.proofs.Common.{sym, ◌+◌, length, drop}
-use Rattle.std.specs.Str.{IsUtf8}
+use Rattle.std.proofs.Common.{sym, ◌+◌, length}
 use Rattle.std.proofs.lemmas.List.{take_rest}
 use Rattle.crawl_web.proofs.CutLines.{lines_at, lines_only, nonempty, whole_utf8, no_bytes}
 use Rattle.crawl_web.proofs.lines.first_line.Goals as goal

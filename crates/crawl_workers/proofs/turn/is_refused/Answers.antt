@@ -1,5 +1,4 @@
-use Rattle.std.proofs.Common.{refl, sym, subst, Err}
-use Rattle.crawl_frontier.specs.Offers.{OfferWordsBeside}
+use Rattle.std.proofs.Common.{refl, sym, subst}
 use Rattle.crawl_workers.specs.Logs.{HasLine}
 use Rattle.crawl_workers.proofs.Running.{offer_grows, offer_line, knows_on}
 use Rattle.crawl_workers.proofs.Tallies.{counts_one, counts_none, link_of}
