@@ -4,7 +4,7 @@ use Rattle.crawl_gate.specs.Word.{closed_at}
 use Rattle.crawl_gate.specs.View.{knows_closed}
 use Rattle.crawl_gate.specs.Enter.{view_trying}
 use Rattle.crawl_gate.proofs.Knowing.{knows_closed-last}
-use Rattle.crawl_frontier.proofs.sender.Sender.offer.Goals as goal
+use Rattle.crawl_frontier.proofs.sender.Sender.send.Goals as goal
 
 pub returns-in-Closed-clause-words : goal.returns-in-Closed-clause-words
 returns-in-Closed-clause-words g c =
