@@ -126,14 +126,20 @@ fn turn<K: Name, R: Wait>(rt: &R, frontier: &Frontier<K>, worker: Worker<K>) -> 
     }
 }
 
-// The next call of a hand that has no URL to offer: a worker takes its turn or is done, and the seeder ends.
-fn go_on<K: Name, R: Wait>(rt: &R, frontier: &Frontier<K>, hand: Hand<K>) -> (Hand<K>, Did) {
+// What a hand comes to by its next call where it has no URL to offer: a worker takes its turn or is done, and the seeder ends.
+fn gone_on<K: Name, R: Wait>(rt: &R, frontier: &Frontier<K>, hand: Hand<K>) -> (Hand<K>, Did) {
     match hand {
         Hand::Idle(worker) => turn(rt, frontier, worker),
         Hand::Busy(worker) => (Hand::Idle(worker.done(frontier)), Did::Done),
         Hand::Seeds(seeder) => (Hand::Sends(seeder.end(frontier)), Did::End),
         hand => (hand, Did::Nothing),
     }
+}
+
+fn go_on<K: Name, R: Wait>(rt: &R, frontier: &Frontier<K>, hand: &mut Hand<K>) -> Did {
+    let (next, did) = gone_on(rt, frontier, mem::replace(hand, Hand::Gone));
+    *hand = next;
+    did
 }
 
 // The machine's answer to an offer. A URL that the filter refuses never comes to it.
@@ -170,8 +176,7 @@ fn call<K: Name, R: Wait>(
             return machine.agree(found, wanted);
         }
     }
-    let (next, did) = go_on(rt, frontier, mem::replace(hand, Hand::Gone));
-    *hand = next;
+    let did = go_on(rt, frontier, hand);
     machine.follow(u32::try_from(id).unwrap_or(u32::MAX), did)
 }
 
@@ -238,31 +243,26 @@ fn play<K: Name, R: Wait>(
     call_at(rt, alloc, frontier, hands, machine, run, last, urls.first())
 }
 
-// The workers, where all are closed.
-fn closed_of<K: Name>(alloc: Global, hands: Vec<Hand<K>>) -> Option<Vec<ClosedWorker<K>>> {
-    let mut closed = Vec::new(alloc);
-    for hand in hands {
-        let Hand::Closed(worker) = hand else {
-            return None;
-        };
-        let _ = closed.push(worker);
-    }
-    Some(closed)
-}
-
-// The account, where all workers are closed. The two senders stand last.
-fn finished<K: Name>(
-    alloc: Global,
-    frontier: Frontier<K>,
-    mut hands: Vec<Hand<K>>,
-) -> Option<Account> {
-    let mut senders = Vec::new(alloc);
-    for _ in 0..2 {
-        if let Some(Hand::Sends(sender)) = hands.pop() {
+// Puts the hand to those that end a run, if it is one of them.
+fn put<K: Name>(hand: Hand<K>, closed: &mut Vec<ClosedWorker<K>>, senders: &mut Vec<Sender<K>>) {
+    match hand {
+        Hand::Closed(worker) => {
+            let _ = closed.push(worker);
+        }
+        Hand::Sends(sender) => {
             let _ = senders.push(sender);
         }
+        _ => {}
     }
-    let closed = closed_of(alloc, hands)?;
+}
+
+// The account, where all workers are closed: one that is not is missing.
+fn finished<K: Name>(alloc: Global, frontier: Frontier<K>, hands: Vec<Hand<K>>) -> Option<Account> {
+    let mut closed = Vec::new(alloc);
+    let mut senders = Vec::new(alloc);
+    for hand in hands {
+        put(hand, &mut closed, &mut senders);
+    }
     frontier.finish(closed, senders).ok()
 }
 
