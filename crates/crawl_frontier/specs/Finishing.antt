@@ -1,5 +1,5 @@
 -- Inside `finish`: how far the parts were taken apart, settled and compared.
-use Rattle.std.specs.Prelude.{◌≡◌, ◌≢◌, ◌⊎◌, ℕ, ◌+◌, ◌<◌, ◌≤◌, true, false, List, [], length, Option, None, Some, slice_get, is_some}
+use Rattle.std.specs.Prelude.{◌≡◌, ◌≢◌, ◌⊎◌, ℕ, ◌+◌, ◌<◌, ◌≤◌, true, false, List, [], ◌∷◌, ◌++◌, length, Option, None, Some, slice_get, is_some}
 use Rattle.std.specs.Ordering.{nat_cmp}
 use Rattle.std.specs.BTreeMap.{BTreeMap, get}
 use Rattle.std.specs.BTreeSet.{BTreeSet, contains}
@@ -73,6 +73,11 @@ Shows queues q s right (Some (Holds held)) =
 -- the list is the shard's
 abbrev pub Settles : ℕ → List QueueId → ℕ → ShardId → PassId → List Entry → Option Doubt → Type 0
 Settles workers queues q s right es doubt = (es ≡ s.sent) × KeepsRule workers s.place [] es × Shows queues q s right doubt
+
+-- the last shard is settled with the right to pop of place q, and taken off
+abbrev pub SettlesLast : ℕ → List QueueId → ℕ → List ShardId → List ShardId → BTreeMap ℕ PassId → List Entry → Option Doubt → Type 0
+SettlesLast workers queues q shards left rights es doubt =
+    (s : ShardId) × (right : PassId) × (shards ≡ left ++ s ∷ []) × (get nat_cmp rights q ≡ Some right) × Settles workers queues q s right es doubt
 
 -- place q is settled with its shard, of those that come last first, and its right to pop
 abbrev pub SettlesAt : ℕ → List QueueId → List ShardId → BTreeMap ℕ PassId → ℕ → List Entry → Option Doubt → Type 0

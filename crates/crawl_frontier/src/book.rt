@@ -1,5 +1,5 @@
 //! What a part that sends keeps of its own offers.
-ghost use Rattle.std.specs.Prelude.{◌≡◌, ◌<◌, ◌^◌, IfOk, OnOk, Some, slice_get, vec_len};
+ghost use Rattle.std.specs.Prelude.{◌≡◌, ◌<◌, ◌^◌, IfOk, Some, slice_get, vec_len};
 ghost use Rattle.crawl_frontier.specs.Entries.{entry};
 ghost use Rattle.crawl_frontier.specs.Books.{IsBook, HasRoom, book_of, book_accepting, book_seeing, fresh_book};
 
@@ -38,12 +38,18 @@ impl Book {
         })
     }
 
-    /// Makes room for one line more.
-    pub fn reserve(&mut self) -> Result<(), AllocError>
+    /// Makes room for one line more, and a copy of its URL.
+    pub fn ready(&mut self, url: &CanonUrl) -> Result<CanonUrl, AllocError>
         ensures same { book_of self.new ≡ book_of self.old }
-        ensures room { OnOk result (HasRoom self.new.log) }
+        ensures ready { IfOk result (λ copy. (copy ≡ url.now) × HasRoom self.new.log) }
     {
-        self.log.reserve()
+        let Ok(()) = self.log.reserve() else {
+            return Err(AllocError);
+        };
+        match url.copy() {
+            Ok(copy) => Ok(copy),
+            Err(_) => Err(AllocError),
+        }
     }
 
     /// Enters a URL that subqueue `place` accepted, as the `number`-th from 0. Nothing grows.

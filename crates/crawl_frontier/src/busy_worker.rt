@@ -10,13 +10,12 @@ use crate::entry::Message;
 use crate::error::OfferError;
 use crate::frontier::Frontier;
 use crate::name::Name;
-use crate::offer::{Offer, deliver, give_back};
+use crate::offer::{Offer, give_back, offer_beside};
 use crate::rights::PopRight;
 use crate::worker::Worker;
-use crawl_gate::{Enter, Pass};
+use crawl_gate::Pass;
 use crawl_keys::CanonUrl;
 use std::marker::{Model, PhantomData};
-use std::mem;
 use std::sync::Wait;
 
 /// A worker with a URL whose fetch isn't done. [`Worker::next`] makes it.
@@ -80,36 +79,16 @@ impl<K: Name> BusyWorker<K> {
         ensures entry { self.new.message.entry ≡ self.old.message.entry }
         ensures same { self.new.worker ≡ worker self.old.worker.place self.new.worker.seat self.old.worker.taken self.old.worker.empty_pops self.new.worker.book }
     {
-        if !frontier.filter().allows(url) {
-            return Err(OfferError::Filtered);
-        }
-        let Ok(url) = url.copy() else {
-            return Err(OfferError::NoMemory);
-        };
-        let Ok(()) = self.book.reserve() else {
-            return Err(OfferError::NoMemory);
-        };
         let hops = u64::from(self.message.entry.hops) + 1;
-        let gate = frontier.gate();
-        let spare = gate.split_unit(&mut self.message.unit);
-        let pass = mem::replace(&mut self.pass, spare);
-        let unit = match gate.enter_beside(rt, &mut self.message.unit, pass) {
-            Enter::Entered(unit) => unit,
-            Enter::Full(pass) => {
-                self.pass = pass;
-                return Err(OfferError::Full);
-            }
-            Enter::Closed(_) => unreachable!(),
-            Enter::Lost(_) => unreachable!(),
-        };
-        deliver(
+        let held = &mut self.message.unit;
+        offer_beside(
             rt,
             frontier,
+            held,
             &mut self.book,
             &mut self.pass,
             url,
             hops,
-            unit,
         )
     }
 

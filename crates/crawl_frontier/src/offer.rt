@@ -1,9 +1,10 @@
 //! What an offer answers, and its half after it has entered the gate.
-ghost use Rattle.std.specs.Prelude.{◌≡◌, ◌<◌};
+ghost use Rattle.std.specs.Prelude.{◌≡◌, ◌↔◌, ◌<◌, false};
 ghost use Rattle.crawl_keys.specs.Assignment.{subqueue_of};
+ghost use Rattle.crawl_keys.specs.HostFilter.{allows};
 ghost use Rattle.crawl_gate.specs.Seat.{IsSeatOf};
 ghost use Rattle.crawl_frontier.specs.Books.{IsBook, HasRoom, book_of};
-ghost use Rattle.crawl_frontier.specs.Offers.{Replies, OfferBooks, Delivers};
+ghost use Rattle.crawl_frontier.specs.Offers.{Replies, OfferBooks, OfferWordsBeside, Delivers, IsFiltered};
 ghost use Rattle.crawl_frontier.specs.Units.{GaveBack};
 
 use crate::book::Book;
@@ -11,8 +12,9 @@ use crate::error::OfferError;
 use crate::frontier::Frontier;
 use crate::name::Name;
 use crate::shard::Admit;
-use crawl_gate::{Pass, Unit};
+use crawl_gate::{Enter, Pass, Unit};
 use crawl_keys::CanonUrl;
+use std::mem;
 use std::sync::Wait;
 
 /// What became of a URL that an offer was not refused.
@@ -114,4 +116,45 @@ pub(crate) fn deliver<K: Name, R: Wait>(
             Err(OfferError::NoMemory)
         }
     }
+}
+
+/// Offers a URL beside a unit that is held, so that the gate is open: for the seeder, and for a busy worker.
+pub(crate) fn offer_beside<K: Name, R: Wait>(
+    rt: &R,
+    frontier: &Frontier<K>,
+    held: &mut Unit,
+    book: &mut Book,
+    pass: &mut Pass,
+    url: &CanonUrl,
+    hops: u64,
+) -> Result<Offer, OfferError>
+    requires held { IsSeatOf K.gate held.old }
+    requires book { IsBook K.workers (book_of book.old) }
+    requires pass { IsSeatOf K.gate pass.old }
+    ensures held { IsSeatOf K.gate held.new }
+    ensures book { IsBook K.workers (book_of book.new) }
+    ensures pass { IsSeatOf K.gate pass.new }
+    ensures books { OfferBooks K.workers (book_of book.old) (book_of book.new) url.now hops result }
+    ensures words { OfferWordsBeside held.old held.new pass.old pass.new result }
+    ensures filtered { IsFiltered result ↔ (allows K.filter url.now ≡ false) }
+{
+    if !frontier.filter().allows(url) {
+        return Err(OfferError::Filtered);
+    }
+    let Ok(url) = book.ready(url) else {
+        return Err(OfferError::NoMemory);
+    };
+    let gate = frontier.gate();
+    let spare = gate.split_unit(held);
+    let entering = mem::replace(pass, spare);
+    let unit = match gate.enter_beside(rt, held, entering) {
+        Enter::Entered(unit) => unit,
+        Enter::Full(back) => {
+            *pass = back;
+            return Err(OfferError::Full);
+        }
+        Enter::Closed(_) => unreachable!(),
+        Enter::Lost(_) => unreachable!(),
+    };
+    deliver(rt, frontier, book, pass, url, hops, unit)
 }

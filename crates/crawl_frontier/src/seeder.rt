@@ -11,13 +11,12 @@ use crate::book::Book;
 use crate::error::{FrontierError, OfferError};
 use crate::frontier::Frontier;
 use crate::name::Name;
-use crate::offer::{Offer, deliver, give_back};
+use crate::offer::{Offer, give_back, offer_beside};
 use crate::sender::Sender;
-use crawl_gate::{Enter, Pass, Unit};
+use crawl_gate::{Pass, Unit};
 use crawl_keys::CanonUrl;
 use std::alloc::Global;
 use std::marker::{Model, PhantomData};
-use std::mem;
 use std::sync::Wait;
 
 /// Whoever offers the first URLs. [`Frontier::new`] makes it, and [`Seeder::end`] makes a sender of it.
@@ -70,28 +69,8 @@ impl<K: Name> Seeder<K> {
         ensures words { OfferWordsBeside self.old.opening self.new.opening self.old.seat self.new.seat result }
         ensures filtered { IsFiltered result ↔ (allows K.filter url.now ≡ false) }
     {
-        if !frontier.filter().allows(url) {
-            return Err(OfferError::Filtered);
-        }
-        let Ok(url) = url.copy() else {
-            return Err(OfferError::NoMemory);
-        };
-        let Ok(()) = self.book.reserve() else {
-            return Err(OfferError::NoMemory);
-        };
-        let gate = frontier.gate();
-        let spare = gate.split_unit(&mut self.opening);
-        let pass = mem::replace(&mut self.pass, spare);
-        let unit = match gate.enter_beside(rt, &mut self.opening, pass) {
-            Enter::Entered(unit) => unit,
-            Enter::Full(pass) => {
-                self.pass = pass;
-                return Err(OfferError::Full);
-            }
-            Enter::Closed(_) => unreachable!(),
-            Enter::Lost(_) => unreachable!(),
-        };
-        deliver(rt, frontier, &mut self.book, &mut self.pass, url, 0, unit)
+        let (held, book, pass) = (&mut self.opening, &mut self.book, &mut self.pass);
+        offer_beside(rt, frontier, held, book, pass, url, 0)
     }
 
     /// A new sender with this id. An id that another part has isn't refused: offers of both show it as

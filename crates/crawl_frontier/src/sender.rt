@@ -83,10 +83,22 @@ impl<K: Name> Sender<K> {
         if !frontier.filter().allows(url) {
             return Err(OfferError::Filtered);
         }
-        let Ok(url) = url.copy() else {
-            return Err(OfferError::NoMemory);
-        };
-        let Ok(()) = self.book.reserve() else {
+        self.send(rt, frontier, url)
+    }
+
+    // Offers a URL that the filter allows.
+    fn send<R: Wait>(
+        &mut self,
+        rt: &R,
+        frontier: &Frontier<K>,
+        url: &CanonUrl,
+    ) -> Result<Offer, OfferError>
+        ensures books { OfferBooks K.workers self.old.book self.new.book url.now 0 result }
+        ensures words { OfferWords self.old.seat self.new.seat result }
+        ensures allowed { ¬ IsFiltered result }
+        ensures for_good { knows_closed self.old.seat.view ≡ true → IsLate result × (knows_closed self.new.seat.view ≡ true) }
+    {
+        let Ok(url) = self.book.ready(url) else {
             return Err(OfferError::NoMemory);
         };
         let gate = frontier.gate();

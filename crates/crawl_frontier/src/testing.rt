@@ -1,11 +1,58 @@
 //! What only tests call.
-ghost use Rattle.std.specs.Prelude.{◌≡◌};
+ghost use Rattle.std.specs.Prelude.{◌≡◌, IfSome};
+ghost use Rattle.crawl_gate.specs.Seat.{IsSeatOf};
+ghost use Rattle.crawl_keys.specs.Assignment.{subqueue_of};
 
 use crate::laws::Admit;
 use crate::{Frontier, Name, Worker};
-use crawl_gate::Enter;
+use crawl_gate::{Enter, Pass, Unit};
 use crawl_keys::CanonUrl;
 use std::sync::Wait;
+
+// The worker's pass of the gate.
+fn pass_of<K: Name>(worker: Worker<K>) -> Pass
+    ensures { IsSeatOf K.gate result }
+{
+    let Worker {
+        place: _,
+        right: _,
+        pass,
+        book: _,
+        of: _,
+    } = worker;
+    pass
+}
+
+// The unit that a pass enters by, if the gate lets it in.
+fn unit_of<K: Name, R: Wait>(rt: &R, frontier: &Frontier<K>, pass: Pass) -> Option<Unit>
+    requires { IsSeatOf K.gate pass }
+    ensures { IfSome result (λ unit. IsSeatOf K.gate unit) }
+{
+    match frontier.gate().enter(rt, pass) {
+        Enter::Entered(unit) => Some(unit),
+        _ => None,
+    }
+}
+
+// Admits a URL of subqueue 0, by a unit.
+fn admit_by<K: Name, R: Wait>(
+    rt: &R,
+    frontier: &Frontier<K>,
+    unit: Unit,
+    url: &CanonUrl,
+    own: u64,
+    hops: u64,
+) -> Option<Admit>
+    requires unit { IsSeatOf K.gate unit }
+    requires queue { subqueue_of url.now K.workers ≡ 0 }
+{
+    let queue = frontier.subqueue(0);
+    let mut shard = frontier.lock(rt, 0);
+    if shard.place() != 0 {
+        return None;
+    }
+    Some(shard.admit(rt, queue, url, 9, own, hops, unit))
+}
 
 /// Admits a URL to subqueue 0 with hops of the caller's choice, which no offer can reach: as the one with this own number
 /// of sender 9, by a unit that the worker's pass enters.
@@ -19,15 +66,10 @@ pub fn admit<K: Name, R: Wait>(
     own: u64,
     hops: u64,
 ) -> Option<Admit> {
+    let pass = pass_of(worker);
     if url.subqueue(frontier.workers()) != 0 {
         return None;
     }
-    let Enter::Entered(unit) = frontier.gate().enter(rt, worker.pass) else {
-        return None;
-    };
-    let mut shard = frontier.lock(rt, 0);
-    if shard.place() != 0 {
-        return None;
-    }
-    Some(shard.admit(rt, frontier.subqueue(0), url, 9, own, hops, unit))
+    let unit = unit_of(rt, frontier, pass)?;
+    admit_by(rt, frontier, unit, url, own, hops)
 }

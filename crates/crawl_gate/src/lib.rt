@@ -12,8 +12,6 @@ pub mod laws;
 mod pass;
 mod rule;
 mod step_kind;
-#[cfg(test)]
-mod tests;
 mod unit;
 mod word;
 

@@ -5,8 +5,6 @@ mod index;
 mod keyed;
 mod overflow;
 mod slots;
-#[cfg(test)]
-mod tests;
 mod text_list;
 
 pub use index::HashIndex;

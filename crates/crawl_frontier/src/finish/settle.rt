@@ -3,8 +3,9 @@ ghost use Rattle.std.specs.Prelude.{◌≡◌, ◌<◌, ◌≤◌, ℕ, [], true
 ghost use Rattle.std.specs.Ordering.{nat_cmp};
 ghost use Rattle.std.specs.BTreeMap.{get};
 ghost use Rattle.crawl_frontier.specs.declared.finish.settle.Doubt.{Doubt};
+ghost use Rattle.crawl_frontier.specs.PassId.{PassId};
 ghost use Rattle.crawl_frontier.specs.Accounts.{At};
-ghost use Rattle.crawl_frontier.specs.Finishing.{Settles, AllSettle, RightsOf};
+ghost use Rattle.crawl_frontier.specs.Finishing.{Settles, SettlesLast, AllSettle, RightsOf};
 
 use crate::accepted::AcceptedList;
 use crate::name::Name;
@@ -86,6 +87,29 @@ fn settle<K: Name>(
     }
 }
 
+// The last of the shards, settled with the right to pop of this place.
+fn settle_last<K: Name>(
+    queue: &Subqueue,
+    shards: &mut Vec<Shard<K>>,
+    rights: &mut BTreeMap<u32, PopRight>,
+    place: u32,
+) -> (AcceptedList, Option<Doubt>)
+    requires queue { slice_get K.queues place ≡ Some queue.now }
+    requires some { 0 < length shards.old.items }
+    requires right { (p : PassId) → get nat_cmp rights.old place ≡ Some p → slice_get K.queues place ≡ Some p.queue }
+    requires there { is_some (get nat_cmp rights.old place) ≡ true }
+    ensures last { SettlesLast K.workers K.queues place shards.old.items shards.new.items rights.old result.0 result.1 }
+    ensures others { (q : ℕ) → place < q → get nat_cmp rights.new q ≡ get nat_cmp rights.old q }
+{
+    let Some(right) = rights.remove(&place) else {
+        unreachable!()
+    };
+    let Some(shard) = shards.pop() else {
+        unreachable!()
+    };
+    settle(queue, shard, place, right)
+}
+
 /// The lists by place, and why a place is in doubt, where one is. The shards come last first.
 pub fn settle_all<K: Name>(
     alloc: Global,
@@ -102,13 +126,8 @@ pub fn settle_all<K: Name>(
     let mut lists = Vec::new(alloc);
     let mut doubts = Vec::new(alloc);
     for place in 0..queues.len() as u32 {
-        let Some(right) = rights.remove(&place) else {
-            unreachable!()
-        };
-        let Some(shard) = shards.pop() else {
-            unreachable!()
-        };
-        let (list, doubt) = settle(&queues[place as usize], shard, place, right);
+        let queue = &queues[place as usize];
+        let (list, doubt) = settle_last(queue, &mut shards, &mut rights, place);
         lists.push(list)?;
         doubts.push(doubt)?;
     }

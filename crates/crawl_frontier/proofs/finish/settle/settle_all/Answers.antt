@@ -1,40 +1,43 @@
-use Rattle.std.proofs.Common.{rules, ◌≡◌, ◌∙◌, ◌++◌, ◌∷◌, ◌+◌, ℕ, List, Option, sym, ap, arith, length, length-append, subst, Some, []}
-use Rattle.std.specs.Ordering.{nat_cmp}
-use Rattle.std.specs.BTreeMap.{get}
+use Rattle.std.proofs.Common.{rules, ◌≡◌, ◌∙◌, ◌++◌, ◌∷◌, ◌+◌, ℕ, List, Option, sym, ap, arith, length, length-append, subst, []}
 use Rattle.crawl_frontier.specs.declared.entry.Entry.{Entry}
 use Rattle.crawl_frontier.specs.declared.finish.settle.Doubt.{Doubt}
 use Rattle.crawl_frontier.specs.Parts.{ShardId}
-use Rattle.crawl_frontier.specs.Accounts.{At}
 use Rattle.crawl_frontier.specs.Finishing.{Begins, SettlesAt, AllSettle}
 use Rattle.crawl_frontier.proofs.Gets.{get_before, get_last}
-use Rattle.crawl_frontier.proofs.Settling.{removed, settle_more}
+use Rattle.crawl_frontier.proofs.Settling.{settle_more}
 use Rattle.crawl_frontier.proofs.finish.settle.settle_all.Goals as goal
+
+pub settle_last-list-requires-clause-right : goal.settle_last-list-requires-clause-right
+settle_last-list-requires-clause-right g c = λ p is.
+    let place = c.loop-place.place in
+    c.requires.rights place p (sym (c.loop-place.invariant.4 place (omega arith)) ∙ is)
 
 pub loop-place-preserved : goal.loop-place-preserved
 loop-place-preserved g c =
     let i = c.loop-place.invariant in
-    let place = c.loop-place.place-counter in
+    let place = c.loop-place.place in
     let lists = c.loop-place.lists.items in
     let doubts = c.loop-place.doubts.items in
     let shards = c.args.shards.items in
-    let shard = c.in-Some-pop.shard in
-    let left = c.pop.new.self.items in
-    let all : c.loop-place.shards.items ≡ left ++ shard ∷ [] = c.in-Some-pop.ensures.items in
+    let r = c.settle_last-list in
+    let last = r.ensures.last in
+    let shard = last.0 in
+    let right = last.1 in
+    let left = r.new.shards.items in
+    let all : c.loop-place.shards.items ≡ left ++ shard ∷ [] = last.2 in
     let begins : Begins (left ++ shard ∷ []) shards = subst (λ (l : List ShardId). Begins l shards) all i.3 in
-    let here : At shards (length left) shard = begins (length left) shard (get_last left shard) in
     let at : place ≡ length lists = omega (arith, i.0, c.loop-place.lists.ok.0) in
-    let there : get nat_cmp c.loop-place.rights place ≡ Some c.in-Some.right = sym c.in-Some.ensures.value in
-    let r = c.settle-list in
-    let sum : length left + place + 1 ≡ length shards = omega (arith, i.2, ap length all, length-append left (shard ∷ []), c.loop-place.shards.ok.0, c.args.shards.ok.0, c.requires.shards) in
+    let one : length left + 1 ≡ length c.loop-place.shards.items = omega (arith, ap length all, length-append left (shard ∷ [])) in
+    let sum : length left + place + 1 ≡ length shards = omega (arith, i.2, one, c.loop-place.shards.ok.0, c.args.shards.ok.0, c.requires.shards) in
     let settles : SettlesAt g.K.Name.workers g.K.Name.queues shards c.args.rights place r.result.0 r.result.1 =
-    (length left, shard, c.in-Some.right, here, sum, sym (i.4 place (omega arith)) ∙ there, r.ensures) in
+    (length left, shard, right, begins (length left) shard (get_last left shard), sum, sym (i.4 place (omega arith)) ∙ last.3, last.4) in
     let more : AllSettle g.K.Name.workers g.K.Name.queues shards c.args.rights (lists ++ r.result.0 ∷ []) (doubts ++ r.result.1 ∷ []) =
     settle_more g.K.Name.workers g.K.Name.queues shards c.args.rights lists doubts r.result.0 r.result.1 i.5 (omega (arith, at, i.1, c.loop-place.doubts.ok.0))
     (subst (λ (n : ℕ). SettlesAt g.K.Name.workers g.K.Name.queues shards c.args.rights n r.result.0 r.result.1) at settles) in (
       search rules,
       search rules,
-      search rules,
+      omega (arith, i.2, one, c.loop-place.shards.ok.0, r.new.shards.ok.0),
       λ k x is. begins k x (get_before left shard x k is),
-      λ q le. removed place c.loop-place.rights c.remove.new.self c.remove.ensures.updates.0 q (omega (arith, le)) ∙ i.4 q (omega (arith, le)),
+      λ q le. r.ensures.others q (omega (arith, le)) ∙ i.4 q (omega (arith, le)),
       subst (λ (y : List (List Entry) × List (Option Doubt)). AllSettle g.K.Name.workers g.K.Name.queues shards c.args.rights y.0 y.1) (λ i. (sym c.in_ok-push.ensures.items i, sym c.in_ok-push-2.ensures.items i)) more,
     )

@@ -6,8 +6,8 @@ use Rattle.crawl_frontier.proofs.finish.settle.settle_all.Given as goal
 
 abbrev pub invariant-loop-place : goal.invariant-loop-place
 invariant-loop-place g l =
-    (vec_len l.lists ≡ l.place-counter) × (vec_len l.doubts ≡ l.place-counter)
-    × (vec_len l.shards + l.place-counter ≡ g.K.Name.workers)
+    (vec_len l.lists ≡ l.place) × (vec_len l.doubts ≡ l.place)
+    × (vec_len l.shards + l.place ≡ g.K.Name.workers)
     × Begins l.shards.items l.fn.shards.items
-    × ((q : ℕ) → l.place-counter ≤ q → get nat_cmp l.rights q ≡ get nat_cmp l.fn.rights q)
+    × ((q : ℕ) → l.place ≤ q → get nat_cmp l.rights q ≡ get nat_cmp l.fn.rights q)
     × AllSettle g.K.Name.workers g.K.Name.queues l.fn.shards.items l.fn.rights l.lists.items l.doubts.items

@@ -1,0 +1,9 @@
+use Rattle.std.proofs.Common.{subst}
+use Rattle.crawl_frontier.specs.Parts.{SeederId}
+use Rattle.crawl_frontier.specs.Offers.{OfferWordsBeside}
+use Rattle.crawl_frontier.proofs.seeder.Seeder.offer.Goals as goal
+
+pub returns-clause-words : goal.returns-clause-words
+returns-clause-words g c =
+    let new = c.offer_beside.new in
+    subst (λ (s : SeederId). OfferWordsBeside s.opening new.held s.seat new.pass c.offer_beside.result) c.self.view_is c.offer_beside.ensures.words

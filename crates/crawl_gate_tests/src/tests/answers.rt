@@ -1,0 +1,53 @@
+//! What a call answers, as plain data. Each pass comes back, so that a row goes on with it.
+ghost use Rattle.crawl_gate.specs.Seat.{IsSeatOf};
+ghost use Rattle.crawl_gate.specs.Enter.{GivesSeatOf};
+
+use crawl_gate::{Close, Enter, Gate, Pass, Unit};
+
+/// How a call ended, and the count with it: after a unit that was taken is given back, or with which the gate is not closed.
+#[derive(Clone, Copy, PartialEq, Eq)]
+pub enum Answer {
+    Entered(u64),
+    Closed,
+    Full,
+    Lost,
+    Pending(u64),
+}
+
+/// What an entering call ended with. A unit that it took is given back.
+pub fn entered(gate: &Gate, end: Enter) -> (Answer, Pass)
+    requires { GivesSeatOf gate.now end }
+    ensures { IsSeatOf gate.now result.1 }
+{
+    match end {
+        Enter::Entered(unit) => {
+            let (pass, left) = gate.leave(unit);
+            (Answer::Entered(left), pass)
+        }
+        Enter::Closed(pass) => (Answer::Closed, pass),
+        Enter::Full(pass) => (Answer::Full, pass),
+        Enter::Lost(pass) => (Answer::Lost, pass),
+    }
+}
+
+/// What a closing call ends with.
+pub fn closed(gate: &Gate, pass: Pass) -> Answer
+    requires { IsSeatOf gate.now pass }
+{
+    match gate.try_close(pass) {
+        Close::Closed(_) => Answer::Closed,
+        Close::Pending(_, count) => Answer::Pending(count),
+    }
+}
+
+/// What an entering call beside a unit ended with: the count with the unit that it took, and when that is given back.
+pub fn entered_beside(gate: &Gate, held: &mut Unit, end: Enter) -> (u64, Answer, Pass)
+    requires held { IsSeatOf gate.now held.old }
+    requires end { GivesSeatOf gate.now end }
+    ensures held { IsSeatOf gate.now held.new }
+    ensures pass { IsSeatOf gate.now result.2 }
+{
+    let count = gate.load_held(held);
+    let (answer, pass) = entered(gate, end);
+    (count, answer, pass)
+}

@@ -1,0 +1,167 @@
+//! What no clause says: that a growth which is refused comes out as an error, and leaves the index as it was. The lists are
+//! drawn, of texts that have three hashes in all and want the same slots.
+ghost use Rattle.std.specs.Prelude.{◌≡◌, ◌*◌, ◌%◌, ℕ, List, map, length};
+ghost use Rattle.hash_index.specs.Index.{IsIndexOf};
+
+use hash_index::{HashIndex, Keyed};
+use std::alloc::{AllocError, Global};
+use std::marker::Model;
+
+/// How many lists are drawn.
+const LISTS: u64 = 100_000;
+
+/// As many as `rt try` gets through, with each capacity at the start once.
+const FEW_LISTS: u64 = 24;
+
+/// How many texts are drawn for a list.
+const DRAWS: usize = 40;
+
+/// As many of each of the three hashes, of which one slot's bucket takes eight.
+const TEXTS: [&str; 36] = [
+    "a", "b", "c", "d", "e", "f", "g", "h", "i", "j", "k", "l", "aa", "bb", "cc", "dd", "ee", "ff",
+    "gg", "hh", "ii", "jj", "kk", "ll", "aaa", "bbb", "ccc", "ddd", "eee", "fff", "ggg", "hhh",
+    "iii", "jjj", "kkk", "lll",
+];
+
+/// A text that has one of three hashes, by its length.
+#[derive(Drop)]
+struct Word {
+    text: &'static str,
+}
+
+impl Model for Word {
+    ghost use Rattle.std.specs.Prelude.{List, ℕ};
+
+    ghost Value = { List ℕ };
+
+    ghost view = { λ word. word.text.now };
+}
+
+impl Keyed for Word {
+    ghost text = { λ word. word };
+
+    ghost hash = { λ text. length text % 3 * 8589934593 };
+
+    fn text(&self) -> &str {
+        self.text
+    }
+
+    fn text_hash(&self) -> u64 {
+        (self.text.len() % 3) as u64 * 8_589_934_593
+    }
+}
+
+/// A list with its index.
+#[derive(Drop)]
+struct Words {
+    list: Vec<Word>,
+    index: HashIndex,
+}
+
+impl Model for Words {
+    ghost use Rattle.std.specs.Prelude.{◌*◌, ◌%◌, ℕ, List, map, length};
+    ghost use Rattle.hash_index.specs.Index.{IsIndexOf};
+
+    ghost Value = { List (List ℕ) };
+
+    ghost view = { λ words. words.list.items };
+
+    ghost invariant = { λ words. IsIndexOf (λ text. length text % 3 * 8589934593) (map (λ word. word) words.list.items) words.index };
+}
+
+impl Words {
+    fn with_capacity(alloc: Global, count: usize) -> Result<Words, AllocError> {
+        Ok(Words {
+            list: Vec::new(alloc),
+            index: HashIndex::with_capacity(alloc, count)?,
+        })
+    }
+
+    /// Adds the word, unless it is there, and tells where it was found.
+    fn add(&mut self, word: Word) -> Result<Option<usize>, AllocError> {
+        let found = self.index.find_or_insert(&self.list, &word)?;
+        if found.is_some() {
+            return Ok(found);
+        }
+        self.list.push(word)?;
+        Ok(None)
+    }
+
+    fn find(&self, word: &Word) -> Option<usize> {
+        self.index.find(&self.list.as_slice(), word)
+    }
+
+    /// Where the text stands, by a look at each.
+    fn search(&self, text: &str) -> Option<usize> {
+        for index in 0..self.list.len() {
+            if self.list[index].text == text {
+                return Some(index);
+            }
+        }
+        None
+    }
+
+    /// Whether each text is found where it stands.
+    fn finds_all(&self) -> bool {
+        for number in 0..TEXTS.len() {
+            let word = nth_word(number);
+            if self.find(&word) != self.search(word.text) {
+                return false;
+            }
+        }
+        true
+    }
+
+    /// Adds the word, and tells whether it was found where it stands. After a refused growth all are found as before.
+    fn adds(&mut self, word: Word) -> bool {
+        let wanted = self.search(word.text);
+        match self.add(word) {
+            Ok(found) => found == wanted,
+            Err(_) => self.finds_all(),
+        }
+    }
+}
+
+fn nth_word(number: usize) -> Word {
+    Word {
+        text: TEXTS[number % TEXTS.len()],
+    }
+}
+
+/// Whether all is found in one drawn list, as it grows and when it is done.
+fn finds_drawn(alloc: Global, seed: u64) -> bool {
+    let Ok(mut words) = Words::with_capacity(alloc, seed as usize % 24) else {
+        return true;
+    };
+    let mut drawn = seed;
+    for _ in 0..DRAWS {
+        drawn = drawn
+            .wrapping_mul(6_364_136_223_846_793_005)
+            .wrapping_add(1_442_695_040_888_963_407);
+        if !words.adds(nth_word((drawn >> 33) as usize)) {
+            return false;
+        }
+    }
+    words.finds_all()
+}
+
+/// Whether all is found in each of so many drawn lists.
+fn finds_in_each(alloc: Global, lists: u64) -> bool {
+    for seed in 0..lists {
+        if !finds_drawn(alloc, seed) {
+            return false;
+        }
+    }
+    true
+}
+
+#[test]
+fn finds_what_a_plain_search_finds(rt: HostRuntime) {
+    assert!(&rt; finds_in_each(rt.alloc(), LISTS));
+}
+
+// `rt try --test --fail-alloc N -- refused` refuses the Nth growth.
+#[test]
+fn finds_all_after_a_refused_growth(rt: HostRuntime) {
+    assert!(&rt; finds_in_each(rt.alloc(), FEW_LISTS));
+}
