@@ -77,7 +77,7 @@ exchange_closes state (Again named) closed = again_open (in_fetch state named) c
 exchange_closes state (Done named) closed = closes_at (event.Done named) (turn state (event.Done named)).reply (told_is closed)
 exchange_closes state EndSeeds closed = closes_at event.EndSeeds (turn state event.EndSeeds).reply (told_is closed)
 
-answered_closes : (state : State) (asks : Result Request RequestError) → (answered state asks).answer ≡ Told told.Closed → Closes (answered state asks).history
+pub answered_closes : (state : State) (asks : Result Request RequestError) → (answered state asks).answer ≡ Told told.Closed → Closes (answered state asks).history
 answered_closes state (Ok request) closed = exchange_closes state request closed
 answered_closes state (Err why) closed = absurd (cc (closed))
 

@@ -13,10 +13,10 @@ use Rattle.crawl_session.specs.Input.{held_limit, IsUnfinished, AreWhole}
 use Rattle.crawl_session.specs.Requests.{request_of}
 use Rattle.crawl_session.specs.Settings.{Settings}
 
-abbrev is_lf : ℕ → Bool
+abbrev pub is_lf : ℕ → Bool
 is_lf b = b == 10
 
-abbrev IsOther : ℕ → Type 0
+abbrev pub IsOther : ℕ → Type 0
 IsOther b = (b == 10) ≡ false
 
 -- a part that others follow loses its CR
@@ -79,7 +79,7 @@ one_line bytes unfinished some =
     rw (slice_split_none is_lf bytes unfinished) (rw (ne_eqb (length bytes) 0 (λ none. omega (arith, none, some))) refl)
 
 -- the first line of bytes with an LF
-line_before : (line more : List ℕ) → IsUnfinished line → lines (line ++ 10 ∷ more) ≡ strip_carriage_return line ∷ lines more
+pub line_before : (line more : List ℕ) → IsUnfinished line → lines (line ++ 10 ∷ more) ≡ strip_carriage_return line ∷ lines more
 line_before line more unfinished =
     ap lines_of_parts (slice_split_at is_lf line 10 more unfinished refl) ∙ before_others line (slice_split is_lf more) (parts_below more)
 

@@ -1,4 +1,7 @@
 pub mod Closings
+pub mod CompactText
+pub mod Compacted
+pub mod Compactions
 pub mod Cuts
 pub mod Ends
 pub mod Lines

@@ -62,11 +62,11 @@ fits_after workers request state e more fits = record { rests = fits.rests; told
 
 -- ---- requests of a subqueue's worker
 
-turn_told : (P : Turn → Type 0) (b : Bool) (x y : Turn) → P x → P y → P (if b then x else y)
+pub turn_told : (P : Turn → Type 0) (b : Bool) (x y : Turn) → P x → P y → P (if b then x else y)
 turn_told P true x y first second = first
 turn_told P false x y first second = second
 
-gate_told : (P : GateTurn → Type 0) (b : Bool) (x y : GateTurn) → P x → P y → P (if b then x else y)
+pub gate_told : (P : GateTurn → Type 0) (b : Bool) (x y : GateTurn) → P x → P y → P (if b then x else y)
 gate_told P true x y first second = first
 gate_told P false x y first second = second
 
@@ -133,23 +133,23 @@ same_word_same word = rw (eqb_same word.count) (flags word.closed)
     flags false = refl
 
 -- the client, which holds nothing and remembers this very word, is told that the gate is closed or full, or enters
-abbrev tried : GateSide → ℕ → GateTurn
+abbrev pub tried : GateSide → ℕ → GateTurn
 tried gate messages =
     if gate.closed then turned_away gate why.Closed
     else if nat_eq (units_out gate messages) gate.max then turned_away gate why.Full
     else grant gate messages client
 
-entry_is : (gate : GateSide) (messages : ℕ) → gate.holders ≡ [] → remembers gate client ≡ Some (shown_word gate messages) → enter gate messages client ≡ tried gate messages
+pub entry_is : (gate : GateSide) (messages : ℕ) → gate.holders ≡ [] → remembers gate client ≡ Some (shown_word gate messages) → enter gate messages client ≡ tried gate messages
 entry_is gate messages nobody word =
     ap (λ b. if b then turned_away gate why.Busy else enter_with gate messages client (remembers gate client)) (ap (λ (hs : List ℕ). list_any (is_at (nat_cmp client)) hs) nobody)
     ∙ ap (enter_with gate messages client) word
     ∙ ap (λ b. if not b then record { reply = told.Lost; gate = gate } else tried gate messages) (same_word_same (shown_word gate messages))
 
-record Entry (url : List ℕ) (named : ℕ) (done : GateTurn) : Type 0 where
-  refused : is_entered done.reply ≡ false → (can_be_told (Offer url named) done.reply ≡ true) × (done.gate.holders ≡ [])
-  entered : is_entered done.reply ≡ true → done.gate.holders ≡ client ∷ []
+pub record Entry (url : List ℕ) (named : ℕ) (done : GateTurn) : Type 0 where
+  pub refused : is_entered done.reply ≡ false → (can_be_told (Offer url named) done.reply ≡ true) × (done.gate.holders ≡ [])
+  pub entered : is_entered done.reply ≡ true → done.gate.holders ≡ client ∷ []
 
-tries : (url : List ℕ) (named : ℕ) (gate : GateSide) (messages : ℕ) → gate.holders ≡ [] → Entry url named (tried gate messages)
+pub tries : (url : List ℕ) (named : ℕ) (gate : GateSide) (messages : ℕ) → gate.holders ≡ [] → Entry url named (tried gate messages)
 tries url named gate messages nobody =
     gate_told (Entry url named) gate.closed (turned_away gate why.Closed) (if nat_eq (units_out gate messages) gate.max then turned_away gate why.Full else grant gate messages client)
     (record { refused = λ _. (refl, nobody); entered = λ e. absurd (true≢false (sym e)) })
@@ -157,7 +157,7 @@ tries url named gate messages nobody =
     (record { refused = λ _. (refl, nobody); entered = λ e. absurd (true≢false (sym e)) })
     (record { refused = λ e. absurd (true≢false e); entered = λ _. ap (λ (hs : List ℕ). insert_key nat_cmp hs client) nobody }))
 
-looked_word : (gate : GateSide) (messages : ℕ) → remembers (look gate messages client).gate client ≡ Some (shown_word gate messages)
+pub looked_word : (gate : GateSide) (messages : ℕ) → remembers (look gate messages client).gate client ≡ Some (shown_word gate messages)
 looked_word gate messages = lookup-insert_entry nat_cmp_total client client (shown_word gate messages) gate.remembered
 
 -- the client holds the one unit: it goes with the URL, or the URL was seen
@@ -232,7 +232,7 @@ request_fits workers state EndSeeds assigned some rest =
     let keeps = end_keeps state.gate (unfinished_in state) in
     record { rests = rests_after workers state event.EndSeeds rest.sound rest.shape (keeps.same ∙ rest.nobody); told = keeps.passes }
 
-line_fits : (workers : ℕ) (state : State) (r : Result Request RequestError) → IfOk r (IsAssigned workers) → 1 ≤ workers → AtRest workers state → AtRest workers (answered state r).state × CanBeAnswered r (answered state r).answer
+pub line_fits : (workers : ℕ) (state : State) (r : Result Request RequestError) → IfOk r (IsAssigned workers) → 1 ≤ workers → AtRest workers state → AtRest workers (answered state r).state × CanBeAnswered r (answered state r).answer
 line_fits workers state (Ok request) assigned some rest = let fits = request_fits workers state request assigned some rest in (fits.rests, fits.told)
 line_fits workers state (Err why) assigned some rest = (rest, refl)
 
@@ -246,6 +246,9 @@ lines_fit settings state (line ∷ more) some rest =
     let here = line_fits settings.workers state r (assigns_of settings.workers settings.suffixes line) some rest in
     All-cons Fit (record { request = r; answer = (answered state r).answer }) (asked settings (answered state r).state more) here.1 (lines_fit settings (answered state r).state more some here.0)
 
+pub starts_at_rest : (workers max : ℕ) → AtRest workers (start workers max)
+starts_at_rest workers max = record { sound = start_sound workers max; nobody = refl; shape = length-replicate workers empty_subqueue }
+
 pub answers_fit : (settings : Settings) (max : ℕ) (lines : List (List ℕ)) → 1 ≤ settings.workers → All Fit (asked settings (start settings.workers max) lines)
 answers_fit settings max lines some =
-    lines_fit settings (start settings.workers max) lines some (record { sound = start_sound settings.workers max; nobody = refl; shape = length-replicate settings.workers empty_subqueue })
+    lines_fit settings (start settings.workers max) lines some (starts_at_rest settings.workers max)

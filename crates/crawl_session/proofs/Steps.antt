@@ -124,7 +124,7 @@ back_out (x ∷ xs) free = at_first (nat_cmp client x) refl free (back_out xs)
         ∙ ap (λ (l : List ℕ). x ∷ l) (more free)
 
 -- the gate after an entry and the return
-returned_gate : (gate : GateSide) (before behind : ℕ) → is_entered (enter gate before client).reply ≡ true
+pub returned_gate : (gate : GateSide) (before behind : ℕ) → is_entered (enter gate before client).reply ≡ true
     → (back (enter gate before client).gate behind client).gate ≡ record gate { remembered = remove_entry (is_at (nat_cmp client)) gate.remembered }
 returned_gate gate before behind = by_hold (holds gate client) refl
   where
@@ -139,7 +139,7 @@ returned_gate gate before behind = by_hold (holds gate client) refl
         ∙ ap (λ (hs : List ℕ). record inside { holders = hs }) (back_out gate.holders free)
 
 -- of an offer there was a look, and an entry and the return, or no entry
-abbrev looked : State → State
+abbrev pub looked : State → State
 looked state = (turn state (Look client)).state
 
 after_look : (state : State) (new : Kept) → Shows new (looked state) → GivenUp state new

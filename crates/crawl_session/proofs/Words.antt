@@ -25,14 +25,14 @@ use Rattle.crawl_session.specs.Serving.{with_words}
 use Rattle.crawl_session.specs.Sessions.{answered, answers, line_exchange}
 use Rattle.crawl_session.specs.Settings.{Settings}
 
-abbrev Words : Type 0
+abbrev pub Words : Type 0
 Words = List (ℕ × Word)
 
 -- two exchanges of one answer, whose states differ in words alone
-record Alike (x y : Exchange) : Type 0 where
-  answer : x.answer ≡ y.answer
-  words : Words
-  state : x.state ≡ with_words y.state words
+pub record Alike (x y : Exchange) : Type 0 where
+  pub answer : x.answer ≡ y.answer
+  pub words : Words
+  pub state : x.state ≡ with_words y.state words
 
 -- the same of turns, and of turns of the gate
 record AlikeTurn (x y : Turn) : Type 0 where
@@ -176,7 +176,7 @@ exchange_alike state words EndSeeds =
 
 -- ---- lines
 
-answered_alike : (state : State) (words : Words) (asked : Result Request RequestError) → Alike (answered (with_words state words) asked) (answered state asked)
+pub answered_alike : (state : State) (words : Words) (asked : Result Request RequestError) → Alike (answered (with_words state words) asked) (answered state asked)
 answered_alike state words (Ok request) = exchange_alike state words request
 answered_alike state words (Err why) = record { answer = refl; words = words; state = refl }
 

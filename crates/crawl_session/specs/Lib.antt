@@ -1,5 +1,6 @@
 pub mod Answers
 pub mod Clients
+pub mod Compacting
 pub mod Exchanges
 pub mod Input
 pub mod Logs

@@ -1,12 +1,14 @@
 //! Laws of sessions: what holds of any lines and their answers. None does anything when it is called.
 ghost use Rattle.std.specs.Prelude.{◌≡◌, ◌≤◌, ℕ, List, [], ◌∷◌, ◌++◌, length};
 ghost use Rattle.std.specs.List.{All};
+ghost use Rattle.std.specs.Str.Lines.{lines};
 ghost use Rattle.crawl_core.specs.History.{accepted_urls, taken_urls, done_in};
 ghost use Rattle.crawl_core.specs.Run.{Run};
 ghost use Rattle.crawl_core.specs.State.{State, start};
 ghost use Rattle.crawl_core.specs.declared.reply.Reply.TheVariants as told;
 ghost use Rattle.crawl_core.specs.declared.word.Word.{Word};
 ghost use Rattle.crawl_session.specs.Clients.{AllDone, EachOnceInOrder, accepted_of, asked, done_of, taken_of};
+ghost use Rattle.crawl_session.specs.Compacting.{had_none, log_text, needed};
 ghost use Rattle.crawl_session.specs.Serving.{with_words};
 ghost use Rattle.crawl_session.specs.Sessions.{answers, history_of, line_exchange, state_after};
 ghost use Rattle.crawl_session.specs.Settings.{Settings};
@@ -24,6 +26,13 @@ pub fn sessions_go_on()
     ensures answers { (settings : Settings) (state : State) (front back : List (List ℕ)) → answers settings state (front ++ back) ≡ answers settings state front ++ answers settings (state_after settings state front) back }
     ensures state { (settings : Settings) (state : State) (front back : List (List ℕ)) → state_after settings state (front ++ back) ≡ state_after settings (state_after settings state front) back }
     ensures events { (settings : Settings) (state : State) (front back : List (List ℕ)) → history_of settings state (front ++ back) ≡ history_of settings state front ++ history_of settings (state_after settings state front) back }
+{}
+
+/// A log that was compacted goes on as the whole one: a new session that is given the lines needed of these bytes answers any
+/// further lines as one that was given all of them.
+pub fn a_compacted_log_goes_on()
+    ensures { (settings : Settings) (max : ℕ) (bytes : List ℕ) (more : List (List ℕ)) → 1 ≤ settings.workers → answers settings (state_after settings (start settings.workers max) (lines (log_text (needed settings had_none (start settings.workers max) (lines bytes))))) more
+        ≡ answers settings (state_after settings (start settings.workers max) (lines bytes)) more }
 {}
 
 /// No answer depends on the words that senders remember from before. So after out of memory each line is answered as if the line

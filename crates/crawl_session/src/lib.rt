@@ -2,6 +2,7 @@
 #![tactic(auto)]
 
 mod answer;
+mod compact;
 mod exchange;
 /// What holds of sessions.
 pub mod laws;
@@ -11,6 +12,7 @@ mod serving;
 mod session;
 
 pub use answer::Answer;
+pub use compact::Compactor;
 pub use log::{read_settings, rerun, settings_line, whole_len};
 pub use request::{Request, RequestError};
 pub use serving::{ServeError, serve};

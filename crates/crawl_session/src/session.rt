@@ -4,12 +4,17 @@ ghost use Rattle.crawl_core.specs.Limits.{AreLimits, worker_limit, pending_limit
 ghost use Rattle.crawl_core.specs.Shows.{Shows};
 ghost use Rattle.crawl_core.specs.State.{start};
 ghost use Rattle.crawl_core.specs.declared.error.CoreError.{CoreError};
-ghost use Rattle.crawl_session.specs.Serving.{GivesUp, Serves};
+ghost use Rattle.crawl_keys.specs.Outcome.{Gives};
+ghost use Rattle.crawl_session.specs.Exchanges as spec;
+ghost use Rattle.crawl_session.specs.Requests.{request_of};
+ghost use Rattle.crawl_session.specs.Serving.{Comes, GivesUp, Serves};
+ghost use Rattle.crawl_session.specs.declared.answer.Answer.{Answer};
+ghost use Rattle.crawl_session.specs.declared.request.RequestError.TheVariants as wrong;
 
 use crate::answer::Answer;
 use crate::exchange::exchange;
-use crate::request::{RequestError, request_of};
-use crawl_core::{Core, CoreError, NoMemory};
+use crate::request::{Request, RequestError, request_of};
+use crawl_core::{Core, CoreError, NoMemory, Reply};
 use crawl_keys::Filter;
 use std::alloc::{AllocError, Global};
 use std::marker::Model;
@@ -61,6 +66,23 @@ impl Session {
             }),
             Err(why) => Err(why),
         }
+    }
+
+    /// What the line asks.
+    pub(crate) fn request(&self, line: &[u8]) -> Result<Request, RequestError>
+        ensures { Gives wrong.NoMemory (λ request. request) result (request_of self.now.settings.workers self.now.settings.suffixes line.now) }
+    {
+        request_of(self.alloc, self.workers, &self.filter, line)
+    }
+
+    /// The reply to what a line asks.
+    #[tactic(auto, using(crate::proofs::Steps::gives_up_at_once))]
+    pub(crate) fn perform(&mut self, request: Request) -> Result<Reply, NoMemory>
+        ensures comes { IfOk result (λ reply. Comes (λ state. spec.exchange state request) self.old.core (Answer.Told reply) self.new.core) }
+        ensures same { self.new.settings ≡ self.old.settings }
+        ensures err { OnErr result (GivesUp self.old.core self.new.core) }
+    {
+        exchange(&mut self.core, request)
     }
 
     /// What the line is answered. It is one without LF, and without a CR before that.

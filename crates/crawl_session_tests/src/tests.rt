@@ -3,7 +3,9 @@ mod reckoning;
 
 use crawl_keys::{Filter, FilterError};
 use crawl_replay::Header;
-use crawl_session::{ServeError, Session, read_settings, rerun, serve, settings_line, whole_len};
+use crawl_session::{
+    Compactor, ServeError, Session, read_settings, rerun, serve, settings_line, whole_len,
+};
 use reckoning::{MAX, Reckoning};
 use std::alloc::{AllocError, Global};
 use std::io::{self, Read};
@@ -133,6 +135,67 @@ fn a_log_brings_a_session_back(rt: HostRuntime) -> Result<(), Fail> {
             ended == Ok(()) && wanted.as_bytes().ends_with(&out),
             "cut at {cut}"
         );
+    }
+    Ok(())
+}
+
+/// The lines that the answers say are needed: those that were accepted, taken or done, and the first that found it closed.
+fn needed(alloc: Global, requests: &str, wanted: &str) -> Result<String, AllocError> {
+    let mut text = String::new(alloc);
+    let mut open = true;
+    for (line, answer) in requests.lines().zip(wanted.lines()) {
+        let closes = answer == "closed" && open;
+        let moves = answer.starts_with("accepted") || answer.starts_with("count");
+        let takes = answer.starts_with("taken") && line.starts_with("next");
+        if closes || moves || takes {
+            writeln!(text, "{line}")?;
+        }
+        open = open && answer != "closed";
+    }
+    Ok(text)
+}
+
+#[test]
+fn a_drawn_log_is_compacted(rt: HostRuntime) -> Result<(), Fail> {
+    let alloc = rt.alloc();
+    let (requests, wanted) = drawn(alloc)?;
+    let log = requests.as_bytes();
+    let mut session = session(alloc)?;
+    let mut compactor = Compactor::new(alloc);
+    let mut kept = Vec::new(alloc);
+    let half = whole_len(&log[..log.len().min(20_000)]);
+    for piece in [&log[..half], &log[half..]] {
+        let ended = compactor.compact(&mut session, piece, &mut kept);
+        assert!(rt; ended == Ok(()));
+    }
+    let reckoned = needed(alloc, &requests, &wanted)?;
+    assert!(rt; kept.as_slice() == reckoned.as_bytes());
+    Ok(())
+}
+
+#[test]
+fn compacts_lines_at_their_edges(rt: HostRuntime) -> Result<(), Fail> {
+    let rows: [(&[u8], &[u8]); 5] = [
+        (b"", b""),
+        (
+            b"offer http://a.test/\r\r\nnext 0\r\nagain 0\n",
+            b"offer http://a.test/\r\r\nnext 0\n",
+        ),
+        (
+            b"offer http://a.test/\noffer http://A.test:80/#x\nlook\n",
+            b"offer http://a.test/\n",
+        ),
+        (
+            b"next 0\nendseeds\nnext 0\nnext 0\nendseeds\n",
+            b"endseeds\nnext 0\n",
+        ),
+        (b"done 0\nendseeds", b"endseeds\n"),
+    ];
+    for (log, wanted) in rows {
+        let mut session = session(rt.alloc())?;
+        let mut kept = Vec::new(rt.alloc());
+        let ended = Compactor::new(rt.alloc()).compact(&mut session, log, &mut kept);
+        assert!(rt; ended == Ok(()) && kept.as_slice() == wanted, "{log:?}");
     }
     Ok(())
 }

@@ -1,0 +1,101 @@
+-- The text of the lines that are needed has these lines.
+use Rattle.std.proofs.Common.{◌≡◌, ℕ, ◌+◌, ◌-◌, ◌==◌, Bool, true, false, if◌then◌else◌, List, [], ◌∷◌, ◌++◌, length, take, slice_index, refl, sym, ap, subst, ◌∙◌, arith, append_assoc, length-append}
+use Rattle.std.specs.List.{All, slice_split, onto_first}
+use Rattle.std.specs.Str.Lines.{lines, lines_of_parts, strip_carriage_return}
+use Rattle.std.proofs.lemmas.List.Elements.{All-nil, All-cons, All-head, All-tail, All-take}
+use Rattle.std.proofs.lemmas.List.Splits.{slice_split-cons_yes, slice_split-cons_no}
+use Rattle.std.proofs.Math.Seq.{get_or-append_seam, take-append_seam}
+use Rattle.crawl_core.specs.State.{State}
+use Rattle.crawl_session.specs.Compacting.{Had, having, is_needed, needed, log_line, log_text}
+use Rattle.crawl_session.specs.Input.{IsUnfinished}
+use Rattle.crawl_session.specs.Requests.{request_of}
+use Rattle.crawl_session.specs.Sessions.{line_exchange}
+use Rattle.crawl_session.specs.Settings.{Settings}
+use Rattle.crawl_session.proofs.Cuts.{IsOther, is_lf, line_before}
+
+-- ---- a line has no LF
+
+AllWhole : List (List ℕ) → Type 0
+AllWhole ls = All IsUnfinished ls
+
+onto_whole : (x : ℕ) (parts : List (List ℕ)) → is_lf x ≡ false → AllWhole parts → AllWhole (onto_first x parts)
+unfolding AllWhole
+onto_whole x [] is all = All-cons IsUnfinished (x ∷ []) [] (All-cons IsOther x [] is (All-nil IsOther)) all
+onto_whole x (part ∷ parts) is all =
+    All-cons IsUnfinished (x ∷ part) parts (All-cons IsOther x part is (All-head IsUnfinished part parts all)) (All-tail IsUnfinished part parts all)
+
+parts_whole : (bytes : List ℕ) → AllWhole (slice_split is_lf bytes)
+unfolding AllWhole
+parts_whole [] = All-cons IsUnfinished [] [] (All-nil IsOther) (All-nil IsUnfinished)
+parts_whole (x ∷ xs) = by_byte (is_lf x) refl (parts_whole xs)
+  where
+    by_byte : (b : Bool) → is_lf x ≡ b → AllWhole (slice_split is_lf xs) → AllWhole (slice_split is_lf (x ∷ xs))
+    by_byte true is rest = subst AllWhole (sym (slice_split-cons_yes is_lf x xs is)) (All-cons IsUnfinished [] (slice_split is_lf xs) (All-nil IsOther) rest)
+    by_byte false is rest = subst AllWhole (sym (slice_split-cons_no is_lf x xs is)) (onto_whole x (slice_split is_lf xs) is rest)
+
+stripped_whole : (line : List ℕ) → IsUnfinished line → IsUnfinished (strip_carriage_return line)
+stripped_whole line whole = by_end (slice_index line (length line - 1) == 13)
+  where
+    by_end : (b : Bool) → IsUnfinished (if b then take (length line - 1) line else line)
+    by_end true = All-take IsOther (length line - 1) line whole
+    by_end false = whole
+
+of_parts : (parts : List (List ℕ)) → AllWhole parts → AllWhole (lines_of_parts parts)
+unfolding AllWhole
+of_parts [] all = All-nil IsUnfinished
+of_parts (part ∷ []) all = by_length (length part == 0)
+  where
+    by_length : (b : Bool) → AllWhole (if b then [] else part ∷ [])
+    by_length true = All-nil IsUnfinished
+    by_length false = all
+of_parts (part ∷ next ∷ more) all =
+    All-cons IsUnfinished (strip_carriage_return part) (lines_of_parts (next ∷ more)) (stripped_whole part (All-head IsUnfinished part (next ∷ more) all))
+    (of_parts (next ∷ more) (All-tail IsUnfinished part (next ∷ more) all))
+
+needed_whole : (settings : Settings) (had : Had) (state : State) (ls : List (List ℕ)) → AllWhole ls → AllWhole (needed settings had state ls)
+unfolding AllWhole
+needed_whole settings had state [] all = all
+needed_whole settings had state (line ∷ more) all =
+    let done = line_exchange settings state line in
+    by_need (is_needed had (request_of settings.workers settings.suffixes line) done.answer) _ (needed_whole settings (having had done.answer) done.state more (All-tail IsUnfinished line more all))
+  where
+    by_need : (b : Bool) (rest : List (List ℕ)) → AllWhole rest → AllWhole (if b then line ∷ rest else rest)
+    by_need true rest whole = All-cons IsUnfinished line rest (All-head IsUnfinished line more all) whole
+    by_need false rest whole = whole
+
+-- ---- lines as they stand in a log are those lines
+
+strip_return : (line : List ℕ) → strip_carriage_return (line ++ 13 ∷ []) ≡ line
+strip_return line =
+    let long : length (line ++ 13 ∷ []) - 1 ≡ length line = omega (arith, length-append line (13 ∷ [])) in
+    ap (λ n. if slice_index (line ++ 13 ∷ []) n == 13 then take n (line ++ 13 ∷ []) else line ++ 13 ∷ []) long
+    ∙ ap (λ b. if b == 13 then take (length line) (line ++ 13 ∷ []) else line ++ 13 ∷ []) (get_or-append_seam line 13 [] 0)
+    ∙ take-append_seam line (13 ∷ [])
+
+line_stands : (line more : List ℕ) → IsUnfinished line → lines (log_line line ++ more) ≡ line ∷ lines more
+line_stands line more whole = by_end (slice_index line (length line - 1) == 13) refl
+  where
+    by_end : (b : Bool) → (slice_index line (length line - 1) == 13) ≡ b → lines ((line ++ (if b then 13 ∷ 10 ∷ [] else 10 ∷ [])) ++ more) ≡ line ∷ lines more
+    by_end true is =
+        ap lines (append_assoc line (13 ∷ 10 ∷ []) more ∙ sym (append_assoc line (13 ∷ []) (10 ∷ more)))
+        ∙ line_before (line ++ 13 ∷ []) more (return_whole line whole)
+        ∙ ap (λ l. l ∷ lines more) (strip_return line)
+      where
+        return_whole : (l : List ℕ) → IsUnfinished l → IsUnfinished (l ++ 13 ∷ [])
+        return_whole [] all = All-cons IsOther 13 [] refl (All-nil IsOther)
+        return_whole (x ∷ xs) all = All-cons IsOther x (xs ++ 13 ∷ []) (All-head IsOther x xs all) (return_whole xs (All-tail IsOther x xs all))
+    by_end false is =
+        ap lines (append_assoc line (10 ∷ []) more)
+        ∙ line_before line more whole
+        ∙ ap (λ b. (if b then take (length line - 1) line else line) ∷ lines more) is
+
+text_stands : (ls : List (List ℕ)) → AllWhole ls → lines (log_text ls) ≡ ls
+unfolding AllWhole
+text_stands [] all = refl
+text_stands (line ∷ more) all =
+    line_stands line (log_text more) (All-head IsUnfinished line more all) ∙ ap (λ l. line ∷ l) (text_stands more (All-tail IsUnfinished line more all))
+
+pub needed_stands : (settings : Settings) (had : Had) (state : State) (bytes : List ℕ) → lines (log_text (needed settings had state (lines bytes))) ≡ needed settings had state (lines bytes)
+unfolding AllWhole
+needed_stands settings had state bytes =
+    text_stands (needed settings had state (lines bytes)) (needed_whole settings had state (lines bytes) (of_parts (slice_split is_lf bytes) (parts_whole bytes)))

@@ -1,0 +1,93 @@
+-- Lines that were given to a session, one after another, and the text of those that are needed.
+use Rattle.std.proofs.Common.{◌≡◌, ℕ, Bool, true, false, if◌then◌else◌, List, [], ◌∷◌, ◌++◌, Option, refl, sym, ap, subst, ◌∙◌, append_assoc, append-nil}
+use Rattle.std.specs.Io.KnownBytes.{Appends}
+use Rattle.std.proofs.KnownBytes.{Appends-nil, Appends-trans}
+use Rattle.std.proofs.lemmas.Grind.{flat_map-append}
+use Rattle.crawl_core.specs.Shows.{Shows}
+use Rattle.crawl_core.specs.State.{State}
+use Rattle.crawl_session.specs.Compacting.{Had, having, is_needed, needed, had_after, log_line, log_text, Gives, Compacts}
+use Rattle.crawl_session.specs.Requests.{request_of}
+use Rattle.crawl_session.specs.Sessions.{line_exchange, state_after}
+use Rattle.crawl_session.specs.Settings.{Settings, SessionView}
+use Rattle.crawl_session.proofs.Lines.{state_after-append}
+
+pub had_after-append : (settings : Settings) (had : Had) (state : State) (front back : List (List ℕ)) → had_after settings had state (front ++ back) ≡ had_after settings (had_after settings had state front) (state_after settings state front) back
+had_after-append settings had state [] back = refl
+had_after-append settings had state (line ∷ more) back =
+    let done = line_exchange settings state line in
+    had_after-append settings (having had done.answer) done.state more back
+
+pub needed-append : (settings : Settings) (had : Had) (state : State) (front back : List (List ℕ)) → needed settings had state (front ++ back) ≡ needed settings had state front ++ needed settings (had_after settings had state front) (state_after settings state front) back
+needed-append settings had state [] back = refl
+needed-append settings had state (line ∷ more) back =
+    let done = line_exchange settings state line in
+    by_need (is_needed had (request_of settings.workers settings.suffixes line) done.answer) _ _ _ (needed-append settings (having had done.answer) done.state more back)
+  where
+    by_need : (b : Bool) (all front rest : List (List ℕ)) → all ≡ front ++ rest → (if b then line ∷ all else all) ≡ (if b then line ∷ front else front) ++ rest
+    by_need true all front rest same = ap (λ l. line ∷ l) same
+    by_need false all front rest same = same
+
+-- what was done so far with lines: they were given, and the writer has the text of those that are needed
+pub record SoFar (had : Had) (old : SessionView) (out_old : Option (List ℕ)) (all rest : List (List ℕ)) (next : Had) (mid : SessionView) (out : Option (List ℕ)) : Type 0 where
+  pub front : List (List ℕ)
+  pub split : all ≡ front ++ rest
+  pub text : List ℕ
+  pub written : Appends out_old out text
+  pub compacts : Compacts had old front text next mid
+
+pub so_far_none : (had : Had) (old : SessionView) (out : Option (List ℕ)) (all : List (List ℕ)) → SoFar had old out all all had old out
+so_far_none had old out all = record {
+  front = [];
+  split = refl;
+  text = [];
+  written = Appends-nil out;
+  compacts = record { settings = refl; comes = λ state shown. (refl, (refl, shown)) };
+}
+
+-- the text of a line, where it is needed
+abbrev pub added : Bool → List ℕ → List ℕ
+added b line = if b then log_line line else []
+
+one_text : (b : Bool) (line : List ℕ) → log_text (if b then line ∷ [] else []) ≡ added b line
+one_text true line = append-nil (log_line line)
+one_text false line = refl
+
+compacts_more : (had : Had) (old : SessionView) (front : List (List ℕ)) (text : List ℕ) (next : Had) (mid : SessionView) (line : List ℕ) (is : Bool) (last : Had) (new : SessionView)
+    → Compacts had old front text next mid → Gives next mid line is last new → Compacts had old (front ++ line ∷ []) (text ++ added is line) last new
+compacts_more had old front text next mid line is last new so_far one = record {
+  settings = one.settings ∙ so_far.settings;
+  comes = λ state shown.
+      let came = so_far.comes state shown in
+      let between = state_after old.settings state front in
+      let P : Settings → Had → Type 0 = λ s h.
+      let done = line_exchange s between line in
+      (is ≡ is_needed h (request_of s.workers s.suffixes line) done.answer) × ((last ≡ having h done.answer) × Shows new.core done.state) in
+      let by_settings : P old.settings next = subst (λ s. P s next) so_far.settings (one.comes between came.1.1) in
+      let gave : P old.settings (had_after old.settings had state front) = subst (P old.settings) came.1.0 by_settings in
+      let Q : State → Type 0 = λ s. Shows new.core s in (
+        ap (λ t. t ++ added is line) came.0
+            ∙ ap (λ t. log_text (needed old.settings had state front) ++ t) (ap (λ b. added b line) gave.0 ∙ sym (one_text _ line))
+            ∙ sym (flat_map-append log_line (needed old.settings had state front) _)
+            ∙ ap log_text (sym (needed-append old.settings had state front (line ∷ []))),
+        (
+          gave.1.0 ∙ sym (had_after-append old.settings had state front (line ∷ [])),
+          subst Q (sym (state_after-append old.settings state front (line ∷ []))) gave.1.1,
+        ),
+      );
+}
+
+pub so_far_more : (had : Had) (old : SessionView) (out_old : Option (List ℕ)) (all rest : List (List ℕ)) (next : Had) (mid : SessionView) (out : Option (List ℕ)) (line : List ℕ) (more : List (List ℕ)) (is : Bool) (last : Had) (new : SessionView) (out_new : Option (List ℕ))
+    → SoFar had old out_old all rest next mid out → rest ≡ line ∷ more → Gives next mid line is last new → Appends out out_new (added is line) → SoFar had old out_old all more last new out_new
+so_far_more had old out_old all rest next mid out line more is last new out_new so_far cut one written = record {
+  front = so_far.front ++ line ∷ [];
+  split = so_far.split ∙ ap (λ l. so_far.front ++ l) cut ∙ sym (append_assoc so_far.front (line ∷ []) more);
+  text = so_far.text ++ added is line;
+  written = Appends-trans out_old out out_new so_far.text (added is line) so_far.written written;
+  compacts = compacts_more had old so_far.front so_far.text next mid line is last new so_far.compacts one;
+}
+
+pub so_far_all : (had : Had) (old : SessionView) (out_old : Option (List ℕ)) (all rest : List (List ℕ)) (next : Had) (mid : SessionView) (out : Option (List ℕ)) → SoFar had old out_old all rest next mid out → rest ≡ []
+    → (text : List ℕ) × Appends out_old out text × Compacts had old all text next mid
+so_far_all had old out_old all rest next mid out so_far none =
+    let same : so_far.front ≡ all = sym (so_far.split ∙ ap (λ l. so_far.front ++ l) none ∙ append-nil so_far.front) in
+    (so_far.text, so_far.written, subst (λ ls. Compacts had old ls so_far.text next mid) same so_far.compacts)

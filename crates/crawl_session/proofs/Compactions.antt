@@ -1,0 +1,281 @@
+-- The lines of a log that are needed bring a new session to the same state, but for the words that senders remember.
+use Rattle.std.proofs.Common.{◌≡◌, ℕ, ◌<◌, ◌≤◌, Bool, true, false, not, ◌&&◌, ◌||◌, if◌then◌else◌, List, [], ◌∷◌, ◌++◌, length, nat_eq, get_or, slice_get, Option, Some, None, Result, Ok, Err, IfOk, refl, sym, ap, subst, ◌∙◌, true≢false}
+use Rattle.std.specs.BTreeMap.{is_at}
+use Rattle.std.specs.List.{list_any}
+use Rattle.std.specs.Ordering.{nat_cmp}
+use Rattle.std.specs.Map.{remove_entry}
+use Rattle.std.specs.Str.Lines.{lines}
+use Rattle.std.proofs.lemmas.Option.{slice_get-get_or}
+use Rattle.crawl_core.specs.declared.event.Event.{Event}
+use Rattle.crawl_core.specs.declared.event.Event.TheVariants as event
+use Rattle.crawl_core.specs.declared.reply.Reply.{Reply}
+use Rattle.crawl_core.specs.declared.reply.Reply.TheVariants as told
+use Rattle.crawl_core.specs.declared.reply.Refusal.TheVariants as why
+use Rattle.crawl_core.specs.declared.word.Word.{Word}
+use Rattle.crawl_core.specs.GateSide.{GateSide, GateTurn, back, close, end_seeds, enter, enter_with, gave_back, grant, holds, remembers, same_word, shown_word, turned_away, units_out}
+use Rattle.crawl_core.specs.Messages.{Message, has_url}
+use Rattle.crawl_core.specs.Run.{Run}
+use Rattle.crawl_core.specs.State.{State, start, unfinished_in}
+use Rattle.crawl_core.specs.Step.{Turn, turn, admit_to, counted, done_with, put, refused, take_from, take_oldest, with_subqueue}
+use Rattle.crawl_core.specs.Subqueue.{Subqueue, after_finishing, empty_subqueue, oldest}
+use Rattle.crawl_core.proofs.Sound.{Sound, gate_effect}
+use Rattle.crawl_session.specs.declared.answer.Answer.{Answer}
+use Rattle.crawl_session.specs.declared.answer.Answer.TheVariants.{Told, Unasked}
+use Rattle.crawl_session.specs.declared.request.Request.{Request}
+use Rattle.crawl_session.specs.declared.request.Request.TheVariants.{Offer, Next, Again, Done, EndSeeds}
+use Rattle.crawl_session.specs.declared.request.RequestError.{RequestError}
+use Rattle.crawl_session.specs.Compacting.{Had, had_none, having, says_closed, changes, asks_again, is_needed, needed, log_text}
+use Rattle.crawl_session.specs.Exchanges.{Exchange, client, after, ends, admitting, entering, exchange, is_entered, is_seen, is_empty}
+use Rattle.crawl_session.specs.Requests.{request_of}
+use Rattle.crawl_session.specs.Serving.{with_words}
+use Rattle.crawl_session.specs.Sessions.{answered, answers, line_exchange, state_after}
+use Rattle.crawl_session.specs.Settings.{Settings}
+use Rattle.crawl_session.proofs.Assigned.{IsAssigned, as_asked, assigns_of, assigned_below}
+use Rattle.crawl_session.proofs.Closings.{answered_closes}
+use Rattle.crawl_session.proofs.CompactText.{needed_stands}
+use Rattle.crawl_session.proofs.Rests.{AtRest, Entry, entry_is, gate_told, line_fits, looked_word, starts_at_rest, tries, turn_told}
+use Rattle.crawl_session.proofs.Runs.{answered_runs}
+use Rattle.crawl_session.proofs.Steps.{looked, returned_gate}
+use Rattle.crawl_session.proofs.Words.{Words, answered_alike, words_forgotten}
+
+-- the same state, but for the words
+abbrev pub Same : State → State → Type 0
+Same state next = (words : Words) × (next ≡ with_words state words)
+
+-- ---- turns whose replies change nothing
+
+record IdleGate (had : Had) (gate : GateSide) (done : GateTurn) : Type 0 where
+  same : changes had done.reply ≡ false → done.gate ≡ gate
+
+record Idle (had : Had) (state : State) (done : Turn) : Type 0 where
+  same : changes had done.reply ≡ false → done.state ≡ state
+
+end_idle : (had : Had) (gate : GateSide) (messages : ℕ) → IdleGate had gate (end_seeds gate messages)
+end_idle had gate messages =
+    gate_told (IdleGate had gate) gate.opening (gave_back (record gate { opening = false }) messages) (turned_away gate why.Nothing)
+    (record { same = λ e. absurd (true≢false e) }) (record { same = λ _. refl })
+
+closed_again : (gate : GateSide) (b : Bool) → (b ≡ true → gate.closed ≡ true) → not b ≡ false → record gate { closed = true } ≡ gate
+closed_again gate true known e = ap (λ c. record gate { closed = c }) (sym (known refl))
+closed_again gate false known e = absurd (true≢false e)
+
+close_idle : (had : Had) (gate : GateSide) (messages : ℕ) → (had.closed ≡ true → gate.closed ≡ true) → IdleGate had gate (close gate messages)
+close_idle had gate messages known =
+    gate_told (IdleGate had gate) (gate.closed || nat_eq (units_out gate messages) 0) (record { reply = told.Closed; gate = record gate { closed = true } }) (record { reply = told.Pending (units_out gate messages); gate = gate })
+    (record { same = closed_again gate had.closed known }) (record { same = λ _. refl })
+
+done_idle : (had : Had) (state : State) (named : ℕ) (queue : Option Subqueue) → Idle had state (done_with state named queue)
+done_idle had state named None = record { same = λ _. refl }
+done_idle had state named (Some queue) =
+    turn_told (Idle had state) queue.busy (counted (with_subqueue state named (after_finishing queue))) (refused state why.Nothing)
+    (record { same = λ e. absurd (true≢false e) }) (record { same = λ _. refl })
+
+oldest_idle : (had : Had) (state : State) (named : ℕ) (queue : Subqueue) (message : Option Message) → Idle had state (take_oldest state named queue message)
+oldest_idle had state named queue None = record { same = λ _. refl }
+oldest_idle had state named queue (Some message) = record { same = λ e. absurd (true≢false e) }
+
+take_idle : (had : Had) (state : State) (named : ℕ) (queue : Option Subqueue) → Idle had state (take_from state named queue)
+take_idle had state named None = record { same = λ _. refl }
+take_idle had state named (Some queue) =
+    turn_told (Idle had state) queue.busy (refused state why.Busy) (take_oldest state named queue (oldest queue)) (record { same = λ _. refl }) (oldest_idle had state named queue (oldest queue))
+
+-- an entry that is refused leaves the gate
+record Refuses (gate : GateSide) (done : GateTurn) : Type 0 where
+  same : is_entered done.reply ≡ false → done.gate ≡ gate
+
+with_refuses : (gate : GateSide) (messages : ℕ) (word : Option Word) → Refuses gate (enter_with gate messages client word)
+with_refuses gate messages None = record { same = λ _. refl }
+with_refuses gate messages (Some word) =
+    let room = if nat_eq (units_out gate messages) gate.max then turned_away gate why.Full else grant gate messages client in
+    let within = if gate.closed then turned_away gate why.Closed else room in
+    gate_told (Refuses gate) (not (same_word word (shown_word gate messages))) (record { reply = told.Lost; gate = gate }) within (record { same = λ _. refl })
+    (gate_told (Refuses gate) gate.closed (turned_away gate why.Closed) room (record { same = λ _. refl })
+    (gate_told (Refuses gate) (nat_eq (units_out gate messages) gate.max) (turned_away gate why.Full) (grant gate messages client) (record { same = λ _. refl }) (record { same = λ e. absurd (true≢false e) })))
+
+enter_refuses : (gate : GateSide) (messages : ℕ) → Refuses gate (enter gate messages client)
+enter_refuses gate messages =
+    gate_told (Refuses gate) (holds gate client) (turned_away gate why.Busy) (enter_with gate messages client (remembers gate client)) (record { same = λ _. refl })
+    (with_refuses gate messages (remembers gate client))
+
+-- a URL that is admitted by the one unit was seen, or is accepted
+record Admits (had : Had) (state : State) (done : Turn) : Type 0 where
+  seen : is_seen done.reply ≡ true → done.state ≡ state
+  other : is_seen done.reply ≡ false → changes had done.reply ≡ true
+
+admits : (had : Had) (state : State) (url : List ℕ) (named : ℕ) (queue : Subqueue) → state.gate.holders ≡ client ∷ [] → Admits had state (admit_to state client url named (Some queue))
+admits had state url named queue one =
+    let held : holds state.gate client ≡ true = ap (λ (hs : List ℕ). list_any (is_at (nat_cmp client)) hs) one in
+    let seen : Turn = record { reply = told.Seen; state = state } in
+    let inner : Admits had state (if has_url queue.accepted url then seen else put state client url named queue) =
+    turn_told (Admits had state) (has_url queue.accepted url) seen (put state client url named queue)
+    (record { seen = λ _. refl; other = λ e. absurd (true≢false e) }) (record { seen = λ e. absurd (true≢false (sym e)); other = λ _. refl }) in
+    subst (λ b. Admits had state (if not b then refused state why.Nothing else (if has_url queue.accepted url then seen else put state client url named queue))) (sym held) inner
+
+-- ---- requests whose answers change nothing
+
+abbrev Quiet : Had → Answer → Type 0
+Quiet had (Told reply) = changes had reply ≡ false
+Quiet had (Unasked why) = Unit {0}
+
+record Stays (had : Had) (state : State) (x : Exchange) : Type 0 where
+  same : Quiet had x.answer → Same state x.state
+
+stays_if : (b : Bool) (had : Had) (state : State) (x y : Exchange) → (b ≡ true → Stays had state x) → (b ≡ false → Stays had state y) → Stays had state (if b then x else y)
+stays_if true had state x y first second = first refl
+stays_if false had state x y first second = second refl
+
+stays_after : (had : Had) (old state : State) (e : Event) (more : Reply → State → Exchange) → Stays had old (more (turn state e).reply (turn state e).state) → Stays had old (after state e more)
+stays_after had old state e more stays = record { same = stays.same }
+
+as_it_was : (state next : State) → next ≡ state → Same state next
+as_it_was state next same = (state.gate.remembered, same)
+
+quiet_empty : (had : Had) (reply : Reply) → is_empty reply ≡ true → changes had reply ≡ false
+quiet_empty had told.Empty is = refl
+quiet_empty had _ is = absurd (true≢false (sym is))
+
+next_stays : (had : Had) (state : State) (named : ℕ) → (had.closed ≡ true → state.gate.closed ≡ true) → Stays had state (exchange state (Next named))
+next_stays had state named known =
+    let done = turn state (event.Take named) in
+    let idle = take_idle had state named (slice_get state.subqueues named) in
+    let still : is_empty done.reply ≡ true → done.state ≡ state = λ empty. idle.same (quiet_empty had done.reply empty) in
+    stays_after had state state (event.Take named) (λ reply taken. if is_empty reply then after taken event.Close ends else ends reply taken)
+    (stays_if (is_empty done.reply) had state (after done.state event.Close ends) (ends done.reply done.state)
+    (λ empty.
+    let closing = close_idle had done.state.gate (unfinished_in done.state) (λ closed. ap (λ (s : State). s.gate.closed) (still empty) ∙ known closed) in
+    record { same = λ quiet. as_it_was state _ (ap (λ (g : GateSide). record done.state { gate = g }) (closing.same quiet) ∙ still empty) })
+    (λ some. record { same = λ quiet. as_it_was state _ (idle.same quiet) }))
+
+admitting_stays : (had : Had) (workers : ℕ) (url : List ℕ) (named : ℕ) (state old : State) → named < workers → length state.subqueues ≡ workers → state.gate.holders ≡ client ∷ [] → Same old (turn state (event.Back client)).state
+    → Stays had old (admitting state url named)
+admitting_stays had workers url named state old below shape one leaves =
+    let admit = event.Admit client url named in
+    let queue = get_or state.subqueues named empty_subqueue in
+    let there : slice_get state.subqueues named ≡ Some queue = slice_get-get_or state.subqueues named empty_subqueue (subst (λ n. named < n) (sym shape) below) in
+    let done = turn state admit in
+    let admission : Admits had state done = subst (λ q. Admits had state (admit_to state client url named q)) (sym there) (admits had state url named queue one) in
+    stays_after had old state admit (λ reply admitted. if is_seen reply then after admitted (event.Back client) (λ _ left. ends told.Seen left) else ends reply admitted)
+    (stays_if (is_seen done.reply) had old (after done.state (event.Back client) (λ _ left. ends told.Seen left)) (ends done.reply done.state)
+    (λ seen. record { same = λ quiet. (leaves.0, ap (λ (s : State). (turn s (event.Back client)).state) (admission.seen seen) ∙ leaves.1) })
+    (λ other. record { same = λ quiet. absurd (true≢false (sym (admission.other other) ∙ quiet)) }))
+
+offer_stays : (had : Had) (workers : ℕ) (url : List ℕ) (named : ℕ) (state : State) → named < workers → AtRest workers state → Stays had state (exchange state (Offer url named))
+offer_stays had workers url named state below rest =
+    let first = turn state (event.Look client) in
+    let second = turn first.state (event.Enter client) in
+    let messages = unfinished_in state in
+    let looking = gate_effect state rest.sound (event.Look client) in
+    let entering_it = gate_effect first.state looking.sound (event.Enter client) in
+    let shape : length second.state.subqueues ≡ workers = entering_it.as_many ∙ looking.as_many ∙ rest.shape in
+    let entry : Entry url named (enter first.state.gate messages client) =
+    subst (Entry url named) (sym (entry_is first.state.gate messages rest.nobody (looked_word state.gate messages))) (tries url named first.state.gate messages rest.nobody) in
+    let back_as : is_entered second.reply ≡ true → Same state (turn second.state (event.Back client)).state =
+    λ entered. (
+      remove_entry (is_at (nat_cmp client)) first.state.gate.remembered,
+      ap (λ (g : GateSide). record state { gate = g }) (returned_gate first.state.gate messages (unfinished_in second.state) entered),
+    ) in
+    stays_after had state state (event.Look client) (λ _ looked. entering looked url named)
+    (stays_after had state first.state (event.Enter client) (λ reply entered. if is_entered reply then admitting entered url named else ends reply entered)
+    (stays_if (is_entered second.reply) had state (admitting second.state url named) (ends second.reply second.state)
+    (λ entered. admitting_stays had workers url named second.state state below shape (entry.entered entered) (back_as entered))
+    (λ refused. record { same = λ quiet. (first.state.gate.remembered, ap (λ (g : GateSide). record first.state { gate = g }) ((enter_refuses first.state.gate messages).same refused)) })))
+
+request_stays : (had : Had) (workers : ℕ) (state : State) (request : Request) → IfOk (as_asked request) (IsAssigned workers) → 1 ≤ workers → AtRest workers state → (had.closed ≡ true → state.gate.closed ≡ true) → Stays had state (exchange state request)
+request_stays had workers state (Offer url named) assigned some rest known = offer_stays had workers url named state (assigned_below workers url named some assigned) rest
+request_stays had workers state (Next named) assigned some rest known = next_stays had state named known
+request_stays had workers state (Again named) assigned some rest known = record { same = λ quiet. as_it_was state state refl }
+request_stays had workers state (Done named) assigned some rest known = record { same = λ quiet. as_it_was state _ ((done_idle had state named (slice_get state.subqueues named)).same quiet) }
+request_stays had workers state EndSeeds assigned some rest known =
+    record { same = λ quiet. as_it_was state _ (ap (λ (g : GateSide). record state { gate = g }) ((end_idle had state.gate (unfinished_in state)).same quiet)) }
+
+-- ---- lines that are not needed
+
+quiet_of : (had : Had) (request : Request) (answer : Answer) → asks_again request ≡ false → is_needed had (Ok request) answer ≡ false → Quiet had answer
+quiet_of had request (Told reply) other is = ap (λ b. not b && changes had reply) (sym other) ∙ is
+quiet_of had request (Unasked why) other is = tt
+
+unneeded : (had : Had) (workers : ℕ) (state : State) (request : Request) (again : Bool) → asks_again request ≡ again → IfOk (as_asked request) (IsAssigned workers) → 1 ≤ workers → AtRest workers state → (had.closed ≡ true → state.gate.closed ≡ true)
+    → is_needed had (Ok request) (exchange state request).answer ≡ false → Same state (exchange state request).state
+unneeded had workers state (Again named) true is assigned some rest known none = as_it_was state state refl
+unneeded had workers state request false is assigned some rest known none = (request_stays had workers state request assigned some rest known).same (quiet_of had request (exchange state request).answer is none)
+unneeded had workers state _ true is assigned some rest known none = absurd (true≢false (sym is))
+
+line_stays : (had : Had) (workers : ℕ) (state : State) (r : Result Request RequestError) → IfOk r (IsAssigned workers) → 1 ≤ workers → AtRest workers state → (had.closed ≡ true → state.gate.closed ≡ true)
+    → is_needed had r (answered state r).answer ≡ false → Same state (answered state r).state
+line_stays had workers state (Ok request) assigned some rest known none = unneeded had workers state request (asks_again request) refl assigned some rest known none
+line_stays had workers state (Err why) assigned some rest known none = as_it_was state state refl
+
+-- ---- a gate that the client was told is closed
+
+stays_closed : (old : State) (history : List (Event × Reply)) (new : State) → Sound old → old.gate.closed ≡ true → Run old history new → new.gate.closed ≡ true
+stays_closed old [] new sound closed run = ap (λ (s : State). s.gate.closed) run ∙ closed
+stays_closed old (x ∷ xs) new sound closed run =
+    let effect = gate_effect old sound x.0 in
+    stays_closed run.0 xs new (subst Sound (sym run.1.state_is) effect.sound) (ap (λ (s : State). s.gate.closed) run.1.state_is ∙ (effect.stays closed).0) run.2
+
+closes_run : (old : State) (front : List (Event × Reply)) (last : Event) (new : State) → Sound old → Run old (front ++ (last, told.Closed) ∷ []) new → new.gate.closed ≡ true
+closes_run old [] last new sound run =
+    ap (λ (s : State). s.gate.closed) (run.2 ∙ run.1.state_is) ∙ (gate_effect old sound last).closes (sym run.1.reply_is)
+closes_run old (x ∷ xs) last new sound run = closes_run run.0 xs last new (subst Sound (sym run.1.state_is) (gate_effect old sound x.0).sound) run.2
+
+closed_is : (answer : Answer) → says_closed answer ≡ true → answer ≡ Told told.Closed
+closed_is (Told told.Closed) is = refl
+closed_is (Told _) is = absurd (true≢false (sym is))
+closed_is (Unasked why) is = absurd (true≢false (sym is))
+
+knows : (had : Had) (state : State) (r : Result Request RequestError) → Sound state → (had.closed ≡ true → state.gate.closed ≡ true) → (having had (answered state r).answer).closed ≡ true → (answered state r).state.gate.closed ≡ true
+knows had state r sound known closed = by_answer (says_closed (answered state r).answer) refl closed
+  where
+    by_answer : (b : Bool) → says_closed (answered state r).answer ≡ b → (b || had.closed) ≡ true → (answered state r).state.gate.closed ≡ true
+    by_answer true is closed =
+        let closes = answered_closes state r (closed_is (answered state r).answer is) in
+        closes_run state closes.before closes.last (answered state r).state sound (subst (λ h. Run state h (answered state r).state) closes.is (answered_runs state r))
+    by_answer false is closed = stays_closed state (answered state r).history (answered state r).state sound (known closed) (answered_runs state r)
+
+-- ---- a whole log
+
+needed_state : (settings : Settings) (had : Had) (state : State) (words : Words) (lines : List (List ℕ)) → 1 ≤ settings.workers → AtRest settings.workers state → (had.closed ≡ true → state.gate.closed ≡ true)
+    → Same (state_after settings state lines) (state_after settings (with_words state words) (needed settings had state lines))
+needed_state settings had state words [] some rest known = (words, refl)
+needed_state settings had state words (line ∷ more) some rest known =
+    let r = request_of settings.workers settings.suffixes line in
+    let assigned = assigns_of settings.workers settings.suffixes line in
+    let done = answered state r in
+    let next = having had done.answer in
+    let back = needed settings next done.state more in
+    let at_rest = (line_fits settings.workers state r assigned some rest).0 in
+    let rest_of : (words : Words) → Same (state_after settings done.state more) (state_after settings (with_words done.state words) back) =
+    λ words. needed_state settings next done.state words more some at_rest (knows had state r rest.sound known) in
+    by_need (is_needed had r done.answer) refl rest_of
+  where
+    by_need : (b : Bool) → is_needed had (request_of settings.workers settings.suffixes line) (line_exchange settings state line).answer ≡ b
+        → ((words : Words) → Same (state_after settings (line_exchange settings state line).state more) (state_after settings (with_words (line_exchange settings state line).state words) (needed settings (having had (line_exchange settings state line).answer) (line_exchange settings state line).state more)))
+        → Same (state_after settings (line_exchange settings state line).state more)
+        (state_after settings (with_words state words)
+        (if b then line ∷ needed settings (having had (line_exchange settings state line).answer) (line_exchange settings state line).state more
+        else needed settings (having had (line_exchange settings state line).answer) (line_exchange settings state line).state more))
+    by_need true is rest_of =
+        let done = line_exchange settings state line in
+        let back = needed settings (having had done.answer) done.state more in
+        let alike = answered_alike state words (request_of settings.workers settings.suffixes line) in
+        let P : State → Type 0 = λ s. Same (state_after settings done.state more) (state_after settings s back) in
+        subst P (sym alike.state) (rest_of alike.words)
+    by_need false is rest_of =
+        let r = request_of settings.workers settings.suffixes line in
+        let done = line_exchange settings state line in
+        let back = needed settings (having had done.answer) done.state more in
+        let same = line_stays had settings.workers state r (assigns_of settings.workers settings.suffixes line) some rest known is in
+        let P : State → Type 0 = λ s. Same (state_after settings done.state more) (state_after settings (with_words s words) back) in
+        subst P same.1 (rest_of words)
+
+pub compacted_state : (settings : Settings) (max : ℕ) (lines : List (List ℕ)) → 1 ≤ settings.workers
+    → Same (state_after settings (start settings.workers max) lines) (state_after settings (start settings.workers max) (needed settings had_none (start settings.workers max) lines))
+compacted_state settings max lines some = needed_state settings had_none (start settings.workers max) [] lines some (starts_at_rest settings.workers max) (λ e. absurd (true≢false (sym e)))
+
+pub compacted_answers : (settings : Settings) (max : ℕ) (bytes : List ℕ) (more : List (List ℕ)) → 1 ≤ settings.workers
+    → answers settings (state_after settings (start settings.workers max) (lines (log_text (needed settings had_none (start settings.workers max) (lines bytes))))) more ≡ answers settings (state_after settings (start settings.workers max) (lines bytes)) more
+compacted_answers settings max bytes more some =
+    let begun = start settings.workers max in
+    let same = compacted_state settings max (lines bytes) some in
+    ap (λ ls. answers settings (state_after settings begun ls) more) (needed_stands settings had_none begun bytes)
+    ∙ ap (λ (s : State). answers settings s more) same.1 ∙ words_forgotten settings (state_after settings begun (lines bytes)) same.0 more

@@ -1,0 +1,92 @@
+-- The lines of a log that a frontier needs to come to the same state, but for the words that senders remember.
+use Rattle.std.specs.Prelude.{◌≡◌, ℕ, ◌-◌, Bool, true, false, not, ◌&&◌, ◌||◌, List, [], ◌∷◌, ◌++◌, ◌==◌, length, slice_index, if◌then◌else◌, Result, Ok}
+use Rattle.std.specs.List.{flat_map}
+use Rattle.crawl_core.specs.declared.reply.Reply.{Reply}
+use Rattle.crawl_core.specs.declared.reply.Reply.TheVariants as told
+use Rattle.crawl_core.specs.Shows.{Shows}
+use Rattle.crawl_core.specs.State.{State}
+use Rattle.crawl_session.specs.declared.answer.Answer.{Answer}
+use Rattle.crawl_session.specs.declared.answer.Answer.TheVariants.{Told}
+use Rattle.crawl_session.specs.declared.request.Request.{Request}
+use Rattle.crawl_session.specs.declared.request.Request.TheVariants.{Again}
+use Rattle.crawl_session.specs.declared.request.RequestError.{RequestError}
+use Rattle.crawl_session.specs.Exchanges.{exchange}
+use Rattle.crawl_session.specs.Requests.{request_of}
+use Rattle.crawl_session.specs.Sessions.{line_exchange, state_after}
+use Rattle.crawl_session.specs.Settings.{Settings, SessionView}
+
+-- what is known of the answers to earlier lines: whether one was `closed`
+pub record Had : Type 0 where
+  pub closed : Bool
+
+abbrev pub had_none : Had
+had_none = record { closed = false }
+
+abbrev pub says_closed : Answer → Bool
+says_closed (Told told.Closed) = true
+says_closed _ = false
+
+-- and with this answer more
+abbrev pub having : Had → Answer → Had
+having had answer = record { closed = says_closed answer || had.closed }
+
+-- a URL was accepted or taken, a unit was given back, or the gate was closed, which it is once
+abbrev pub changes : Had → Reply → Bool
+changes had (told.Accepted queue number) = true
+changes had (told.Taken url) = true
+changes had (told.Count left) = true
+changes had told.Closed = not had.closed
+changes had _ = false
+
+-- what is told again changes nothing
+abbrev pub asks_again : Request → Bool
+asks_again (Again queue) = true
+asks_again _ = false
+
+-- whether a line is needed that asks this, and was answered so
+abbrev pub is_needed : Had → Result Request RequestError → Answer → Bool
+is_needed had (Ok request) (Told reply) = not (asks_again request) && changes had reply
+is_needed had _ _ = false
+
+-- the lines that are needed, from this state on
+abbrev pub needed : Settings → Had → State → List (List ℕ) → List (List ℕ)
+needed settings had state [] = []
+needed settings had state (line ∷ more) =
+    let done = line_exchange settings state line in
+    let rest = needed settings (having had done.answer) done.state more in
+    if is_needed had (request_of settings.workers settings.suffixes line) done.answer then line ∷ rest else rest
+
+abbrev pub had_after : Settings → Had → State → List (List ℕ) → Had
+had_after settings had state [] = had
+had_after settings had state (line ∷ more) =
+    let done = line_exchange settings state line in
+    had_after settings (having had done.answer) done.state more
+
+-- a line as it stands in a log: a CR at its end is no part of the line's end
+abbrev pub line_end : List ℕ → List ℕ
+line_end line = if slice_index line (length line - 1) == 13 then 13 ∷ 10 ∷ [] else 10 ∷ []
+
+abbrev pub log_line : List ℕ → List ℕ
+log_line line = line ++ line_end line
+
+abbrev pub log_text : List (List ℕ) → List ℕ
+log_text lines = flat_map log_line lines
+
+-- a line was given to a session: whether it is needed, and what is kept now
+pub record Gives (had : Had) (old : SessionView) (line : List ℕ) (is : Bool) (next : Had) (new : SessionView) : Type 0 where
+  pub settings : new.settings ≡ old.settings
+  pub comes : (state : State) → Shows old.core state →
+      let done = line_exchange old.settings state line in
+      (is ≡ is_needed had (request_of old.settings.workers old.settings.suffixes line) done.answer) × ((next ≡ having had done.answer) × Shows new.core done.state)
+
+-- the same of what a line asks
+pub record GivesRequest (had : Had) (old : SessionView) (request : Request) (is : Bool) (next : Had) (new : SessionView) : Type 0 where
+  pub settings : new.settings ≡ old.settings
+  pub comes : (state : State) → Shows old.core state →
+      let done = exchange state request in
+      (is ≡ is_needed had (Ok request) done.answer) × ((next ≡ having had done.answer) × Shows new.core done.state)
+
+-- lines were given to a session: the text has those that are needed
+pub record Compacts (had : Had) (old : SessionView) (lines : List (List ℕ)) (text : List ℕ) (next : Had) (new : SessionView) : Type 0 where
+  pub settings : new.settings ≡ old.settings
+  pub comes : (state : State) → Shows old.core state → (text ≡ log_text (needed old.settings had state lines)) × ((next ≡ had_after old.settings had state lines) × Shows new.core (state_after old.settings state lines))

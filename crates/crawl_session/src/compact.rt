@@ -1,0 +1,127 @@
+//! The shortest log of a session: the lines that changed it.
+ghost use Rattle.std.specs.Prelude.{◌≡◌, ℕ, List, IfOk};
+ghost use Rattle.std.specs.Io.KnownBytes.{Appends};
+ghost use Rattle.std.specs.Str.Lines.{lines};
+ghost use Rattle.crawl_session.specs.Compacting as spec;
+ghost use Rattle.crawl_session.specs.Compacting.{Compacts, Gives, GivesRequest};
+ghost use Rattle.crawl_session.specs.declared.answer.Answer.TheVariants.{Told};
+
+use crate::request::{Request, RequestError};
+use crate::serving::ServeError;
+use crate::session::Session;
+use crawl_core::{NoMemory, Reply};
+use crawl_web::first_line;
+use std::alloc::{AllocError, Global};
+use std::io::Write;
+use std::marker::Model;
+
+/// Picks the lines of a log that a new session needs to come to the same state, and remembers what it has to of the others.
+#[derive(Drop)]
+pub struct Compactor {
+    /// An earlier line was answered `closed`.
+    closed: bool,
+}
+
+impl Model for Compactor {
+    ghost use Rattle.crawl_session.specs.Compacting.{Had};
+
+    ghost Value = { Had };
+
+    ghost view = { λ c. record { closed = c.closed } };
+}
+
+impl Compactor {
+    /// One that has had no lines.
+    pub fn new(_alloc: Global) -> Compactor
+        ensures { result ≡ spec.had_none }
+    {
+        Compactor { closed: false }
+    }
+
+    /// Gives the session these lines of a log, and appends those that are needed, each with its line end.
+    ///
+    /// # Errors
+    /// `CannotWrite`, `NoMemory`. The session then has had a front of the lines.
+    pub fn compact<O: Write>(
+        &mut self,
+        session: &mut Session,
+        log: &[u8],
+        out: &mut O,
+    ) -> Result<(), ServeError>
+        ensures { IfOk result (λ _. (text : List ℕ) × Appends (O.contents out.old) (O.contents out.new) text × Compacts self.old session.old (lines log.now) text self.new session.new) }
+    {
+        let mut rest = log;
+        while let Some((line, more)) = first_line(rest) {
+            rest = more;
+            let needed = self.needs(session, line)?;
+            if needed {
+                write_line(line, out)?;
+            }
+        }
+        Ok(())
+    }
+
+    /// Gives the session a line, and tells whether it is needed.
+    fn needs(&mut self, session: &mut Session, line: &[u8]) -> Result<bool, NoMemory>
+        ensures { IfOk result (λ is. Gives self.old session.old line.now is self.new session.new) }
+    {
+        match session.request(line) {
+            Ok(request) => self.needs_request(session, request),
+            Err(RequestError::NoMemory) => Err(AllocError),
+            Err(_) => Ok(false),
+        }
+    }
+
+    /// Asks the session, and tells whether this is needed.
+    fn needs_request(&mut self, session: &mut Session, request: Request) -> Result<bool, NoMemory>
+        ensures { IfOk result (λ is. GivesRequest self.old session.old request is self.new session.new) }
+    {
+        let again = asks_again(&request);
+        let reply = session.perform(request)?;
+        let changes = self.changes(&reply);
+        self.closed = is_closed(&reply) | self.closed;
+        Ok(!again & changes)
+    }
+
+    fn changes(&self, reply: &Reply) -> bool
+        ensures { result ≡ spec.changes self.now reply.now }
+    {
+        match reply {
+            Reply::Accepted { .. } | Reply::Taken(_) | Reply::Count(_) => true,
+            Reply::Closed => !self.closed,
+            _ => false,
+        }
+    }
+}
+
+fn asks_again(request: &Request) -> bool
+    ensures { result ≡ spec.asks_again request.now }
+{
+    matches!(request, Request::Again { .. })
+}
+
+fn is_closed(reply: &Reply) -> bool
+    ensures { result ≡ spec.says_closed (Told reply.now) }
+{
+    matches!(reply, Reply::Closed)
+}
+
+/// Writes a line as it stands in a log.
+fn write_line<O: Write>(line: &[u8], out: &mut O) -> Result<(), ServeError>
+    ensures { IfOk result (λ _. Appends (O.contents out.old) (O.contents out.new) (spec.log_line line.now)) }
+{
+    if out.write_all(line).is_err() || out.write_all(line_end(line)).is_err() {
+        return Err(ServeError::CannotWrite);
+    }
+    Ok(())
+}
+
+fn line_end(line: &[u8]) -> &'static [u8]
+    ensures { result.now ≡ spec.line_end line.now }
+{
+    if line.last() == Some(&b'\r') {
+        b"\r\n"
+    } else {
+        b"\n"
+    }
+}
