@@ -94,26 +94,31 @@ fn a_source_of_ones_own(rt: HostRuntime) {
     assert!(rt; has_both(&rt, rt.alloc(), Mode::Threads));
 }
 
-/// A crawl of the ring, whose source fails for c.test.
-fn without_c<R: Threads + Wait + Sync>(
+/// A crawl of the ring, whose source fails for this host.
+fn without<R: Threads + Wait + Sync>(
     rt: &R,
     alloc: Global,
+    host: &'static str,
     mode: Mode,
 ) -> Result<Report, CrawlError> {
     let Ok(web) = SavedWeb::read(alloc, RING.as_bytes()) else {
         return Err(CrawlError::NoMemory);
     };
-    let source = WithoutHost {
-        web,
-        host: "c.test",
-    };
+    let source = WithoutHost { web, host };
     report_from(rt, alloc, &source, &["http://a.test/"], 1, mode)
 }
 
 #[test]
 fn failing_host(rt: HostRuntime) {
-    assert!(rt; lacks(without_c(&rt, rt.alloc(), Mode::Turns)));
-    assert!(rt; lacks(without_c(&rt, rt.alloc(), Mode::Threads)));
+    assert!(rt; lacks(without(&rt, rt.alloc(), "c.test", Mode::Turns)));
+    assert!(rt; lacks(without(&rt, rt.alloc(), "c.test", Mode::Threads)));
+}
+
+// The source fails for the seed, so no page is found at all.
+#[test]
+fn a_source_that_always_fails(rt: HostRuntime) {
+    assert!(rt; lacks(without(&rt, rt.alloc(), "a.test", Mode::Turns)));
+    assert!(rt; lacks(without(&rt, rt.alloc(), "a.test", Mode::Threads)));
 }
 
 /// A crawl of two pages whose fetch that waits for another one ends well only where two workers fetch at once.
