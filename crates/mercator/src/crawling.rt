@@ -73,7 +73,16 @@ pub fn crawl<F: Fetch + Sync, R: Threads + Wait + Sync>(
     ensures judged { IfErr result (IsJudged (F.meaning fetcher.now) (allows filter.now) seeds.now) }
 {
     let source = WithoutSession { fetcher };
-    crawl_in(rt, alloc, &source, filter, seeds, workers, max_pending, mode)
+    crawl_in(
+        rt,
+        alloc,
+        &source,
+        filter,
+        seeds,
+        workers,
+        max_pending,
+        mode,
+    )
 }
 
 /// As [`crawl`], where each worker owns a session of the source.

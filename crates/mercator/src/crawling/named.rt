@@ -103,7 +103,9 @@ fn run<K: Name + Send + Sync, F: SessionFetch + Sync, R: Threads + Wait + Sync>(
     ensures alone { vec_len workers ≤ 1 → IfErr result (λ error. error ≡ unrun.NoMemory) }
 {
     match mode {
-        Mode::Threads if workers.len() > 1 => { run_threads_in(rt, alloc, frontier, workers, fetcher) }
+        Mode::Threads if workers.len() > 1 => {
+            run_threads_in(rt, alloc, frontier, workers, fetcher)
+        }
         _ => run_turns_in(rt, alloc, frontier, workers, fetcher),
     }
 }
