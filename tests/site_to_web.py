@@ -520,6 +520,7 @@ class Documents(Converting):
             '<img srcset="a.png, b.png"><img srcset=", ,"><img srcset="c\u00a0d (e">': ["a.png", "b.png", "c\u00a0d"],
             f'<a title="&#{"0" * 5000}65;" href="a&#{"9" * 5000};b&#{"0" * 5000}65;">': ["a\ufffdbA"],
             '<a href=a\u00a0b>': ["a\u00a0b"],
+            '&#<a href="x">&#; &#65a<a href="y">': ["x", "y"],
             '<link rel="stylesheet" href="x"><link rel="preconnect" href="//y">': ["x"],
             '<link rel="prev DNS-Prefetch" href="//y"><link href="x">': ["x"],
             '<script src="x"></script><iframe src="y"></iframe><area href="z">': ["x", "y", "z"],

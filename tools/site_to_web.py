@@ -278,6 +278,8 @@ START_LENGTH = 1024  # bytes of a document in which its kind and its encoding ar
 DECLARED = re.compile(rb"(?i)<meta[^>]*charset\s*=\s*[\"']?\s*([A-Za-z0-9_.:-]+)")
 REFERENCE = re.compile("&(#[0-9]+;?|#[xX][0-9a-fA-F]+;?|[A-Za-z][A-Za-z0-9]*(?:;|(?![A-Za-z0-9=])))")
 LONG_REFERENCE = re.compile("&#([0-9]{8,})(;?)")
+# Python's own pattern of references between tags fails at `&#` without a digit, and takes all that follows as text
+html.parser.charref = re.compile("&#.", re.S)
 CANDIDATE = re.compile(r"[^ \t\n\f\r]*")
 BETWEEN_CANDIDATES = re.compile(r"[ \t\n\f\r,]*")
 DESCRIPTORS = re.compile(r"(?:\([^)]*\)?|[^,(])*")

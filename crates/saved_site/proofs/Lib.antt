@@ -1,0 +1,5 @@
+pub mod Found
+pub mod Lines
+pub mod Printing
+pub mod Says
+pub mod Sound

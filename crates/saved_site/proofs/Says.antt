@@ -1,0 +1,90 @@
+-- What the lines of pages, links and redirects say.
+use Rattle.std.proofs.Common.{◌≡◌, ℕ, ◌+◌, ◌<◌, ◌≤◌, ◌==◌, true, List, [], ◌∷◌, ◌++◌, length, nat_lt, Option, Some, None, Ok, codes, refl, ap, ◌∙◌, arith, length-append, lt-ltb}
+use Rattle.std.specs.Prelude.{nat_le}
+use Rattle.std.specs.List.{list_all}
+use Rattle.std.specs.Str.{is_utf8, IsUtf8}
+use Rattle.std.proofs.lemmas.Bool.{and_parts, leb-true, cond-true}
+use Rattle.std.proofs.lemmas.Str.{IsUtf8-append, IsUtf8-from_is_utf8}
+use Rattle.crawl_web.proofs.CutLines.{text_of-utf8}
+use Rattle.crawl_web.proofs.WebLines.{line_of-utf8}
+use Rattle.crawl_web.specs.Limits.{line_limit}
+use Rattle.crawl_web.specs.Lines.{text_of}
+use Rattle.crawl_web.specs.Parts.{at_space}
+use Rattle.crawl_web.specs.WebLines.{said_apart, line_of_text, line_of}
+use Rattle.crawl_web.specs.declared.saved_web.line.Line.{Line}
+use Rattle.crawl_web.specs.declared.saved_web.line.Line.TheVariants as line_says
+use Rattle.saved_site.specs.Texts.{is_inner, fits}
+
+-- the line is a text, whatever its number, and says this
+pub record Says (line : List ℕ) (said : Line (List ℕ)) : Type 0 where
+  pub reads : (number : ℕ) → text_of number line ≡ Ok line
+  pub of_text : line_of_text line ≡ said
+  pub of_line : line_of line ≡ said
+
+behind_front : (front text : List ℕ) (n : ℕ) (said : Line (List ℕ)) → length front ≡ n → IsUtf8 front → fits n text ≡ true → line_of_text (front ++ text) ≡ said → Says (front ++ text) said
+behind_front front text n said long utf8 fit is =
+    let parts = and_parts (nat_le (n + length text) line_limit) _ fit in
+    let more = and_parts (is_utf8 text) (list_all is_inner text) parts.1 in
+    let whole : IsUtf8 (front ++ text) = IsUtf8-append front text utf8 (IsUtf8-from_is_utf8 text more.0) in
+    let within : n + length text ≤ line_limit = leb-true (n + length text) line_limit parts.0 in
+    let short : length (front ++ text) ≤ line_limit = omega (arith, length-append front text, long, within) in
+    record {
+      reads = λ number. text_of-utf8 number (front ++ text) short whole;
+      of_text = is;
+      of_line = line_of-utf8 (front ++ text) whole ∙ is;
+    }
+
+-- ---- a page
+
+page_utf8 : IsUtf8 (codes "page ")
+unfolding lib.Utf8.encode
+page_utf8 = (codes "page ", (refl, refl))
+
+at_page : (url : List ℕ) → at_space (codes "page " ++ url) ≡ Some (codes "page", url)
+at_page url =
+    cond-true (nat_lt 4 (length (codes "page " ++ url))) (Some (codes "page", url)) None (lt-ltb 4 (length (codes "page " ++ url)) (omega (arith, length-append (codes "page ") url)))
+
+pub says_page : (url : List ℕ) → fits 5 url ≡ true → Says (codes "page " ++ url) (line_says.Page url)
+says_page url fit =
+    behind_front (codes "page ") url 5 (line_says.Page url) refl page_utf8 fit (ap (said_apart (codes "page " ++ url)) (at_page url))
+
+-- ---- a link
+
+link_utf8 : IsUtf8 (codes "link ")
+unfolding lib.Utf8.encode
+link_utf8 = (codes "link ", (refl, refl))
+
+at_link : (text : List ℕ) → at_space (codes "link " ++ text) ≡ Some (codes "link", text)
+at_link text =
+    cond-true (nat_lt 4 (length (codes "link " ++ text))) (Some (codes "link", text)) None (lt-ltb 4 (length (codes "link " ++ text)) (omega (arith, length-append (codes "link ") text)))
+
+pub says_link : (text : List ℕ) → fits 5 text ≡ true → Says (codes "link " ++ text) (line_says.Link text)
+says_link text fit =
+    behind_front (codes "link ") text 5 (line_says.Link text) refl link_utf8 fit (ap (said_apart (codes "link " ++ text)) (at_link text))
+
+-- ---- a redirect
+
+moved_utf8 : IsUtf8 (codes "moved ")
+unfolding lib.Utf8.encode
+moved_utf8 = (codes "moved ", (refl, refl))
+
+at_moved : (text : List ℕ) → at_space (codes "moved " ++ text) ≡ Some (codes "moved", text)
+at_moved text =
+    cond-true (nat_lt 5 (length (codes "moved " ++ text))) (Some (codes "moved", text)) None (lt-ltb 5 (length (codes "moved " ++ text)) (omega (arith, length-append (codes "moved ") text)))
+
+pub says_moved : (text : List ℕ) → fits 6 text ≡ true → Says (codes "moved " ++ text) (line_says.Moved text)
+says_moved text fit =
+    behind_front (codes "moved ") text 6 (line_says.Moved text) refl moved_utf8 fit (ap (said_apart (codes "moved " ++ text)) (at_moved text))
+
+-- ---- the first line
+
+header_utf8 : IsUtf8 (codes "savedweb 2")
+unfolding lib.Utf8.encode
+header_utf8 = (codes "savedweb 2", (refl, refl))
+
+pub says_header : Says (codes "savedweb 2") line_says.Other
+says_header = record {
+  reads = λ number. text_of-utf8 number (codes "savedweb 2") (omega arith) header_utf8;
+  of_text = refl;
+  of_line = line_of-utf8 (codes "savedweb 2") header_utf8;
+}

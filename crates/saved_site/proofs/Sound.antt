@@ -1,0 +1,287 @@
+-- The lines of pages in order are a saved web.
+use Rattle.std.proofs.Common.{◌≡◌, ℕ, ◌+◌, ◌<◌, ◌==◌, Bool, true, false, ◌||◌, List, [], ◌∷◌, ◌++◌, length, Option, Some, None, Ok, codes, refl, sym, ap, subst, ◌∙◌, arith, append_assoc, append-nil, length-append, ne_eqb}
+use Rattle.std.specs.Prelude.{Result}
+use Rattle.std.specs.Bool.{if◌then◌else◌}
+use Rattle.std.specs.Cmp.Lexicographic.{slice_cmp}
+use Rattle.std.specs.List.{list_any, list_all, flat_map}
+use Rattle.std.specs.Option.{option_map_or}
+use Rattle.std.specs.Ordering.{is_lt, is_eq, nat_cmp}
+use Rattle.std.specs.declared.cmp.Ordering.{Ordering}
+use Rattle.std.specs.Result.{result_ok}
+use Rattle.std.specs.Str.{bytes_eq}
+use Rattle.std.specs.Str.Lines.{lines}
+use Rattle.std.specs.declared.cmp.Ordering.TheVariants.{Less, Equal, Greater}
+use Rattle.std.proofs.lemmas.Bool.{and_parts, or_from, cond-true, cond-false, false_from_ne_true}
+use Rattle.std.proofs.lemmas.Cmp.{nat_list_cmp_total}
+use Rattle.std.proofs.lemmas.Map.Text.{is_eq-slice_cmp}
+use Rattle.std.proofs.lemmas.List.Folds.{list_any-append}
+use Rattle.crawl_keys.specs.declared.error.KeyError.{KeyError}
+use Rattle.crawl_web.proofs.ReadWeb.{under_more}
+use Rattle.crawl_web.specs.LeastFault.{SoundAfter}
+use Rattle.crawl_web.specs.WebChecks.{Before, is_second, under_last_page, before, header_of, header_fault, page_fault, under_fault, said_fault, text_fault, fault_after}
+use Rattle.crawl_web.specs.WebFaults.{IsSound}
+use Rattle.crawl_web.specs.WebLines.{says_page, says_moved, url_said, is_page, is_moved_line, is_link, is_page_at}
+use Rattle.crawl_web.specs.declared.saved_web.error.WebError.{WebError}
+use Rattle.crawl_web.specs.declared.saved_web.error.WebError.TheVariants as wrong
+use Rattle.crawl_web.specs.declared.saved_web.line.Line.{Line}
+use Rattle.crawl_web.specs.declared.saved_web.line.Line.TheVariants as line_says
+use Rattle.saved_site.proofs.Lines.{first_line, fits_inner, line_on}
+use Rattle.saved_site.proofs.Says as lemma
+use Rattle.saved_site.proofs.Says.{Says}
+use Rattle.saved_site.specs.Pages.{under_text, page_text, web_text, is_behind, AscendsBehind, fits_under, IsPage}
+use Rattle.saved_site.specs.Texts.{fits, all_fit, page_line, link_line, link_lines, moved_line}
+use Rattle.saved_site.specs.declared.page.SitePage.{SitePage}
+use Rattle.saved_site.specs.declared.page.Under.{Under}
+use Rattle.saved_site.specs.declared.page.Under.TheVariants.{Links, Moved}
+
+-- ---- the lines
+
+abbrev pub links : List (List ℕ) → List (List ℕ)
+links [] = []
+links (text ∷ more) = (codes "link " ++ text) ∷ links more
+
+abbrev pub under_lines : Under → List (List ℕ)
+under_lines (Links texts) = links texts
+under_lines (Moved text) = (codes "moved " ++ text) ∷ []
+
+abbrev pub page_lines : SitePage → List (List ℕ)
+page_lines page = (codes "page " ++ page.url) ∷ under_lines page.under
+
+abbrev pub AllPages : List SitePage → Type 0
+AllPages [] = Unit {0}
+AllPages (page ∷ more) = IsPage page × AllPages more
+
+links_cut : (texts : List (List ℕ)) (rest : List ℕ) → all_fit texts ≡ true → lines (link_lines texts ++ rest) ≡ links texts ++ lines rest
+links_cut [] rest fit = refl
+links_cut (text ∷ more) rest fit =
+    let both = and_parts (fits 5 text) (all_fit more) fit in
+    ap lines (append_assoc (link_line text) (link_lines more) rest ∙ line_on (codes "link ") text (link_lines more ++ rest))
+    ∙ first_line (codes "link " ++ text) (link_lines more ++ rest) (fits_inner 5 text both.0)
+    ∙ ap (λ (ls : List (List ℕ)). (codes "link " ++ text) ∷ ls) (links_cut more rest both.1)
+
+under_cut : (under : Under) (rest : List ℕ) → fits_under under ≡ true → lines (under_text under ++ rest) ≡ under_lines under ++ lines rest
+under_cut (Links texts) rest fit = links_cut texts rest fit
+under_cut (Moved text) rest fit =
+    ap lines (line_on (codes "moved ") text rest) ∙ first_line (codes "moved " ++ text) rest (fits_inner 6 text fit)
+
+pages_cut : (pages : List SitePage) → AllPages pages → lines (flat_map page_text pages) ≡ flat_map page_lines pages
+pages_cut [] all = refl
+pages_cut (page ∷ more) all =
+    let rest : List ℕ = flat_map page_text more in
+    ap lines (append_assoc (page_line page.url) (under_text page.under) rest ∙ line_on (codes "page ") page.url (under_text page.under ++ rest))
+    ∙ first_line (codes "page " ++ page.url) (under_text page.under ++ rest) (fits_inner 5 page.url all.0.fit)
+    ∙ ap (λ (ls : List (List ℕ)). (codes "page " ++ page.url) ∷ ls) (under_cut page.under rest all.0.under_fit ∙ ap (λ (ls : List (List ℕ)). under_lines page.under ++ ls) (pages_cut more all.1))
+
+pub web_cut : (pages : List SitePage) → AllPages pages → lines (web_text pages) ≡ codes "savedweb 2" ∷ flat_map page_lines pages
+web_cut pages all =
+    first_line (codes "savedweb 2") (flat_map page_text pages) refl ∙ ap (λ (ls : List (List ℕ)). codes "savedweb 2" ∷ ls) (pages_cut pages all)
+
+-- ---- one line
+
+-- a line behind others fails what it says
+said_of : (earlier : List (List ℕ)) (line : List ℕ) (said : Line (List ℕ)) → 0 < length earlier → Says line said → fault_after earlier line ≡ said_fault (before earlier) said
+said_of earlier line said some is =
+    ap (text_fault (before earlier)) (is.reads (length earlier + 1))
+    ∙ cond-false (length earlier + 1 == 1) (header_fault (header_of line)) (said_fault (before earlier) _) (ne_eqb (length earlier + 1) 1 (λ one. omega (arith, one, some)))
+    ∙ ap (said_fault (before earlier)) is.of_text
+
+passes : (number : ℕ) (some mixed : Bool) → some ≡ true → mixed ≡ false → under_fault number some mixed ≡ None
+passes number true false page free = refl
+passes number true true page free = absurd (cc)
+passes number false mixed page free = absurd (cc)
+
+page_passes : (b : Bool) (fault : WebError) → b ≡ false → (if b then Some fault else None) ≡ None
+page_passes b fault new = cond-false b (Some fault) None new
+
+-- a list of lines and one more of them
+any_push : (p : List ℕ → Bool) (earlier : List (List ℕ)) (line : List ℕ) (b : Bool) → list_any p earlier ≡ b → (list_any p (earlier ++ line ∷ []) ≡ (b || (p line || false)))
+any_push p earlier line b is =
+    list_any-append p earlier (line ∷ []) ∙ ap (λ (x : Bool). x || (p line || false)) is
+
+-- ---- the lines under a page
+
+-- behind these lines stands a page, and under it no redirect
+record OnPage (earlier : List (List ℕ)) : Type 0 where
+  some : 0 < length earlier
+  page : list_any is_page earlier ≡ true
+  free : list_any is_moved_line (under_last_page earlier) ≡ false
+
+link_is : (text : List ℕ) → fits 5 text ≡ true → (is_page (codes "link " ++ text) ≡ false) × (is_moved_line (codes "link " ++ text) ≡ false)
+link_is text fit =
+    let line = lemma.says_link text fit in
+    (ap says_page line.of_line, ap says_moved line.of_line)
+
+under_push : (earlier : List (List ℕ)) (line : List ℕ) → is_page line ≡ false → under_last_page (earlier ++ line ∷ []) ≡ under_last_page earlier ++ line ∷ []
+under_push earlier line other =
+    under_more earlier line ∙ cond-false (is_page line) [] (under_last_page earlier ++ line ∷ []) other
+
+on_page_link : (earlier : List (List ℕ)) (text : List ℕ) → fits 5 text ≡ true → OnPage earlier → OnPage (earlier ++ (codes "link " ++ text) ∷ [])
+on_page_link earlier text fit on =
+    let line : List ℕ = codes "link " ++ text in
+    let is = link_is text fit in record {
+      some = omega (arith, length-append earlier (line ∷ []), on.some);
+      page = any_push is_page earlier line true on.page;
+      free =
+          ap (list_any is_moved_line) (under_push earlier line is.0)
+          ∙ any_push is_moved_line (under_last_page earlier) line false on.free
+          ∙ ap (λ (b : Bool). b || false) is.1;
+    }
+
+links_sound : (earlier : List (List ℕ)) (texts : List (List ℕ)) → all_fit texts ≡ true → OnPage earlier → SoundAfter fault_after earlier (links texts)
+links_sound earlier [] fit on = tt
+links_sound earlier (text ∷ more) fit on =
+    let both = and_parts (fits 5 text) (all_fit more) fit in
+    let line : List ℕ = codes "link " ++ text in (
+      said_of earlier line (line_says.Link text) on.some (lemma.says_link text both.0)
+          ∙ passes (length earlier + 1) (list_any is_page earlier) (list_any is_moved_line (under_last_page earlier)) on.page on.free,
+      links_sound (earlier ++ line ∷ []) more both.1 (on_page_link earlier text both.0 on),
+    )
+
+-- ---- a page with its lines
+
+-- the lines are a saved web of version 2, and no page in them is behind this URL
+record UpTo (earlier : List (List ℕ)) (last : List ℕ) : Type 0 where
+  some : 0 < length earlier
+  second : is_second earlier ≡ true
+  known : (url : List ℕ) → is_behind last url ≡ true → list_any (is_page_at url) earlier ≡ false
+
+second_push : (earlier more : List (List ℕ)) → 0 < length earlier → is_second earlier ≡ true → is_second (earlier ++ more) ≡ true
+second_push [] more some second = absurd (omega (arith, some))
+second_push (line ∷ lines) more some second = second
+
+moved_passes : (number : ℕ) (second some link moved : Bool) (fault : WebError) → second ≡ true → some ≡ true → link ≡ false → moved ≡ false → (if second then under_fault number some (link || moved) else Some fault) ≡ None
+moved_passes number second some link moved fault is page no_link no_move =
+    cond-true second (under_fault number some (link || moved)) (Some fault) is ∙ passes number some (link || moved) page (or_from link moved no_link no_move)
+
+page_there : (earlier : List (List ℕ)) (page : List ℕ) → is_page page ≡ true → list_any is_page (earlier ++ page ∷ []) ≡ true
+page_there earlier page is =
+    list_any-append is_page earlier (page ∷ []) ∙ ap (λ (b : Bool). list_any is_page earlier || (b || false)) is ∙ or_true (list_any is_page earlier)
+  where
+    or_true : (b : Bool) → (b || true) ≡ true
+    or_true true = refl
+    or_true false = refl
+
+under_none : (earlier : List (List ℕ)) (page : List ℕ) → is_page page ≡ true → under_last_page (earlier ++ page ∷ []) ≡ []
+under_none earlier page is =
+    under_more earlier page ∙ cond-true (is_page page) [] (under_last_page earlier ++ page ∷ []) is
+
+under_sound : (earlier : List (List ℕ)) (page : List ℕ) (under : Under) → is_second (earlier ++ page ∷ []) ≡ true → is_page page ≡ true → fits_under under ≡ true → SoundAfter fault_after (earlier ++ page ∷ []) (under_lines under)
+under_sound earlier page (Links texts) second is fit =
+    links_sound (earlier ++ page ∷ []) texts fit (record {
+      some = omega (arith, length-append earlier (page ∷ []));
+      page = page_there earlier page is;
+      free = ap (list_any is_moved_line) (under_none earlier page is);
+    })
+under_sound earlier page (Moved text) second is fit = (
+  said_of (earlier ++ page ∷ []) (codes "moved " ++ text) (line_says.Moved text) (omega (arith, length-append earlier (page ∷ []))) (lemma.says_moved text fit)
+      ∙ moved_passes (length (earlier ++ page ∷ []) + 1) (is_second (earlier ++ page ∷ [])) (list_any is_page (earlier ++ page ∷ [])) (list_any is_link (under_last_page (earlier ++ page ∷ []))) (list_any is_moved_line (under_last_page (earlier ++ page ∷ []))) (wrong.BadLine (length (earlier ++ page ∷ []) + 1)) second (page_there earlier page is) (ap (list_any is_link) (under_none earlier page is)) (ap (list_any is_moved_line) (under_none earlier page is)),
+  tt,
+)
+
+-- ---- URLs in order
+
+lt_less : (o : Ordering) → is_lt o ≡ true → o ≡ Less
+lt_less Less e = refl
+lt_less Equal e = absurd (cc)
+lt_less Greater e = absurd (cc)
+
+behind_both : (a b c : List ℕ) → is_behind a b ≡ true → is_behind b c ≡ true → is_behind a c ≡ true
+behind_both a b c e f =
+    ap is_lt (nat_list_cmp_total.trans a b c (lt_less (slice_cmp nat_cmp a b) e) (lt_less (slice_cmp nat_cmp b c) f))
+
+-- a URL that is behind another is not that one
+behind_other : (a b : List ℕ) → is_behind a b ≡ true → bytes_eq a b ≡ false
+behind_other a b e = sym (is_eq-slice_cmp a b) ∙ ap is_eq (lt_less (slice_cmp nat_cmp a b) e)
+
+-- ---- which pages the lines are
+
+pub at_link : (text url : List ℕ) → fits 5 text ≡ true → is_page_at url (codes "link " ++ text) ≡ false
+at_link text url fit =
+    ap (λ (said : Line (List ℕ)). option_map_or (λ (own : List ℕ). bytes_eq own url) (url_said said) false) (lemma.says_link text fit).of_line
+
+pub at_moved : (text url : List ℕ) → fits 6 text ≡ true → is_page_at url (codes "moved " ++ text) ≡ false
+at_moved text url fit =
+    ap (λ (said : Line (List ℕ)). option_map_or (λ (own : List ℕ). bytes_eq own url) (url_said said) false) (lemma.says_moved text fit).of_line
+
+pub at_page : (page : SitePage) (url : List ℕ) → IsPage page → is_page_at url (codes "page " ++ page.url) ≡ bytes_eq page.url url
+at_page page url is =
+    ap (λ (said : Line (List ℕ)). option_map_or (λ (own : List ℕ). bytes_eq own url) (url_said said) false) (lemma.says_page page.url is.fit).of_line
+    ∙ ap (λ (text : Result (List ℕ) KeyError). option_map_or (λ (own : List ℕ). bytes_eq own url) (result_ok text) false) is.own
+
+none_links : (texts : List (List ℕ)) (url : List ℕ) → all_fit texts ≡ true → list_any (is_page_at url) (links texts) ≡ false
+none_links [] url fit = refl
+none_links (text ∷ more) url fit =
+    let both = and_parts (fits 5 text) (all_fit more) fit in
+    or_from (is_page_at url (codes "link " ++ text)) (list_any (is_page_at url) (links more)) (at_link text url both.0) (none_links more url both.1)
+
+none_under : (under : Under) (url : List ℕ) → fits_under under ≡ true → list_any (is_page_at url) (under_lines under) ≡ false
+none_under (Links texts) url fit = none_links texts url fit
+none_under (Moved text) url fit = or_from (is_page_at url (codes "moved " ++ text)) false (at_moved text url fit) refl
+
+none_page : (page : SitePage) (url : List ℕ) → IsPage page → is_behind page.url url ≡ true → list_any (is_page_at url) (page_lines page) ≡ false
+none_page page url is behind =
+    or_from (is_page_at url (codes "page " ++ page.url)) (list_any (is_page_at url) (under_lines page.under))
+    (at_page page url is ∙ behind_other page.url url behind) (none_under page.under url is.under_fit)
+
+up_to_page : (earlier : List (List ℕ)) (last : List ℕ) (page : SitePage) → IsPage page → is_behind last page.url ≡ true → UpTo earlier last → UpTo (earlier ++ page_lines page) page.url
+up_to_page earlier last page is behind to = record {
+  some = omega (arith, length-append earlier (page_lines page), to.some);
+  second = second_push earlier (page_lines page) to.some to.second;
+  known = λ url more.
+      list_any-append (is_page_at url) earlier (page_lines page)
+      ∙ or_from (list_any (is_page_at url) earlier) (list_any (is_page_at url) (page_lines page)) (to.known url (behind_both last page.url url behind more)) (none_page page url is more);
+}
+
+-- ---- all pages
+
+is_page_line : (page : SitePage) → IsPage page → is_page (codes "page " ++ page.url) ≡ true
+is_page_line page is = ap says_page (lemma.says_page page.url is.fit).of_line
+
+-- the page's own line passes
+own_passes : (earlier : List (List ℕ)) (last : List ℕ) (page : SitePage) → IsPage page → is_behind last page.url ≡ true → UpTo earlier last → fault_after earlier (codes "page " ++ page.url) ≡ None
+own_passes earlier last page is behind to =
+    said_of earlier (codes "page " ++ page.url) (line_says.Page page.url) to.some (lemma.says_page page.url is.fit)
+    ∙ ap (page_fault (length earlier + 1) (λ (url : List ℕ). list_any (is_page_at url) earlier)) is.own
+    ∙ page_passes (list_any (is_page_at page.url) earlier) (wrong.PageTwice (length earlier + 1)) (to.known page.url behind)
+
+sound_join : (earlier xs ys : List (List ℕ)) → SoundAfter fault_after earlier xs → SoundAfter fault_after (earlier ++ xs) ys → SoundAfter fault_after earlier (xs ++ ys)
+sound_join earlier [] ys front back =
+    let P : List (List ℕ) → Type 0 = λ e. SoundAfter fault_after e ys in subst P (append-nil earlier) back
+sound_join earlier (x ∷ xs) ys front back =
+    let P : List (List ℕ) → Type 0 = λ e. SoundAfter fault_after e ys in
+    (front.0, sound_join (earlier ++ x ∷ []) xs ys front.1 (subst P (sym (append_assoc earlier (x ∷ []) xs)) back))
+
+page_sound : (earlier : List (List ℕ)) (last : List ℕ) (page : SitePage) → IsPage page → is_behind last page.url ≡ true → UpTo earlier last → SoundAfter fault_after earlier (page_lines page)
+page_sound earlier last page is behind to =
+    let line : List ℕ = codes "page " ++ page.url in
+    (own_passes earlier last page is behind to, under_sound earlier line page.under (second_push earlier (line ∷ []) to.some to.second) (is_page_line page is) is.under_fit)
+
+pages_sound : (earlier : List (List ℕ)) (last : List ℕ) (pages : List SitePage) → AllPages pages → AscendsBehind last pages → UpTo earlier last → SoundAfter fault_after earlier (flat_map page_lines pages)
+pages_sound earlier last [] all up to = tt
+pages_sound earlier last (page ∷ more) all up to =
+    sound_join earlier (page_lines page) (flat_map page_lines more) (page_sound earlier last page all.0 up.0 to)
+    (pages_sound (earlier ++ page_lines page) page.url more all.1 up.1 (up_to_page earlier last page all.0 up.0 to))
+
+header_sound : fault_after [] (codes "savedweb 2") ≡ None
+header_sound = ap (text_fault (before [])) (lemma.says_header.reads 1)
+
+-- the first line is no page
+pub at_header : (url : List ℕ) → is_page_at url (codes "savedweb 2") ≡ false
+at_header url =
+    ap (λ (said : Line (List ℕ)). option_map_or (λ (own : List ℕ). bytes_eq own url) (url_said said) false) lemma.says_header.of_line
+
+header_first : UpTo (codes "savedweb 2" ∷ []) []
+header_first = record {
+  some = omega arith;
+  second = refl;
+  known = λ url behind. ap (λ (b : Bool). b || false) (at_header url);
+}
+
+pub web_sound : (pages : List SitePage) → AllPages pages → AscendsBehind [] pages → IsSound (lines (web_text pages))
+web_sound pages all up =
+    let Q : List (List ℕ) → Type 0 = IsSound in
+    let front : List ℕ = codes "savedweb 2" in
+    subst Q (sym (web_cut pages all)) (record {
+      some = omega arith;
+      sound = (header_sound, pages_sound (front ∷ []) [] pages all up header_first);
+    })

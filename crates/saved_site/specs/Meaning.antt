@@ -1,0 +1,19 @@
+-- The page that a crawl finds at a URL of a site.
+use Rattle.std.specs.Prelude.{ℕ, List, [], ◌∷◌, if◌then◌else◌}
+use Rattle.std.specs.Str.{bytes_eq}
+use Rattle.crawl_web.specs.SavedWeb.{link_url, found_page}
+use Rattle.crawl_web.specs.declared.page.Page.{Page}
+use Rattle.crawl_web.specs.declared.page.Page.TheVariants as page
+use Rattle.saved_site.specs.declared.page.Under.{Under}
+use Rattle.saved_site.specs.declared.page.Under.TheVariants.{Links, Moved}
+use Rattle.saved_site.specs.declared.page.SitePage.{SitePage}
+
+-- what is found under a page's URL
+abbrev pub under_page : List ℕ → Under → Page
+under_page url (Links texts) = found_page url texts
+under_page url (Moved text) = page.Moved (link_url url text)
+
+-- the page of the site that has this URL
+abbrev pub page_in : List SitePage → List ℕ → Page
+page_in [] url = page.Missing
+page_in (first ∷ more) url = if bytes_eq first.url url then under_page url first.under else page_in more url

@@ -1,0 +1,54 @@
+-- The pages of a site, and the saved web that they are.
+use Rattle.std.specs.Prelude.{◌≡◌, ℕ, true, Bool, List, [], ◌∷◌, ◌++◌, Ok, codes, if◌then◌else◌}
+use Rattle.std.specs.Cmp.Lexicographic.{slice_cmp}
+use Rattle.std.specs.List.{flat_map}
+use Rattle.std.specs.Ordering.{is_lt, nat_cmp}
+use Rattle.crawl_keys.specs.CanonicalText.{canonical}
+use Rattle.saved_site.specs.Texts.{fits, all_fit, page_line, link_lines, moved_line}
+use Rattle.saved_site.specs.declared.page.Under.{Under}
+use Rattle.saved_site.specs.declared.page.Under.TheVariants.{Links, Moved}
+use Rattle.saved_site.specs.declared.page.SitePage.{SitePage}
+
+-- the lines under a page's own
+abbrev pub under_text : Under → List ℕ
+under_text (Links texts) = link_lines texts
+under_text (Moved text) = moved_line text
+
+abbrev pub page_text : SitePage → List ℕ
+page_text page = page_line page.url ++ under_text page.under
+
+abbrev pub web_text : List SitePage → List ℕ
+web_text pages = codes "savedweb 2" ++ 10 ∷ flat_map page_text pages
+
+-- ---- their order
+
+-- the URL is behind the other, byte by byte
+abbrev pub is_behind : List ℕ → List ℕ → Bool
+is_behind last url = is_lt (slice_cmp nat_cmp last url)
+
+-- the pages whose URL is behind this one and behind those of all pages that were taken before
+abbrev pub ascending_behind : List ℕ → List SitePage → List SitePage
+ascending_behind last [] = []
+ascending_behind last (page ∷ more) =
+    if is_behind last page.url then page ∷ ascending_behind page.url more else ascending_behind last more
+
+-- the pages in order, each URL once; no URL is empty
+abbrev pub ascending : List SitePage → List SitePage
+ascending pages = ascending_behind [] pages
+
+-- each URL is behind the one before it
+abbrev pub AscendsBehind : List ℕ → List SitePage → Type 0
+AscendsBehind last [] = Unit {0}
+AscendsBehind last (page ∷ more) = (is_behind last page.url ≡ true) × AscendsBehind page.url more
+
+-- ---- what a page owes
+
+abbrev pub fits_under : Under → Bool
+fits_under (Links texts) = all_fit texts
+fits_under (Moved text) = fits 6 text
+
+-- the URL is canonical and stands in a line, and so does all that is under it
+pub record IsPage (page : SitePage) : Type 0 where
+  pub fit : fits 5 page.url ≡ true
+  pub own : canonical page.url ≡ Ok page.url
+  pub under_fit : fits_under page.under ≡ true

@@ -1,0 +1,87 @@
+//! What the links of a page mean whose base is given.
+use crate::cleaning::{before_fragment, is_web, push_without_breaks, scheme_of, trimmed};
+use crawl_keys::{Base, CanonUrl, KeyError};
+use std::alloc::{AllocError, Global};
+
+/// The base that a page gives its links.
+#[derive(Drop)]
+pub(crate) enum Given {
+    /// A URL.
+    Url(Base),
+    /// Another scheme, with its colon, which goes before links without one.
+    Scheme(Vec<u8>),
+    /// None.
+    None,
+}
+
+/// What a link means without the base.
+#[derive(Drop)]
+pub(crate) enum Meant {
+    Same,
+    Url(CanonUrl),
+    Text(Vec<u8>),
+}
+
+/// The base that the `href` of a page's `base` gives.
+pub(crate) fn given_of(alloc: Global, href: &[u8], url: &CanonUrl) -> Result<Given, AllocError> {
+    let mut text = Vec::new(alloc);
+    push_without_breaks(trimmed(href), &mut text)?;
+    let page = base_of(alloc, url)?;
+    if let Some(target) = resolved(alloc, &page, text.as_slice())? {
+        return Ok(Given::Url(base_of(alloc, &target)?));
+    }
+    match scheme_of(text.as_slice()) {
+        Some(scheme) if !is_web(Some(scheme)) && !is_no_base(scheme) => {
+            let mut front = scheme.to_vec(alloc)?;
+            front.make_ascii_lowercase();
+            front.push(b':')?;
+            Ok(Given::Scheme(front))
+        }
+        _ => Ok(Given::None),
+    }
+}
+
+/// Whether a base with this scheme is none.
+fn is_no_base(scheme: &[u8]) -> bool {
+    scheme.eq_ignore_ascii_case(b"data") || scheme.eq_ignore_ascii_case(b"javascript")
+}
+
+/// What a link means against a base.
+pub(crate) fn meaning_of(alloc: Global, given: &Given, text: &[u8]) -> Result<Meant, AllocError> {
+    match given {
+        Given::Url(base) => Ok(match resolved(alloc, base, text)? {
+            Some(url) => Meant::Url(url),
+            None => Meant::Same,
+        }),
+        Given::Scheme(front) if scheme_of(text).is_none() => {
+            let mut link = front.as_slice().to_vec(alloc)?;
+            link.extend_from_slice(text)?;
+            Ok(Meant::Text(link))
+        }
+        _ => Ok(Meant::Same),
+    }
+}
+
+/// The base of the page at a URL.
+pub(crate) fn base_of(alloc: Global, url: &CanonUrl) -> Result<Base, AllocError> {
+    match Base::new(alloc, url) {
+        Ok(base) => Ok(base),
+        Err(_) => Err(AllocError),
+    }
+}
+
+/// The canonical URL of a link, where it has one.
+pub(crate) fn resolved(
+    alloc: Global,
+    base: &Base,
+    text: &[u8],
+) -> Result<Option<CanonUrl>, AllocError> {
+    let Ok(text) = str::from_utf8(before_fragment(text)) else {
+        return Ok(None);
+    };
+    match base.resolve(alloc, text) {
+        Ok(url) => Ok(Some(url)),
+        Err(KeyError::NoMemory) => Err(AllocError),
+        Err(_) => Ok(None),
+    }
+}

@@ -1,0 +1,92 @@
+//! The bytes of files that are read together.
+use std::alloc::{AllocError, Global};
+use std::io;
+use std::io::Read;
+
+/// About how many bytes are read before they are looked at.
+const BATCH_LENGTH: usize = 1 << 25;
+
+/// By how many bytes the room for documents grows at least.
+const GROWTH: usize = 1 << 20;
+
+/// The bytes of some files, one behind the other.
+#[derive(Drop)]
+pub(crate) struct Batch {
+    /// Room for them, which is used again.
+    bytes: Vec<u8>,
+    /// How much of it is used.
+    used: usize,
+    /// Where each begins and ends.
+    bounds: Vec<(usize, usize)>,
+}
+
+impl Batch {
+    pub(crate) fn new(alloc: Global) -> Batch {
+        Batch {
+            bytes: Vec::new(alloc),
+            used: 0,
+            bounds: Vec::new(alloc),
+        }
+    }
+
+    pub(crate) fn clear(&mut self) {
+        self.used = 0;
+        self.bounds.clear();
+    }
+
+    /// Whether no more should be read before these are looked at.
+    pub(crate) fn is_full(&self) -> bool {
+        self.used > BATCH_LENGTH
+    }
+
+    /// The bytes of the file with this number; none where there is none.
+    pub(crate) fn body(&self, number: usize) -> &[u8] {
+        match self.bounds.get(number) {
+            Some((begin, end)) => self.bytes.as_slice().get(*begin..*end).unwrap_or(&[]),
+            None => &[],
+        }
+    }
+
+    /// Ends the bytes of one more file, which begin here.
+    pub(crate) fn end_file(&mut self, begin: usize) -> Result<(), AllocError> {
+        self.bounds.push((begin, self.used))?;
+        Ok(())
+    }
+
+    /// Where the bytes of the next file begin.
+    pub(crate) fn begin(&self) -> usize {
+        self.used
+    }
+
+    /// Takes back what was read from here on.
+    pub(crate) fn cut(&mut self, begin: usize) {
+        self.used = self.used.min(begin);
+    }
+
+    /// Reads to the end, into room that is not made empty before, as that of `read_to_end` is.
+    pub(crate) fn read<I: Read>(&mut self, input: &mut I) -> io::Result<()> {
+        for _ in 0..u64::MAX {
+            let room = self
+                .bytes
+                .as_mut_slice()
+                .get_mut(self.used..)
+                .unwrap_or(&mut []);
+            if room.is_empty() {
+                self.grow()?;
+                continue;
+            }
+            let count = input.read(room)?;
+            if count == 0 {
+                break;
+            }
+            self.used = self.used.saturating_add(count);
+        }
+        Ok(())
+    }
+
+    fn grow(&mut self) -> Result<(), AllocError> {
+        let length = self.bytes.len().max(self.used);
+        self.bytes
+            .resize(length.saturating_add(GROWTH.max(length)), 0)
+    }
+}

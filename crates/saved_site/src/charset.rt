@@ -1,0 +1,201 @@
+//! The encoding of a document.
+ghost use Rattle.std.specs.Prelude.{◌≤◌, ◌<◌, length, IfSome};
+
+use crate::kinds::{behind_front, start_of};
+use memchr::memchr;
+use std::alloc::{AllocError, Global};
+
+/// The encoding that a document is read in.
+#[derive(Clone, Copy, Debug, PartialEq, Eq)]
+pub(crate) enum Charset {
+    Utf8,
+    Utf16Le,
+    Utf16Be,
+    Windows1252,
+    /// Another one, which is read as Windows' own.
+    Other,
+}
+
+impl Charset {
+    /// Whether queries of its links are UTF-8.
+    pub(crate) fn is_unicode(self) -> bool {
+        !matches!(self, Charset::Windows1252 | Charset::Other)
+    }
+}
+
+/// The encoding of a document: by its first bytes, its head, and whether it is UTF-8.
+pub(crate) fn charset_of(body: &[u8]) -> Charset {
+    match body {
+        [0xef, 0xbb, 0xbf, ..] => return Charset::Utf8,
+        [0xff, 0xfe, ..] => return Charset::Utf16Le,
+        [0xfe, 0xff, ..] => return Charset::Utf16Be,
+        _ => {}
+    }
+    match declared(start_of(body)) {
+        Some(name) => charset_named(name, body),
+        None => undeclared(body, Charset::Windows1252),
+    }
+}
+
+fn undeclared(body: &[u8], otherwise: Charset) -> Charset {
+    if simdutf8::is_utf8(body) {
+        Charset::Utf8
+    } else {
+        otherwise
+    }
+}
+
+fn charset_named(name: &[u8], body: &[u8]) -> Charset {
+    if is_among(name, "utf-8 utf8 utf-16 utf-16le utf-16be utf_8 u8") {
+        Charset::Utf8
+    } else if is_among(
+        name,
+        "iso-8859-1 latin1 us-ascii ascii windows-1252 cp1252 1252",
+    ) {
+        Charset::Windows1252
+    } else {
+        undeclared(body, Charset::Other)
+    }
+}
+
+fn is_among(name: &[u8], names: &str) -> bool {
+    names
+        .split(' ')
+        .any(|known| known.as_bytes().eq_ignore_ascii_case(name))
+}
+
+/// The name of the encoding that the head of a document declares.
+pub(crate) fn declared(start: &[u8]) -> Option<&[u8]> {
+    let mut rest = start;
+    while let Some(behind) = behind_bracket(rest) {
+        rest = behind;
+        if let Some(behind) = behind_front(rest, b"meta") {
+            let name = last_charset(inside(behind));
+            if !name.is_empty() {
+                return Some(name);
+            }
+        }
+    }
+    None
+}
+
+/// What is behind the first `<`.
+fn behind_bracket(text: &[u8]) -> Option<&[u8]>
+    ensures { IfSome result (λ behind. length behind.now < length text.now) }
+{
+    let index = memchr(b'<', text)?;
+    Some(&text[index + 1..])
+}
+
+/// The bytes before a `>`.
+fn inside(bytes: &[u8]) -> &[u8] {
+    match memchr(b'>', bytes) {
+        Some(end) => &bytes[..end],
+        None => bytes,
+    }
+}
+
+/// The name behind the last `charset=` that has one; nothing where there is none.
+fn last_charset(tag: &[u8]) -> &[u8] {
+    let mut name: &[u8] = &[];
+    for index in 0..tag.len() {
+        let found = charset_at(&tag[index..]);
+        if !found.is_empty() {
+            name = found;
+        }
+    }
+    name
+}
+
+fn charset_at(text: &[u8]) -> &[u8] {
+    let Some(behind) = behind_front(text, b"charset") else {
+        return &[];
+    };
+    match skip_spaces(behind).split_first() {
+        Some((b'=', value)) => {
+            let value = match skip_spaces(value) {
+                [b'"' | b'\'', behind @ ..] => skip_spaces(behind),
+                value => value,
+            };
+            &value[..name_length(value)]
+        }
+        _ => &[],
+    }
+}
+
+fn skip_spaces(bytes: &[u8]) -> &[u8] {
+    for (index, byte) in bytes.iter().enumerate() {
+        if !matches!(*byte, b'\t'..=b'\r' | b' ') {
+            return &bytes[index..];
+        }
+    }
+    &[]
+}
+
+fn name_length(bytes: &[u8]) -> usize
+    ensures { result ≤ length bytes.now }
+{
+    for (index, byte) in bytes.iter().enumerate() {
+        if !byte.is_ascii_alphanumeric() && !matches!(*byte, b'_' | b'.' | b':' | b'-') {
+            return index;
+        }
+    }
+    bytes.len()
+}
+
+/// The characters of 0x80 to 0x9f.
+static WINDOWS: [char; 32] = [
+    '\u{20ac}', '\u{81}', '\u{201a}', '\u{192}', '\u{201e}', '\u{2026}', '\u{2020}', '\u{2021}',
+    '\u{2c6}', '\u{2030}', '\u{160}', '\u{2039}', '\u{152}', '\u{8d}', '\u{17d}', '\u{8f}',
+    '\u{90}', '\u{2018}', '\u{2019}', '\u{201c}', '\u{201d}', '\u{2022}', '\u{2013}', '\u{2014}',
+    '\u{2dc}', '\u{2122}', '\u{161}', '\u{203a}', '\u{153}', '\u{9d}', '\u{17e}', '\u{178}',
+];
+
+/// The text of a document in Windows' encoding.
+pub(crate) fn from_windows(alloc: Global, body: &[u8]) -> Result<Vec<u8>, AllocError> {
+    let mut text = String::new(alloc);
+    for byte in body {
+        text.push(character_of(*byte))?;
+    }
+    Ok(text.into_bytes())
+}
+
+fn character_of(byte: u8) -> char {
+    match byte {
+        0x80..=0x9f => WINDOWS[(byte - 0x80) as usize],
+        _ => byte as char,
+    }
+}
+
+/// The byte that stands for a character in Windows' encoding.
+pub(crate) fn windows_byte(character: char) -> Option<u8> {
+    let number = u32::from(character);
+    match number {
+        0..=0x7f | 0xa0..=0xff => u8::try_from(number).ok(),
+        _ => (0x80..=0x9f_u8).find(|byte| character_of(*byte) == character),
+    }
+}
+
+/// The text of a document in UTF-16, behind its mark. A byte that is left over at its end is U+FFFD.
+pub(crate) fn from_utf16(
+    alloc: Global,
+    body: &[u8],
+    is_little: bool,
+) -> Result<Vec<u8>, AllocError> {
+    let mut units = Vec::new(alloc);
+    let mut rest = body;
+    while let [first, second, behind @ ..] = rest {
+        rest = behind;
+        let pair = [*first, *second];
+        units.push(if is_little {
+            u16::from_le_bytes(pair)
+        } else {
+            u16::from_be_bytes(pair)
+        })?;
+    }
+    if !rest.is_empty() {
+        units.push(0xfffd)?;
+    }
+    let text = String::from_utf16_lossy(alloc, units.as_slice())?;
+    Ok(text.into_bytes())
+}

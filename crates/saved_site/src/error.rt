@@ -1,0 +1,50 @@
+//! Why a site has no saved web.
+use std::alloc::{AllocError, AllocFailed};
+use std::{fmt, io};
+
+/// Why a site has no saved web.
+#[derive(Debug, Drop)]
+pub enum SiteError {
+    /// The base is no http or https URL without a query.
+    BadBase,
+    /// There is no file.
+    NoFiles,
+    /// The web has more bytes than a crawl takes.
+    TooLarge,
+    /// A growth was refused.
+    NoMemory,
+    /// The folder cannot be read.
+    Io(io::Error),
+}
+
+impl fmt::Display for SiteError {
+    fn fmt<W: fmt::Write>(&self, f: &mut fmt::Formatter<W>) -> fmt::Result {
+        match self {
+            SiteError::BadBase => f.write_str("no http or https URL without a query"),
+            SiteError::NoFiles => f.write_str("no files"),
+            SiteError::TooLarge => f.write_str(
+                "the web is more than 1073741824 bytes, which no crawl takes",
+            ),
+            SiteError::NoMemory => f.write_str("out of memory"),
+            SiteError::Io(error) => write!(f, "{error}"),
+        }
+    }
+}
+
+impl From<AllocError> for SiteError {
+    fn from(_refused: AllocError) -> SiteError {
+        SiteError::NoMemory
+    }
+}
+
+impl<T: Drop> From<AllocFailed<T>> for SiteError {
+    fn from(_refused: AllocFailed<T>) -> SiteError {
+        SiteError::NoMemory
+    }
+}
+
+impl From<io::Error> for SiteError {
+    fn from(error: io::Error) -> SiteError {
+        SiteError::Io(error)
+    }
+}

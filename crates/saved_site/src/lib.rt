@@ -1,0 +1,35 @@
+//! The saved web of a folder of files: the pages that a plain static server answers, and the links that a browser reads in them.
+#![tactic(auto)]
+
+mod base_href;
+mod batch;
+mod charset;
+mod cleaning;
+mod document;
+mod error;
+mod escapes;
+mod folder;
+mod in_query;
+mod kinds;
+mod link_lines;
+mod make;
+mod notes;
+mod on_disk;
+mod page;
+mod print;
+mod site;
+mod spellings;
+mod text;
+mod texts;
+mod web;
+
+pub use error::SiteError;
+pub use link_lines::LinkLines;
+pub use notes::{Left, Note};
+pub use on_disk::folder_web;
+pub use page::{SitePage, Under};
+pub use print::print_web;
+pub use site::Rules;
+pub use text::LineText;
+pub use texts::LinkCounts;
+pub use web::{SiteNames, Summary, Web, site_web};

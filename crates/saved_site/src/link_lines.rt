@@ -1,0 +1,69 @@
+//! The lines of a page's links.
+ghost use Rattle.std.specs.Prelude.{◌≡◌, ◌∷◌, ◌++◌, [], true, OnOk, OnErr};
+ghost use Rattle.saved_site.specs.Texts.{fits, all_fit, link_line, link_lines};
+
+use std::alloc::{AllocError, Global};
+use std::marker::Model;
+
+/// The lines of links, each a text behind `link `.
+#[derive(Drop)]
+pub struct LinkLines {
+    bytes: Vec<u8>,
+}
+
+// Contracts see the texts, in order.
+impl Model for LinkLines {
+    ghost use Rattle.std.specs.Prelude.{ℕ, List};
+    ghost use Rattle.saved_site.specs.Texts.{texts_in, AreLinks};
+
+    ghost Value = { List (List ℕ) };
+
+    ghost view = { λ links. texts_in links.bytes.items };
+
+    ghost invariant = { λ links. AreLinks links.bytes.items };
+}
+
+impl LinkLines {
+    pub fn new(alloc: Global) -> LinkLines
+        ensures { result ≡ [] }
+    {
+        LinkLines {
+            bytes: Vec::new(alloc),
+        }
+    }
+
+    /// The lines, each with its line break.
+    pub fn as_bytes(&self) -> &[u8]
+        ensures lines { result.now ≡ link_lines self.now }
+        ensures fit { all_fit self.now ≡ true }
+    {
+        self.bytes.as_slice()
+    }
+
+    /// Appends the line of a link.
+    ///
+    /// # Errors
+    /// Where a growth was refused. All lines are gone then.
+    pub fn push(&mut self, text: &[u8]) -> Result<(), AllocError>
+        requires { fits 5 text.now ≡ true }
+        ensures pushed { OnOk result (self.new ≡ self.old ++ text.now ∷ []) }
+        ensures gone { OnErr result (self.new ≡ []) }
+    {
+        match push_line(text, &mut self.bytes) {
+            Ok(()) => Ok(()),
+            Err(refused) => {
+                self.bytes.clear();
+                Err(refused)
+            }
+        }
+    }
+}
+
+fn push_line(text: &[u8], lines: &mut Vec<u8>) -> Result<(), AllocError>
+    ensures { OnOk result (lines.new.items ≡ lines.old.items ++ link_line text.now) }
+{
+    lines.extend_from_slice(b"link ")?;
+    lines.extend_from_slice(text)?;
+    lines.push(b'\n')?;
+    Ok(())
+}

@@ -1,0 +1,209 @@
+//! Pages made of the bytes of their files.
+use crate::batch::Batch;
+use crate::document::{Document, document_at};
+use crate::kinds::{is_document, kind_of};
+use crate::link_lines::LinkLines;
+use crate::notes::{Left, Note};
+use crate::page::{SitePage, Under};
+use crate::site::{Rules, Site, Source, split_name};
+use crate::spellings::{Page, Spelling, spellings};
+use crate::text::LineText;
+use crate::texts::LinkCounts;
+use crawl_keys::CanonUrl;
+use std::alloc::{AllocError, Global};
+
+/// A page that is to be made: its URL, and which page of the site it is.
+#[derive(Drop)]
+pub(crate) struct Task {
+    pub(crate) url: CanonUrl,
+    pub(crate) entry: usize,
+    /// Whether the URL is the page's own, and no other spelling.
+    pub(crate) is_plain: bool,
+}
+
+/// What all pages of a site are made by.
+#[derive(Clone, Copy)]
+pub(crate) struct Given<'a> {
+    pub(crate) site: &'a Site,
+    pub(crate) names: &'a [String],
+    pub(crate) rules: &'a Rules,
+}
+
+impl Given<'_> {
+    /// The index of a task's file, where it has one.
+    pub(crate) fn file_of(&self, task: &Task) -> Option<usize> {
+        match self.site.entries.get(task.entry).map(|entry| &entry.source) {
+            Some(Source::File(index)) => Some(*index),
+            _ => None,
+        }
+    }
+
+    /// The name of a task's file, where it has one.
+    pub(crate) fn name_of(&self, task: &Task) -> Option<&str> {
+        let index = self.file_of(task)?;
+        Some(self.names.get(index)?.as_str())
+    }
+}
+
+/// A page that is made.
+#[derive(Drop)]
+pub(crate) struct Made {
+    pub(crate) url: CanonUrl,
+    /// The page, unless its URL is too long.
+    pub(crate) page: Option<SitePage>,
+    pub(crate) spellings: Vec<Spelling>,
+    pub(crate) counts: LinkCounts,
+    pub(crate) notes: Vec<Note>,
+}
+
+/// The pages of each task whose number leaves this rest by `of`.
+pub(crate) fn every(
+    alloc: Global,
+    given: Given<'_>,
+    tasks: &[Task],
+    batch: &Batch,
+    rest: usize,
+    of: usize,
+) -> Result<Vec<Made>, AllocError> {
+    let mut made = Vec::new(alloc);
+    for (number, task) in tasks.iter().enumerate() {
+        if number.checked_rem(of) == Some(rest) {
+            made.push(page_of(alloc, given, task, batch.body(number))?)?;
+        }
+    }
+    Ok(made)
+}
+
+/// Makes a page, of the bytes of its file where it has one.
+fn page_of(alloc: Global, given: Given<'_>, task: &Task, body: &[u8]) -> Result<Made, AllocError> {
+    match given
+        .site
+        .entries
+        .get(task.entry)
+        .map(|entry| &entry.source)
+    {
+        Some(Source::Moved(target)) => moved_page(alloc, given, task, target.as_str()),
+        Some(Source::File(index)) => {
+            let document = file_document(alloc, given, *index, task, body)?;
+            linked_page(alloc, given, task, document)
+        }
+        None => linked_page(alloc, given, task, Document::empty(alloc)),
+    }
+}
+
+/// The links of a file, where it is a document.
+fn file_document(
+    alloc: Global,
+    given: Given<'_>,
+    index: usize,
+    task: &Task,
+    body: &[u8],
+) -> Result<Document, AllocError> {
+    let name = match given.names.get(index) {
+        Some(name) => name.as_str(),
+        None => "",
+    };
+    let (path, _) = split_name(name, given.rules.queries);
+    if is_document(kind_of(path), body) {
+        document_at(alloc, body, &task.url)
+    } else {
+        Ok(Document::empty(alloc))
+    }
+}
+
+/// A page with its links.
+fn linked_page(
+    alloc: Global,
+    given: Given<'_>,
+    task: &Task,
+    document: Document,
+) -> Result<Made, AllocError> {
+    let Document {
+        links,
+        counts,
+        encoding,
+    } = document;
+    let mut notes = Vec::new(alloc);
+    if let Some(name) = encoding {
+        let place = format!(in alloc; "{} ({name})", task.url.as_str())?;
+        let left = Left::Encoding;
+        notes.push(Note { left, place })?;
+    }
+    if counts.left_out > 0 {
+        notes.push(Note::at(alloc, Left::LongLinks, &task.url)?)?;
+    }
+    let found = spellings(
+        alloc,
+        given.site,
+        given.rules,
+        task.page(),
+        links.as_bytes(),
+    )?;
+    Made::new(task, Under::Links(links), found, counts, notes)
+}
+
+/// A folder without its slash, which a server sends on to the folder with it, with the query that it was asked with.
+fn moved_page(
+    alloc: Global,
+    given: Given<'_>,
+    task: &Task,
+    target: &str,
+) -> Result<Made, AllocError> {
+    let mut target = String::from_str(alloc, target)?;
+    if let Some((_, query)) = task.url.as_str().split_once('?') {
+        target.push('?')?;
+        target.push_str(query)?;
+    }
+    let text = without_origin(target.as_str(), given.site.origin.as_str());
+    let line = format!(in alloc; "moved {text}")?;
+    let found = spellings(alloc, given.site, given.rules, task.page(), line.as_bytes())?;
+    let mut notes = Vec::new(alloc);
+    let under = match LineText::new(alloc, text.as_bytes())? {
+        Some(text) => Under::Moved(text),
+        None => {
+            notes.push(Note::at(alloc, Left::LongTarget, &task.url)?)?;
+            Under::Links(LinkLines::new(alloc))
+        }
+    };
+    Made::new(task, under, found, LinkCounts::default(), notes)
+}
+
+/// The URL without its scheme and authority, unless two slashes come first, which would begin a host.
+fn without_origin<'a>(url: &'a str, origin: &str) -> &'a str {
+    match url.strip_prefix(origin) {
+        Some(path) if !path.starts_with("//") => path,
+        _ => url,
+    }
+}
+
+impl Task {
+    fn page(&self) -> Page<'_> {
+        Page {
+            url: &self.url,
+            is_plain: self.is_plain,
+        }
+    }
+}
+
+impl Made {
+    fn new(
+        task: &Task,
+        under: Under,
+        spellings: Vec<Spelling>,
+        counts: LinkCounts,
+        notes: Vec<Note>,
+    ) -> Result<Made, AllocError> {
+        let page = SitePage::new(task.url.clone()?, under);
+        let mut notes = notes;
+        if page.is_none() {
+            notes.push(Note::at(*notes.allocator(), Left::LongUrl, &task.url)?)?;
+        }
+        Ok(Made {
+            url: task.url.clone()?,
+            page,
+            spellings,
+            counts,
+            notes,
+        })
+    }
+}

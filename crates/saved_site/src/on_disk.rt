@@ -1,0 +1,123 @@
+//! The saved web of a folder, whose files the calling thread reads.
+ghost use Rattle.std.specs.Prelude.{IfOk};
+ghost use Rattle.std.specs.Str.Lines.{lines};
+ghost use Rattle.crawl_web.specs.WebFaults.{IsSound};
+
+use crate::batch::Batch;
+use crate::error::SiteError;
+use crate::folder::entries_below;
+use crate::kinds::{Kind, START_LENGTH, is_document_start, kind_of};
+use crate::make::{Given, Task};
+use crate::notes::{Left, Note};
+use crate::site::{Rules, split_name};
+use crate::web::{Contents, SiteNames, Web, web_of};
+use std::alloc::Global;
+use std::io::Read;
+use std::rt::Files;
+use std::thread::Threads;
+use std::{fs, io};
+
+/// The saved web of a folder whose top has the URL `base`.
+///
+/// # Errors
+/// Those of `site_web`, and `Io` where the folder cannot be read. Where a file cannot be read, its page has no links, and that is
+/// told.
+pub fn folder_web<R: Files + AllocGlobal + Threads + Sync + Clone + Drop>(
+    rt: &R,
+    folder: &str,
+    base: &str,
+    rules: &Rules,
+) -> Result<Web, SiteError>
+    ensures { IfOk result (λ web. IsSound (lines web.bytes.items)) }
+{
+    let alloc = rt.alloc();
+    let (names, told) = entries_below(rt, folder)?;
+    let mut contents = OnDisk { rt, alloc, folder };
+    let input = SiteNames {
+        names: names.as_slice(),
+        base,
+        rules,
+    };
+    web_of(rt, alloc, input, told, &mut contents)
+}
+
+/// Files below a folder, whose documents are read.
+#[derive(Drop)]
+struct OnDisk<'a, R> {
+    rt: &'a R,
+    alloc: Global,
+    folder: &'a str,
+}
+
+impl<R: Files> Contents for OnDisk<'_, R> {
+    fn read(
+        &mut self,
+        given: Given<'_>,
+        tasks: &[Task],
+        batch: &mut Batch,
+        notes: &mut Vec<Note>,
+    ) -> Result<usize, SiteError> {
+        for (number, task) in tasks.iter().enumerate() {
+            if batch.is_full() {
+                return Ok(number);
+            }
+            let begin = batch.begin();
+            if let Some(name) = given.name_of(task) {
+                let (path, _) = split_name(name, given.rules.queries);
+                if read_file(
+                    self.rt,
+                    self.alloc,
+                    self.folder,
+                    name,
+                    kind_of(path),
+                    batch,
+                ).is_err()
+                {
+                    batch.cut(begin);
+                    let place = String::from_str(self.alloc, name)?;
+                    let left = Left::FileUnread;
+                    notes.push(Note { left, place })?;
+                }
+            }
+            batch.end_file(begin)?;
+        }
+        Ok(tasks.len())
+    }
+}
+
+/// Reads a file, where it may be a document.
+fn read_file<R: Files>(
+    rt: &R,
+    alloc: Global,
+    folder: &str,
+    name: &str,
+    kind: Kind,
+    batch: &mut Batch,
+) -> io::Result<()> {
+    if kind == Kind::Other {
+        return Ok(());
+    }
+    let path = format!(in alloc; "{folder}/{name}")?;
+    if kind == Kind::Unknown && !is_document(rt, path.as_str())? {
+        return Ok(());
+    }
+    batch.read(&mut fs::open(rt, path.as_str())?)
+}
+
+/// Whether the first bytes of a file are those of a document.
+fn is_document<R: Files>(rt: &R, path: &str) -> io::Result<bool> {
+    let mut file = fs::open(rt, path)?;
+    let mut start = [0u8; START_LENGTH];
+    let mut length = 0;
+    for _ in 0..START_LENGTH {
+        if length >= START_LENGTH {
+            break;
+        }
+        let count = file.read(&mut start[length..])?;
+        if count == 0 {
+            break;
+        }
+        length += count;
+    }
+    Ok(is_document_start(start.get(..length).unwrap_or(&[])))
+}

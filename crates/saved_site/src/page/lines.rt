@@ -1,0 +1,55 @@
+//! The lines of a page.
+ghost use Rattle.std.specs.Prelude.{◌≡◌, ◌++◌, true, Ok, OnOk};
+ghost use Rattle.crawl_keys.specs.CanonicalText.{canonical};
+ghost use Rattle.saved_site.specs.Pages.{page_text, under_text, fits_under, IsPage};
+ghost use Rattle.saved_site.specs.Texts.{page_line, moved_line};
+
+use super::{SitePage, Under};
+use crawl_keys::CanonUrl;
+use std::alloc::AllocError;
+
+impl SitePage {
+    /// Appends its lines.
+    ///
+    /// # Errors
+    /// Where a growth was refused.
+    pub(crate) fn print(&self, web: &mut Vec<u8>) -> Result<(), AllocError>
+        ensures text { OnOk result (web.new.items ≡ web.old.items ++ page_text self.now) }
+        ensures page { OnOk result (IsPage self.now) }
+    {
+        print_url(&self.url, web)?;
+        self.under.print(web)
+    }
+}
+
+fn print_url(url: &CanonUrl, web: &mut Vec<u8>) -> Result<(), AllocError>
+    ensures text { OnOk result (web.new.items ≡ web.old.items ++ page_line url.now) }
+    ensures own { canonical url.now ≡ Ok url.now }
+{
+    let text = url.as_str();
+    web.extend_from_slice(b"page ")?;
+    web.extend_from_slice(text.as_bytes())?;
+    web.push(b'\n')?;
+    Ok(())
+}
+
+impl Under {
+    fn print(&self, web: &mut Vec<u8>) -> Result<(), AllocError>
+        ensures text { OnOk result (web.new.items ≡ web.old.items ++ under_text self.now) }
+        ensures fit { OnOk result (fits_under self.now ≡ true) }
+    {
+        match self {
+            Under::Links(links) => web.extend_from_slice(links.as_bytes()),
+            Under::Moved(text) => print_moved(text.as_bytes(), web),
+        }
+    }
+}
+
+fn print_moved(text: &[u8], web: &mut Vec<u8>) -> Result<(), AllocError>
+    ensures { OnOk result (web.new.items ≡ web.old.items ++ moved_line text.now) }
+{
+    web.extend_from_slice(b"moved ")?;
+    web.extend_from_slice(text)?;
+    web.push(b'\n')?;
+    Ok(())
+}

@@ -1,0 +1,60 @@
+//! Pages printed as a saved web.
+ghost use Rattle.std.specs.Prelude.{◌≡◌, ◌++◌, ◌∷◌, [], ℕ, List, IfOk, MatchOption};
+ghost use Rattle.std.specs.Str.Lines.{lines};
+ghost use Rattle.crawl_web.specs.WebFaults.{IsSound};
+ghost use Rattle.crawl_web.specs.SavedWeb.{page_of};
+ghost use Rattle.saved_site.specs.Meaning.{page_in};
+ghost use Rattle.saved_site.specs.Pages.{ascending, is_behind, web_text};
+
+use crate::page::SitePage;
+use std::alloc::{AllocError, Global};
+
+/// The saved web of pages in the order of their URLs: one whose URL is not behind those before it is left out.
+///
+/// # Errors
+/// Where a growth was refused.
+pub fn print_web(alloc: Global, pages: &[SitePage]) -> Result<Vec<u8>, AllocError>
+    ensures text { IfOk result (λ web. web.items ≡ web_text (ascending pages.now)) }
+    // It is read as a saved web.
+    ensures sound { IfOk result (λ web. IsSound (lines web.items)) }
+    // And what is read has at each URL the page that these have.
+    ensures pages { IfOk result (λ web. (url : List ℕ) → page_of (lines web.items) url ≡ page_in (ascending pages.now) url) }
+{
+    let mut web = header(alloc)?;
+    let mut last: &[u8] = &[];
+    let mut rest = pages;
+    'pages: while let Some((page, more)) = parts(rest) {
+        rest = more;
+        let url = url_bytes(page);
+        if is_behind(last, url) {
+            page.print(&mut web)?;
+            last = url;
+        }
+    }
+    Ok(web)
+}
+
+fn header(alloc: Global) -> Result<Vec<u8>, AllocError>
+    ensures { IfOk result (λ web. web.items ≡ web_text []) }
+{
+    b"savedweb 2\n".to_vec(alloc)
+}
+
+fn parts(pages: &[SitePage]) -> Option<(&SitePage, &[SitePage])>
+    ensures { MatchOption result (pages.now ≡ []) (λ x. pages.now ≡ x.0.now ∷ x.1.now) }
+{
+    pages.split_first()
+}
+
+fn url_bytes(page: &SitePage) -> &[u8]
+    ensures { result.now ≡ page.now.url }
+{
+    page.url().as_str().as_bytes()
+}
+
+/// Whether the URL is behind the other.
+fn is_behind(last: &[u8], url: &[u8]) -> bool
+    ensures { result ≡ is_behind last.now url.now }
+{
+    last.cmp(url).is_lt()
+}

@@ -1,0 +1,215 @@
+//! The pages of a site, by the names of its files.
+use crate::error::SiteError;
+use crate::escapes::{push_name, push_query, push_respelled};
+use crate::notes::{Left, Note};
+use crawl_keys::{CanonUrl, KeyError, canonical};
+use std::alloc::{AllocError, Global};
+
+/// How names become pages.
+#[derive(Debug, Drop)]
+pub struct Rules {
+    /// The index file's name.
+    pub index: String,
+    /// Whether a `?` in a name begins the query, as `wget -r` writes it.
+    pub queries: bool,
+    /// Whether other spellings of a page's URL are no pages.
+    pub exact: bool,
+    /// How many threads make pages; one where this is 0.
+    pub threads: usize,
+}
+
+/// The path of a name, and its query behind a `?`.
+pub(crate) fn split_name(name: &str, queries: bool) -> (&str, Option<&str>) {
+    if !queries {
+        return (name, None);
+    }
+    match name.split_once('?') {
+        Some((path, query)) => (path, Some(query)),
+        None => (name, None),
+    }
+}
+
+/// Where what is under a page comes from.
+#[derive(Drop)]
+pub(crate) enum Source {
+    /// The file with this index among the names.
+    File(usize),
+    /// A server sends the page on to this URL.
+    Moved(String),
+}
+
+/// A page of a site.
+#[derive(Drop)]
+pub(crate) struct Entry {
+    pub(crate) url: CanonUrl,
+    pub(crate) source: Source,
+}
+
+/// The pages of a site, in the order of their URLs.
+#[derive(Drop)]
+pub(crate) struct Site {
+    /// The scheme and the authority of all URLs.
+    pub(crate) origin: String,
+    /// The URL of the top, with a slash at its end.
+    top: String,
+    pub(crate) entries: Vec<Entry>,
+}
+
+impl Site {
+    /// The pages of files with these names, below a top with this URL. A name that ends in a slash is a folder.
+    pub(crate) fn new(
+        alloc: Global,
+        base: &str,
+        names: &[String],
+        rules: &Rules,
+        notes: &mut Vec<Note>,
+    ) -> Result<Site, SiteError> {
+        if !names.iter().any(|name| !name.as_str().ends_with('/')) {
+            return Err(SiteError::NoFiles);
+        }
+        let mut site = Site::at(alloc, base)?;
+        for (index, name) in names.iter().enumerate() {
+            site.add_file_pages(index, name.as_str(), rules)?;
+        }
+        for name in names {
+            site.add_folder(name.as_str())?;
+        }
+        site.entries
+            .sort_by(|a: &Entry, b: &Entry| a.url.as_str().cmp(b.url.as_str()))?;
+        site.without_doubles(names, notes)
+    }
+
+    fn at(alloc: Global, base: &str) -> Result<Site, SiteError> {
+        let page = match canonical(alloc, base) {
+            Ok(page) => page,
+            Err(KeyError::NoMemory) => return Err(SiteError::NoMemory),
+            Err(_) => return Err(SiteError::BadBase),
+        };
+        let Some((origin, path)) = split_origin(page.as_str()) else {
+            return Err(SiteError::BadBase);
+        };
+        if path.contains('?') {
+            return Err(SiteError::BadBase);
+        }
+        let mut top = String::from_str(alloc, origin)?;
+        push_respelled(alloc, path.trim_end_matches('/'), &mut top)?;
+        top.push('/')?;
+        Ok(Site {
+            origin: String::from_str(alloc, origin)?,
+            top,
+            entries: Vec::new(alloc),
+        })
+    }
+
+    /// Adds the pages of a file: its own, and its folder's where it is an index file.
+    fn add_file_pages(&mut self, index: usize, name: &str, rules: &Rules) -> Result<(), SiteError> {
+        if name.ends_with('/') {
+            return Ok(());
+        }
+        let (path, query) = split_name(name, rules.queries);
+        let url = self.url_of(path, query)?;
+        self.add(url.as_str(), Source::File(index))?;
+        match path.strip_suffix(rules.index.as_str()) {
+            Some(folder) if folder.is_empty() || folder.ends_with('/') => {
+                let url = self.url_of(folder, query)?;
+                self.add(url.as_str(), Source::File(index))
+            }
+            _ => Ok(()),
+        }
+    }
+
+    /// Adds the page of a folder without its slash, which is moved to the folder with it.
+    fn add_folder(&mut self, name: &str) -> Result<(), SiteError> {
+        let Some(folder) = name.strip_suffix("/") else {
+            return Ok(());
+        };
+        let url = self.url_of(folder, None)?;
+        let target = self.url_of(name, None)?;
+        self.add(url.as_str(), Source::Moved(target))
+    }
+
+    /// The URL of a path below the top, with a query.
+    fn url_of(&self, path: &str, query: Option<&str>) -> Result<String, AllocError> {
+        let alloc = *self.top.allocator();
+        let mut url = self.top.clone()?;
+        push_name(path, &mut url)?;
+        if let Some(query) = query {
+            push_query(alloc, query, &mut url)?;
+        }
+        Ok(url)
+    }
+
+    fn add(&mut self, url: &str, source: Source) -> Result<(), SiteError> {
+        let alloc = *self.top.allocator();
+        let url = match canonical(alloc, url) {
+            Ok(url) => url,
+            Err(KeyError::NoMemory) => return Err(SiteError::NoMemory),
+            Err(_) => return Err(SiteError::BadBase),
+        };
+        self.entries.push(Entry { url, source })?;
+        Ok(())
+    }
+
+    /// The first page of each URL; a file that has no page by this is told.
+    fn without_doubles(self, names: &[String], notes: &mut Vec<Note>) -> Result<Site, SiteError> {
+        let Site {
+            origin,
+            top,
+            entries,
+        } = self;
+        let mut kept: Vec<Entry> = Vec::new(*top.allocator());
+        for entry in entries {
+            if is_double(kept.as_slice(), &entry) {
+                tell_double(&entry, names, notes)?;
+            } else {
+                kept.push(entry)?;
+            }
+        }
+        Ok(Site {
+            origin,
+            top,
+            entries: kept,
+        })
+    }
+
+    /// The page with this URL, by its index.
+    pub(crate) fn find(&self, url: &str) -> Option<usize> {
+        self.entries
+            .as_slice()
+            .binary_search_by(|entry| entry.url.as_str().cmp(url))
+            .ok()
+    }
+}
+
+/// Whether the last of the pages has the URL of this one.
+fn is_double(kept: &[Entry], entry: &Entry) -> bool {
+    match kept.last() {
+        Some(last) => last.url == entry.url,
+        None => false,
+    }
+}
+
+fn tell_double(entry: &Entry, names: &[String], notes: &mut Vec<Note>) -> Result<(), SiteError> {
+    if let Source::File(index) = &entry.source
+        && let Some(name) = names.get(*index)
+    {
+        notes.push(Note {
+            left: Left::SameUrl,
+            place: name.clone()?,
+        })?;
+    }
+    Ok(())
+}
+
+/// The scheme and authority of a canonical URL, and what is behind them.
+fn split_origin(url: &str) -> Option<(&str, &str)> {
+    let (scheme, rest) = url.split_once("://")?;
+    let slash = rest.find('/')?;
+    let path = rest.get(slash..)?;
+    let origin = url.get(..url.len().checked_sub(path.len())?)?;
+    if scheme.is_empty() {
+        None
+    } else {
+        Some((origin, path))
+    }
+}

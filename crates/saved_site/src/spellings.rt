@@ -1,0 +1,101 @@
+//! Links that spell a page in another way which a server takes for the same.
+use crate::base_href::{base_of, resolved};
+use crate::escapes::{push_query, push_respelled};
+use crate::site::{Rules, Site};
+use crawl_keys::{Base, CanonUrl};
+use memchr::memchr2;
+use std::alloc::{AllocError, Global};
+
+/// A URL, and the page that a server takes it for, by its index.
+#[derive(Drop)]
+pub(crate) struct Spelling {
+    pub(crate) url: CanonUrl,
+    pub(crate) entry: usize,
+}
+
+/// A page whose links are looked at.
+#[derive(Clone, Copy)]
+pub(crate) struct Page<'a> {
+    pub(crate) url: &'a CanonUrl,
+    /// Whether its URL is a page's own, and no other spelling.
+    pub(crate) is_plain: bool,
+}
+
+/// The other spellings of pages among the links of a page: those with escapes or a query, and all where the page is one itself.
+pub(crate) fn spellings(
+    alloc: Global,
+    site: &Site,
+    rules: &Rules,
+    page: Page<'_>,
+    lines: &[u8],
+) -> Result<Vec<Spelling>, AllocError> {
+    let mut found = Vec::new(alloc);
+    if rules.exact || page.is_plain && memchr2(b'?', b'%', lines).is_none() {
+        return Ok(found);
+    }
+    let base = base_of(alloc, page.url)?;
+    for line in lines.split(|byte| *byte == b'\n') {
+        if let Some(text) = text_of(line)
+            && (!page.is_plain || memchr2(b'?', b'%', text).is_some())
+            && let Some(spelling) = spelling_at(alloc, site, rules, &base, text)?
+        {
+            found.push(spelling)?;
+        }
+    }
+    Ok(found)
+}
+
+/// The text of the line of a link or of a redirect.
+fn text_of(line: &[u8]) -> Option<&[u8]> {
+    match line.strip_prefix(b"link ") {
+        Some(text) => Some(text),
+        None => line.strip_prefix(b"moved "),
+    }
+}
+
+/// The page that a server takes a link for, where it is no page itself.
+fn spelling_at(
+    alloc: Global,
+    site: &Site,
+    rules: &Rules,
+    base: &Base,
+    text: &[u8],
+) -> Result<Option<Spelling>, AllocError> {
+    let Some(url) = resolved(alloc, base, text)? else {
+        return Ok(None);
+    };
+    let Some(plain) = plain_of(alloc, site, rules, url.as_str())? else {
+        return Ok(None);
+    };
+    match site.find(plain.as_str()) {
+        Some(entry) => Ok(Some(Spelling { url, entry })),
+        None => Ok(None),
+    }
+}
+
+/// A canonical URL of the site as a file's page is spelled, where it is no page itself.
+fn plain_of(
+    alloc: Global,
+    site: &Site,
+    rules: &Rules,
+    url: &str,
+) -> Result<Option<String>, AllocError> {
+    let Some(rest) = url.strip_prefix(site.origin.as_str()) else {
+        return Ok(None);
+    };
+    if !rest.starts_with('/') || site.find(url).is_some() {
+        return Ok(None);
+    }
+    let (path, query) = match rest.split_once('?') {
+        Some((path, query)) => (path, Some(query)),
+        None => (rest, None),
+    };
+    let mut plain = String::from_str(alloc, site.origin.as_str())?;
+    push_respelled(alloc, path, &mut plain)?;
+    if rules.queries
+        && let Some(query) = query
+    {
+        push_query(alloc, query, &mut plain)?;
+    }
+    Ok(Some(plain))
+}

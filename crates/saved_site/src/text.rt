@@ -1,0 +1,85 @@
+//! Texts that stand in one line of a saved web.
+ghost use Rattle.std.specs.Prelude.{◌≡◌, ◌≤◌, true, IfOk, IfSome};
+ghost use Rattle.std.specs.List.{list_all};
+ghost use Rattle.saved_site.specs.Texts.{fits, is_inner};
+ghost use Rattle.std.specs.Str.{is_utf8};
+
+use crawl_web::LINE_LIMIT;
+use std::alloc::{AllocError, Global};
+use std::marker::Model;
+
+/// How many bytes of a line stand before the text of a page or of a link.
+pub(crate) const LINK_FRONT: usize = 5;
+
+/// How many bytes of a line stand before the text of a redirect.
+pub(crate) const MOVED_FRONT: usize = 6;
+
+/// The most bytes of the text of a link.
+pub(crate) const TEXT_LIMIT: usize = 4091;
+
+/// Whether the text stands in one line behind so many bytes: it is short enough, UTF-8, and has no line break.
+pub(crate) fn fits(front: usize, text: &[u8]) -> bool
+    requires { front ≤ 6 }
+    ensures { result ≡ fits front text.now }
+{
+    front + text.len() <= LINE_LIMIT && is_text(text) && has_no_break(text)
+}
+
+fn is_text(text: &[u8]) -> bool
+    ensures { result ≡ is_utf8 text.now }
+{
+    simdutf8::is_utf8(text)
+}
+
+fn has_no_break(text: &[u8]) -> bool
+    ensures { result ≡ list_all is_inner text.now }
+{
+    text.iter().all(|byte| is_inner(*byte))
+}
+
+fn is_inner(byte: u8) -> bool
+    ensures { result ≡ is_inner byte }
+{
+    !(byte == b'\n' || byte == b'\r')
+}
+
+/// The text of a redirect's line.
+#[derive(Drop)]
+pub struct LineText {
+    bytes: Vec<u8>,
+}
+
+impl Model for LineText {
+    ghost use Rattle.std.specs.Prelude.{ℕ, List, true, ◌≡◌};
+    ghost use Rattle.saved_site.specs.Texts.{fits};
+
+    ghost Value = { List ℕ };
+
+    ghost view = { λ text. text.bytes.items };
+
+    ghost invariant = { λ text. fits 6 text.bytes.items ≡ true };
+}
+
+impl LineText {
+    /// The text, where it stands in a redirect's line.
+    ///
+    /// # Errors
+    /// Where a growth was refused.
+    pub fn new(alloc: Global, text: &[u8]) -> Result<Option<LineText>, AllocError>
+        ensures { IfOk result (λ found. IfSome found (λ own. own ≡ text.now)) }
+    {
+        if !fits(MOVED_FRONT, text) {
+            return Ok(None);
+        }
+        let bytes = text.to_vec(alloc)?;
+        Ok(Some(LineText { bytes }))
+    }
+
+    /// The text.
+    pub fn as_bytes(&self) -> &[u8]
+        ensures text { result.now ≡ self.now }
+        ensures fit { fits 6 self.now ≡ true }
+    {
+        self.bytes.as_slice()
+    }
+}

@@ -1,0 +1,158 @@
+//! The links of a document: the one module that `html_links` gives texts to.
+ghost use Rattle.std.specs.Prelude.{◌≡◌, true};
+ghost use Rattle.saved_site.specs.Texts.{fits};
+
+use crate::base_href::{Given, Meant, given_of, meaning_of};
+use crate::charset::Charset;
+use crate::cleaning::{
+    before_fragment, cut, has_breaks, is_over_lines, is_web, push_without_breaks, scheme_of,
+    trimmed,
+};
+use crate::in_query::push_with_query;
+use crate::link_lines::LinkLines;
+use crate::text::{LINK_FRONT, TEXT_LIMIT, fits};
+use crawl_keys::CanonUrl;
+use html_links::{Links, read_links};
+use std::alloc::{AllocError, Global};
+
+/// What became of links.
+#[derive(Clone, Copy, Debug, PartialEq, Eq, Default)]
+pub struct LinkCounts {
+    /// Links that were written.
+    pub links: u64,
+    /// Links over several lines, which are put into one.
+    pub over_lines: u64,
+    /// Links without their fragment, which is too long.
+    pub without_fragment: u64,
+    /// Links of other schemes, cut where a line ends.
+    pub cut: u64,
+    /// Links that are left out, since they are too long.
+    pub left_out: u64,
+}
+
+impl LinkCounts {
+    pub(crate) fn add(&mut self, more: LinkCounts) {
+        self.links = self.links.saturating_add(more.links);
+        self.over_lines = self.over_lines.saturating_add(more.over_lines);
+        self.without_fragment = self.without_fragment.saturating_add(more.without_fragment);
+        self.cut = self.cut.saturating_add(more.cut);
+        self.left_out = self.left_out.saturating_add(more.left_out);
+    }
+}
+
+/// The lines of links, as they are read.
+#[derive(Drop)]
+struct Texts {
+    alloc: Global,
+    charset: Charset,
+    given: Given,
+    links: LinkLines,
+    counts: LinkCounts,
+}
+
+/// The lines of the links of a document in UTF-8 at a URL; `charset` is the encoding that it had.
+///
+/// # Errors
+/// Where a growth was refused.
+pub(crate) fn links_at(
+    alloc: Global,
+    text: &[u8],
+    charset: Charset,
+    url: &CanonUrl,
+) -> Result<(LinkLines, LinkCounts), AllocError> {
+    let mut texts = Texts::new(alloc, charset, Given::None);
+    let base = read_links(alloc, text, false, &mut texts)?;
+    let given = match base {
+        Some(base) => given_of(alloc, base.as_slice(), url)?,
+        None => Given::None,
+    };
+    if matches!(given, Given::None) {
+        return Ok(texts.into_lines());
+    }
+    // The base also holds for the links before it, so the document is read once more.
+    let mut texts = Texts::new(alloc, charset, given);
+    read_links(alloc, text, false, &mut texts)?;
+    Ok(texts.into_lines())
+}
+
+impl Links for Texts {
+    fn push(&mut self, text: &[u8]) -> Result<(), AllocError> {
+        let text = trimmed(text);
+        if !has_breaks(text) {
+            return self.push_clean(text);
+        }
+        if is_over_lines(text) {
+            self.counts.over_lines = self.counts.over_lines.saturating_add(1);
+        }
+        let mut clean = Vec::new(self.alloc);
+        push_without_breaks(text, &mut clean)?;
+        self.push_clean(clean.as_slice())
+    }
+}
+
+impl Texts {
+    fn new(alloc: Global, charset: Charset, given: Given) -> Texts {
+        Texts {
+            alloc,
+            charset,
+            given,
+            links: LinkLines::new(alloc),
+            counts: LinkCounts::default(),
+        }
+    }
+
+    fn into_lines(self) -> (LinkLines, LinkCounts) {
+        let Texts { links, counts, .. } = self;
+        (links, counts)
+    }
+
+    /// Appends a link without breaks. The letters of its query are escaped in the page's encoding.
+    fn push_clean(&mut self, text: &[u8]) -> Result<(), AllocError> {
+        if self.charset.is_unicode() || text.is_ascii() {
+            return self.push_meant(text);
+        }
+        let mut link = Vec::new(self.alloc);
+        push_with_query(text, &mut link)?;
+        self.push_meant(link.as_slice())
+    }
+
+    /// Appends what a link means against the base that is given.
+    fn push_meant(&mut self, text: &[u8]) -> Result<(), AllocError> {
+        match meaning_of(self.alloc, &self.given, text)? {
+            Meant::Same => self.push_short(text),
+            Meant::Url(url) => self.push_short(url.as_str().as_bytes()),
+            Meant::Text(other) => self.push_short(other.as_slice()),
+        }
+    }
+
+    /// Appends a link; where its line would be too long, a shorter one that the reader takes for the same.
+    fn push_short(&mut self, text: &[u8]) -> Result<(), AllocError> {
+        if fits(LINK_FRONT, text) {
+            return self.push_line(text);
+        }
+        let front = before_fragment(text);
+        if fits(LINK_FRONT, front) {
+            self.counts.without_fragment = self.counts.without_fragment.saturating_add(1);
+            return self.push_line(front);
+        }
+        self.push_cut(text)
+    }
+
+    /// Appends the front of a long link of another scheme, which the reader skips all the same.
+    fn push_cut(&mut self, text: &[u8]) -> Result<(), AllocError> {
+        let front = cut(text, TEXT_LIMIT);
+        if !is_web(scheme_of(text)) && fits(LINK_FRONT, front) {
+            self.counts.cut = self.counts.cut.saturating_add(1);
+            return self.push_line(front);
+        }
+        self.counts.left_out = self.counts.left_out.saturating_add(1);
+        Ok(())
+    }
+
+    fn push_line(&mut self, text: &[u8]) -> Result<(), AllocError>
+        requires { fits 5 text.now ≡ true }
+    {
+        self.counts.links = self.counts.links.saturating_add(1);
+        self.links.push(text)
+    }
+}

@@ -1,0 +1,309 @@
+//! The saved web of a site, made round by round.
+ghost use Rattle.std.specs.Prelude.{IfOk};
+ghost use Rattle.std.specs.Str.Lines.{lines};
+ghost use Rattle.crawl_web.specs.WebFaults.{IsSound};
+
+use crate::batch::Batch;
+use crate::error::SiteError;
+use crate::make::{Given, Made, Task, every};
+use crate::notes::Note;
+use crate::page::SitePage;
+use crate::print::print_web;
+use crate::site::{Rules, Site};
+use crate::texts::LinkCounts;
+use crawl_keys::CanonUrl;
+use std::alloc::{AllocError, Global};
+use std::collections::BTreeSet;
+use std::thread;
+use std::thread::Threads;
+
+/// The most bytes of a web, which a crawl takes.
+const WEB_LIMIT: usize = 1 << 30;
+
+/// A saved web that was made.
+#[derive(Drop)]
+pub struct Web {
+    /// Its bytes.
+    pub bytes: Vec<u8>,
+    /// What it has.
+    pub summary: Summary,
+    /// What is not written as it was found, in the order of names and then of URLs.
+    pub notes: Vec<Note>,
+}
+
+/// What a web has.
+#[derive(Clone, Copy, Debug, PartialEq, Eq, Default)]
+pub struct Summary {
+    /// Its pages, and how many of them are moved or other spellings.
+    pub pages: u64,
+    pub moved: u64,
+    pub spellings: u64,
+    /// What became of links.
+    pub links: LinkCounts,
+}
+
+/// Where the bytes of files come from.
+pub(crate) trait Contents {
+    /// Reads the bytes of the files of the first tasks, and answers of how many.
+    fn read(
+        &mut self,
+        given: Given<'_>,
+        tasks: &[Task],
+        batch: &mut Batch,
+        notes: &mut Vec<Note>,
+    ) -> Result<usize, SiteError>;
+}
+
+/// The names of a site's files, the URL of its top, and how names become pages. A name that ends in a slash is a folder.
+#[derive(Clone, Copy)]
+pub struct SiteNames<'a> {
+    pub names: &'a [String],
+    pub base: &'a str,
+    pub rules: &'a Rules,
+}
+
+/// The saved web of files with these names and bytes.
+///
+/// # Errors
+/// `BadBase`, `NoFiles`, `TooLarge`; `NoMemory` where a growth was refused.
+pub fn site_web<R: Threads + Sync>(
+    rt: &R,
+    alloc: Global,
+    input: SiteNames<'_>,
+    bodies: &[Vec<u8>],
+) -> Result<Web, SiteError>
+    ensures { IfOk result (λ web. IsSound (lines web.bytes.items)) }
+{
+    let mut contents = InMemory { bodies };
+    web_of(rt, alloc, input, Vec::new(alloc), &mut contents)
+}
+
+/// Files in memory.
+#[derive(Drop)]
+struct InMemory<'a> {
+    bodies: &'a [Vec<u8>],
+}
+
+impl Contents for InMemory<'_> {
+    fn read(
+        &mut self,
+        given: Given<'_>,
+        tasks: &[Task],
+        batch: &mut Batch,
+        _notes: &mut Vec<Note>,
+    ) -> Result<usize, SiteError> {
+        for (number, task) in tasks.iter().enumerate() {
+            if batch.is_full() {
+                return Ok(number);
+            }
+            let begin = batch.begin();
+            if let Some(index) = given.file_of(task)
+                && let Some(body) = self.bodies.get(index)
+            {
+                batch.read(&mut body.as_slice())?;
+            }
+            batch.end_file(begin)?;
+        }
+        Ok(tasks.len())
+    }
+}
+
+/// What is made so far.
+#[derive(Drop)]
+struct Making {
+    pages: Vec<SitePage>,
+    summary: Summary,
+    notes: Vec<Note>,
+}
+
+/// The saved web of files with these names, whose bytes are read.
+pub(crate) fn web_of<R: Threads + Sync, C: Contents>(
+    rt: &R,
+    alloc: Global,
+    input: SiteNames<'_>,
+    told: Vec<Note>,
+    contents: &mut C,
+) -> Result<Web, SiteError>
+    ensures { IfOk result (λ web. IsSound (lines web.bytes.items)) }
+{
+    let SiteNames { names, base, rules } = input;
+    let mut making = Making {
+        pages: Vec::new(alloc),
+        summary: Summary::default(),
+        notes: told,
+    };
+    let site = Site::new(alloc, base, names, rules, &mut making.notes)?;
+    let given = Given {
+        site: &site,
+        names,
+        rules,
+    };
+    make_all(rt, alloc, given, contents, &mut making)?;
+    finish(alloc, making)
+}
+
+fn finish(alloc: Global, making: Making) -> Result<Web, SiteError>
+    ensures { IfOk result (λ web. IsSound (lines web.bytes.items)) }
+{
+    let Making {
+        mut pages,
+        summary,
+        notes,
+    } = making;
+    pages.sort_by(|a: &SitePage, b: &SitePage| a.url().as_str().cmp(b.url().as_str()))?;
+    let bytes = print_web(alloc, pages.as_slice())?;
+    if bytes.len() > WEB_LIMIT {
+        return Err(SiteError::TooLarge);
+    }
+    Ok(Web {
+        bytes,
+        summary,
+        notes,
+    })
+}
+
+/// Makes all pages, and then those that are other spellings of them, until no page links to a new one.
+fn make_all<R: Threads + Sync, C: Contents>(
+    rt: &R,
+    alloc: Global,
+    given: Given<'_>,
+    contents: &mut C,
+    making: &mut Making,
+) -> Result<(), SiteError> {
+    let mut tasks = first_tasks(alloc, given)?;
+    let mut known = BTreeSet::new(alloc);
+    let mut batch = Batch::new(alloc);
+    for _ in 0..u64::MAX {
+        if tasks.is_empty() {
+            break;
+        }
+        let made = make_round(
+            rt,
+            given,
+            tasks.as_slice(),
+            contents,
+            &mut batch,
+            &mut making.notes,
+        )?;
+        tasks = new_tasks(alloc, made.as_slice(), &mut known)?;
+        making.summary.spellings = making.summary.spellings.saturating_add(tasks.len() as u64);
+        making.keep(made)?;
+    }
+    Ok(())
+}
+
+fn first_tasks(alloc: Global, given: Given<'_>) -> Result<Vec<Task>, AllocError> {
+    let mut tasks = Vec::new(alloc);
+    for (entry, found) in given.site.entries.iter().enumerate() {
+        tasks.push(Task {
+            url: found.url.clone()?,
+            entry,
+            is_plain: true,
+        })?;
+    }
+    Ok(tasks)
+}
+
+/// Makes the page of each task, batch by batch, in the order of URLs.
+fn make_round<R: Threads + Sync, C: Contents>(
+    rt: &R,
+    given: Given<'_>,
+    tasks: &[Task],
+    contents: &mut C,
+    batch: &mut Batch,
+    notes: &mut Vec<Note>,
+) -> Result<Vec<Made>, SiteError> {
+    let alloc = *notes.allocator();
+    let mut all: Vec<Made> = Vec::new(alloc);
+    let mut rest = tasks;
+    for _ in 0..tasks.len() {
+        batch.clear();
+        let count = contents.read(given, rest, batch, notes)?;
+        let (front, behind) = rest.split_at(count.max(1).min(rest.len()));
+        for made in make_in_threads(rt, alloc, given, front, batch)? {
+            all.push(made)?;
+        }
+        if behind.is_empty() {
+            break;
+        }
+        rest = behind;
+    }
+    all.sort_by(|a: &Made, b: &Made| a.url.as_str().cmp(b.url.as_str()))?;
+    Ok(all)
+}
+
+/// The pages of tasks: of n threads, thread k makes the page of each n-th task, from the k-th on.
+fn make_in_threads<R: Threads + Sync>(
+    rt: &R,
+    alloc: Global,
+    given: Given<'_>,
+    tasks: &[Task],
+    batch: &Batch,
+) -> Result<Vec<Made>, SiteError> {
+    let threads = given.rules.threads.max(1);
+    let parts = thread::map_indices(
+        rt,
+        alloc,
+        threads,
+        &|rest: usize| { every(alloc, given, tasks, batch, rest, threads) },
+    )?;
+    let mut all = Vec::new(alloc);
+    for part in parts {
+        for made in part? {
+            all.push(made)?;
+        }
+    }
+    Ok(all)
+}
+
+/// The pages that are spelled in new ways, each once.
+fn new_tasks(
+    alloc: Global,
+    made: &[Made],
+    known: &mut BTreeSet<CanonUrl>,
+) -> Result<Vec<Task>, AllocError> {
+    let mut tasks = Vec::new(alloc);
+    for page in made {
+        for spelling in &page.spellings {
+            if !known.contains(&spelling.url) {
+                known.insert(spelling.url.clone()?)?;
+                tasks.push(Task {
+                    url: spelling.url.clone()?,
+                    entry: spelling.entry,
+                    is_plain: false,
+                })?;
+            }
+        }
+    }
+    Ok(tasks)
+}
+
+impl Making {
+    /// Keeps pages that are made.
+    fn keep(&mut self, made: Vec<Made>) -> Result<(), SiteError> {
+        for one in made {
+            let Made {
+                page,
+                counts,
+                notes,
+                ..
+            } = one;
+            for note in notes {
+                self.notes.push(note)?;
+            }
+            if let Some(page) = page {
+                self.summary.add(&page, counts);
+                self.pages.push(page)?;
+            }
+        }
+        Ok(())
+    }
+}
+
+impl Summary {
+    fn add(&mut self, page: &SitePage, counts: LinkCounts) {
+        self.pages = self.pages.saturating_add(1);
+        self.moved = self.moved.saturating_add(u64::from(page.is_moved()));
+        self.links.add(counts);
+    }
+}

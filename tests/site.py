@@ -1,0 +1,249 @@
+#!/usr/bin/env python3
+"""Compares the program's saved webs of folders with the converter's: site.py [--drawn COUNT] [--seed SEED] [FOLDER ..].
+
+PROGRAM in the environment is the program, called as `PROGRAM FOLDER BASE > WEB`; without it crates/site_trial is built.
+Each FOLDER is compared byte for byte with tools/site_to_web.py as it stands, and so is the shipped site. Without a
+FOLDER those of Debian's python3.11-doc, apache2-doc and postgresql-doc-15 that are installed are taken.
+
+Drawn folders are nasty: names with every odd byte, links, FIFOs, documents in several encodings with broken markup. There
+the converter reads documents by html5lib's tokenizer (Debian's python3-html5lib), because its own leaves the Standard. The
+program departs from it in what DEPARTURES names.
+"""
+
+from __future__ import annotations
+
+import argparse
+import importlib.util
+import io
+import os
+import pathlib
+import random
+import subprocess
+import sys
+import tempfile
+from typing import Any
+
+TOP = pathlib.Path(__file__).resolve().parents[1]
+BASE = "http://docs.test/"
+DOCUMENTS = (
+    "/usr/share/doc/python3.11-doc/html",
+    "/usr/share/doc/apache2-doc/manual",
+    "/usr/share/doc/postgresql-doc-15/html",
+)
+# What the program does otherwise, and why; the reckoning below does the same.
+DEPARTURES = """\
+a name that is not UTF-8 is left out and told, because no library call names its file
+a document in an encoding other than UTF-8, UTF-16 and windows-1252 is read as windows-1252 and told
+the bytes 81, 8D, 8F, 90 and 9D of windows-1252 are C1 controls, as the Encoding Standard has them"""
+
+
+def load(name: str, path: pathlib.Path) -> Any:
+    """A script as a module."""
+    spec = importlib.util.spec_from_file_location(name, path)
+    assert spec is not None and spec.loader is not None
+    module = importlib.util.module_from_spec(spec)
+    sys.modules[name] = module
+    spec.loader.exec_module(module)
+    return module
+
+
+def program() -> str:
+    """The program, built where none is given."""
+    given = os.environ.get("PROGRAM")
+    if given:
+        return given
+    crate = TOP / "crates/site_trial"
+    subprocess.run(["rt", "run"], cwd=crate, stdout=subprocess.DEVNULL, check=False)
+    return str(crate / "out/site_trial")
+
+
+def web_of(call: str, folder: str, words: list[str]) -> bytes:
+    """The program's web of a folder."""
+    done = subprocess.run([call, folder, BASE, *words], capture_output=True, check=False)
+    if done.returncode != 0:
+        sys.exit(f"{folder}: status {done.returncode}\n{done.stderr.decode(errors='replace')}")
+    return done.stdout
+
+
+def first_difference(given: bytes, wanted: bytes) -> str:
+    """Where two webs part, and the page above."""
+    ours, theirs = given.split(b"\n"), wanted.split(b"\n")
+    page = b""
+    for number, (one, other) in enumerate(zip(ours, theirs), 1):
+        if one != other:
+            return f"line {number}, {page.decode()}\n  given  {one!r}\n  wanted {other!r}"
+        if one.startswith(b"page "):
+            page = one
+    return f"{len(ours)} lines given, {len(theirs)} wanted"
+
+
+def compare_as_it_stands(call: str, folder: str) -> bool:
+    """Compares the webs of a folder; the converter runs as it stands."""
+    words = [sys.executable, str(TOP / "tools/site_to_web.py"), "--quiet", folder, BASE]
+    wanted = subprocess.run(words, capture_output=True, check=True).stdout
+    given = web_of(call, folder, [])
+    print(f"{folder}: {len(given)} bytes, {'the same' if given == wanted else first_difference(given, wanted)}")
+    return given == wanted
+
+
+# ---------------------------------------------------------------- the reckoning of drawn folders
+
+
+class Reckoning:
+    """The converter over html5lib's tokens, with the program's departures."""
+
+    def __init__(self) -> None:
+        self.links = load("html_links", TOP / "tests/html_links.py")
+        self.tool = self.links.TOOL
+        outer = self
+
+        class Reader(self.links.Reader):  # type: ignore
+            """Feeds a document to html5lib's tokenizer."""
+
+            def feed(self, data: str) -> None:
+                self.read(data)
+
+            def flush(self, style: Any) -> None:
+                """Gives no links of styles."""
+
+            def read_tag(self, tag: str, found: dict[str, str], tokens: Any) -> None:
+                if tag == "base" and self.base is None:
+                    self.base = found.get("href")
+                super().read_tag(tag, {name: found[name] for name in found if name != "style"}, tokens)
+
+            def close(self) -> None:
+                """Nothing is kept back."""
+
+        self.tool.LinkReader = Reader
+        self.tool.without_long_references = lambda text: text
+        names = self.tool.charset_names
+
+        def known_names(body: bytes, charset: str | None) -> list[str]:
+            try:
+                body.decode("utf-8")
+                other = "utf-8"
+            except UnicodeError:
+                other = "cp1252"
+            return [name if name in ("utf-8", "cp1252") else other for name in names(body, charset) if name]
+
+        self.tool.charset_names = known_names
+        text_of = self.tool.text_of
+
+        def text_with_controls(body: bytes, charset: str | None) -> tuple[str, str]:
+            text, name = text_of(body, charset)
+            if name == "cp1252":
+                text = "".join(outer.character(byte) for byte in body)
+            return text, name
+
+        self.tool.text_of = text_with_controls
+
+    @staticmethod
+    def character(byte: int) -> str:
+        """The character of a byte in windows-1252, as the Encoding Standard has it."""
+        try:
+            return bytes([byte]).decode("cp1252")
+        except UnicodeError:
+            return chr(byte)
+
+    def web(self, folder: str, words: list[str]) -> bytes:
+        """The converter's web of a folder."""
+        given = self.tool.command_line().parse_args(["--quiet", *words, folder, BASE])
+        web = self.tool.Web(given)
+        base = self.tool.base_of(BASE, self.tool.command_line())
+        self.tool.Folder(folder, base, given, web).write()
+        out = io.BytesIO()
+        web.write(out)
+        return out.getvalue()
+
+
+NAMES = """index.html a.html b.htm c d.txt e%20f.html g h.html \u00fc.html i?j.html k#l.html m+n.html [o].html p&q.html r;s.html
+t=u.html v@w.html x:y.html ~z.html %.html %zz.html A.HTML .html .hidden ...html caf\u00e9 \u65e5\u672c.html a\tb.html a\nb.html 'q'.html
+"q".html <r>.html {s}.html |t|.html ^u.html `v`.html \\w.html \u0085.html x.xhtml y.svg z.css index.htm INDEX.HTML a.html.gz""".split(" ")
+FOLDERS = ["", "", "", "sub/", "sub/deep/", "a.html.d/", "e f/", "%41/", "\u00e4/", "q?r/"]
+BASES = ["", "sub/", "/", "http://docs.test/sub/", "//other.test/x/", "mailto:x", "data:x", "x y", "?q", "#f", "https:g", "../..", "http://"]
+HEADS = ["", "", "", "<!doctype html>", "<html>", "\n<!-- c --><!DOCTYPE HTML>", "<?xml version='1.0'?><html>", "<!-- --> -->\n<html>"]
+DECLARED = ["", "", "", "<meta charset=utf-8>", '<meta charset="windows-1252">', "<meta charset=iso-8859-1>", "<meta charset=koi8-r>", "<meta charset=utf-16>"]
+
+
+def drawn_link(draw: random.Random, names: list[str]) -> str:
+    """A link's text: another file's name in some spelling, or anything."""
+    kind = draw.random()
+    name = draw.choice(names)
+    if kind < 0.4:
+        return name
+    if kind < 0.6:
+        return "".join(f"%{ord(c):02x}" if c.isascii() and draw.random() < 0.3 else c for c in name)
+    if kind < 0.8:
+        return name + draw.choice(["?", "?a=b", "?\u00fc", "#f", "?x#y", "/", "/../" + name, "?" + "x" * draw.choice([10, 4080, 4090, 5000])])
+    if kind < 0.9:
+        return draw.choice(["/" + name, "//docs.test/" + name, "http://DOCS.test:80/" + name, "http://docs.test/sub", "/sub?x", "e%20f?a%20b"])
+    return draw.choice(["", " ", "\n x \t", "javascript:x", "data:," + "y" * 5000, "x#" + "z" * 5000, "mailto:\u00e9" + "\u00fc" * 3000, "%", "%f", "a\tb\nc", "http://[::1]/"])
+
+
+def drawn_file(draw: random.Random, links: Any, names: list[str]) -> bytes:
+    """A file's bytes."""
+    if draw.random() < 0.1:
+        return draw.choice([b"", b"plain", bytes(draw.randrange(256) for _ in range(200)), b"<html", b"\xef\xbb\xbf<html>"])
+    text = draw.choice(HEADS) + draw.choice(DECLARED)
+    if draw.random() < 0.15:
+        text += f'<base href="{draw.choice(BASES)}">'
+    for _ in range(draw.randint(0, 12)):
+        text += f'<a href="{drawn_link(draw, names)}">x</a>'
+    if draw.random() < 0.5:
+        text += links.drawn_document(draw, draw.random() < 0.5)
+    encoding = draw.choice(["utf-8"] * 6 + ["cp1252", "latin-1", "utf-16-le", "utf-16-be", "utf-8-sig"])
+    mark = {"utf-16-le": b"\xff\xfe", "utf-16-be": b"\xfe\xff"}.get(encoding, b"")
+    return mark + text.encode(encoding, "replace") + (b"\xff\x81" if draw.random() < 0.05 else b"")
+
+
+def draw_folder(draw: random.Random, links: Any, top: pathlib.Path) -> None:
+    """Fills a folder."""
+    names = sorted({draw.choice(FOLDERS) + draw.choice(NAMES) for _ in range(draw.randint(1, 14))})
+    for name in names:
+        path = top / name
+        if path.exists() or any(up.is_file() for up in path.parents):
+            continue
+        path.parent.mkdir(parents=True, exist_ok=True)
+        path.write_bytes(drawn_file(draw, links, names))
+    if draw.random() < 0.3:
+        os.symlink(draw.choice([".", "..", "sub", "a.html", "gone"]), top / "linked")
+    if draw.random() < 0.1:
+        os.mkfifo(top / "fifo.html")
+    if not any(path.is_file() for path in top.rglob("*")):
+        (top / "only.html").write_bytes(b"")
+
+
+def compare_drawn(call: str, count: int, seed: int) -> int:
+    """Compares drawn folders; how many differ."""
+    reckoning = Reckoning()
+    draw = random.Random(seed)
+    failed = 0
+    for number in range(count):
+        with tempfile.TemporaryDirectory() as folder:
+            draw_folder(draw, reckoning.links, pathlib.Path(folder))
+            words = draw.choice([[], [], ["--exact"], ["--queries"], ["--queries", "--exact"]])
+            given, wanted = web_of(call, folder, words), reckoning.web(folder, words)
+            if given != wanted:
+                failed += 1
+                if failed <= 5:
+                    print(f"folder {number} {words}: {first_difference(given, wanted)}")
+    print(f"{count - failed} drawn folders the same, {failed} differ")
+    return failed
+
+
+def main() -> int:
+    """Compares all."""
+    words = argparse.ArgumentParser(description=__doc__, formatter_class=argparse.RawDescriptionHelpFormatter, epilog=DEPARTURES)
+    words.add_argument("folders", nargs="*", metavar="FOLDER")
+    words.add_argument("--drawn", type=int, default=1000, metavar="COUNT")
+    words.add_argument("--seed", type=int, default=1)
+    given = words.parse_args()
+    call = program()
+    folders = given.folders or [folder for folder in DOCUMENTS if os.path.isdir(folder)]
+    results = [compare_as_it_stands(call, folder) for folder in (str(TOP / "examples/site"), *folders)]
+    failed = compare_drawn(call, given.drawn, given.seed) if given.drawn else 0
+    return 0 if all(results) and not failed else 1
+
+
+if __name__ == "__main__":
+    sys.exit(main())
