@@ -43,7 +43,7 @@ or_parts : (a b : Bool) → (a || b) ≡ false → (a ≡ false) × (b ≡ false
 or_parts true b e = absurd (cc)
 or_parts false b e = (refl, e)
 
-text_nowhere : (all : List (List ℕ)) → list_any is_moved_line all ≡ false → moved_text all ≡ None
+pub text_nowhere : (all : List (List ℕ)) → list_any is_moved_line all ≡ false → moved_text all ≡ None
 text_nowhere [] none = refl
 text_nowhere (line ∷ more) none =
     let parts = or_parts (is_moved_line line) (list_any is_moved_line more) none in

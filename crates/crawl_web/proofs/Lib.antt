@@ -2,6 +2,7 @@ pub mod CutLines
 pub mod FirstVersion
 pub mod LeastLine
 pub mod LinkIndex
+pub mod OwnLines
 pub mod PageIndex
 pub mod PageLinks
 pub mod PassedLines

@@ -2,16 +2,15 @@
 use Rattle.std.proofs.Common.{◌≡◌, inl, inr, ℕ, ◌+◌, ◌==◌, Bool, true, false, ◌||◌, not, List, [], ◌∷◌, ◌++◌, length, Option, Some, None, Ok, Err, codes, is_some, refl, sym, ap, subst, ◌∙◌, arith, append_assoc, append-nil, length-append, ne_eqb}
 use Rattle.std.specs.Bool.{if◌then◌else◌}
 use Rattle.std.specs.List.{list_any}
-use Rattle.std.specs.Option.{option_map, option_or, option_map_or}
+use Rattle.std.specs.Option.{option_or, option_map_or}
 use Rattle.std.specs.Str.{bytes_eq}
 use Rattle.std.specs.Str.Lines.{lines}
 use Rattle.std.proofs.lemmas.List.Folds.{list_any-append}
 use Rattle.crawl_keys.specs.Outcome.{IsRefusal}
 use Rattle.crawl_web.specs.LeastFault.{SoundAfter, IsLeastFault}
-use Rattle.crawl_web.specs.SavedWeb.{lines_behind}
 use Rattle.crawl_web.specs.WebLines.{is_page, is_link, is_moved_line, is_page_at, page_url}
 use Rattle.crawl_web.specs.WebChecks.{is_second, under_last_page, line_fault, fault_after}
-use Rattle.crawl_web.specs.KnownPages.{KnownPages, has_some, known_behind, kept_before, Adds, Follows}
+use Rattle.crawl_web.specs.KnownPages.{KnownPages, has_some, kept_before, Adds, Follows}
 use Rattle.crawl_web.specs.PageLists.{PageRead, page_with, has}
 use Rattle.crawl_web.specs.WebFaults.{IsWebFault, IsWebRefusal, checked}
 use Rattle.crawl_web.specs.declared.saved_web.add.Above.{Above}
@@ -44,9 +43,6 @@ or_true false = refl
 abbrev at : Option (List ℕ) → List ℕ → Bool
 at own url = option_map_or (λ u. bytes_eq u url) own false
 
-abbrev told : Option PageRead → Option (List (List ℕ))
-told o = option_map (λ page. lines page.behind) o
-
 -- the page that is found where one was put at the end
 pub page_with-push : (old : KnownPages) (page : PageRead) (q : List ℕ) → page_with (old ++ page ∷ []) q ≡ option_or (page_with old q) (if bytes_eq page.url q then Some page else None)
 page_with-push [] page q = refl
@@ -74,18 +70,6 @@ adds_has old new (Some url) bytes adds q =
     let page : PageRead = record { url = url; behind = bytes } in
     ap (λ ps. has ps q) adds.1 ∙ ap is_some (page_with-push old page q) ∙ has_put (bytes_eq url q) (page_with old q) page
 
-behind_put : (b : Bool) (o : Option PageRead) (page : PageRead) (more : Option (List (List ℕ))) → option_or (told o) (if b then Some (lines page.behind) else more) ≡ option_or (told (option_or o (if b then Some page else None))) more
-behind_put b (Some old) page more = refl
-behind_put true None page more = refl
-behind_put false None page more = refl
-
-adds_behind : (old new : KnownPages) (own : Option (List ℕ)) (bytes : List ℕ) (more : Option (List (List ℕ))) → Adds old new own bytes → (q : List ℕ) → option_or (known_behind old q) (if at own q then Some (lines bytes) else more) ≡ option_or (known_behind new q) more
-adds_behind old new None bytes more same q = ap (λ ps. option_or (known_behind ps q) more) (sym same)
-adds_behind old new (Some url) bytes more adds q =
-    let page : PageRead = record { url = url; behind = bytes } in
-    behind_put (bytes_eq url q) (page_with old q) page more
-    ∙ ap (λ o. option_or (told o) more) (sym (ap (λ ps. page_with ps q) adds.1 ∙ page_with-push old page q))
-
 -- ---- one more line
 
 -- what is known of the pages says which check a line fails
@@ -106,7 +90,7 @@ sound_more front (x ∷ xs) line sound passes =
     let P : List (List ℕ) → Type 0 = λ e. fault_after e line ≡ None in
     (sound.0, sound_more (front ++ x ∷ []) xs line sound.1 (subst P (sym (append_assoc front (x ∷ []) xs)) passes))
 
-any_more : (p : List ℕ → Bool) (b : Bool) (earlier : List (List ℕ)) (line : List ℕ) → p line ≡ b → (list_any p earlier || b) ≡ list_any p (earlier ++ line ∷ [])
+pub any_more : (p : List ℕ → Bool) (b : Bool) (earlier : List (List ℕ)) (line : List ℕ) → p line ≡ b → (list_any p earlier || b) ≡ list_any p (earlier ++ line ∷ [])
 any_more p b earlier line e =
     ap (λ x. list_any p earlier || x) (sym e ∙ or_false (p line)) ∙ sym (list_any-append p earlier (line ∷ []))
 
@@ -166,12 +150,6 @@ read_more bytes rest number above pages line more behind after new first passes 
       adds_has pages new (page_url line) behind adds url ∙ ap (λ b. b || is_page_at url line) (k.known url)
       ∙ any_more (is_page_at url) (is_page_at url line) k.earlier line refl;
 }
-
--- every page of the lines is known, or stands among those that are left
-pub found_more : (bytes rest : List ℕ) (pages : KnownPages) (line more : List ℕ) (new : KnownPages) → lines rest ≡ line ∷ lines more → Adds pages new (page_url line) more → ((url : List ℕ) → lines_behind (lines bytes) url ≡ option_or (known_behind pages url) (lines_behind (lines rest) url)) → (url : List ℕ) → lines_behind (lines bytes) url ≡ option_or (known_behind new url) (lines_behind (lines more) url)
-found_more bytes rest pages line more new first adds found url =
-    found url ∙ ap (λ ls. option_or (known_behind pages url) (lines_behind ls url)) first
-    ∙ adds_behind pages new (page_url line) more (lines_behind (lines more) url) adds url
 
 -- ---- a line that fails
 

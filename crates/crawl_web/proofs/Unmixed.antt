@@ -71,11 +71,11 @@ line_more b under line says.Other is link moved passes here unmixed = absurd (cc
 
 -- ---- all lines up to the next page
 
-up_to_page-page : (line : List ℕ) (more : List (List ℕ)) → is_page line ≡ true → up_to_page (line ∷ more) ≡ []
+pub up_to_page-page : (line : List ℕ) (more : List (List ℕ)) → is_page line ≡ true → up_to_page (line ∷ more) ≡ []
 up_to_page-page line more page =
     take_while-cons (λ l. not (is_page l)) line more ∙ cond-false _ _ _ (ap not page)
 
-up_to_page-other : (line : List ℕ) (more : List (List ℕ)) → is_page line ≡ false → up_to_page (line ∷ more) ≡ line ∷ up_to_page more
+pub up_to_page-other : (line : List ℕ) (more : List (List ℕ)) → is_page line ≡ false → up_to_page (line ∷ more) ≡ line ∷ up_to_page more
 up_to_page-other line more page =
     take_while-cons (λ l. not (is_page l)) line more ∙ cond-true _ _ _ (ap not page)
 

@@ -2,7 +2,9 @@ pub mod KnownLinks
 pub mod KnownPages
 pub mod LeastFault
 pub mod Limits
+pub mod LineEnds
 pub mod Lines
+pub mod OwnLines
 pub mod PageLists
 pub mod Pages
 pub mod Parts

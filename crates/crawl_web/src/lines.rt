@@ -2,6 +2,7 @@
 ghost use Rattle.std.specs.Prelude.{◌≡◌, ◌==◌, ◌∷◌, ◌<◌, [], length, position, IfSome, IsUtf8, MatchOption};
 ghost use Rattle.std.specs.Str.Lines.{lines, strip_carriage_return};
 ghost use Rattle.crawl_web.specs.Lines.{text_of, bytes_at};
+ghost use Rattle.crawl_web.specs.LineEnds.{EndsLine};
 
 use memchr::memchr;
 
@@ -37,6 +38,7 @@ pub fn first_line(bytes: &[u8]) -> Option<(&[u8], &[u8])>
 pub fn first_text(text: &str) -> Option<(&str, &str)>
     ensures cut { MatchOption result (lines text.now ≡ []) (λ x. lines text.now ≡ x.0.now ∷ lines x.1.now) }
     ensures shorter { IfSome result (λ x. length x.1.now < length text.now) }
+    ensures ends { IfSome result (λ x. EndsLine text.now x.0.now x.1.now) }
 {
     match newline_in(text.as_bytes()) {
         Some(end) => Some((text_without_return(&text[..end]), &text[end + 1..])),

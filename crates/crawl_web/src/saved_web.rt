@@ -1,8 +1,11 @@
 //! Saved webs: pages and their links, written down in lines.
-ghost use Rattle.std.specs.Prelude.{◌≡◌, ℕ, List, Ok, Err, IfOk, IfErr, IsUtf8};
+ghost use Rattle.std.specs.Prelude.{◌≡◌, ◌∷◌, ℕ, List, Ok, Err, IfOk, IfErr, IsUtf8};
 ghost use Rattle.crawl_keys.specs.Outcome.{Gives};
 ghost use Rattle.std.specs.Str.Lines.{lines};
-ghost use Rattle.crawl_web.specs.SavedWeb.{page_of};
+ghost use Rattle.std.specs.List.{list_any};
+ghost use Rattle.crawl_web.specs.OwnLines.{Ended, EndsBefore, IsCut, LastBehind};
+ghost use Rattle.crawl_web.specs.SavedWeb.{page_of, up_to_page};
+ghost use Rattle.crawl_web.specs.WebLines.{is_moved_line};
 ghost use Rattle.crawl_web.specs.KnownPages.{known_page, page_at};
 ghost use Rattle.crawl_web.specs.WebFaults.{IsSound, IsWebFault, IsWebRefusal};
 
@@ -25,6 +28,7 @@ use crate::session::SessionFetch;
 use add::{Above, add_line, check_line};
 use crawl_keys::CanonUrl;
 pub use error::WebError;
+use line::is_page;
 use link_cache::LinkCache;
 use links::page_behind;
 use pages::Pages;
@@ -34,7 +38,7 @@ use std::alloc::Global;
 /// The pages of a saved web, each with its links. It borrows the bytes that it was read from.
 #[derive(Drop)]
 pub struct SavedWeb<'a> {
-    /// Each page with the text behind its line.
+    /// Each page with its own lines.
     pages: Pages<'a>,
 }
 
@@ -72,7 +76,7 @@ fn known_pages(alloc: Global, bytes: &[u8]) -> Result<Pages<'_>, WebError>
     }
 }
 
-/// The pages that the lines of a text are, each with the text behind its line.
+/// The pages that the lines of a text are, each with its own lines.
 fn pages_in(alloc: Global, text: &str) -> Result<Pages<'_>, WebError>
     ensures sound { IfOk result (λ _. IsSound (lines text.now)) }
     ensures pages { IfOk result (λ pages. (url : List ℕ) → known_page pages url ≡ page_of (lines text.now) url) }
@@ -80,9 +84,12 @@ fn pages_in(alloc: Global, text: &str) -> Result<Pages<'_>, WebError>
 {
     let mut pages = Pages::new(alloc);
     let mut rest = text;
+    // What stands behind the last page's line, or all where there is no page.
+    let mut start = text;
     let mut number: u64 = 0;
     let mut above = Above::nothing();
     while let Some((line, more)) = first_text(rest) {
+        start = next_start(&mut pages, start, rest, line, more, above.moved);
         rest = more;
         number += 1;
         above = add_line(alloc, &mut pages, number, above, line, more)?;
@@ -90,7 +97,39 @@ fn pages_in(alloc: Global, text: &str) -> Result<Pages<'_>, WebError>
     if number == 0 {
         return Err(WebError::BadHeader);
     }
+    end_page(&mut pages, start, rest, above.moved);
     Ok(pages)
+}
+
+/// Ends the last page where this line, the first of the rest, is the next one. Answers what stands behind the last page's line
+/// then.
+fn next_start<'a>(
+    pages: &mut Pages<'a>,
+    start: &'a str,
+    rest: &'a str,
+    line: &str,
+    more: &'a str,
+    moved: bool,
+) -> &'a str
+    requires last { LastBehind pages.old start.now }
+    requires first { lines rest.now ≡ line.now ∷ lines more.now }
+    requires cut { (own : List (List ℕ)) × IsCut start.now rest.now own × (moved ≡ list_any is_moved_line own) }
+    ensures { EndsBefore line.now pages.old pages.new start.now more.now result.now }
+{
+    if !is_page(line) {
+        return start;
+    }
+    end_page(pages, start, rest, moved);
+    more
+}
+
+/// Ends the last page, if there is one, where the rest begins: its own lines are those before.
+fn end_page<'a>(pages: &mut Pages<'a>, start: &'a str, rest: &str, moved: bool)
+    requires last { LastBehind pages.old start.now }
+    requires cut { (own : List (List ℕ)) × IsCut start.now rest.now own × (moved ≡ list_any is_moved_line own) × (up_to_page (lines start.now) ≡ up_to_page own) }
+    ensures { Ended pages.old pages.new }
+{
+    pages.end_last(&start[..start.len() - rest.len()], moved);
 }
 
 /// The fault of bytes that are not UTF-8.
@@ -153,7 +192,13 @@ impl<'a> SessionFetch for SavedWeb<'a> {
         ensures refused { IfErr result (λ e. e ≡ FetchError.NoMemory) }
     {
         match self.pages.get(url) {
-            Some(page) => page_behind(alloc, session, page.base()?, page.behind()),
+            Some(page) => page_behind(
+                alloc,
+                session,
+                page.base()?,
+                page.behind(),
+                page.has_moved(),
+            ),
             None => Ok(Page::Missing),
         }
     }

@@ -1,5 +1,5 @@
 //! What stands under a page of a saved web, read from the text behind the page's line.
-ghost use Rattle.std.specs.Prelude.{◌≡◌, ◌<◌, ℕ, List, ◌∷◌, [], Some, length, IfOk, IfErr, IfSome, MatchOption};
+ghost use Rattle.std.specs.Prelude.{◌≡◌, ◌<◌, ℕ, List, ◌∷◌, [], false, None, Some, length, IfOk, IfErr, IfSome, MatchOption};
 ghost use Rattle.std.specs.Option.{option_map};
 ghost use Rattle.std.specs.Str.Lines.{lines};
 ghost use Rattle.crawl_web.specs.KnownLinks.{AreLinks};
@@ -18,20 +18,34 @@ use crate::saved_web::link_text::LinkText;
 use crawl_keys::{Base, CanonUrl, is_of_folder};
 use std::alloc::Global;
 
-/// The page with this base, whose line this text follows, up to the next page or to the end.
+/// The page with this base, and these lines under its own, up to the next page or to the end; where no moved line is among
+/// them, `moved` may say so.
 pub fn page_behind<'a>(
     alloc: Global,
     cache: &mut LinkCache<'a>,
     base: Base,
     behind: &'a str,
+    moved: bool,
 ) -> Result<Page, FetchError>
+    requires { moved ≡ false → moved_text (lines behind.now) ≡ None }
     ensures page { IfOk result (λ page. page ≡ page_behind base (Some (lines behind.now))) }
     ensures refused { IfErr result (λ e. e ≡ FetchError.NoMemory) }
 {
-    match moved_text(behind) {
+    match moved_line(behind, moved) {
         Some(text) => moved_page(alloc, &base, text),
         None => remembering(alloc, cache, base, behind),
     }
+}
+
+/// The text of the moved line among these, if there is one. Most pages have none, and then none is looked for.
+fn moved_line(behind: &str, moved: bool) -> Option<&str>
+    requires { moved ≡ false → moved_text (lines behind.now) ≡ None }
+    ensures { option_map (λ text. text.now) result ≡ moved_text (lines behind.now) }
+{
+    if !moved {
+        return None;
+    }
+    moved_text(behind)
 }
 
 /// The page that has moved to where this text leads.

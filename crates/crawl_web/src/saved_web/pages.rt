@@ -1,7 +1,9 @@
 //! The pages of a saved web, found by their URLs.
-ghost use Rattle.std.specs.Prelude.{◌≡◌, ◌==◌, ◌++◌, ◌∷◌, [], not, length, IfOk, IfSome, if◌then◌else◌};
+ghost use Rattle.std.specs.Prelude.{◌≡◌, ◌==◌, ◌++◌, ◌∷◌, [], List, None, false, not, length, IfOk, IfSome, if◌then◌else◌};
 ghost use Rattle.std.specs.Option.{option_map};
-ghost use Rattle.crawl_web.specs.PageLists.{page_with, has};
+ghost use Rattle.std.specs.Str.Lines.{lines};
+ghost use Rattle.crawl_web.specs.PageLists.{PageRead, page_with, has};
+ghost use Rattle.crawl_web.specs.SavedWeb.{moved_text};
 
 use crate::saved_web::known_page::KnownPage;
 use crawl_keys::{Base, CanonUrl};
@@ -64,6 +66,18 @@ impl<'a> Pages<'a> {
         }
         self.list.push(page)?;
         Ok(true)
+    }
+
+    /// Says that these are the own lines of the last page, if there is a page, and whether a moved line is among them.
+    pub fn end_last(&mut self, own: &'a str, moved: bool)
+        requires { moved ≡ false → moved_text (lines own.now) ≡ None }
+        ensures none { self.old ≡ [] → self.new ≡ [] }
+        ensures ended { (front : List PageRead) (page : PageRead) → self.old ≡ front ++ page ∷ [] → self.new ≡ front ++ record { url = page.url; behind = own.now } ∷ [] }
+    {
+        let count = self.list.len();
+        if count > 0 {
+            self.list[count - 1].end(own, moved);
+        }
     }
 
     /// The page with the URL.
