@@ -14,7 +14,7 @@ mkdir -p "$made"
 trap 'rm -f "$made"/site.*' EXIT
 
 # `rt run` proves and builds the program, and leaves it in out/.
-if [ -z "${PROGRAM:-}" ]; then (cd crates/site_trial && rt run > /dev/null); fi
+if [ -z "${PROGRAM:-}" ]; then (cd crates/site_trial && rt run -- data/site http://site.test/ > /dev/null); fi
 
 printf '%-44s %9s %12s %12s %8s %8s %10s\n' folder documents bytes web seconds processor 'peak KiB'
 for folder in "$@"; do

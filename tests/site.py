@@ -53,7 +53,7 @@ def program() -> str:
     if given:
         return given
     crate = TOP / "crates/site_trial"
-    subprocess.run(["rt", "run"], cwd=crate, stdout=subprocess.DEVNULL, check=False)
+    subprocess.run(["rt", "run", "--", "data/site", BASE], cwd=crate, stdout=subprocess.DEVNULL, check=False)
     return str(crate / "out/site_trial")
 
 
@@ -92,6 +92,8 @@ def compare_as_it_stands(call: str, folder: str) -> bool:
 class Reckoning:
     """The converter over html5lib's tokens, with the program's departures."""
 
+    KNOWN = {"utf_8": "utf-8", "u8": "utf-8", "windows-1252": "cp1252", "1252": "cp1252", "utf-8": "utf-8", "cp1252": "cp1252"}
+
     def __init__(self) -> None:
         self.links = load("html_links", TOP / "tests/html_links.py")
         self.tool = self.links.TOOL
@@ -124,7 +126,7 @@ class Reckoning:
                 other = "utf-8"
             except UnicodeError:
                 other = "cp1252"
-            return [name if name in ("utf-8", "cp1252") else other for name in names(body, charset) if name]
+            return [self.KNOWN.get(name, other) for name in names(body, charset) if name]
 
         self.tool.charset_names = known_names
         text_of = self.tool.text_of
@@ -136,6 +138,17 @@ class Reckoning:
             return text, name
 
         self.tool.text_of = text_with_controls
+        self.tool.with_query_in = self.with_query_in
+        self.bytes = {self.character(byte): bytes([byte]) for byte in range(256)}
+
+    def with_query_in(self, text: str, charset: str) -> str:
+        """The link with the letters of its query percent-encoded in windows-1252."""
+        front, hash_mark, fragment = text.partition("#")
+        path, mark, query = front.partition("?")
+        if charset == "utf-8" or front.isascii() or not self.tool.is_web(self.tool.scheme_of(text)):
+            return text
+        letters = (c if c.isascii() else self.tool.quote(self.bytes.get(c, f"&#{ord(c)};".encode())) for c in query)
+        return path + mark + "".join(letters) + hash_mark + fragment
 
     @staticmethod
     def character(byte: int) -> str:
@@ -219,7 +232,9 @@ def compare_drawn(call: str, count: int, seed: int) -> int:
     draw = random.Random(seed)
     failed = 0
     for number in range(count):
-        with tempfile.TemporaryDirectory() as folder:
+        with tempfile.TemporaryDirectory() as above:
+            folder = os.path.join(above, "site")
+            os.mkdir(folder)
             draw_folder(draw, reckoning.links, pathlib.Path(folder))
             words = draw.choice([[], [], ["--exact"], ["--queries"], ["--queries", "--exact"]])
             given, wanted = web_of(call, folder, words), reckoning.web(folder, words)
