@@ -50,6 +50,23 @@ name_cut (c ∷ rest) n begins len =
     let short : n ≡ length (take_while in_name rest) = len ∙ ap (λ xs. length (take_while in_name xs)) all in
     rw short (tail_front c rest _ ∙ ap (λ t. c ∷ t) (front_cut in_name rest), tail_behind c rest _ ∙ behind_cut in_name rest)
 
+-- the first byte that passes a test, by its place
+pub first_cut : (test : ℕ → Bool) (bytes : List ℕ) (end : ℕ) → IsFirstByte test bytes (Some end) →
+    (take end bytes ≡ front (λ c. not (test c)) bytes) × (drop end bytes ≡ behind (λ c. not (test c)) bytes)
+first_cut test bytes end first =
+    let high = first.0.high in
+    let there : position_or_len test bytes ≡ end =
+    position_or_len_is test bytes end 0 (omega (arith, high)) (λ k below. refuted (test (get_or bytes k 0)) (first.0.before k (omega arith) below)) (λ inside. first.1) in (
+      sym (front_prefix (λ c. not (test c)) bytes ∙ ap (λ n. take n bytes) there),
+      sym (behind_prefix (λ c. not (test c)) bytes ∙ ap (λ n. drop n bytes) there),
+    )
+
+pub no_first : (test : ℕ → Bool) (bytes : List ℕ) → IsFirstByte test bytes None → behind (λ c. not (test c)) bytes ≡ []
+no_first test bytes nowhere =
+    let none : position_or_len test bytes ≡ length bytes =
+    position_or_len_is test bytes (length bytes) 0 (omega arith) (λ k below. refuted (test (get_or bytes k 0)) (nowhere k (omega arith) below)) (λ inside. absurd (omega (arith, inside))) in
+    behind_prefix (λ c. not (test c)) bytes ∙ ap (λ n. drop n bytes) none ∙ drop_all (length bytes) bytes (omega arith)
+
 -- the first quote, by its place
 pub quote_cut : (quote : ℕ) (bytes : List ℕ) (end : ℕ) → IsFirstByte (is_byte quote) bytes (Some end) →
     (take end bytes ≡ front (λ c. not (c == quote)) bytes) × (quote ∷ drop (end + 1) bytes ≡ behind (λ c. not (c == quote)) bytes)

@@ -7,3 +7,8 @@ pub mod RawTexts
 pub mod Reading
 pub mod Seeing
 pub mod Scripts
+pub mod Decoding
+pub mod Sources
+pub mod Linking
+pub mod Refreshing
+pub mod Naming

@@ -10,3 +10,10 @@ pub mod Values
 pub mod Seen
 pub mod Script
 pub mod Scans
+pub mod Names
+pub mod References
+pub mod Decoding
+pub mod Candidates
+pub mod Refresh
+pub mod Links
+pub mod Reads

@@ -1,10 +1,9 @@
 -- What a reader of links sees of a document: of each start tag its element, and the values of its wanted attributes.
 use Rattle.std.specs.Prelude.{◌≡◌, ◌<◌, ℕ, List, [], ◌∷◌, length, map, false, Option, None, Some}
-use Rattle.std.specs.Borrow.{Bor}
 use Rattle.html_links.specs.declared.element.Element.{Element}
 use Rattle.html_links.specs.declared.next_tag.NextTag.{NextTag}
 use Rattle.html_links.specs.Tags.{lower, BeforeName}
-use Rattle.html_links.specs.Document.{StartTag, Data, InTag, read, tags_of}
+use Rattle.html_links.specs.Document.{StartTag, InTag, read, tags_of}
 use Rattle.html_links.specs.Elements.{element_of, wanted_of}
 use Rattle.html_links.specs.Values.{Values, values_of, values_at}
 

@@ -7,7 +7,7 @@ mod document;
 mod element;
 mod found;
 mod links;
-mod named;
+mod names;
 mod next_tag;
 mod raw_text;
 mod reader;

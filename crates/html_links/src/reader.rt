@@ -1,36 +1,31 @@
 //! The reader of a document.
-use crate::bytes::is_space;
+ghost use Rattle.std.specs.Prelude.{◌≡◌, ◌++◌, [], false, IfOk, OnOk};
+ghost use Rattle.html_links.specs.Comments.{bytes_at};
+ghost use Rattle.html_links.specs.Values.{values_at};
+ghost use Rattle.html_links.specs.Links.{value_links, text_links, is_host_hint, hints_behind, names_host, is_refresh, links_with, links_of, base_of, base_with, or_later};
+ghost use Rattle.html_links.specs.Reads.{base_at};
+ghost use Rattle.html_links.specs.declared.reader.Form.TheVariants.{Link};
+
+use crate::bytes::parts;
 use crate::element::Element;
 use crate::found::Values;
 use crate::next_tag::{NextTag, next_tag};
 use crate::raw_text::{raw_text, same_name};
 use crate::references::{decode, is_coded};
 use crate::refresh::target_of;
-use crate::srcset::push_candidates;
+use crate::srcset::{push_candidates, split_unspaced};
 use crate::{Links, style_links};
 use std::alloc::{AllocError, Global};
 
 /// The `href` of a document's first `base` that has one, its references read.
 pub type Base = Option<Vec<u8>>;
 
-/// What the reader of a document has read.
-#[derive(Drop)]
-struct Reader {
-    alloc: Global,
-    /// Whether the links of styles are wanted.
-    styles: bool,
-    base: Base,
-    /// A value whose references are read.
-    decoded: Vec<u8>,
-}
-
 /// How the value of an attribute names documents.
 #[derive(Clone, Copy)]
-enum Form {
+pub(crate) enum Form {
     Link,
     List,
     Refresh,
-    Style,
 }
 
 /// Gives the links of a document in their order, and answers its base. With `styles` also those of styles.
@@ -42,119 +37,154 @@ pub fn read_links<L: Links>(
     document: &[u8],
     styles: bool,
     links: &mut L,
-) -> Result<Base, AllocError> {
-    let mut reader = Reader {
-        alloc,
-        styles,
-        base: None,
-        decoded: Vec::new(alloc),
-    };
+) -> Result<Base, AllocError>
+    ensures links { OnOk result (styles ≡ false → L.texts links.new ≡ L.texts links.old ++ links_of document.now) }
+    ensures base { IfOk result (λ base. base_at base ≡ base_of document.now) }
+{
+    let mut decoded = Vec::new(alloc);
+    let mut base = None;
     let mut rest = document;
     'tags: while let Some(tag) = next_tag(rest) {
-        reader.push_tag(tag, links)?;
+        if styles {
+            push_styles(alloc, tag, &mut decoded, links)?;
+        }
+        push_values(tag.element, tag.values, &mut decoded, links)?;
+        base = or_base(alloc, base, tag.element, tag.values)?;
         rest = tag.rest;
     }
-    Ok(reader.base)
+    Ok(base)
 }
 
-impl Reader {
-    fn push_tag<L: Links>(&mut self, tag: NextTag<'_>, links: &mut L) -> Result<(), AllocError> {
-        if self.styles {
-            self.push_value(Form::Style, tag.values.style, links)?;
-        }
-        self.push_values(tag.element, tag.values, links)?;
-        if self.styles && same_name(tag.name, b"style") {
-            style_links(self.alloc, raw_text(b"style", tag.text), links)?;
-        }
-        Ok(())
-    }
-
-    fn push_values<L: Links>(
-        &mut self,
-        element: Element,
-        values: Values<'_>,
-        links: &mut L,
-    ) -> Result<(), AllocError> {
-        match element {
-            Element::Base => self.read_base(values.first),
-            Element::Meta => {
-                if self.is_refresh(values.second)? {
-                    self.push_value(Form::Refresh, values.first, links)?;
-                }
-                Ok(())
-            }
-            Element::Link => {
-                if self.names_host(values.third)? {
-                    return Ok(());
-                }
-                self.push_value(Form::Link, values.first, links)?;
-                self.push_value(Form::List, values.second, links)
-            }
-            Element::Image => {
-                self.push_value(Form::Link, values.first, links)?;
-                self.push_value(Form::List, values.second, links)
-            }
-            _ => {
-                self.push_value(Form::Link, values.first, links)?;
-                self.push_value(Form::Link, values.second, links)
-            }
-        }
-    }
-
-    fn read_base(&mut self, href: Option<&[u8]>) -> Result<(), AllocError> {
-        if let Some(value) = href
-            && self.base.is_none()
-        {
-            let mut base = Vec::new(self.alloc);
-            decode(value, &mut base)?;
-            self.base = Some(base);
-        }
-        Ok(())
-    }
-
-    fn is_refresh(&mut self, equiv: Option<&[u8]>) -> Result<bool, AllocError> {
-        let Some(value) = equiv else {
-            return Ok(false);
-        };
-        self.decoded.clear();
-        decode(value, &mut self.decoded)?;
-        Ok(same_name(self.decoded.as_slice(), b"refresh"))
-    }
-
-    /// Whether the `rel` of a `link` says that it names a host and no document.
-    fn names_host(&mut self, rel: Option<&[u8]>) -> Result<bool, AllocError> {
-        let Some(rel) = rel else {
-            return Ok(false);
-        };
-        self.decoded.clear();
-        decode(rel, &mut self.decoded)?;
-        Ok(has_host_hint(self.decoded.as_slice()))
-    }
-
-    fn push_value<L: Links>(
-        &mut self,
-        form: Form,
-        value: Option<&[u8]>,
-        links: &mut L,
-    ) -> Result<(), AllocError> {
-        let Some(value) = value else {
-            return Ok(());
-        };
-        if !is_coded(value) {
-            return push_text(self.alloc, form, value, links);
-        }
-        self.decoded.clear();
-        decode(value, &mut self.decoded)?;
-        push_text(self.alloc, form, self.decoded.as_slice(), links)
-    }
-}
-
-fn push_text<L: Links>(
+/// Gives the links of a tag's `style`, and those of a style sheet behind the tag.
+fn push_styles<L: Links>(
     alloc: Global,
-    form: Form,
-    text: &[u8],
+    tag: NextTag<'_>,
+    decoded: &mut Vec<u8>,
     links: &mut L,
 ) -> Result<(), AllocError> {
+    if let Some(style) = tag.values.style {
+        decoded.clear();
+        decode(style, decoded)?;
+        style_links(alloc, decoded.as_slice(), links)?;
+    }
+    if same_name(tag.name, b"style") {
+        style_links(alloc, raw_text(b"style", tag.text), links)?;
+    }
+    Ok(())
+}
+
+/// The base so far, or that of this tag.
+fn or_base(
+    alloc: Global,
+    base: Base,
+    element: Element,
+    values: Values<'_>,
+) -> Result<Base, AllocError>
+    ensures { IfOk result (λ new. base_at new ≡ or_later (base_at base) (base_with element (values_at values.entry))) }
+{
+    if let Some(first) = base {
+        return Ok(Some(first));
+    }
+    match element {
+        Element::Base => match values.first {
+            Some(href) => {
+                let mut text = Vec::new(alloc);
+                decode(href, &mut text)?;
+                Ok(Some(text))
+            }
+            None => Ok(None),
+        },
+        _ => Ok(None),
+    }
+}
+
+fn push_values<L: Links>(
+    element: Element,
+    values: Values<'_>,
+    decoded: &mut Vec<u8>,
+    links: &mut L,
+) -> Result<(), AllocError>
+    ensures { OnOk result (L.texts links.new ≡ L.texts links.old ++ links_with element (values_at values.entry)) }
+{
+    match element {
+        Element::Base => Ok(()),
+        Element::Meta => {
+            if is_refresh(values.second, decoded)? {
+                push_value(Form::Refresh, values.first, decoded, links)
+            } else {
+                Ok(())
+            }
+        }
+        Element::Link => {
+            if names_host(values.third, decoded)? {
+                Ok(())
+            } else {
+                push_both(Form::List, values, decoded, links)
+            }
+        }
+        Element::Image => push_both(Form::List, values, decoded, links),
+        _ => push_both(Form::Link, values, decoded, links),
+    }
+}
+
+/// Gives the link in the first value, and those of the second.
+fn push_both<L: Links>(
+    second: Form,
+    values: Values<'_>,
+    decoded: &mut Vec<u8>,
+    links: &mut L,
+) -> Result<(), AllocError>
+    ensures { OnOk result (L.texts links.new ≡ L.texts links.old ++ (value_links Link (bytes_at values.entry.first) ++ value_links second (bytes_at values.entry.second))) }
+{
+    push_value(Form::Link, values.first, decoded, links)?;
+    push_value(second, values.second, decoded, links)
+}
+
+fn is_refresh(equiv: Option<&[u8]>, decoded: &mut Vec<u8>) -> Result<bool, AllocError>
+    ensures { IfOk result (λ is. is ≡ is_refresh (bytes_at equiv.entry)) }
+{
+    let Some(value) = equiv else {
+        return Ok(false);
+    };
+    decoded.clear();
+    decode(value, decoded)?;
+    Ok(same_name(decoded.as_slice(), b"refresh"))
+}
+
+/// Whether the `rel` of a `link` says that it names a host and no document.
+fn names_host(rel: Option<&[u8]>, decoded: &mut Vec<u8>) -> Result<bool, AllocError>
+    ensures { IfOk result (λ names. names ≡ names_host (bytes_at rel.entry)) }
+{
+    let Some(value) = rel else {
+        return Ok(false);
+    };
+    decoded.clear();
+    decode(value, decoded)?;
+    Ok(has_host_hint(decoded.as_slice()))
+}
+
+fn push_value<L: Links>(
+    form: Form,
+    value: Option<&[u8]>,
+    decoded: &mut Vec<u8>,
+    links: &mut L,
+) -> Result<(), AllocError>
+    ensures { OnOk result (L.texts links.new ≡ L.texts links.old ++ value_links form (bytes_at value.entry)) }
+{
+    let Some(value) = value else {
+        return Ok(());
+    };
+    if !is_coded(value) {
+        return push_text(form, value, links);
+    }
+    decoded.clear();
+    decode(value, decoded)?;
+    push_text(form, decoded.as_slice(), links)
+}
+
+fn push_text<L: Links>(form: Form, text: &[u8], links: &mut L) -> Result<(), AllocError>
+    ensures { OnOk result (L.texts links.new ≡ L.texts links.old ++ text_links form text.now) }
+{
     match form {
         Form::Link => links.push(text),
         Form::List => push_candidates(text, links),
@@ -162,15 +192,27 @@ fn push_text<L: Links>(
             Some(target) => links.push(target),
             None => Ok(()),
         },
-        Form::Style => style_links(alloc, text, links),
     }
 }
 
-fn has_host_hint(rel: &[u8]) -> bool {
-    for word in rel.split(|byte| is_space(*byte)) {
-        if same_name(word, b"preconnect") || same_name(word, b"dns-prefetch") {
+fn is_host_hint(word: &[u8]) -> bool
+    ensures { result ≡ is_host_hint word.now }
+{
+    same_name(word, b"preconnect") || same_name(word, b"dns-prefetch")
+}
+
+fn has_host_hint(rel: &[u8]) -> bool
+    ensures { result ≡ hints_behind [] rel.now }
+{
+    let mut rest = rel;
+    'words: loop {
+        let (word, spaced) = split_unspaced(rest);
+        if is_host_hint(word) {
             return true;
         }
+        let Some((_, more)) = parts(spaced) else {
+            return false;
+        };
+        rest = more;
     }
-    false
 }

@@ -1,136 +1,291 @@
 //! Character references in the values of attributes.
-ghost use Rattle.std.specs.Prelude.{◌≤◌, ◌<◌, length, IfOk};
+ghost use Rattle.std.specs.Prelude.{◌≡◌, ◌==◌, ◌≤◌, ◌<◌, ◌∷◌, ◌++◌, [], length, OnOk, MatchOption, false};
+ghost use Rattle.std.specs.List.{take_while};
+ghost use Rattle.std.specs.Char.{is_ascii_alphanumeric, encode_utf8};
+ghost use Rattle.html_links.specs.Names.{meaning_text, texts_at};
+ghost use Rattle.html_links.specs.Shown.{front, behind, Stopped};
+ghost use Rattle.html_links.specs.References.{Text, Reference, Name, Hash, Start, Number, read, text_of, character_of, number_after, digit_in, or_itself};
+ghost use Rattle.html_links.specs.Decoding.{is_plain, in_base, decoded_text, Decodes};
 
-use crate::named::named;
+use crate::bytes::{behind_byte, parts};
+use crate::names::{Meaning, named};
 use memchr::memchr2;
 use std::alloc::AllocError;
 
-/// Whether the value is not its own text: it has a reference or a NUL.
-pub(crate) fn is_coded(value: &[u8]) -> bool {
-    memchr2(b'&', 0, value).is_some()
+/// What an `&` and the bytes behind it mean: the `&` with some of them, a character, or a name's text.
+#[derive(Clone, Copy)]
+pub(crate) enum Decoded<'a> {
+    Itself(&'a [u8]),
+    Character(char),
+    Named(Meaning),
+}
+
+/// Whether the value is not its own text: it has an `&` or a NUL.
+pub(crate) fn is_coded(value: &[u8]) -> bool
+    ensures { result ≡ false → text_of value.now ≡ value.now }
+{
+    match memchr2(b'&', 0, value) {
+        Some(_) => true,
+        None => false,
+    }
+}
+
+/// What stands before the first `&` or NUL, and what begins with it.
+fn split_plain(bytes: &[u8]) -> (&[u8], &[u8])
+    ensures plain { result.0.now ≡ front is_plain bytes.now }
+    ensures rest { result.1.now ≡ behind is_plain bytes.now }
+    ensures stopped { Stopped is_plain result.1.now }
+{
+    match memchr2(b'&', 0, bytes) {
+        Some(end) => bytes.split_at(end),
+        None => (bytes, &[]),
+    }
 }
 
 /// Appends the text of a value: its references read, each NUL as U+FFFD.
-pub(crate) fn decode(value: &[u8], out: &mut Vec<u8>) -> Result<(), AllocError> {
+pub(crate) fn decode(value: &[u8], out: &mut Vec<u8>) -> Result<(), AllocError>
+    ensures { OnOk result (out.new.items ≡ out.old.items ++ text_of value.now) }
+{
     let mut rest = value;
-    while let Some(place) = memchr2(b'&', 0, rest) {
-        out.extend_from_slice(&rest[..place])?;
-        let (first, behind) = (rest[place], &rest[place + 1..]);
-        if first == 0 {
-            push_character(char::REPLACEMENT_CHARACTER, out)?;
-            rest = behind;
-        } else {
-            rest = decode_reference(behind, out)?;
-        }
+    'marks: loop {
+        let (plain, marked) = split_plain(rest);
+        out.extend_from_slice(plain)?;
+        let Some((found, more)) = decode_mark(marked) else {
+            return Ok(());
+        };
+        push_decoded(found, out)?;
+        rest = more;
     }
-    out.extend_from_slice(rest)
 }
 
-fn push_character(character: char, out: &mut Vec<u8>) -> Result<(), AllocError> {
+fn push_decoded(found: Decoded<'_>, out: &mut Vec<u8>) -> Result<(), AllocError>
+    ensures { OnOk result (out.new.items ≡ out.old.items ++ decoded_text found.entry) }
+{
+    match found {
+        Decoded::Itself(bytes) => {
+            out.push(b'&')?;
+            out.extend_from_slice(bytes)
+        }
+        Decoded::Character(character) => push_character(character, out),
+        Decoded::Named(meaning) => push_meaning(meaning, out),
+    }
+}
+
+fn push_meaning(meaning: Meaning, out: &mut Vec<u8>) -> Result<(), AllocError>
+    ensures { OnOk result (out.new.items ≡ out.old.items ++ meaning_text meaning) }
+{
+    push_character(meaning.first, out)?;
+    if meaning.second == '\0' {
+        Ok(())
+    } else {
+        push_character(meaning.second, out)
+    }
+}
+
+fn push_character(character: char, out: &mut Vec<u8>) -> Result<(), AllocError>
+    ensures { OnOk result (out.new.items ≡ out.old.items ++ encode_utf8 character) }
+{
     let mut buffer = [0; 4];
     let text = character.encode_utf8(&mut buffer);
     out.extend_from_slice(text.as_bytes())
 }
 
-/// Appends what an `&` and the bytes behind it mean, and answers the bytes that are left.
-fn decode_reference<'a>(bytes: &'a [u8], out: &mut Vec<u8>) -> Result<&'a [u8], AllocError>
-    ensures { IfOk result (λ rest. length rest.now ≤ length bytes.now) }
+/// What an `&` or a NUL at the front means, and the bytes behind it.
+fn decode_mark(bytes: &[u8]) -> Option<(Decoded<'_>, &[u8])>
+    requires { Stopped is_plain bytes.now }
+    ensures reads { MatchOption result (bytes.now ≡ []) (λ x. Decodes Text bytes.now x.0 x.1.now) }
+    ensures leaves { MatchOption result (bytes.now ≡ []) (λ x. length x.1.now < length bytes.now) }
 {
-    match bytes {
-        [b'#', b'x' | b'X', digits @ ..] => decode_number(bytes, digits, 16, out),
-        [b'#', digits @ ..] => decode_number(bytes, digits, 10, out),
-        [b'A'..=b'Z' | b'a'..=b'z', ..] => decode_name(bytes, out),
-        _ => {
-            out.extend_from_slice(b"&")?;
-            Ok(bytes)
-        }
+    let Some((first, more)) = parts(bytes) else {
+        return None;
+    };
+    if first == b'&' {
+        Some(reference(more))
+    } else {
+        Some((Decoded::Character(char::REPLACEMENT_CHARACTER), more))
     }
 }
 
-fn decode_number<'a>(
-    bytes: &'a [u8],
-    digits: &'a [u8],
-    radix: u32,
-    out: &mut Vec<u8>,
-) -> Result<&'a [u8], AllocError>
+/// What an `&` before these bytes means, and the bytes behind it.
+fn reference(bytes: &[u8]) -> (Decoded<'_>, &[u8])
+    ensures reads { Decodes Reference bytes.now result.0 result.1.now }
+    ensures leaves { length result.1.now ≤ length bytes.now }
+{
+    let Some((first, more)) = parts(bytes) else {
+        return (Decoded::Itself(&[]), bytes);
+    };
+    if first == b'#' {
+        numbered(more)
+    } else if first.is_ascii_alphanumeric() {
+        name(bytes)
+    } else {
+        (Decoded::Itself(&[]), bytes)
+    }
+}
+
+/// What an `&#` before these bytes means.
+fn numbered(bytes: &[u8]) -> (Decoded<'_>, &[u8])
+    ensures reads { Decodes Hash bytes.now result.0 result.1.now }
+    ensures leaves { length result.1.now ≤ length bytes.now }
+{
+    let Some((first, more)) = parts(bytes) else {
+        return (Decoded::Itself(b"#"), bytes);
+    };
+    if first == b'x' {
+        number(16, b"#x", more)
+    } else if first == b'X' {
+        number(16, b"#X", more)
+    } else {
+        number(10, b"#", bytes)
+    }
+}
+
+fn digit_in(radix: u32, byte: u8) -> Option<u32>
     requires low { 2 ≤ radix }
     requires high { radix ≤ 36 }
-    requires behind { length digits.now ≤ length bytes.now }
-    ensures { IfOk result (λ rest. length rest.now ≤ length bytes.now) }
+    ensures { result ≡ digit_in radix byte }
 {
-    let mut rest = digits;
-    let mut number: u32 = 0;
-    while let Some((byte, behind)) = rest.split_first() {
-        let Some(digit) = (*byte as char).to_digit(radix) else {
-            break;
-        };
-        // No character has a greater number
-        number = number.saturating_mul(radix).saturating_add(digit);
-        rest = behind;
-    }
-    if rest.len() == digits.len() {
-        out.extend_from_slice(b"&")?;
-        return Ok(bytes);
-    }
-    push_character(character_of(number), out)?;
-    Ok(behind_semicolon(rest))
+    (byte as char).to_digit(radix)
 }
 
-fn behind_semicolon(bytes: &[u8]) -> &[u8]
-    ensures { length result.now ≤ length bytes.now }
+fn number_after(radix: u32, number: u64, digit: u32) -> u64
+    requires { radix ≤ 36 }
+    ensures { result ≡ number_after radix number digit }
 {
-    match bytes.split_first() {
-        Some((b';', behind)) => behind,
-        _ => bytes,
+    if number < 0x11_0000 {
+        number * u64::from(radix) + u64::from(digit)
+    } else {
+        number
+    }
+}
+
+/// What a number to a base means, behind an `&` and these bytes.
+fn number<'a>(radix: u32, before: &'static [u8], bytes: &'a [u8]) -> (Decoded<'a>, &'a [u8])
+    requires low { 2 ≤ radix }
+    requires high { radix ≤ 36 }
+    ensures reads { Decodes (Start radix before.now) bytes.now result.0 result.1.now }
+    ensures leaves { length result.1.now ≤ length bytes.now }
+{
+    let Some((first, more)) = parts(bytes) else {
+        return (Decoded::Itself(before), bytes);
+    };
+    let Some(digit) = digit_in(radix, first) else {
+        return (Decoded::Itself(before), bytes);
+    };
+    let (number, rest) = more_digits(radix, u64::from(digit), more);
+    let found = Decoded::Character(character_of(number));
+    match behind_byte(b';', rest) {
+        Some(last) => (found, last),
+        None => (found, rest),
+    }
+}
+
+/// The number with the digits that follow, and the bytes behind them.
+fn more_digits(radix: u32, first: u64, bytes: &[u8]) -> (u64, &[u8])
+    requires low { 2 ≤ radix }
+    requires high { radix ≤ 36 }
+    ensures reads { read (Number radix first) bytes.now ≡ read (Number radix result.0) result.1.now }
+    ensures stopped { Stopped (in_base radix) result.1.now }
+    ensures leaves { length result.1.now ≤ length bytes.now }
+{
+    let mut number = first;
+    let mut rest = bytes;
+    'digits: loop {
+        let Some((byte, more)) = parts(rest) else {
+            return (number, rest);
+        };
+        let Some(digit) = digit_in(radix, byte) else {
+            return (number, rest);
+        };
+        number = number_after(radix, number, digit);
+        rest = more;
     }
 }
 
 /// The characters that the numbers 0x80 to 0x9f stand for, those of Windows.
-static WINDOWS: [char; 32] = [
+pub(crate) static WINDOWS: [char; 32] = [
     '\u{20ac}', '\u{81}', '\u{201a}', '\u{192}', '\u{201e}', '\u{2026}', '\u{2020}', '\u{2021}',
     '\u{2c6}', '\u{2030}', '\u{160}', '\u{2039}', '\u{152}', '\u{8d}', '\u{17d}', '\u{8f}',
     '\u{90}', '\u{2018}', '\u{2019}', '\u{201c}', '\u{201d}', '\u{2022}', '\u{2013}', '\u{2014}',
     '\u{2dc}', '\u{2122}', '\u{161}', '\u{203a}', '\u{153}', '\u{9d}', '\u{17e}', '\u{178}',
 ];
 
-fn character_of(number: u32) -> char {
-    match number {
-        0 => char::REPLACEMENT_CHARACTER,
-        0x80..=0x9f => WINDOWS[(number - 0x80) as usize],
-        _ => char::from_u32(number).unwrap_or(char::REPLACEMENT_CHARACTER),
+fn character_of(number: u64) -> char
+    ensures { result ≡ character_of number }
+{
+    if number == 0 {
+        char::REPLACEMENT_CHARACTER
+    } else if 0x80 <= number && number <= 0x9f {
+        WINDOWS[(number - 0x80) as usize]
+    } else if number < 0x11_0000 {
+        char::from_u32(number as u32).unwrap_or(char::REPLACEMENT_CHARACTER)
+    } else {
+        char::REPLACEMENT_CHARACTER
     }
 }
 
-fn decode_name<'a>(bytes: &'a [u8], out: &mut Vec<u8>) -> Result<&'a [u8], AllocError>
-    ensures { IfOk result (λ rest. length rest.now ≤ length bytes.now) }
+fn in_name(byte: u8) -> bool
+    ensures { result ≡ is_ascii_alphanumeric byte }
 {
-    let (name, rest) = bytes.split_at(reference_length(bytes));
-    match named(name) {
-        Some((first, second)) => {
-            push_character(first, out)?;
-            if second != '\0' {
-                push_character(second, out)?;
-            }
-            Ok(rest)
-        }
-        None => {
-            out.extend_from_slice(b"&")?;
-            Ok(bytes)
-        }
+    byte.is_ascii_alphanumeric()
+}
+
+fn name_len(bytes: &[u8]) -> usize
+    ensures { result ≡ length (take_while is_ascii_alphanumeric bytes.now) }
+{
+    bytes.iter().take_while(|byte| in_name(**byte)).count()
+}
+
+fn split_name(bytes: &[u8]) -> (&[u8], &[u8])
+    ensures name { result.0.now ≡ front is_ascii_alphanumeric bytes.now }
+    ensures rest { result.1.now ≡ behind is_ascii_alphanumeric bytes.now }
+    ensures stopped { Stopped is_ascii_alphanumeric result.1.now }
+{
+    bytes.split_at(name_len(bytes))
+}
+
+/// What an `&` before a name means.
+fn name(bytes: &[u8]) -> (Decoded<'_>, &[u8])
+    ensures reads { Decodes (Name []) bytes.now result.0 result.1.now }
+    ensures leaves { length result.1.now ≤ length bytes.now }
+{
+    let (name, rest) = split_name(bytes);
+    match behind_byte(b';', rest) {
+        Some(last) => closed_name(name, rest, last),
+        None => open_name(name, rest),
     }
 }
 
-/// How many bytes a name has that may be a reference's: letters and digits with a `;`, or with neither `;` nor `=` behind them.
-fn reference_length(bytes: &[u8]) -> usize
-    ensures { result ≤ length bytes.now }
+/// What an `&` and a name mean, behind which there is a `;`.
+fn closed_name<'a>(name: &'a [u8], rest: &'a [u8], last: &'a [u8]) -> (Decoded<'a>, &'a [u8])
+    requires { rest.now ≡ 59 ∷ last.now }
+    ensures reads { Decodes (Name name.now) rest.now result.0 result.1.now }
+    ensures leaves { length result.1.now ≤ length rest.now }
 {
-    for (place, byte) in bytes.iter().enumerate() {
-        match *byte {
-            b';' => return place + 1,
-            b'=' => return 0,
-            _ if byte.is_ascii_alphanumeric() => {}
-            _ => return place,
-        }
+    match named(true, name) {
+        Some(meaning) => (Decoded::Named(meaning), last),
+        None => (Decoded::Itself(name), rest),
     }
-    bytes.len()
+}
+
+/// What an `&` and a name mean, behind which there is no `;`.
+fn open_name<'a>(name: &'a [u8], rest: &'a [u8]) -> (Decoded<'a>, &'a [u8])
+    requires letter { Stopped is_ascii_alphanumeric rest.now }
+    requires semicolon { Stopped (λ c. c == 59) rest.now }
+    ensures reads { Decodes (Name name.now) rest.now result.0 result.1.now }
+    ensures leaves { length result.1.now ≤ length rest.now }
+{
+    match behind_byte(b'=', rest) {
+        Some(_) => (Decoded::Itself(name), rest),
+        None => (or_itself(name, named(false, name)), rest),
+    }
+}
+
+fn or_itself(name: &[u8], meaning: Option<Meaning>) -> Decoded<'_>
+    ensures { decoded_text result ≡ or_itself name.now (texts_at meaning) }
+{
+    match meaning {
+        Some(meaning) => Decoded::Named(meaning),
+        None => Decoded::Itself(name),
+    }
 }

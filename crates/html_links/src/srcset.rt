@@ -1,70 +1,128 @@
 //! The candidates of a `srcset`.
-ghost use Rattle.std.specs.Prelude.{◌≤◌, ◌<◌, length};
+ghost use Rattle.std.specs.Prelude.{◌≡◌, ◌≤◌, ◌<◌, ◌∷◌, ◌++◌, [], length, OnOk, MatchOption, false};
+ghost use Rattle.std.specs.List.{take_while};
+ghost use Rattle.html_links.specs.Shown.{front, behind, is_space, Stopped};
+ghost use Rattle.html_links.specs.Candidates.{Between, Descriptors, read, candidates_of, are_commas, without_commas, behind_shorter, is_between, is_unspaced};
 
 use crate::Links;
-use crate::bytes::is_space;
-use memchr::memchr;
+use crate::bytes::{is_space, parts};
 use std::alloc::AllocError;
 
-/// Gives the URLs of a `srcset`: each ends at a space, or at a comma where it ends in one.
-pub(crate) fn push_candidates<L: Links>(text: &[u8], links: &mut L) -> Result<(), AllocError> {
-    let mut rest = skip_between(text);
-    while let Some((_, more)) = rest.split_first() {
-        let (candidate, behind) = rest.split_at(1 + candidate_rest(more));
-        let url = without_commas(candidate);
-        links.push(url)?;
-        if url.len() < candidate.len() {
-            rest = skip_between(behind);
-        } else {
-            rest = skip_between(skip_descriptors(behind));
-        }
-    }
-    Ok(())
+fn is_between(byte: u8) -> bool
+    ensures { result ≡ is_between byte }
+{
+    is_space(byte) || byte == b','
+}
+
+fn between_len(bytes: &[u8]) -> usize
+    ensures { result ≡ length (take_while is_between bytes.now) }
+{
+    bytes.iter().take_while(|byte| is_between(**byte)).count()
 }
 
 fn skip_between(bytes: &[u8]) -> &[u8]
-    ensures { length result.now ≤ length bytes.now }
+    ensures skipped { result.now ≡ behind is_between bytes.now }
+    ensures stopped { Stopped is_between result.now }
 {
-    for (place, byte) in bytes.iter().enumerate() {
-        if !is_space(*byte) && *byte != b',' {
-            return &bytes[place..];
-        }
-    }
-    &[]
+    &bytes[between_len(bytes)..]
 }
 
-/// How many bytes go on with a candidate.
-fn candidate_rest(bytes: &[u8]) -> usize
-    ensures { result ≤ length bytes.now }
+fn is_unspaced(byte: u8) -> bool
+    ensures { result ≡ is_unspaced byte }
 {
-    for (place, byte) in bytes.iter().enumerate() {
-        if is_space(*byte) {
-            return place;
-        }
-    }
-    bytes.len()
+    !is_space(byte)
 }
 
-fn without_commas(candidate: &[u8]) -> &[u8] {
-    let mut url = candidate;
-    while let Some((b',', front)) = url.split_last() {
-        url = front;
-    }
-    url
+fn unspaced_len(bytes: &[u8]) -> usize
+    ensures { result ≡ length (take_while is_unspaced bytes.now) }
+{
+    bytes.iter().take_while(|byte| is_unspaced(**byte)).count()
 }
 
-/// What is behind the descriptors of a candidate: its comma, which parentheses may hide.
+/// What stands before the first white space, and what begins with it.
+pub(crate) fn split_unspaced(bytes: &[u8]) -> (&[u8], &[u8])
+    ensures word { result.0.now ≡ front is_unspaced bytes.now }
+    ensures rest { result.1.now ≡ behind is_unspaced bytes.now }
+{
+    bytes.split_at(unspaced_len(bytes))
+}
+
+/// What is before a comma at the end.
+fn before_comma(url: &[u8]) -> Option<&[u8]>
+    ensures { MatchOption result (without_commas url.now ≡ url.now) (λ front. url.now ≡ front.now ++ 44 ∷ []) }
+{
+    let Some((last, front)) = url.split_last() else {
+        return None;
+    };
+    if *last == b',' { Some(front) } else { None }
+}
+
+fn without_commas(url: &[u8]) -> &[u8]
+    ensures { result.now ≡ without_commas url.now }
+{
+    let mut front = url;
+    'commas: while let Some(more) = before_comma(front) {
+        front = more;
+    }
+    front
+}
+
+/// What is behind the descriptors of a candidate: behind its comma, which parentheses may hide.
 fn skip_descriptors(bytes: &[u8]) -> &[u8]
-    ensures { length result.now ≤ length bytes.now }
+    ensures reads { read (Descriptors false) bytes.now ≡ read Between result.now }
+    ensures leaves { length result.now ≤ length bytes.now }
 {
     let mut hidden = false;
-    for (place, byte) in bytes.iter().enumerate() {
-        match *byte {
-            b'(' => hidden = true,
-            b')' => hidden = false,
-            b',' if !hidden => return &bytes[place..],
-            _ => {}
+    let mut rest = bytes;
+    'descriptors: loop {
+        let Some((first, more)) = parts(rest) else {
+            return rest;
+        };
+        if hidden {
+            hidden = first != b')';
+        } else if first == b',' {
+            return more;
+        } else {
+            hidden = first == b'(';
         }
+        rest = more;
     }
-    &[]
+}
+
+/// What is behind the descriptors of a candidate, of which a URL that ended with a comma has none.
+fn behind_descriptors<'a>(url: &[u8], candidate: &[u8], bytes: &'a [u8]) -> &'a [u8]
+    ensures reads { read (behind_shorter url.now candidate.now) bytes.now ≡ read Between result.now }
+    ensures leaves { length result.now ≤ length bytes.now }
+{
+    if url.len() < candidate.len() {
+        bytes
+    } else {
+        skip_descriptors(bytes)
+    }
+}
+
+/// The next URL, and the bytes behind its candidate.
+fn next_candidate(bytes: &[u8]) -> Option<(&[u8], &[u8])>
+    ensures gives { MatchOption result (candidates_of bytes.now ≡ []) (λ x. candidates_of bytes.now ≡ x.0.now ∷ candidates_of x.1.now) }
+    ensures leaves { MatchOption result (candidates_of bytes.now ≡ []) (λ x. length x.1.now < length bytes.now) }
+{
+    let start = skip_between(bytes);
+    let (candidate, more) = split_unspaced(start);
+    if candidate.is_empty() {
+        return None;
+    }
+    let url = without_commas(candidate);
+    Some((url, behind_descriptors(url, candidate, more)))
+}
+
+/// Gives the URLs of a `srcset`.
+pub(crate) fn push_candidates<L: Links>(text: &[u8], links: &mut L) -> Result<(), AllocError>
+    ensures { OnOk result (L.texts links.new ≡ L.texts links.old ++ candidates_of text.now) }
+{
+    let mut rest = text;
+    'candidates: while let Some((url, more)) = next_candidate(rest) {
+        links.push(url)?;
+        rest = more;
+    }
+    Ok(())
 }

@@ -1,5 +1,10 @@
-use Rattle.std.proofs.Common.{length}
+use Rattle.std.proofs.Common.{◌≡◌, ◌++◌, length}
+use Rattle.html_links.specs.Candidates.{candidates_of}
 use Rattle.html_links.proofs.srcset.push_candidates.Given as goal
 
-abbrev pub decreases-loop-more : goal.decreases-loop-more
-decreases-loop-more g l = length l.rest
+-- the texts so far and those of what is left are the whole
+abbrev pub invariant-candidates : goal.invariant-candidates
+invariant-candidates g l = g.L.Links.texts l.links ++ candidates_of l.rest ≡ g.L.Links.texts l.initial.links ++ candidates_of l.fn.text
+
+abbrev pub decreases-candidates : goal.decreases-candidates
+decreases-candidates g l = length l.rest

@@ -1,5 +1,9 @@
-use Rattle.std.proofs.Common.{length}
+use Rattle.std.proofs.Common.{◌≡◌, length}
+use Rattle.html_links.specs.Candidates.{without_commas}
 use Rattle.html_links.proofs.srcset.without_commas.Given as goal
 
-abbrev pub decreases-loop-front : goal.decreases-loop-front
-decreases-loop-front l = length l.url
+abbrev pub invariant-commas : goal.invariant-commas
+invariant-commas l = without_commas l.front ≡ without_commas l.fn.url
+
+abbrev pub decreases-commas : goal.decreases-commas
+decreases-commas l = length l.front

@@ -1,0 +1,145 @@
+-- The machine of character references over runs of bytes.
+use Rattle.std.proofs.Common.{◌≡◌, ℕ, ◌==◌, ◌||◌, Bool, true, false, not, cond, List, [], ◌∷◌, ◌++◌, None, Some, ◌<◌, ◌≤◌, length, refl, ap, sym, ◌∙◌, append_assoc, append-nil, arith}
+use Rattle.std.specs.Char.{is_ascii_alphanumeric, is_digit, digit_value, encode_utf8}
+use Rattle.html_links.specs.Shown.{front, behind, Stopped}
+use Rattle.html_links.specs.Names.{named}
+use Rattle.html_links.specs.References.{Text, Reference, Name, Number, Next, Go, text_step, number_at, number_end, number_after, number_text, digit_in, closed_at, name_text, name_end, step, follow, read}
+use Rattle.html_links.specs.Decoding.{is_plain, in_base}
+use Rattle.html_links.proofs.Jumps.{shorter}
+use Rattle.html_links.proofs.Sources.{front_all}
+
+if_true : (b : Bool) (x y : Next) → b ≡ true → cond b x y ≡ x
+if_true true x y e = refl
+if_true false x y e = absurd (cc)
+
+if_false : (b : Bool) (x y : Next) → b ≡ false → cond b x y ≡ y
+if_false true x y e = absurd (cc)
+if_false false x y e = refl
+
+abbrev on : List ℕ → Next → List ℕ
+on rest next = follow next (λ s. read s rest)
+
+-- bytes of the text before a byte that is read as text
+
+abbrev text_if : Bool → Bool → List ℕ → ℕ → Next
+text_if amp nul before c = cond amp (Go before Reference) (cond nul (Go (before ++ encode_utf8 65533) Text) (Go (before ++ c ∷ []) Text))
+
+behind_if : (amp nul : Bool) (before : List ℕ) (c : ℕ) (rest : List ℕ) → on rest (text_if amp nul before c) ≡ before ++ on rest (text_if amp nul [] c)
+behind_if true nul before c rest = refl
+behind_if false true before c rest = append_assoc before (encode_utf8 65533) (read Text rest)
+behind_if false false before c rest = append_assoc before (c ∷ []) (read Text rest)
+
+pub text_behind : (before : List ℕ) (c : ℕ) (rest : List ℕ) → on rest (text_step before c) ≡ before ++ read Text (c ∷ rest)
+text_behind before c rest = behind_if (c == 38) (c == 0) before c rest
+
+-- runs of plain bytes
+
+plain_if : (amp nul : Bool) (c : ℕ) → not (amp || nul) ≡ true → text_if amp nul [] c ≡ Go (c ∷ []) Text
+plain_if true nul c is = absurd (cc)
+plain_if false true c is = absurd (cc)
+plain_if false false c is = refl
+
+mark_at : (b : Bool) (c : ℕ) (rest some more : List ℕ) → (b ≡ true → step Text c ≡ Go (c ∷ []) Text) → read Text rest ≡ some ++ read Text more →
+    read Text (c ∷ rest) ≡ cond b (c ∷ some) [] ++ read Text (cond b more (c ∷ rest))
+mark_at true c rest some more stays later = ap (on rest) (stays refl) ∙ ap (λ t. c ∷ t) later
+mark_at false c rest some more stays later = refl
+
+pub to_mark : (bytes : List ℕ) → read Text bytes ≡ front is_plain bytes ++ read Text (behind is_plain bytes)
+to_mark [] = refl
+to_mark (c ∷ rest) = mark_at (is_plain c) c rest (front is_plain rest) (behind is_plain rest) (plain_if (c == 38) (c == 0) c) (to_mark rest)
+
+pub plain_text : (value : List ℕ) → behind is_plain value ≡ [] → read Text value ≡ value
+plain_text value none = to_mark value ∙ ap (λ more. front is_plain value ++ read Text more) none ∙ append-nil (front is_plain value) ∙ front_all is_plain value none
+
+text_cut : (rest plain marked : List ℕ) → plain ≡ front is_plain rest → marked ≡ behind is_plain rest → read Text rest ≡ plain ++ read Text marked
+text_cut rest plain marked some more = to_mark rest ∙ ap (λ p. p ++ read Text (behind is_plain rest)) (sym some) ∙ ap (λ m. plain ++ read Text m) (sym more)
+
+-- what is written, and the text of what is left
+
+pub decoded_all : (old new rest plain marked all : List ℕ) → plain ≡ front is_plain rest → marked ≡ behind is_plain rest → new ≡ old ++ plain → marked ≡ [] →
+    old ++ read Text rest ≡ all → new ≡ all
+decoded_all old new rest plain marked all some more written none so_far =
+    written ∙ ap (λ p. old ++ p) (sym (append-nil plain)) ∙ ap (λ m. old ++ (plain ++ read Text m)) (sym none) ∙ ap (λ t. old ++ t) (sym (text_cut rest plain marked some more)) ∙ so_far
+
+pub decoded_more : (old new last rest plain marked text more all : List ℕ) → plain ≡ front is_plain rest → marked ≡ behind is_plain rest → new ≡ old ++ plain →
+    read Text marked ≡ text ++ read Text more → last ≡ new ++ text → old ++ read Text rest ≡ all → last ++ read Text more ≡ all
+decoded_more old new last rest plain marked text more all some left written reads wrote so_far =
+    ap (λ l. l ++ read Text more) (wrote ∙ ap (λ n. n ++ text) written)
+    ∙ append_assoc (old ++ plain) text (read Text more)
+    ∙ append_assoc old plain (text ++ read Text more)
+    ∙ ap (λ t. old ++ (plain ++ t)) (sym reads)
+    ∙ ap (λ t. old ++ t) (sym (text_cut rest plain marked some left))
+    ∙ so_far
+
+pub mark_less : (rest marked more : List ℕ) → marked ≡ behind is_plain rest → length more < length marked → length more < length rest
+mark_less rest marked more cut less =
+    let same : length marked ≡ length (behind is_plain rest) = ap length cut in
+    omega (arith, less, shorter is_plain rest)
+
+-- names
+
+name_at : (b : Bool) (name : List ℕ) (c : ℕ) (rest some more : List ℕ) → (b ≡ true → step (Name name) c ≡ Go [] (Name (name ++ c ∷ []))) →
+    read (Name (name ++ c ∷ [])) rest ≡ read (Name ((name ++ c ∷ []) ++ some)) more →
+    read (Name name) (c ∷ rest) ≡ read (Name (name ++ cond b (c ∷ some) [])) (cond b more (c ∷ rest))
+name_at true name c rest some more stays later = ap (on rest) (stays refl) ∙ later ∙ ap (λ n. read (Name n) more) (append_assoc name (c ∷ []) some)
+name_at false name c rest some more stays later = ap (λ n. read (Name n) (c ∷ rest)) (sym (append-nil name))
+
+pub name_run : (name bytes : List ℕ) → read (Name name) bytes ≡ read (Name (name ++ front is_ascii_alphanumeric bytes)) (behind is_ascii_alphanumeric bytes)
+name_run name [] = ap (λ n. read (Name n) []) (sym (append-nil name))
+name_run name (c ∷ rest) =
+    name_at (is_ascii_alphanumeric c) name c rest (front is_ascii_alphanumeric rest) (behind is_ascii_alphanumeric rest)
+    (if_true (is_ascii_alphanumeric c) (Go [] (Name (name ++ c ∷ []))) (name_end name c)) (name_run (name ++ c ∷ []) rest)
+
+pub read_name : (bytes name rest : List ℕ) → name ≡ front is_ascii_alphanumeric bytes → rest ≡ behind is_ascii_alphanumeric bytes → read (Name []) bytes ≡ read (Name name) rest
+read_name bytes name rest some more = name_run [] bytes ∙ ap (λ n. read (Name n) (behind is_ascii_alphanumeric bytes)) (sym some) ∙ ap (read (Name name)) (sym more)
+
+pub name_less : (bytes rest : List ℕ) → rest ≡ behind is_ascii_alphanumeric bytes → length rest ≤ length bytes
+name_less bytes rest more =
+    let same : length rest ≡ length (behind is_ascii_alphanumeric bytes) = ap length more in
+    omega (arith, shorter is_ascii_alphanumeric bytes)
+
+-- a name with `;`
+pub closed_name : (name rest last text : List ℕ) → rest ≡ 59 ∷ last → Some text ≡ named true name → read (Name name) rest ≡ text ++ read Text last
+closed_name name rest last text is found = ap (read (Name name)) is ∙ ap (λ o. on last (closed_at name o)) (sym found)
+
+pub closed_itself : (name rest last : List ℕ) → rest ≡ 59 ∷ last → None ≡ named true name → read (Name name) rest ≡ (38 ∷ name) ++ read Text rest
+closed_itself name rest last is none =
+    ap (read (Name name)) is ∙ ap (λ o. on last (closed_at name o)) (sym none) ∙ text_behind (38 ∷ name) 59 last ∙ ap (λ r. (38 ∷ name) ++ read Text r) (sym is)
+
+-- one before `=`
+pub name_equals : (name rest last : List ℕ) → rest ≡ 61 ∷ last → read (Name name) rest ≡ (38 ∷ name) ++ read Text rest
+name_equals name rest last is = ap (read (Name name)) is ∙ text_behind (38 ∷ name) 61 last ∙ ap (λ r. (38 ∷ name) ++ read Text r) (sym is)
+
+-- and one before anything else
+pub open_name : (name rest : List ℕ) → Stopped is_ascii_alphanumeric rest → Stopped (λ c. c == 59) rest → Stopped (λ c. c == 61) rest →
+    read (Name name) rest ≡ name_text name ++ read Text rest
+open_name name [] letter semicolon equals = sym (append-nil (name_text name))
+open_name name (c ∷ rest) letter semicolon equals =
+    ap (on rest) (if_false (is_ascii_alphanumeric c) (Go [] (Name (name ++ c ∷ []))) (name_end name c) letter
+    ∙ if_false (c == 59) (closed_at name (named true name)) _ semicolon
+    ∙ if_false (c == 61) (text_step (38 ∷ name) c) (text_step (name_text name) c) equals)
+    ∙ text_behind (name_text name) c rest
+
+-- numbers
+
+digit_no : (b : Bool) (d : ℕ) → b ≡ false → cond b (Some d) None ≡ None
+digit_no true d e = absurd (cc)
+digit_no false d e = refl
+
+pub one_digit : (radix n digit c : ℕ) (rest : List ℕ) → Some digit ≡ digit_in radix c → read (Number radix n) (c ∷ rest) ≡ read (Number radix (number_after radix n digit)) rest
+one_digit radix n digit c rest found = ap (λ o. on rest (number_at radix n c o)) (sym found)
+
+pub number_closed : (radix n : ℕ) (rest last : List ℕ) → Stopped (in_base radix) rest → rest ≡ 59 ∷ last → read (Number radix n) rest ≡ number_text n ++ read Text last
+number_closed radix n [] last stop is = absurd (cc)
+number_closed radix n (c ∷ rest) last stop is =
+    ap (λ o. on rest (number_at radix n c o)) (digit_no (is_digit c radix) (digit_value c) stop) ∙ closes c rest is
+  where
+    closes : (c : ℕ) (rest : List ℕ) → (c ∷ rest) ≡ 59 ∷ last → on rest (number_end n c) ≡ number_text n ++ read Text last
+    closes c rest is = let first : c ≡ 59 = cc in let same : rest ≡ last = cc in ap (λ c. on rest (number_end n c)) first ∙ ap (λ r. number_text n ++ read Text r) same
+
+pub number_open : (radix n : ℕ) (rest : List ℕ) → Stopped (in_base radix) rest → Stopped (λ c. c == 59) rest → read (Number radix n) rest ≡ number_text n ++ read Text rest
+number_open radix n [] stop semicolon = sym (append-nil (number_text n))
+number_open radix n (c ∷ rest) stop semicolon =
+    ap (λ o. on rest (number_at radix n c o)) (digit_no (is_digit c radix) (digit_value c) stop)
+    ∙ ap (on rest) (if_false (c == 59) (Go (number_text n) Text) (text_step (number_text n) c) semicolon)
+    ∙ text_behind (number_text n) c rest

@@ -1,0 +1,12 @@
+use Rattle.std.proofs.lemmas.List.{take_rest}
+use Rattle.html_links.specs.Candidates.{is_between}
+use Rattle.html_links.proofs.Cuts.{behind_cut}
+use Rattle.html_links.proofs.Jumps.{stopped}
+use Rattle.html_links.proofs.srcset.skip_between.Goals as goal
+
+pub returns-clause-skipped : goal.returns-clause-skipped
+returns-clause-skipped c = rw (take_rest c.args.bytes.now c.between_len.result, c.between_len.ensures) (behind_cut is_between c.args.bytes.now)
+
+pub returns-clause-stopped : goal.returns-clause-stopped
+returns-clause-stopped c =
+    rw (take_rest c.args.bytes.now c.between_len.result, c.between_len.ensures, behind_cut is_between c.args.bytes.now) (stopped is_between c.args.bytes.now)

@@ -1,0 +1,66 @@
+-- The target of a refresh, as the HTML Standard's shared declarative refresh steps find it (4.2.5.3).
+-- An empty target names the document itself, and counts as none.
+use Rattle.std.specs.Prelude.{ℕ, ◌==◌, ◌||◌, ◌&&◌, nat_le, not, Bool, if◌then◌else◌, List, [], ◌∷◌, Option, None, Some}
+use Rattle.std.specs.Char.{to_ascii_lowercase}
+use Rattle.html_links.specs.Shown.{front, behind, is_space}
+
+-- a digit or a full stop
+abbrev pub in_time : ℕ → Bool
+in_time c = (nat_le 48 c && nat_le c 57) || c == 46
+
+-- the bytes from the front on are letters of a word, in any case: what is behind them
+abbrev pub behind_letter : ℕ → List ℕ → Option (List ℕ)
+behind_letter letter [] = None
+behind_letter letter (c ∷ rest) = if to_ascii_lowercase c == letter then Some rest else None
+
+abbrev pub and_then : Option (List ℕ) → (List ℕ → Option (List ℕ)) → Option (List ℕ)
+and_then None next = None
+and_then (Some rest) next = next rest
+
+abbrev pub is_separator : ℕ → Bool
+is_separator c = c == 59 || c == 44
+
+-- behind the time: white space, and `;` or `,` with white space behind it
+abbrev pub behind_mark : List ℕ → List ℕ
+behind_mark [] = []
+behind_mark (c ∷ rest) = if is_separator c then behind is_space rest else c ∷ rest
+
+-- a time ends at `;`, `,` or white space
+abbrev pub behind_end : List ℕ → Option (List ℕ)
+behind_end [] = None
+behind_end (c ∷ rest) = if is_separator c || is_space c then Some (behind_mark (behind is_space (c ∷ rest))) else None
+
+abbrev pub behind_number : List ℕ → Option (List ℕ)
+behind_number [] = None
+behind_number (c ∷ rest) = if in_time c then behind_end (behind in_time rest) else None
+
+abbrev pub behind_time : List ℕ → Option (List ℕ)
+behind_time content = behind_number (behind is_space content)
+
+abbrev pub or_text : List ℕ → Option (List ℕ) → List ℕ
+or_text text None = text
+or_text text (Some rest) = rest
+
+-- behind `url=`, where the text begins with that, with white space round the `=`
+abbrev pub behind_equals : List ℕ → Option (List ℕ)
+behind_equals [] = None
+behind_equals (c ∷ rest) = if c == 61 then Some (behind is_space rest) else None
+
+abbrev pub behind_url : List ℕ → List ℕ
+behind_url text =
+    or_text text (and_then (behind_letter 117 text) (λ text. and_then (behind_letter 114 text) (λ text. and_then (behind_letter 108 text) (λ text. behind_equals (behind is_space text)))))
+
+abbrev pub is_quote : ℕ → Bool
+is_quote c = c == 34 || c == 39
+
+-- to its closing quote, where it begins with a quote
+abbrev pub unquoted : List ℕ → List ℕ
+unquoted [] = []
+unquoted (c ∷ rest) = if is_quote c then front (λ x. not (x == c)) rest else c ∷ rest
+
+abbrev pub some_bytes : List ℕ → Option (List ℕ)
+some_bytes [] = None
+some_bytes (c ∷ rest) = Some (c ∷ rest)
+
+abbrev pub target_of : List ℕ → Option (List ℕ)
+target_of content = and_then (behind_time content) (λ text. some_bytes (unquoted (behind_url text)))
