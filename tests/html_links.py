@@ -2,14 +2,18 @@
 """Compares the links of drawn documents with html5lib's tokens: html_links.py [COUNT] [SEED].
 
 It makes a small program over a copy of `crates/html_links` in a temporary folder, which `rt try` runs. The reckoning
-reads a document by html5lib's tokenizer (Debian's python3-html5lib), and values by the patterns of tools/site_to_web.py.
+reads a document by html5lib's tokenizer (Debian's python3-html5lib), a refresh by the Standard's steps, and other values
+by the patterns of tools/site_to_web.py. The names of character references are compared with Python's table, each with
+and without its `;`, behind it a letter, `=` and nothing.
 """
 
 from __future__ import annotations
 
+import html.entities
 import importlib.util
 import pathlib
 import random
+import re
 import shutil
 import subprocess
 import sys
@@ -48,31 +52,43 @@ PIECES = [
 PROGRAM = """//! The links of documents that stand in a file, one behind another.
 #![tactic(auto)]
 
+ghost use Rattle.std.specs.Prelude.{map};
+
 use html_links::{Links, read_links};
-use std::alloc::AllocError;
+use std::alloc::{AllocError, Global};
 use std::io::Write;
 use std::{fs, io};
 
 #[derive(Drop)]
-struct Texts(Vec<u8>);
+struct Texts(Global, Vec<Vec<u8>>);
 
 impl Links for Texts {
+    ghost texts = { λ all. map (λ text. text.items) all.1.items };
+
     fn push(&mut self, text: &[u8]) -> Result<(), AllocError> {
-        self.0.extend_from_slice(text)?;
-        self.0.extend_from_slice(b"\\x1e")
+        self.1.push(Vec::from_slice(self.0, text)?)?;
+        Ok(())
     }
 }
 
 fn main(rt: HostRuntime) -> io::Result<()> {
     let documents = fs::read(&rt, "documents")?;
-    let mut texts = Texts(Vec::new(rt.alloc()));
+    let mut all = Vec::new(rt.alloc());
     for document in documents.as_slice().split(|byte| *byte == 0x1d) {
+        let mut texts = Texts(rt.alloc(), Vec::new(rt.alloc()));
         read_links(rt.alloc(), document, true, &mut texts)?;
-        texts.0.extend_from_slice(b"\\x1d")?;
+        for text in &texts.1 {
+            all.extend_from_slice(text.as_slice())?;
+            all.push(0x1e)?;
+        }
+        all.push(0x1d)?;
     }
-    io::writer(&rt).write_all(texts.0.as_slice())
+    io::writer(&rt).write_all(all.as_slice())
 }
 """
+
+
+REFRESH = re.compile(r"[\t\n\f\r ]*[0-9.]+(?=[;,\t\n\f\r ])[\t\n\f\r ]*[;,]?[\t\n\f\r ]*(.*)", re.DOTALL)
 
 
 def load_tool():
@@ -107,6 +123,17 @@ class Reader(TOOL.LinkReader):
         """Gives the links of a style element."""
         if style:
             self.links += TOOL.links_of_style(style)
+
+    def read_refresh(self, found):
+        """The target of a refresh, by the Standard's steps."""
+        if found.get("http-equiv", "").lower() != "refresh":
+            return
+        time = REFRESH.match(found.get("content", ""))
+        if time:
+            target = re.sub(r"\A[uU][rR][lL][\t\n\f\r ]*=[\t\n\f\r ]*", "", time[1])
+            if target[:1] in ("'", '"'):
+                target = target[1:].split(target[0])[0]
+            self.links += [target] if target else []
 
     def read_tag(self, tag, found, tokens):
         """What a start tag names, and the state behind it."""
@@ -155,6 +182,26 @@ def drawn_document(draw, wild):
     return "".join(parts).replace("\r", "")
 
 
+def named_values():
+    """Values with each name of Python's table and some that are none, and the texts that they stand for."""
+    table = html.entities.html5
+    rows = []
+    for name in table:
+        for behind in ("", "=", "1", ";", "-"):
+            value = name + behind
+            run = re.match("[0-9A-Za-z]*", value)[0]
+            rest = value[len(run):]
+            if run + ";" in table and rest.startswith(";"):
+                rows.append(("&" + value, table[run + ";"] + rest[1:]))
+            elif run in table and not rest.startswith("="):
+                rows.append(("&" + value, table[run] + rest))
+            else:
+                rows.append(("&" + value, "&" + value))
+        part = name[1:].rstrip(";") + ";"
+        rows.append(("&" + part, table.get(part, "&" + part)))
+    return [row for row in rows if not row[0].startswith(("&;", "&#"))]
+
+
 def crate_links(documents):
     """The links that the crate gives."""
     with tempfile.TemporaryDirectory() as folder:
@@ -178,10 +225,14 @@ def main():
     count, seed = int(words[0]) if words else 2000, int(words[1]) if len(words) > 1 else 1
     draw = random.Random(seed)
     documents = [drawn_document(draw, number % 2) for number in range(count)]
-    given = crate_links(documents)
+    rows = named_values()
+    given = crate_links(documents + [f'<a href="{value}">' for value, _ in rows])
+    wants = ["".join(link + BEHIND for link in Reader(True).read(document)) for document in documents]
+    documents += [f'<a href="{value}">' for value, _ in rows]
+    wants += [text + BEHIND for _, text in rows]
+    count = len(documents)
     passed, failed = 0, []
-    for document, links in zip(documents, given):
-        wanted = "".join(link + BEHIND for link in Reader(True).read(document))
+    for document, wanted, links in zip(documents, wants, given):
         if links == wanted:
             passed += 1
         else:

@@ -4,21 +4,41 @@ use std::alloc::{AllocError, Global};
 use std::process::Abort;
 use std::test::Fail;
 
+ghost use Rattle.std.specs.Prelude.{map};
+
 #[derive(Drop)]
-struct Texts(Vec<u8>);
+struct Texts {
+    alloc: Global,
+    texts: Vec<Vec<u8>>,
+}
 
 impl Links for Texts {
+    ghost texts = { λ all. map (λ text. text.items) all.texts.items };
+
     fn push(&mut self, text: &[u8]) -> Result<(), AllocError> {
-        self.0.extend_from_slice(text)?;
-        self.0.extend_from_slice(b"|")
+        self.texts.push(Vec::from_slice(self.alloc, text)?)?;
+        Ok(())
     }
+}
+
+fn joined(alloc: Global, texts: &[Vec<u8>]) -> Result<Vec<u8>, AllocError> {
+    let mut all = Vec::new(alloc);
+    for text in texts {
+        all.extend_from_slice(text.as_slice())?;
+        all.push(b'|')?;
+    }
+    Ok(all)
 }
 
 fn each(rt: &impl Abort, alloc: Global, rows: &[(&str, &str)]) -> Result<(), Fail> {
     for (html, wanted) in rows {
-        let mut texts = Texts(Vec::new(alloc));
-        read_links(alloc, html.as_bytes(), true, &mut texts)?;
-        assert_eq!(rt; texts.0.as_slice(), wanted.as_bytes());
+        let mut links = Texts {
+            alloc,
+            texts: Vec::new(alloc),
+        };
+        read_links(alloc, html.as_bytes(), true, &mut links)?;
+        let all = joined(alloc, links.texts.as_slice())?;
+        assert_eq!(rt; all.as_slice(), wanted.as_bytes());
     }
     Ok(())
 }
@@ -92,6 +112,7 @@ fn refreshes(rt: HostRuntime) -> Result<(), Fail> {
                 "<meta http-equiv=refresh content='5'><meta content='0;x'>",
                 "",
             ),
+            ("<meta http-equiv=refresh content=' 5x'>", ""),
         ],
     )
 }
