@@ -12,3 +12,4 @@ pub mod Sources
 pub mod Linking
 pub mod Refreshing
 pub mod Naming
+pub mod Styling

@@ -1,5 +1,5 @@
 -- Links tag by tag, and the words of a `rel` over runs of bytes.
-use Rattle.std.proofs.Common.{◌≡◌, ℕ, Bool, true, false, not, cond, List, [], ◌∷◌, ◌++◌, Option, None, Some, refl, ap, sym, ◌∙◌, append_assoc, append-nil, ◌<◌, ◌≤◌, length, arith}
+use Rattle.std.proofs.Common.{◌≡◌, ◌==◌, ℕ, Bool, true, false, not, cond, List, [], ◌∷◌, ◌++◌, Option, None, Some, refl, ap, sym, ◌∙◌, append_assoc, append-nil, ◌<◌, ◌≤◌, ◌+◌, length, arith}
 use Rattle.html_links.specs.declared.next_tag.NextTag.{NextTag}
 use Rattle.html_links.specs.Shown.{front, behind, is_space, Stopped}
 use Rattle.html_links.specs.Candidates.{is_unspaced}

@@ -1,5 +1,5 @@
 -- The values of a tag's wanted attributes, one attribute after another.
-use Rattle.std.proofs.Common.{◌≡◌, ◌∙◌, sym, ap, refl, ℕ, Bool, true, false, cond, List, [], ◌∷◌, ◌++◌, reverse, map, Option, Some}
+use Rattle.std.proofs.Common.{◌≡◌, ◌∙◌, sym, ap, refl, ℕ, Bool, true, false, cond, List, [], ◌∷◌, ◌++◌, reverse, map, Option, None, Some}
 use Rattle.std.specs.Prelude.{codes}
 use Rattle.std.proofs.lemmas.Grind.{reverse_onto}
 use Rattle.std.specs.Str.{bytes_eq}
@@ -25,7 +25,7 @@ named_last name [] a = refl
 named_last name (x ∷ rest) a = named_at (bytes_eq x.name (map lower name)) x.value (first_named name (rest ++ a ∷ [])) name a (first_named name rest) (named_last name rest a)
 
 values_last : (w : Wanted) (all : List Attribute) (a : Attribute) → values_of w (all ++ a ∷ []) ≡ with_attribute (values_of w all) w a
-values_last w all a = rw (named_last w.first all a, named_last w.second all a, named_last w.third all a, named_last (codes "style") all a) refl
+values_last w all a = rw (named_last w.first all a, named_last w.second all a, named_last w.third all a, named_last (codes "style") all a, named_last (codes "id") all a, named_last (codes "name") all a) refl
 
 pub one_more : (bytes rest more : List ℕ) (w : Wanted) (v new : Values) (a : Attribute) → Reading bytes rest w v →
     ((all : List Attribute) → run BeforeName all rest ≡ run BeforeName (a ∷ all) more) → new ≡ with_attribute v w a → Reading bytes more w new

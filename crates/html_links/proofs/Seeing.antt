@@ -1,8 +1,8 @@
 -- What a reader of links sees, tag by tag.
-use Rattle.std.proofs.Common.{◌≡◌, ◌∙◌, ◌<◌, ◌≤◌, sym, ap, refl, arith, ℕ, false, List, [], ◌∷◌, length, map, Option, None, Some}
+use Rattle.std.proofs.Common.{◌≡◌, ◌∙◌, ◌<◌, ◌≤◌, ◌+◌, sym, ap, refl, arith, ℕ, true, false, List, [], ◌∷◌, ◌++◌, length, map, Option, None, Some}
 use Rattle.html_links.specs.declared.element.Element.{Element}
 use Rattle.html_links.specs.declared.next_tag.NextTag.{NextTag}
-use Rattle.html_links.specs.Tags.{Tag, BeforeName, tag_of}
+use Rattle.html_links.specs.Tags.{Attribute, Tag, BeforeName, tag_of}
 use Rattle.html_links.specs.Document.{StartTag, Data, InTag, behind_tag, read}
 use Rattle.html_links.specs.Elements.{Wanted, element_of, wanted_of}
 use Rattle.html_links.specs.Values.{Values, TagValues, tag_with, values_of, values_in}
@@ -18,23 +18,23 @@ rest_from rest None = rest
 rest_from rest (Some x) = x.rest
 
 seen_at_tag : (name : List ℕ) (o : Option Tag) (v : Values) (text : List ℕ) (more : List StartTag) → Some (tag_with v text) ≡ values_in (wanted_of (element_of name)) o →
-    read (behind_tag false name) text ≡ more → map seen_of (tag_then false name o) ≡ seen_with (element_of name) v ∷ map seen_of more
+    read (behind_tag false name) text ≡ more → map seen_of (tag_then false name o) ≡ seen_with name (element_of name) v ∷ map seen_of more
 seen_at_tag name None v text more e behind = absurd (cc)
 seen_at_tag name (Some t) v text more e behind =
     let values : values_of (wanted_of (element_of name)) t.attributes ≡ v = ap (values_from v) (sym e) in
     let rest : t.rest ≡ text = ap (rest_from text) (sym e) in
-    ap (λ (v : Values). seen_with (element_of name) v ∷ map seen_of (read (behind_tag false name) t.rest)) values
-    ∙ ap (λ (r : List ℕ). seen_with (element_of name) v ∷ map seen_of (read (behind_tag false name) r)) rest
-    ∙ ap (λ (m : List StartTag). seen_with (element_of name) v ∷ map seen_of m) behind
+    ap (λ (v : Values). seen_with name (element_of name) v ∷ map seen_of (read (behind_tag false name) t.rest)) values
+    ∙ ap (λ (r : List ℕ). seen_with name (element_of name) v ∷ map seen_of (read (behind_tag false name) r)) rest
+    ∙ ap (λ (m : List StartTag). seen_with name (element_of name) v ∷ map seen_of m) behind
 
 -- a start tag whose values were found
 pub seen_start : (name bytes : List ℕ) (element : Element) (w : Wanted) (v : Values) (text : List ℕ) (more : List StartTag) → element ≡ element_of name → w ≡ wanted_of element →
     Some (tag_with v text) ≡ values_in w (tag_of bytes) → read (behind_tag false name) text ≡ more →
-    map seen_of (read (InTag false name BeforeName []) bytes) ≡ seen_with element v ∷ map seen_of more
+    map seen_of (read (InTag false name BeforeName []) bytes) ≡ seen_with name element v ∷ map seen_of more
 seen_start name bytes element w v text more is wants found behind =
     ap (map seen_of) (in_tag false name BeforeName [] bytes)
     ∙ seen_at_tag name (tag_of bytes) v text more (found ∙ ap (λ (w : Wanted). values_in w (tag_of bytes)) (wants ∙ ap wanted_of is)) behind
-    ∙ ap (λ (e : Element). seen_with e v ∷ map seen_of more) (sym is)
+    ∙ ap (λ (e : Element). seen_with name e v ∷ map seen_of more) (sym is)
 
 none_seen : (name : List ℕ) (o : Option Tag) (w : Wanted) → None ≡ values_in w o → map seen_of (tag_then false name o) ≡ []
 none_seen name None w e = refl

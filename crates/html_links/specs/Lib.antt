@@ -17,3 +17,5 @@ pub mod Candidates
 pub mod Refresh
 pub mod Links
 pub mod Reads
+pub mod Styles
+pub mod Styled

@@ -1,9 +1,10 @@
--- The links of a document but those of styles, and its base.
+-- The links of a document but those of styles, its base, and its ids.
 use Rattle.std.specs.Prelude.{ℕ, ◌||◌, Bool, true, false, if◌then◌else◌, List, [], ◌∷◌, ◌++◌, codes, Option, None, Some}
 use Rattle.html_links.specs.declared.element.Element.{Element}
 use Rattle.html_links.specs.declared.element.Element.TheVariants as element
 use Rattle.html_links.specs.declared.reader.Form.{Form}
 use Rattle.html_links.specs.declared.reader.Form.TheVariants as form
+use Rattle.std.specs.Str.{bytes_eq}
 use Rattle.html_links.specs.RawText.{same_name}
 use Rattle.html_links.specs.Shown.{is_space}
 use Rattle.html_links.specs.Values.{Values}
@@ -78,3 +79,17 @@ base_in (seen ∷ rest) = or_later (base_with seen.element seen.values) (base_in
 
 abbrev pub base_of : List ℕ → Option (List ℕ)
 base_of document = base_in (seen_in document)
+
+abbrev pub anchors_with : List ℕ → Values → List (List ℕ)
+anchors_with name v = if bytes_eq name (codes "a") then value_links form.Link v.name else []
+
+-- the `id` of a tag, and the `name` of an `a`
+abbrev pub ids_with : List ℕ → Values → List (List ℕ)
+ids_with name v = value_links form.Link v.id ++ anchors_with name v
+
+abbrev pub ids_in : List Seen → List (List ℕ)
+ids_in [] = []
+ids_in (seen ∷ rest) = ids_with seen.name seen.values ++ ids_in rest
+
+abbrev pub ids_of : List ℕ → List (List ℕ)
+ids_of document = ids_in (seen_in document)

@@ -1,27 +1,29 @@
--- What a reader of links sees of a document: of each start tag its element, and the values of its wanted attributes.
+-- What a reader of links sees of a document: of each start tag its name and element, and the values of its wanted attributes.
 use Rattle.std.specs.Prelude.{◌≡◌, ◌<◌, ℕ, List, [], ◌∷◌, length, map, false, Option, None, Some}
+use Rattle.std.specs.Borrow.{Bor}
 use Rattle.html_links.specs.declared.element.Element.{Element}
 use Rattle.html_links.specs.declared.next_tag.NextTag.{NextTag}
 use Rattle.html_links.specs.Tags.{lower, BeforeName}
-use Rattle.html_links.specs.Document.{StartTag, InTag, read, tags_of}
+use Rattle.html_links.specs.Document.{StartTag, Data, InTag, read, tags_of}
 use Rattle.html_links.specs.Elements.{element_of, wanted_of}
 use Rattle.html_links.specs.Values.{Values, values_of, values_at}
 
 pub record Seen : Type 0 where
+  pub name : List ℕ
   pub element : Element
   pub values : Values
 
-abbrev pub seen_with : Element → Values → Seen
-seen_with element values = record { element = element; values = values }
+abbrev pub seen_with : List ℕ → Element → Values → Seen
+seen_with name element values = record { name = name; element = element; values = values }
 
 abbrev pub seen_of : StartTag → Seen
-seen_of t = seen_with (element_of t.name) (values_of (wanted_of (element_of t.name)) t.attributes)
+seen_of t = seen_with t.name (element_of t.name) (values_of (wanted_of (element_of t.name)) t.attributes)
 
 abbrev pub seen_in : List ℕ → List Seen
 seen_in document = map seen_of (tags_of document)
 
 abbrev pub seen_at : NextTag → Seen
-seen_at t = seen_with t.element (values_at t.values)
+seen_at t = seen_with (map lower t.name.now) t.element (values_at t.values)
 
 -- What is said of the code: what is seen is the next tag, and what is seen behind it.
 abbrev pub Sees : Option NextTag → List Seen → Type 0

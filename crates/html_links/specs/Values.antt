@@ -1,4 +1,4 @@
--- The values of a tag's wanted attributes: of equal names the first counts.
+-- The values of a tag's wanted attributes, and of those that each tag may have: of equal names the first counts.
 use Rattle.std.specs.Prelude.{ℕ, if◌then◌else◌, List, [], ◌∷◌, map, codes, Option, None, Some}
 use Rattle.std.specs.Option.{option_or}
 use Rattle.std.specs.Str.{bytes_eq}
@@ -18,6 +18,8 @@ pub record Values : Type 0 where
   pub second : Option (List ℕ)
   pub third : Option (List ℕ)
   pub style : Option (List ℕ)
+  pub id : Option (List ℕ)
+  pub name : Option (List ℕ)
 
 abbrev pub values_of : Wanted → List Attribute → Values
 values_of w all = record {
@@ -25,6 +27,8 @@ values_of w all = record {
   second = first_named w.second all;
   third = first_named w.third all;
   style = first_named (codes "style") all;
+  id = first_named (codes "id") all;
+  name = first_named (codes "name") all;
 }
 
 -- What is said of the code: values with what is behind the tag, and one attribute more.
@@ -40,7 +44,14 @@ values_in w None = None
 values_in w (Some t) = Some (tag_with (values_of w t.attributes) t.rest)
 
 abbrev pub values_at : code.Values → Values
-values_at v = record { first = bytes_at v.first; second = bytes_at v.second; third = bytes_at v.third; style = bytes_at v.style }
+values_at v = record {
+  first = bytes_at v.first;
+  second = bytes_at v.second;
+  third = bytes_at v.third;
+  style = bytes_at v.style;
+  id = bytes_at v.id;
+  name = bytes_at v.name;
+}
 
 abbrev pub tag_values : Option (code.Values × Bor (List ℕ)) → Option TagValues
 tag_values None = None
@@ -55,4 +66,6 @@ with_attribute v w a = record {
   second = or_named v.second w.second a;
   third = or_named v.third w.third a;
   style = or_named v.style (codes "style") a;
+  id = or_named v.id (codes "id") a;
+  name = or_named v.name (codes "name") a;
 }

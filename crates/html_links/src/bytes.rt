@@ -1,5 +1,5 @@
 //! Classes of bytes, and slices cut where they change.
-ghost use Rattle.std.specs.Prelude.{◌≡◌, ◌≤◌, ◌∷◌, ◌==◌, [], length, not, MatchOption};
+ghost use Rattle.std.specs.Prelude.{◌≡◌, ◌∷◌, ◌==◌, [], length, not, MatchOption};
 ghost use Rattle.std.specs.List.{take_while};
 ghost use Rattle.html_links.specs.Tags.{class_of};
 ghost use Rattle.html_links.specs.Shown.{front, behind, is_space, in_name, in_unquoted, name_front, name_behind, BeginsName, Stopped};
@@ -122,20 +122,4 @@ pub(crate) fn split_quoted(quote: u8, bytes: &[u8]) -> Option<(&[u8], &[u8])>
         Some(end) => Some((&bytes[..end], &bytes[end + 1..])),
         None => None,
     }
-}
-
-/// White space as Python's patterns have it, with the vertical tab.
-pub(crate) fn is_wide_space(byte: u8) -> bool {
-    matches!(byte, b'\t'..=b'\r' | b' ')
-}
-
-pub(crate) fn skip_wide_spaces(bytes: &[u8]) -> &[u8]
-    ensures { length result.now ≤ length bytes.now }
-{
-    for (index, byte) in bytes.iter().enumerate() {
-        if !is_wide_space(*byte) {
-            return &bytes[index..];
-        }
-    }
-    &[]
 }

@@ -17,6 +17,8 @@ pub(crate) struct Values<'a> {
     pub(crate) second: Option<&'a [u8]>,
     pub(crate) third: Option<&'a [u8]>,
     pub(crate) style: Option<&'a [u8]>,
+    pub(crate) id: Option<&'a [u8]>,
+    pub(crate) name: Option<&'a [u8]>,
 }
 
 /// The value so far, or else that of the attribute where it has this name.
@@ -45,6 +47,8 @@ fn with_attribute<'a>(values: Values<'a>, wanted: Wanted, attribute: AttributeAt
         second: or_named(values.second, wanted.second, attribute),
         third: or_named(values.third, wanted.third, attribute),
         style: or_named(values.style, b"style", attribute),
+        id: or_named(values.id, b"id", attribute),
+        name: or_named(values.name, b"name", attribute),
     }
 }
 
@@ -57,6 +61,8 @@ pub(crate) fn values_in<'a>(wanted: Wanted, bytes: &'a [u8]) -> Option<(Values<'
         second: None,
         third: None,
         style: None,
+        id: None,
+        name: None,
     };
     let mut rest = bytes;
     'pieces: loop {

@@ -20,6 +20,6 @@ mod tag;
 
 pub use document::{StartTagAt, tags};
 pub use links::Links;
-pub use reader::{Base, read_links};
+pub use reader::{Base, read_links, read_page};
 pub use style::style_links;
 pub use tag::AttributeAt;

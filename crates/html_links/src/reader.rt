@@ -1,8 +1,9 @@
 //! The reader of a document.
-ghost use Rattle.std.specs.Prelude.{◌≡◌, ◌++◌, [], false, IfOk, OnOk};
+ghost use Rattle.std.specs.Prelude.{◌≡◌, ◌++◌, [], map, false, IfOk, OnOk};
 ghost use Rattle.html_links.specs.Comments.{bytes_at};
+ghost use Rattle.html_links.specs.Tags.{lower};
 ghost use Rattle.html_links.specs.Values.{values_at};
-ghost use Rattle.html_links.specs.Links.{value_links, text_links, is_host_hint, hints_behind, names_host, is_refresh, links_with, links_of, base_of, base_with, or_later};
+ghost use Rattle.html_links.specs.Links.{value_links, text_links, is_host_hint, hints_behind, names_host, is_refresh, links_with, links_of, ids_with, anchors_with, ids_of, base_of, base_with, or_later};
 ghost use Rattle.html_links.specs.Reads.{base_at};
 ghost use Rattle.html_links.specs.declared.reader.Form.TheVariants.{Link};
 
@@ -53,6 +54,63 @@ pub fn read_links<L: Links>(
         rest = tag.rest;
     }
     Ok(base)
+}
+
+/// Gives the links of a document as `read_links` does, and its ids: each `id` of a tag, and each `name` of an `a`.
+///
+/// # Errors
+/// Where a growth was refused.
+pub fn read_page<L: Links, I: Links>(
+    alloc: Global,
+    document: &[u8],
+    styles: bool,
+    links: &mut L,
+    ids: &mut I,
+) -> Result<Base, AllocError>
+    ensures links { OnOk result (styles ≡ false → L.texts links.new ≡ L.texts links.old ++ links_of document.now) }
+    ensures ids { OnOk result (I.texts ids.new ≡ I.texts ids.old ++ ids_of document.now) }
+    ensures base { IfOk result (λ base. base_at base ≡ base_of document.now) }
+{
+    let mut decoded = Vec::new(alloc);
+    let mut base = None;
+    let mut rest = document;
+    'tags: while let Some(tag) = next_tag(rest) {
+        if styles {
+            push_styles(alloc, tag, &mut decoded, links)?;
+        }
+        push_values(tag.element, tag.values, &mut decoded, links)?;
+        push_ids(tag.name, tag.values, &mut decoded, ids)?;
+        base = or_base(alloc, base, tag.element, tag.values)?;
+        rest = tag.rest;
+    }
+    Ok(base)
+}
+
+fn push_ids<I: Links>(
+    name: &[u8],
+    values: Values<'_>,
+    decoded: &mut Vec<u8>,
+    ids: &mut I,
+) -> Result<(), AllocError>
+    ensures { OnOk result (I.texts ids.new ≡ I.texts ids.old ++ ids_with (map lower name.now) (values_at values.entry)) }
+{
+    push_value(Form::Link, values.id, decoded, ids)?;
+    push_anchor(name, values, decoded, ids)
+}
+
+fn push_anchor<I: Links>(
+    name: &[u8],
+    values: Values<'_>,
+    decoded: &mut Vec<u8>,
+    ids: &mut I,
+) -> Result<(), AllocError>
+    ensures { OnOk result (I.texts ids.new ≡ I.texts ids.old ++ anchors_with (map lower name.now) (values_at values.entry)) }
+{
+    if same_name(name, b"a") {
+        push_value(Form::Link, values.name, decoded, ids)
+    } else {
+        Ok(())
+    }
 }
 
 /// Gives the links of a tag's `style`, and those of a style sheet behind the tag.

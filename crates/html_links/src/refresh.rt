@@ -96,7 +96,7 @@ fn behind_time(content: &[u8]) -> Option<&[u8]>
     behind_number(skip_space(content))
 }
 
-fn behind_letter(letter: u8, bytes: &[u8]) -> Option<&[u8]>
+pub(crate) fn behind_letter(letter: u8, bytes: &[u8]) -> Option<&[u8]>
     ensures { bytes_at result ≡ behind_letter letter bytes.now }
 {
     match parts(bytes) {
@@ -141,7 +141,7 @@ fn behind_url(text: &[u8]) -> &[u8]
     }
 }
 
-fn is_quote(byte: u8) -> bool
+pub(crate) fn is_quote(byte: u8) -> bool
     ensures { result ≡ is_quote byte }
 {
     byte == b'"' || byte == b'\''

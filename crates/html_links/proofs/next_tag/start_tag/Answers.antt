@@ -1,4 +1,4 @@
-use Rattle.std.proofs.Common.{◌<◌, arith, length, map, []}
+use Rattle.std.proofs.Common.{◌∙◌, ◌<◌, arith, length, map, []}
 use Rattle.html_links.specs.Tags.{lower}
 use Rattle.html_links.specs.Elements.{wanted_at}
 use Rattle.html_links.specs.Values.{values_at}

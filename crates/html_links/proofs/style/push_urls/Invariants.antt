@@ -1,5 +1,10 @@
-use Rattle.std.proofs.Common.{length}
+use Rattle.std.proofs.Common.{◌≡◌, ◌++◌, length}
+use Rattle.html_links.specs.Styles.{urls_of}
 use Rattle.html_links.proofs.style.push_urls.Given as goal
 
-abbrev pub decreases-loop-behind : goal.decreases-loop-behind
-decreases-loop-behind g l = length l.rest
+-- the texts so far and those of what is left are the whole
+abbrev pub invariant-urls : goal.invariant-urls
+invariant-urls g l = g.L.Links.texts l.links ++ urls_of l.rest ≡ g.L.Links.texts l.initial.links ++ urls_of l.fn.text
+
+abbrev pub decreases-urls : goal.decreases-urls
+decreases-urls g l = length l.rest
