@@ -79,9 +79,9 @@ fn main(rt: HostRuntime) -> io::Result<()> {
         read_links(rt.alloc(), document, true, &mut texts)?;
         for text in &texts.1 {
             all.extend_from_slice(text.as_slice())?;
-            all.push(0x1e)?;
+            all.extend_from_slice(b"\\x1e")?;
         }
-        all.push(0x1d)?;
+        all.extend_from_slice(b"\\x1d")?;
     }
     io::writer(&rt).write_all(all.as_slice())
 }
