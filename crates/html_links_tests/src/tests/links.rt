@@ -1,10 +1,10 @@
 //! The links of documents, each with a bar behind it.
+ghost use Rattle.std.specs.Prelude.{map};
+
 use html_links::{Links, read_links, read_page};
 use std::alloc::{AllocError, Global};
 use std::process::Abort;
 use std::test::Fail;
-
-ghost use Rattle.std.specs.Prelude.{map};
 
 #[derive(Drop)]
 struct Texts {
