@@ -1,9 +1,9 @@
 //! What is changed in the results of a run before they are certified, on one thread and by threads.
 use crate::tests::run::{Run, run_of, urls_of};
 use crate::tests::tables::{
-    Case, Change, END, FAULTS_IN_EACH_PART, FIRST, GROUPS, Group, LONG_WEB, Told,
+    Case, Change, END, FAULTS_IN_EACH_CHUNK, FIRST, GROUPS, Group, LONG_WEB, Told,
 };
-use crawl_certificate::{CertError, CrawlResult, certify, certify_in_threads};
+use crawl_certificate::{CertError, CrawlResult, Culprit, certify, certify_in_threads};
 use crawl_keys::{CanonUrl, Filter, canonical};
 use crawl_web::{Page, PageResult};
 use std::alloc::Global;
@@ -80,16 +80,40 @@ fn have_urls(pages: &[PageResult], urls: &[&str]) -> bool {
     pages.len() == urls.len()
 }
 
+fn are_told(found: &CrawlResult, told: Told) -> bool {
+    match told {
+        Told::Pages(urls) => have_urls(found.pages(), urls),
+        Told::Count(count) => found.pages().len() == count,
+        Told::Fault(..) => false,
+    }
+}
+
 fn is_told(found: &Result<CrawlResult, CertError>, told: Told) -> bool {
     match (found, told) {
-        (Ok(found), Told::Pages(urls)) => have_urls(found.pages(), urls),
-        (Ok(found), Told::Count(count)) => found.pages().len() == count,
-        (Err(fault), Told::Fault(expected)) => *fault == expected,
+        (Ok(found), told) => are_told(found, told),
+        (Err(fault), Told::Fault(expected, _)) => *fault == expected,
         _ => false,
     }
 }
 
-// The case is told on one thread and by threads.
+fn is_url(named: &Option<CanonUrl>, url: &str) -> bool {
+    match named {
+        Some(named) => named.as_str() == url,
+        None => false,
+    }
+}
+
+fn is_named(found: &Result<CrawlResult, Culprit>, told: Told) -> bool {
+    match (found, told) {
+        (Ok(found), told) => are_told(found, told),
+        (Err(culprit), Told::Fault(expected, url)) => {
+            culprit.cause == expected && is_url(&culprit.url, url)
+        }
+        _ => false,
+    }
+}
+
+// The case is told on one thread, and with its culprit by threads.
 fn tells<R: Threads + Sync>(rt: &R, alloc: Global, run: &Run, case: &Case) -> Option<bool> {
     let (within, seeds, change, told) = *case;
     let filter = Filter::new(alloc, within).ok()?;
@@ -97,7 +121,7 @@ fn tells<R: Threads + Sync>(rt: &R, alloc: Global, run: &Run, case: &Case) -> Op
     let results = results_of(alloc, &run.results, change);
     let one = certify(alloc, &filter, &urls, &run.account, &results);
     let other = certify_in_threads(rt, alloc, &filter, &urls, &run.account, results);
-    Some(is_told(&one, told) && is_told(&other, told))
+    Some(is_told(&one, told) && is_named(&other, told))
 }
 
 // The place of the first case of the group that does not hold, or how many there are.
@@ -131,9 +155,9 @@ fn long_web(alloc: Global) -> Result<String, Fail> {
 }
 
 #[test]
-fn faults_in_each_part(rt: HostRuntime) -> Result<(), Fail> {
+fn faults_in_each_chunk(rt: HostRuntime) -> Result<(), Fail> {
     let text = long_web(rt.alloc())?;
-    let holding = holding(&rt, rt.alloc(), &FAULTS_IN_EACH_PART, &text);
-    assert!(rt; holding == FAULTS_IN_EACH_PART.cases.len(), "{holding}");
+    let holding = holding(&rt, rt.alloc(), &FAULTS_IN_EACH_CHUNK, &text);
+    assert!(rt; holding == FAULTS_IN_EACH_CHUNK.cases.len(), "{holding}");
     Ok(())
 }

@@ -35,7 +35,8 @@ pub enum Told {
     Pages(Texts),
     /// So many pages.
     Count(usize),
-    Fault(CertError),
+    /// This fault, at this URL.
+    Fault(CertError, &'static str),
 }
 
 use Change::{Links, More, Moves, Nothing, Without};
@@ -48,6 +49,8 @@ const B: &str = "http://b.test/";
 const C: &str = "http://c.test/";
 
 const D: &str = "http://d.test/";
+
+const E: &str = "http://e.test/";
 
 const GONE: &str = "http://c.test/gone";
 
@@ -91,24 +94,28 @@ link http://a.test/
 const CERTIFICATE_FAULTS: &[Case] = &[
     (NONE, &[A], Nothing, Pages(WHOLE_RING)),
     (NONE, &[A, A], Nothing, Pages(WHOLE_RING)),
-    (NONE, &[A, D], Nothing, Fault(SeedMissing)),
-    (NONE, &[A], Without(GONE), Fault(NotFetched)),
-    (NONE, &[A], Links(GONE, D), Fault(LinkMissing)),
+    (NONE, &[A, D], Nothing, Fault(SeedMissing, D)),
+    (NONE, &[A], Without(GONE), Fault(NotFetched, GONE)),
+    (NONE, &[A], Links(GONE, D), Fault(LinkMissing, D)),
     (NONE, &[A], Links(GONE, B), Pages(WHOLE_RING)),
-    (NONE, NONE, Nothing, Fault(Unfounded)),
-    (NONE, &[B], Nothing, Fault(Unfounded)),
-    (NONE, &[A], More(D), Fault(Unfounded)),
-    (NONE, &[A], More(GONE), Fault(Twice)),
-    (NONE, &[A], More(A), Fault(Twice)),
+    (NONE, NONE, Nothing, Fault(Unfounded, A)),
+    (NONE, &[B], Nothing, Fault(Unfounded, A)),
+    (NONE, &[A], More(D), Fault(Unfounded, D)),
+    (NONE, &[A], More(GONE), Fault(Twice, GONE)),
+    (NONE, &[A], More(A), Fault(Twice, A)),
     (NONE, &[A], Links(C, GONE), Pages(WHOLE_RING)),
     // `gone` is linked by none, and then `c` only from `b`, which has as many hops.
-    (NONE, &[A], Links(C, A), Fault(Unfounded)),
-    (NONE, &[A], Links(A, B), Fault(Unfounded)),
+    (NONE, &[A], Links(C, A), Fault(Unfounded, GONE)),
+    (NONE, &[A], Links(A, B), Fault(Unfounded, C)),
     // Of several faults the first is told.
-    (NONE, &[D], Without(GONE), Fault(SeedMissing)),
-    (NONE, &[B], Without(GONE), Fault(NotFetched)),
-    (NONE, &[B], Links(GONE, D), Fault(LinkMissing)),
-    (NONE, &[B], More(GONE), Fault(Unfounded)),
+    (NONE, &[D], Without(GONE), Fault(SeedMissing, D)),
+    (NONE, &[B], Without(GONE), Fault(NotFetched, GONE)),
+    (NONE, &[B], Links(GONE, D), Fault(LinkMissing, D)),
+    (NONE, &[B], More(GONE), Fault(Unfounded, A)),
+    // Of several URLs at fault the least is named.
+    (NONE, &[E, A, D], Nothing, Fault(SeedMissing, D)),
+    (NONE, &[A], Moves(A, None), Fault(Unfounded, B)),
+    (NONE, NONE, More(D), Fault(Unfounded, A)),
 ];
 
 /// Groups of small webs.
@@ -137,11 +144,11 @@ pub static GROUPS: [Group; 9] = [
         web: MOVED,
         cases: &[
             (NONE, &[A, C], Nothing, Pages(WHOLE_RING)),
-            (NONE, &[A, C], Without(B), Fault(NotFetched)),
-            (NONE, &[A, C], Moves(B, Some(D)), Fault(LinkMissing)),
+            (NONE, &[A, C], Without(B), Fault(NotFetched, B)),
+            (NONE, &[A, C], Moves(B, Some(D)), Fault(LinkMissing, D)),
             (NONE, &[A, C], Moves(B, Some(A)), Pages(WHOLE_RING)),
-            (NONE, &[A, C], Moves(A, None), Fault(Unfounded)),
-            (NONE, &[A, C], More(A), Fault(Twice)),
+            (NONE, &[A, C], Moves(A, None), Fault(Unfounded, B)),
+            (NONE, &[A, C], More(A), Fault(Twice, A)),
         ],
     },
     // Two pages link to each other: without a seed among them they are not reached.
@@ -153,8 +160,8 @@ pub static GROUPS: [Group; 9] = [
         web: CYCLE,
         cases: &[
             (NONE, &[C, A], Nothing, Pages(&[A, B, C])),
-            (NONE, &[C], Nothing, Fault(Unfounded)),
-            (NONE, &[C, B], Nothing, Fault(Unfounded)),
+            (NONE, &[C], Nothing, Fault(Unfounded, A)),
+            (NONE, &[C, B], Nothing, Fault(Unfounded, A)),
         ],
     },
     // Neither a seed nor links to `b.test` are faults.
@@ -166,10 +173,10 @@ pub static GROUPS: [Group; 9] = [
         web: RING,
         cases: &[
             (WITHIN_A_AND_C, &[A, B], Nothing, Pages(&[A, C, GONE])),
-            (NONE, &[A, B], Nothing, Fault(SeedMissing)),
-            (NONE, &[A], Nothing, Fault(LinkMissing)),
-            (WITHIN_A, &[A], Nothing, Fault(Unfounded)),
-            (WITHIN_A_AND_C, &[A, B], More(B), Fault(Unfounded)),
+            (NONE, &[A, B], Nothing, Fault(SeedMissing, B)),
+            (NONE, &[A], Nothing, Fault(LinkMissing, B)),
+            (WITHIN_A, &[A], Nothing, Fault(Unfounded, C)),
+            (WITHIN_A_AND_C, &[A, B], More(B), Fault(Unfounded, B)),
         ],
     },
     Group {
@@ -222,35 +229,63 @@ page http://a.test/p14000
 link c4
 ";
 
-const IN_PART_1: &str = "http://a.test/p10007";
+const IN_CHUNK_1: &str = "http://a.test/p10007";
 
-const IN_PART_2: &str = "http://a.test/p12000";
+const IN_CHUNK_2: &str = "http://a.test/p12000";
 
-const IN_PART_3: &str = "http://a.test/p13000";
+const IN_CHUNK_3: &str = "http://a.test/p13000";
 
-const IN_PART_4: &str = "http://a.test/p14000";
+const IN_CHUNK_4: &str = "http://a.test/p14000";
 
-/// A run with so many results that threads look at four parts of them: what one part has, or lacks, is told of the whole. A
-/// page in each part links to no entry, or to itself; or it is fetched once more, at the end of the last part.
-pub static FAULTS_IN_EACH_PART: Group = Group {
-    name: "faults_in_each_part",
+const C1: &str = "http://a.test/c1";
+
+const C2: &str = "http://a.test/c2";
+
+const C3: &str = "http://a.test/c3";
+
+const C4: &str = "http://a.test/c4";
+
+/// A run with so many results that threads look at four chunks of them: what one chunk has, or lacks, is told of the whole. A
+/// page in each chunk links to no entry, or to itself; or it is fetched once more, at the end of the last chunk.
+pub static FAULTS_IN_EACH_CHUNK: Group = Group {
+    name: "faults_in_each_chunk",
     workers: 1,
     within: NONE,
     seeds: &[A],
     web: LONG_WEB,
     cases: &[
         (NONE, &[A], Nothing, Count(5_001)),
-        (NONE, &[A], Links(IN_PART_1, D), Fault(LinkMissing)),
-        (NONE, &[A], Links(IN_PART_2, D), Fault(LinkMissing)),
-        (NONE, &[A], Links(IN_PART_3, D), Fault(LinkMissing)),
-        (NONE, &[A], Links(IN_PART_4, D), Fault(LinkMissing)),
-        (NONE, &[A], Links(IN_PART_1, IN_PART_1), Fault(Unfounded)),
-        (NONE, &[A], Links(IN_PART_2, IN_PART_2), Fault(Unfounded)),
-        (NONE, &[A], Links(IN_PART_3, IN_PART_3), Fault(Unfounded)),
-        (NONE, &[A], Links(IN_PART_4, IN_PART_4), Fault(Unfounded)),
-        (NONE, &[A], More(IN_PART_1), Fault(Twice)),
-        (NONE, &[A], More(IN_PART_2), Fault(Twice)),
-        (NONE, &[A], More(IN_PART_3), Fault(Twice)),
-        (NONE, &[A], More(IN_PART_4), Fault(Twice)),
+        (NONE, &[A], Links(IN_CHUNK_1, D), Fault(LinkMissing, D)),
+        (NONE, &[A], Links(IN_CHUNK_2, D), Fault(LinkMissing, D)),
+        (NONE, &[A], Links(IN_CHUNK_3, D), Fault(LinkMissing, D)),
+        (NONE, &[A], Links(IN_CHUNK_4, D), Fault(LinkMissing, D)),
+        (
+            NONE,
+            &[A],
+            Links(IN_CHUNK_1, IN_CHUNK_1),
+            Fault(Unfounded, C1),
+        ),
+        (
+            NONE,
+            &[A],
+            Links(IN_CHUNK_2, IN_CHUNK_2),
+            Fault(Unfounded, C2),
+        ),
+        (
+            NONE,
+            &[A],
+            Links(IN_CHUNK_3, IN_CHUNK_3),
+            Fault(Unfounded, C3),
+        ),
+        (
+            NONE,
+            &[A],
+            Links(IN_CHUNK_4, IN_CHUNK_4),
+            Fault(Unfounded, C4),
+        ),
+        (NONE, &[A], More(IN_CHUNK_1), Fault(Twice, IN_CHUNK_1)),
+        (NONE, &[A], More(IN_CHUNK_2), Fault(Twice, IN_CHUNK_2)),
+        (NONE, &[A], More(IN_CHUNK_3), Fault(Twice, IN_CHUNK_3)),
+        (NONE, &[A], More(IN_CHUNK_4), Fault(Twice, IN_CHUNK_4)),
     ],
 };
