@@ -1,0 +1,119 @@
+-- Lines that are printed one behind the other.
+use Rattle.std.proofs.Common.{◌≡◌, ℕ, zero, suc, ◌+◌, ◌<◌, ◌≤◌, Bool, true, false, List, [], ◌∷◌, ◌++◌, length, map, take, filter, get_or, Result, Ok, Err, IfOk, append-nil, refl, sym, ap, subst, ◌∙◌, arith}
+use Rattle.std.proofs.lemmas.List.{append_assoc, map-append, map_more, take_more, take_all, length-take-le}
+use Rattle.std.proofs.lemmas.List.Elements.{filter-append}
+use Rattle.std.proofs.lemmas.List.Concat.{flat_map-append}
+use Rattle.std.specs.Borrow.{Bor}
+use Rattle.std.specs.List.{enumerate_from, flat_map}
+use Rattle.crawl_web.proofs.ReportOrder.{filter-kept, filter-dropped}
+use Rattle.crawl_web.specs.declared.page.PageResult.{PageResult}
+use Rattle.crawl_report.specs.Json.{printed_line}
+use Rattle.crawl_report.specs.Lines as line
+use Rattle.crawl_report.specs.Lines.{Line}
+use Rattle.crawl_report.specs.Printing.{Adds, bytes_of, is_json}
+use Rattle.crawl_report.specs.Tallies.{pointed}
+use Rattle.crawl_report.specs.declared.out.Out.{Out}
+use Rattle.crawl_report.proofs.Counts.{pointed_more}
+
+pub adds_none : (out : Out) → Adds out out []
+adds_none out = record { same = refl; added = sym (append-nil (bytes_of out)) }
+
+pub adds_both : (out mid more : Out) (xs ys : List Line) → Adds out mid xs → Adds mid more ys → Adds out more (xs ++ ys)
+adds_both out mid more xs ys p q = record {
+  same = q.same ∙ p.same;
+  added =
+      q.added
+      ∙ (λ i. p.added i ++ flat_map (printed_line (p.same i)) ys)
+      ∙ append_assoc (bytes_of out) (flat_map (printed_line (is_json out)) xs) (flat_map (printed_line (is_json out)) ys)
+      ∙ ap (λ t. bytes_of out ++ t) (sym (flat_map-append (printed_line (is_json out)) xs ys));
+}
+
+-- the same lines in other words
+pub adds_same : (out more : Out) (xs ys : List Line) → xs ≡ ys → Adds out more xs → Adds out more ys
+adds_same out more xs ys same is = subst (Adds out more) same is
+
+-- a line more, for one element more
+pub line_more : {X : Type 0} (f : X → Line) (out mid more : Out) (xs : List X) (k : ℕ) (x : X) → k < length xs → x ≡ get_or xs k x → Adds out mid (map f (take k xs)) → Adds mid more (f x ∷ []) → Adds out more (map f (take (k + 1) xs))
+line_more f out mid more xs k x below at p q =
+    adds_same out more _ _ (ap (λ y. map f (take k xs) ++ f y ∷ []) at ∙ sym (map_more f xs k x below)) (adds_both out mid more (map f (take k xs)) (f x ∷ []) p q)
+
+-- all elements were looked at
+pub lines_all : {X : Type 0} (lines : List X → List Line) (out more : Out) (xs : List X) (k : ℕ) → length xs ≤ k → Adds out more (lines (take k xs)) → Adds out more (lines xs)
+lines_all lines out more xs k past is = adds_same out more _ _ (ap lines (take_all k xs past)) is
+
+-- ---- elements that pass a test
+
+pub kept_more : {X : Type 0} (p : X → Bool) (xs : List X) (k : ℕ) (x : X) → k < length xs → x ≡ get_or xs k x → p x ≡ true → filter p (take (k + 1) xs) ≡ filter p (take k xs) ++ x ∷ []
+kept_more p xs k x below at passes =
+    ap (filter p) (take_more xs k x below ∙ ap (λ y. take k xs ++ y ∷ []) (sym at))
+    ∙ filter-append p (take k xs) (x ∷ []) ∙ ap (λ t. filter p (take k xs) ++ t) (filter-kept p x [] passes)
+
+pub dropped_more : {X : Type 0} (p : X → Bool) (xs : List X) (k : ℕ) (x : X) → k < length xs → x ≡ get_or xs k x → p x ≡ false → filter p (take (k + 1) xs) ≡ filter p (take k xs)
+dropped_more p xs k x below at fails =
+    ap (filter p) (take_more xs k x below ∙ ap (λ y. take k xs ++ y ∷ []) (sym at))
+    ∙ filter-append p (take k xs) (x ∷ []) ∙ ap (λ t. filter p (take k xs) ++ t) (filter-dropped p x [] fails) ∙ append-nil (filter p (take k xs))
+
+pub line_kept : {X : Type 0} (f : X → Line) (p : X → Bool) (out mid more : Out) (xs : List X) (k : ℕ) (x : X) → k < length xs → x ≡ get_or xs k x → p x ≡ true → Adds out mid (map f (filter p (take k xs))) → Adds mid more (f x ∷ []) → Adds out more (map f (filter p (take (k + 1) xs)))
+line_kept f p out mid more xs k x below at passes before now =
+    adds_same out more _ _ (sym (map-append f (filter p (take k xs)) (x ∷ [])) ∙ ap (map f) (sym (kept_more p xs k x below at passes)))
+    (adds_both out mid more (map f (filter p (take k xs))) (f x ∷ []) before now)
+
+pub line_dropped : {X : Type 0} (f : X → Line) (p : X → Bool) (out mid : Out) (xs : List X) (k : ℕ) (x : X) → k < length xs → x ≡ get_or xs k x → p x ≡ false → Adds out mid (map f (filter p (take k xs))) → Adds out mid (map f (filter p (take (k + 1) xs)))
+line_dropped f p out mid xs k x below at fails before =
+    adds_same out mid _ _ (ap (map f) (sym (dropped_more p xs k x below at fails))) before
+
+-- ---- queues
+
+numbered_push : (n : ℕ) (xs : List ℕ) (x : ℕ) → enumerate_from n (xs ++ x ∷ []) ≡ enumerate_from n xs ++ (n + length xs, x) ∷ []
+numbered_push n [] x = ap (λ m. (m, x) ∷ []) (omega arith)
+numbered_push n (y ∷ ys) x = ap (λ l. (n, y) ∷ l) (numbered_push (n + 1) ys x ∙ ap (λ m. enumerate_from (n + 1) ys ++ (m, x) ∷ []) (omega arith))
+
+pub queue_more : (out mid more : Out) (counts : List ℕ) (k d : ℕ) → k < length counts → Adds out mid (map (λ x. line.queue x.0 x.1) (enumerate_from 0 (take k counts))) → Adds mid more (line.queue k (get_or counts k d) ∷ []) → Adds out more (map (λ x. line.queue x.0 x.1) (enumerate_from 0 (take (k + 1) counts)))
+queue_more out mid more counts k d below p q =
+    let f : ℕ × ℕ → Line = λ x. line.queue x.0 x.1 in
+    let count = get_or counts k d in
+    let long : 0 + length (take k counts) ≡ k = omega (arith, length-take-le k counts (omega (arith, below))) in
+    let next : enumerate_from 0 (take (k + 1) counts) ≡ enumerate_from 0 (take k counts) ++ (k, count) ∷ [] =
+    ap (enumerate_from 0) (take_more counts k d below)
+    ∙ numbered_push 0 (take k counts) count ∙ ap (λ m. enumerate_from 0 (take k counts) ++ (m, count) ∷ []) long in
+    adds_same out more _ _ (sym (map-append f (enumerate_from 0 (take k counts)) ((k, count) ∷ [])) ∙ ap (map f) (sym next))
+    (adds_both out mid more (map f (enumerate_from 0 (take k counts))) (line.queue k count ∷ []) p q)
+
+-- ---- texts that are referred to
+
+pub pointed_line_more : (f : List ℕ → Line) (out mid more : Out) (xs : List (Bor (List ℕ))) (k : ℕ) (x : Bor (List ℕ)) → k < length xs → x ≡ get_or xs k x → Adds out mid (map f (pointed (take k xs))) → Adds mid more (f x.now ∷ []) → Adds out more (map f (pointed (take (k + 1) xs)))
+pointed_line_more f out mid more xs k x below at p q =
+    adds_same out more _ _ (sym (map-append f (pointed (take k xs)) (x.now ∷ [])) ∙ ap (map f) (sym (pointed_more xs k x below at)))
+    (adds_both out mid more (map f (pointed (take k xs))) (f x.now ∷ []) p q)
+
+pub pointed_lines_all : (f : List ℕ → Line) (out more : Out) (xs : List (Bor (List ℕ))) (k : ℕ) → length xs ≤ k → Adds out more (map f (pointed (take k xs))) → Adds out more (map f (pointed xs))
+pointed_lines_all f out more xs k past is = adds_same out more _ _ (ap (λ ys. map f (pointed ys)) (take_all k xs past)) is
+
+-- ---- a whole report
+
+pub report_printed : (json : Bool) (a b c d e f g : Out) (results queues sources moved unreached : List Line) (sum : Line) → bytes_of a ≡ [] → is_json a ≡ json
+    → Adds a b results → Adds b c (sum ∷ []) → Adds c d queues → Adds d e sources → Adds e f moved → Adds f g unreached
+    → bytes_of g ≡ flat_map (printed_line json) (results ++ (sum ∷ queues) ++ sources ++ moved ++ unreached)
+report_printed json a b c d e f g results queues sources moved unreached sum empty kind of_results of_sum of_queues of_sources of_moved of_unreached =
+    let first = adds_both a b d results (sum ∷ queues) of_results (adds_both b c d (sum ∷ []) queues of_sum of_queues) in
+    let second = adds_both a d e (results ++ (sum ∷ queues)) sources first of_sources in
+    let third = adds_both a e f (results ++ (sum ∷ queues) ++ sources) moved second of_moved in
+    let whole = adds_both a f g (results ++ (sum ∷ queues) ++ sources ++ moved) unreached third of_unreached in
+    whole.added ∙ (λ i. empty i ++ flat_map (printed_line (kind i)) (results ++ (sum ∷ queues) ++ sources ++ moved ++ unreached))
+
+-- lines more, for one result more
+pub told_more : (f : PageResult → List Line) (out mid more : Out) (xs : List (Bor PageResult)) (k : ℕ) (x : Bor PageResult) → k < length xs → x ≡ get_or xs k x → Adds out mid (flat_map f (pointed (take k xs))) → Adds mid more (f x.now) → Adds out more (flat_map f (pointed (take (k + 1) xs)))
+told_more f out mid more xs k x below at p q =
+    adds_same out more _ _
+    (ap (λ t. flat_map f (pointed (take k xs)) ++ t) (sym (append-nil (f x.now))) ∙ sym (flat_map-append f (pointed (take k xs)) (x.now ∷ [])) ∙ ap (flat_map f) (sym (pointed_more xs k x below at)))
+    (adds_both out mid more (flat_map f (pointed (take k xs))) (f x.now) p q)
+
+-- what was printed first, and then more
+pub then_more : {E : Type 0} (result : Result Out E) (out mid : Out) (xs ys zs : List Line) → Adds out mid xs → xs ++ ys ≡ zs → IfOk result (λ more. Adds mid more ys) → IfOk result (λ more. Adds out more zs)
+then_more (Ok more) out mid xs ys zs before same after = adds_same out more (xs ++ ys) zs same (adds_both out mid more xs ys before after)
+then_more (Err e) out mid xs ys zs before same after = tt
+
+pub pointed_line_at : (f : List ℕ → Line) (out mid more : Out) (xs : List (Bor (List ℕ))) (k : ℕ) (d : Bor (List ℕ)) → k < length xs → Adds out mid (map f (pointed (take k xs))) → Adds mid more (f (get_or xs k d).now ∷ []) → Adds out more (map f (pointed (take (k + 1) xs)))
+pointed_line_at f out mid more xs k d below p q =
+    adds_same out more _ _ (sym (map-append f (pointed (take k xs)) ((get_or xs k d).now ∷ [])) ∙ ap (map f) (sym (map_more (λ (y : Bor (List ℕ)). y.now) xs k d below)))
+    (adds_both out mid more (map f (pointed (take k xs))) (f (get_or xs k d).now ∷ []) p q)

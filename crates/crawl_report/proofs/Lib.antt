@@ -1,0 +1,5 @@
+pub mod Numbers
+pub mod Format
+pub mod Counts
+pub mod Adding
+pub mod Sets

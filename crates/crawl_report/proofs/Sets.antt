@@ -1,0 +1,43 @@
+-- Sets of URLs.
+use Rattle.std.proofs.Common.{◌≡◌, ℕ, zero, suc, ◌+◌, ◌<◌, Bool, true, false, ◌||◌, ◌&&◌, not, cond, List, [], ◌∷◌, length, filter, get_or, refl, sym, ap, subst, ◌∙◌, arith}
+use Rattle.std.specs.Borrow.{Bor}
+use Rattle.std.specs.BTreeSet as sorted
+use Rattle.std.specs.Cmp.Lexicographic.{slice_cmp}
+use Rattle.std.specs.List.Sorted.{IsSortedBy, IsSortedByKey}
+use Rattle.std.specs.Ordering.{nat_cmp, is_lt}
+use Rattle.std.specs.Str.{bytes_eq}
+use Rattle.hash_order.specs.HashOrder.{by_hash, by_hash_ties}
+use Rattle.crawl_web.specs.declared.page.PageResult.{PageResult}
+use Rattle.crawl_report.specs.Tallies.{pointed}
+use Rattle.crawl_report.specs.Unreached.{has_result, is_in, is_unreached}
+use Rattle.crawl_report.proofs.Counts.{length_pointed}
+
+-- a set of URLs after one was put in
+pub set_put : (old new : sorted.BTreeSet (List ℕ)) (key : List ℕ) → sorted.Updates by_hash old new key true → (url : List ℕ) → is_in new url ≡ (is_in old url || bytes_eq key url)
+set_put old new key updates url =
+    updates.0 url ∙ ap (λ b. cond b true (is_in old url)) (sym (by_hash_ties key url)) ∙ or_by_cond (bytes_eq key url) (is_in old url)
+  where
+    or_by_cond : (b o : Bool) → cond b true o ≡ (o || b)
+    or_by_cond true true = refl
+    or_by_cond true false = refl
+    or_by_cond false true = refl
+    or_by_cond false false = refl
+
+-- what is not in the set of the results' URLs
+pub unseen_unreached : (allowed : List ℕ → Bool) (results : List PageResult) (seen : sorted.BTreeSet (List ℕ)) → ((url : List ℕ) → is_in seen url ≡ has_result results url) → (urls : List (List ℕ)) → filter (λ url. allowed url && not (is_in seen url)) urls ≡ filter (is_unreached allowed results) urls
+unseen_unreached allowed results seen known urls = λ i. filter (λ url. allowed url && not (known url i)) urls
+
+at_index : {X : Type 0} (xs : List (Bor X)) (k : ℕ) (d : X) → k < length xs → (x : Bor X) × (get_or (pointed xs) k d ≡ x.now) × ((e : Bor X) → get_or xs k e ≡ x)
+at_index [] k d below = absurd (omega (arith, below))
+at_index (x ∷ xs) zero d below = (x, refl, λ e. refl)
+at_index (x ∷ xs) (suc k) d below = at_index xs k d (omega (arith, below))
+
+-- references that ascend refer to texts that do
+pub sorted_pointed : (urls : List (Bor (List ℕ))) → IsSortedBy (λ a b. is_lt (slice_cmp nat_cmp a.now b.now)) urls → IsSortedByKey (λ url. url) (slice_cmp nat_cmp) (pointed urls)
+sorted_pointed urls ascends k d low below =
+    let within : k + 1 < length urls = subst (λ n. k + 1 < n) (length_pointed urls) below in
+    let a = at_index urls (k + 1) d within in
+    let b = at_index urls k d (omega (arith, within)) in
+    (λ i. is_lt (slice_cmp nat_cmp (a.1 i) (b.1 i)))
+    ∙ sym (λ i. is_lt (slice_cmp nat_cmp (a.2 a.0 i).now (b.2 a.0 i).now))
+    ∙ ascends k a.0 low within

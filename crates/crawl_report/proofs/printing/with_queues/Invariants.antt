@@ -1,0 +1,7 @@
+use Rattle.std.proofs.Common.{take}
+use Rattle.crawl_report.specs.Printing.{Adds}
+use Rattle.crawl_report.specs.Rows.{queue_lines}
+use Rattle.crawl_report.proofs.printing.with_queues.Given as goal
+
+abbrev pub invariant-loop-queue : goal.invariant-loop-queue
+invariant-loop-queue l = Adds l.fn.out l.out (queue_lines (take l.queue l.counts))

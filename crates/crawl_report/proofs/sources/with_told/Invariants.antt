@@ -1,0 +1,11 @@
+use Rattle.std.proofs.Common.{ℕ, List, take}
+use Rattle.std.specs.List.{flat_map}
+use Rattle.crawl_web.specs.declared.page.PageResult.{PageResult}
+use Rattle.crawl_report.specs.Printing.{Adds}
+use Rattle.crawl_report.specs.Rows.{lines_at}
+use Rattle.crawl_report.specs.Tallies.{pointed, count_of, IsTally}
+use Rattle.crawl_report.proofs.sources.with_told.Given as goal
+
+abbrev pub invariant-loop-one : goal.invariant-loop-one
+invariant-loop-one l =
+    (results : List PageResult) → ((url : List ℕ) → IsTally l.all results url (count_of l.tallies url)) → Adds l.fn.out l.out (flat_map (λ r. lines_at l.all results r.url) (pointed (take l.one-index l.told)))

@@ -1,0 +1,7 @@
+pub mod Json
+pub mod Lines
+pub mod Printing
+pub mod Rows
+pub mod Tallies
+pub mod Today
+pub mod Unreached

@@ -1,0 +1,20 @@
+-- What is printed so far, and lines that are printed behind it.
+use Rattle.std.specs.Prelude.{◌≡◌, ℕ, Bool, true, false, List, ◌++◌, string_bytes}
+use Rattle.std.specs.List.{flat_map}
+use Rattle.crawl_report.specs.Json.{printed_line}
+use Rattle.crawl_report.specs.Lines.{Line}
+use Rattle.crawl_report.specs.declared.out.Out.{Out}
+use Rattle.crawl_report.specs.declared.out.Out.TheVariants.{Text, Json}
+
+abbrev pub bytes_of : Out → List ℕ
+bytes_of (Text text) = string_bytes text
+bytes_of (Json text) = text.items
+
+abbrev pub is_json : Out → Bool
+is_json (Text text) = false
+is_json (Json text) = true
+
+-- more is printed: these lines
+pub record Adds (out more : Out) (lines : List Line) : Type 0 where
+  pub same : is_json more ≡ is_json out
+  pub added : bytes_of more ≡ bytes_of out ++ flat_map (printed_line (is_json out)) lines

@@ -1,0 +1,27 @@
+-- The text of results, queues and sources, part by part.
+use Rattle.std.specs.Prelude.{ℕ, Bool, true, false, List, [], ◌∷◌, ◌++◌, codes, if◌then◌else◌}
+use Rattle.std.specs.List.{enumerate_from, flat_map}
+use Rattle.std.specs.Fmt.{decimal}
+use Rattle.crawl_web.specs.ReportText.{report}
+use Rattle.crawl_web.specs.declared.page.PageResult.{PageResult}
+use Rattle.crawl_sources.specs.Sources.{sources}
+use Rattle.crawl_report.specs.Lines.{text_line}
+use Rattle.crawl_report.specs.Rows.{rows_with}
+use Rattle.crawl_report.specs.declared.report.Sources.TheVariants as told
+
+-- a queue, its count, and LF
+abbrev pub queue_line : ℕ → ℕ → List ℕ
+queue_line queue count = codes "queue " ++ decimal queue ++ codes " " ++ decimal count ++ 10 ∷ []
+
+-- a line for each count, the queues from 0
+abbrev pub queue_lines : List ℕ → List ℕ
+queue_lines counts = flat_map (λ (x : ℕ × ℕ). queue_line x.0 x.1) (enumerate_from 0 counts)
+
+-- the report of the results, then the queues and the sources, where they are told
+abbrev pub told_text : Bool → Bool → List PageResult → List ℕ → List ℕ
+told_text with_queues with_sources pages counts = report pages ++ (if with_queues then queue_lines counts else []) ++ (if with_sources then sources pages else [])
+
+-- the text of a report with these parts alone
+abbrev pub text_with : Bool → Bool → List PageResult → List ℕ → List ℕ
+text_with with_queues with_sources pages counts =
+    flat_map text_line (rows_with pages (if with_queues then counts else []) (if with_sources then told.First else told.None) false [])

@@ -1,0 +1,55 @@
+//! What is printed so far: lines of text, or of JSON.
+ghost use Rattle.std.specs.Prelude.{◌≡◌, ◌++◌, ◌∷◌, [], IfOk};
+ghost use Rattle.crawl_report.specs.Lines.{line_of};
+ghost use Rattle.crawl_report.specs.Printing.{Adds, bytes_of, is_json};
+
+use crate::as_json::with_json;
+use crate::as_text::push_line;
+use crate::row::Row;
+use crawl_web::NoMemory;
+use std::alloc::Global;
+
+#[derive(Drop)]
+pub enum Out {
+    Text(String),
+    Json(Vec<u8>),
+}
+
+impl Out {
+    /// Nothing yet.
+    pub fn new(alloc: Global, json: bool) -> Out
+        ensures empty { bytes_of result ≡ [] }
+        ensures json { is_json result ≡ json }
+    {
+        if json {
+            Out::Json(Vec::new(alloc))
+        } else {
+            Out::Text(String::new(alloc))
+        }
+    }
+
+    /// What is printed, and behind it the row's line.
+    pub fn with(self, row: Row<'_>) -> Result<Out, NoMemory>
+        ensures { IfOk result (λ more. Adds self more (line_of row.entry ∷ [])) }
+    {
+        match self {
+            Out::Text(mut text) => {
+                push_line(&mut text, row)?;
+                Ok(Out::Text(text))
+            }
+            Out::Json(text) => {
+                let text = with_json(text, row)?;
+                Ok(Out::Json(text))
+            }
+        }
+    }
+
+    pub fn into_bytes(self) -> Vec<u8>
+        ensures { result.items ≡ bytes_of self }
+    {
+        match self {
+            Out::Text(text) => text.into_bytes(),
+            Out::Json(text) => text,
+        }
+    }
+}

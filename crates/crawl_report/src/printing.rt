@@ -1,0 +1,168 @@
+//! A report as bytes.
+ghost use Rattle.std.specs.Prelude.{◌≡◌, ℕ, ◌∷◌, [], true, IfOk, length, map, filter, count_by};
+ghost use Rattle.std.specs.Option.{option_map};
+ghost use Rattle.crawl_web.specs.ReportText.{is_found, is_missing, is_moved};
+ghost use Rattle.crawl_report.specs.Lines as line;
+ghost use Rattle.crawl_report.specs.Lines.{line_of};
+ghost use Rattle.crawl_report.specs.Printing.{Adds};
+ghost use Rattle.crawl_report.specs.Rows.{printed, page_line, result_lines, total_of, queue_lines, moved_lines, target};
+ghost use Rattle.crawl_report.specs.Tallies.{pointed};
+
+use crate::out::Out;
+use crate::report::Report;
+use crate::row::Row;
+use crate::sources::with_sources;
+use crawl_keys::CanonUrl;
+use crawl_web::{NoMemory, Page, PageResult};
+use std::alloc::Global;
+
+/// The report's bytes: a line for each row, as text or as a JSON object, each ended by LF.
+///
+/// The rows come in this order: the results, their total, the queues, the sources, where pages moved to, unreached pages.
+///
+/// # Errors
+/// Out of memory alone.
+pub fn print(alloc: Global, report: &Report<'_>, json: bool) -> Result<Vec<u8>, NoMemory>
+    ensures { IfOk result (λ text. text.items ≡ printed json report.now) }
+{
+    let empty = Out::new(alloc, json);
+    let results = with_results(empty, report.pages)?;
+    let total = results.with(total_of(report.pages))?;
+    let queues = with_queues(total, report.queues)?;
+    let sources = with_sources(alloc, queues, report.pages, report.sources, report.moved)?;
+    let moved = with_moved(sources, report.pages, report.moved)?;
+    let all = with_unreached(moved, report.unreached)?;
+    Ok(all.into_bytes())
+}
+
+fn with_results(mut out: Out, pages: &[PageResult]) -> Result<Out, NoMemory>
+    ensures { IfOk result (λ more. Adds out more (result_lines pages.now)) }
+{
+    for one in pages {
+        out = out.with(row_of(one))?;
+    }
+    Ok(out)
+}
+
+fn row_of(one: &PageResult) -> Row<'_>
+    ensures { line_of result ≡ page_line one.now.url one.now.page }
+{
+    let url = one.url.as_str();
+    match &one.page {
+        Page::Found { links, skipped } => Row::Page {
+            url,
+            // A `u64` might not hold the sum.
+            links: links.as_slice().len() as u128 + u128::from(*skipped),
+            skipped: *skipped,
+        },
+        Page::Moved { .. } => Row::Moved { url },
+        Page::Missing => Row::Missing { url },
+    }
+}
+
+fn total_of(pages: &[PageResult]) -> Row<'static>
+    ensures { line_of result ≡ total_of pages.now }
+{
+    Row::Total {
+        results: pages.len(),
+        found: count_found(pages),
+        missing: count_missing(pages),
+        moved: count_moved(pages),
+    }
+}
+
+fn count_found(pages: &[PageResult]) -> usize
+    ensures { result ≡ count_by (λ r. is_found r.page) pages.now }
+{
+    pages.iter().filter(|one| is_found(&one.page)).count()
+}
+
+fn count_missing(pages: &[PageResult]) -> usize
+    ensures { result ≡ count_by (λ r. is_missing r.page) pages.now }
+{
+    pages.iter().filter(|one| is_missing(&one.page)).count()
+}
+
+fn count_moved(pages: &[PageResult]) -> usize
+    ensures { result ≡ count_by (λ r. is_moved r.page) pages.now }
+{
+    pages.iter().filter(|one| is_moved(&one.page)).count()
+}
+
+fn is_found(page: &Page) -> bool
+    ensures { result ≡ is_found page.now }
+{
+    matches!(page, Page::Found { .. })
+}
+
+fn is_missing(page: &Page) -> bool
+    ensures { result ≡ is_missing page.now }
+{
+    matches!(page, Page::Missing)
+}
+
+fn is_moved(page: &Page) -> bool
+    ensures { result ≡ is_moved page.now }
+{
+    matches!(page, Page::Moved { .. })
+}
+
+fn with_queues(mut out: Out, counts: &[u64]) -> Result<Out, NoMemory>
+    ensures { IfOk result (λ more. Adds out more (queue_lines counts.now)) }
+{
+    for (queue, count) in counts.iter().enumerate() {
+        out = out.with(queue_row(queue, count))?;
+    }
+    Ok(out)
+}
+
+fn queue_row(queue: usize, count: &u64) -> Row<'static>
+    ensures { line_of result ≡ line.queue queue count.now }
+{
+    Row::Queue {
+        queue,
+        urls: *count,
+    }
+}
+
+fn with_moved(out: Out, pages: &[PageResult], moved: bool) -> Result<Out, NoMemory>
+    ensures { IfOk result (λ more. Adds out more (moved_lines moved pages.now)) }
+{
+    if moved {
+        with_targets(out, pages)
+    } else {
+        Ok(out)
+    }
+}
+
+fn with_targets(mut out: Out, pages: &[PageResult]) -> Result<Out, NoMemory>
+    ensures { IfOk result (λ more. Adds out more (moved_lines true pages.now)) }
+{
+    for one in pages {
+        if let Page::Moved { to } = &one.page {
+            out = out.with(Row::To {
+                target: text_of(to),
+                url: one.url.as_str(),
+            })?;
+        }
+    }
+    Ok(out)
+}
+
+fn text_of(url: &Option<CanonUrl>) -> Option<&str>
+    ensures { option_map (λ t. t.now) result ≡ url.now }
+{
+    match url {
+        Some(url) => Some(url.as_str()),
+        None => None,
+    }
+}
+
+fn with_unreached(mut out: Out, urls: &[&CanonUrl]) -> Result<Out, NoMemory>
+    ensures { IfOk result (λ more. Adds out more (map line.unreached (pointed urls.now))) }
+{
+    for url in urls {
+        out = out.with(Row::Unreached { url: url.as_str() })?;
+    }
+    Ok(out)
+}
