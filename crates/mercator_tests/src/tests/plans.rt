@@ -73,6 +73,7 @@ fn plan_line(alloc: Global, plan: &Plan) -> Result<String, AllocError> {
             max,
             within,
         } => format!(in alloc; "serve {workers} {max} {within:?}"),
+        Plan::ServeLog(asked) => format!(in alloc; "{asked:?}"),
     }
 }
 
