@@ -126,13 +126,6 @@ notes_nothing (asks.Replay file) old new plain = tt
 notes_nothing (asks.Serve workers max within) old new plain = tt
 notes_nothing (asks.ServeLog asked) old new plain = absurd (plain asked refl)
 
-pub is_silent : (plan : Plan) → ((asked : LogPlan) → plan ≡ asks.ServeLog asked → ⊥) → has_log plan ≡ false
-is_silent (asks.Crawl workers max queues sources within file listed seeds) plain = refl
-is_silent (asks.Key url workers) plain = refl
-is_silent (asks.Replay file) plain = refl
-is_silent (asks.Serve workers max within) plain = refl
-is_silent (asks.ServeLog asked) plain = absurd (plain asked refl)
-
 -- a fault's line is told, behind what a session with a log may have told
 pub tells_fault : (plan : Plan) (old middle new : Option (List ℕ)) (line : List ℕ) → (has_log plan ≡ false → middle ≡ old) → MayNote plan old middle → Begins middle new line → TellsFault plan old new line
 tells_fault (asks.Crawl workers max queues sources within file listed seeds) old middle new line silent noted told = subst (λ o. Begins o new line) (silent refl) told

@@ -227,12 +227,12 @@ impl fmt::Display for LogText {
     ghost output = { λ told. Some (log_text told.0) };
 
     fn fmt<W: fmt::Write>(&self, f: &mut fmt::Formatter<W>) -> fmt::Result {
-        f.write_str(match self.0 {
-            LogFault::CannotOpen => "cannot open",
-            LogFault::InUse => "in use",
-            LogFault::CannotRead => "cannot read",
-            LogFault::OtherSettings => "other settings",
-            LogFault::CannotWrite => "cannot write",
-        })
+        match self.0 {
+            LogFault::CannotOpen => f.write_str("cannot open"),
+            LogFault::InUse => f.write_str("in use"),
+            LogFault::CannotRead => f.write_str("cannot read"),
+            LogFault::OtherSettings => f.write_str("other settings"),
+            LogFault::CannotWrite => f.write_str("cannot write"),
+        }
     }
 }

@@ -163,13 +163,14 @@ fn whole_end<F: Read + Seek>(
 fn cut<F: OpenFile, E: Write>(
     alloc: Global,
     file: &F,
-    (whole, len): (u64, u64),
+    ends: (u64, u64),
     name: &str,
     err: &mut E,
 ) -> Result<(), Fault>
     ensures noted { Begins (E.contents err.old) (E.contents err.new) (torn_line name.now) }
     ensures fault { IfErr result IsLogFault }
 {
+    let (whole, len) = ends;
     if len <= whole {
         return Ok(());
     }
