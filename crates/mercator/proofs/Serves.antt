@@ -142,10 +142,3 @@ done_words (asks.Key url workers) contents input out_old out_new old new limits 
 done_words (asks.Replay file) contents input out_old out_new old new limits gains silent noted = inl (silent refl)
 done_words (asks.Serve workers max within) contents input out_old out_new old new limits gains silent noted = inl (silent refl)
 done_words (asks.ServeLog asked) contents input out_old out_new old new limits gains silent noted = inr (asks.ServeLog asked, limits, record { logged = refl; gains = gains; noted = noted })
-
--- what a session with a log breaks off by has status 1
-pub plain_session : (why : ServeError) (fault : Fault) → (fault ≡ of_session why) ⊎ (fault ≡ wrong.Log unlogged.CannotWrite) → status_of_fault fault ≡ 1
-plain_session serving.CannotRead fault (inl is) = subst (λ f. status_of_fault f ≡ 1) (sym is) refl
-plain_session serving.CannotWrite fault (inl is) = subst (λ f. status_of_fault f ≡ 1) (sym is) refl
-plain_session serving.NoMemory fault (inl is) = subst (λ f. status_of_fault f ≡ 1) (sym is) refl
-plain_session why fault (inr is) = subst (λ f. status_of_fault f ≡ 1) (sym is) refl

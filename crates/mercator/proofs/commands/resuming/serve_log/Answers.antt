@@ -4,7 +4,7 @@ use Rattle.std.proofs.lemmas.Result.{err_from_is_err_and}
 use Rattle.std.specs.Io.KnownBytes.{prepend_known}
 use Rattle.mercator.specs.LogFile.{items}
 use Rattle.mercator.proofs.PlanTexts.{filter_is}
-use Rattle.mercator.proofs.Serves.{breaks_off_log, fails_log, gains_on, plain_log, plain_session}
+use Rattle.mercator.proofs.Serves.{breaks_off_log, fails_log, gains_on, plain_log}
 use Rattle.mercator.proofs.commands.resuming.serve_log.Goals as goal
 
 pub returns-in_err-log-clause-fault : goal.returns-in_err-log-clause-fault
@@ -31,10 +31,7 @@ returns-in-Ok-clause-done g c =
     gains_on made.session c.args.asked.now c.in_ok-filter.filter c.resume.new.session input (prepend_known (items logged.window) (g.I.Read.remaining logged.input.now)) (g.O.Write.contents c.args.out.now) (g.O.Write.contents c.serve.new.out) c.serve.new.session
     made.ensures.start made.ensures.workers made.ensures.suffixes filter c.in_ok-log.ensures.resumed same c.in-Ok.ensures
 
-pub returns-in-Err-clause-fault : goal.returns-in-Err-clause-fault
-returns-in-Err-clause-fault g c =
+pub returns-clause-fault : goal.returns-clause-fault
+returns-clause-fault g c =
     let filter = filter_is c.args.asked.now.within _ c.in_ok-filter.ensures in
     breaks_off_log c.args.asked.now (g.I.Read.remaining c.args.input.now) c.in-Err.why c.fault_of.result _ filter.0 c.fault_of.ensures
-
-pub returns-in-Err-clause-plain : goal.returns-in-Err-clause-plain
-returns-in-Err-clause-plain g c = plain_session c.in-Err.why c.fault_of.result c.fault_of.ensures
