@@ -4,11 +4,10 @@
 
 mod chains;
 
-use mercator::run_words;
-use std::fs::{self, Files};
-use std::io;
+use mercator::{LockFiles, run_words};
 use std::sync::Wait;
 use std::thread::Threads;
+use std::{fs, io};
 
 /// The list of the examples, in the folder that the program runs in: on each line the words, the file of the input, and the
 /// file of what is written.
@@ -30,7 +29,7 @@ fn main(rt: HostRuntime) -> io::Result<()> {
 }
 
 /// Whether the example is done and writes what its file has.
-fn is_answered<R: Threads + Wait + Sync + Files + AllocGlobal>(
+fn is_answered<R: Threads + Wait + Sync + LockFiles + AllocGlobal>(
     rt: &R,
     line: &str,
 ) -> io::Result<bool> {

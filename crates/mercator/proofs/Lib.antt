@@ -5,3 +5,4 @@ pub mod Seeds
 pub mod SiteCrawls
 pub mod WithoutLoss
 pub mod Serves
+mod Windows

@@ -55,7 +55,9 @@ one_output (asks.Crawl workers max queues sources within file listed seeds) (ask
 one_output (asks.Crawl workers max queues sources within file listed seeds) (asks.Key url others) bytes before after its ask own other = absurd ask
 one_output (asks.Crawl workers max queues sources within file listed seeds) (asks.Replay other_file) bytes before after its ask own other = absurd ask
 one_output (asks.Crawl workers max queues sources within file listed seeds) (asks.Serve others other_max other_within) bytes before after its ask own other = absurd ask
+one_output (asks.Crawl workers max queues sources within file listed seeds) (asks.ServeLog asked) bytes before after its ask own other = absurd ask
 one_output (asks.Serve workers max within) other_plan bytes before after its ask own other = absurd ask
+one_output (asks.ServeLog asked) other_plan bytes before after its ask own other = absurd ask
 one_output (asks.Key url workers) other_plan bytes before after its ask own other = absurd ask
 one_output (asks.Replay file) other_plan bytes before after its ask own other = absurd ask
 
@@ -150,6 +152,7 @@ fails workers max within file listed seeds input wrong.NoSeed good of = (good, o
 fails workers max within file listed seeds input (wrong.Seed place refusal) good of = (good, of)
 fails workers max within file listed seeds input (wrong.Url refusal) good of = (good, of)
 fails workers max within file listed seeds input (wrong.Crawl error) good of = (good, of)
+fails workers max within file listed seeds input (wrong.Log fault) good of = (good, of)
 fails workers max within file listed seeds input wrong.BadSuffix good of = absurd of.holds.holds
 fails workers max within file listed seeds input wrong.CannotWrite good of = (good, of)
 fails workers max within file listed seeds input wrong.NoMemory good of = tt

@@ -10,6 +10,8 @@ use Rattle.crawl_sources.specs.declared.seeds.SeedsFault.{SeedsFault}
 use Rattle.crawl_sources.specs.declared.seeds.SeedsFault.TheVariants as seeds
 use Rattle.mercator.specs.declared.commands.fault.Fault.{Fault}
 use Rattle.mercator.specs.declared.commands.fault.Fault.TheVariants as wrong
+use Rattle.mercator.specs.declared.commands.log_file.LogFault.{LogFault}
+use Rattle.mercator.specs.declared.commands.log_file.LogFault.TheVariants as unlogged
 use Rattle.mercator.specs.declared.crawling.error.CrawlError.{CrawlError}
 use Rattle.mercator.specs.declared.crawling.error.CrawlError.TheVariants as crawl
 use Rattle.crawl_replay.specs.declared.script.error.ScriptError.{ScriptError}
@@ -64,6 +66,14 @@ crawl_text (crawl.Run error) = codes "no thread"
 crawl_text (crawl.Frontier error) = codes "no frontier"
 crawl_text crawl.NoMemory = codes "out of memory"
 
+-- why there is no session with a log, or no more of it
+abbrev pub log_text : LogFault → List ℕ
+log_text unlogged.CannotOpen = codes "cannot open"
+log_text unlogged.InUse = codes "in use"
+log_text unlogged.CannotRead = codes "cannot read"
+log_text unlogged.OtherSettings = codes "other settings"
+log_text unlogged.CannotWrite = codes "cannot write"
+
 -- the text of a fault that speaks of this file
 abbrev pub fault_text : List ℕ → Fault → List ℕ
 fault_text file wrong.CannotRead = codes "cannot read " ++ file
@@ -78,7 +88,12 @@ fault_text file wrong.NoSeed = codes "seeds: no seed"
 fault_text file (wrong.Web fault) = codes "saved web: " ++ web_text fault
 fault_text file (wrong.Script fault) = codes "script: " ++ script_text fault
 fault_text file (wrong.Crawl error) = codes "incomplete: " ++ crawl_text error
+fault_text file (wrong.Log fault) = codes "log " ++ file ++ codes ": " ++ log_text fault
 
 -- the line that tells it
 abbrev pub fault_line : List ℕ → Fault → List ℕ
 fault_line file fault = codes "mercator: " ++ fault_text file fault ++ 10 ∷ []
+
+-- the line that tells that the last line of this log had no end, and is cut off
+abbrev pub torn_line : List ℕ → List ℕ
+torn_line file = (codes "mercator: log " ++ file ++ codes ": torn line cut off") ++ 10 ∷ []

@@ -5,6 +5,7 @@ pub mod Faults
 pub mod Input
 pub mod KeyLine
 pub mod Limits
+pub mod LogFile
 pub mod LosslessRuns
 pub mod Plans
 pub mod QueueLines

@@ -1,5 +1,5 @@
 -- What a command line asks for.
-use Rattle.std.specs.Prelude.{ℕ, ◌≤◌, ◌≡◌, ◌⊎◌, ◌&&◌, ◌||◌, Bool, false, not, List, [], ◌∷◌, codes, length, if◌then◌else◌, Option, Some, None, IsSome, String, string_bytes}
+use Rattle.std.specs.Prelude.{ℕ, ◌≤◌, ◌≡◌, ◌⊎◌, ◌&&◌, ◌||◌, Bool, true, false, not, List, [], ◌∷◌, codes, length, if◌then◌else◌, Option, Some, None, IsSome, String, string_bytes}
 use Rattle.std.specs.declared.alloc.Global.{Global}
 use Rattle.std.specs.Str.{bytes_eq}
 use Rattle.crawl_core.specs.Limits.{worker_limit, AreLimits}
@@ -27,6 +27,7 @@ IsWithinLimits (asks.Crawl workers max queues sources within file listed seeds) 
 IsWithinLimits (asks.Key url workers) = (1 ≤ workers) × (workers ≤ worker_limit)
 IsWithinLimits (asks.Replay file) = Unit {0}
 IsWithinLimits (asks.Serve workers max within) = AreLimits workers max
+IsWithinLimits (asks.ServeLog asked) = AreLimits asked.workers asked.max
 
 -- a text is shown with the status of help or with that of a bad command line
 abbrev pub IsShown : PlanError → Type 0
@@ -48,10 +49,13 @@ file_of (asks.Crawl workers max queues sources within file listed seeds) = strin
 file_of (asks.Key url workers) = []
 file_of (asks.Replay file) = string_bytes file
 file_of (asks.Serve workers max within) = codes "-"
+file_of (asks.ServeLog asked) = codes "-"
 
--- the file that a fault of a plan speaks of: that of the seeds where this one cannot be read, else FILE
+-- the file that a fault of a plan speaks of: that of the seeds where this one cannot be read, the log where this one is at fault,
+-- else FILE
 abbrev pub told_file : Plan → Fault → List ℕ
 told_file (asks.Crawl workers max queues sources within file (Some listed) seeds) fault.CannotReadSeeds = string_bytes listed
+told_file (asks.ServeLog asked) (fault.Log why) = string_bytes asked.file
 told_file plan fault = file_of plan
 
 -- the suffixes of the filter of a crawl
@@ -70,8 +74,15 @@ reads_input (asks.Crawl workers max queues sources within file listed seeds) = n
 reads_input (asks.Key url workers) = false
 reads_input (asks.Replay file) = is_input (string_bytes file)
 reads_input (asks.Serve workers max within) = not (is_bad_suffix within)
+reads_input (asks.ServeLog asked) = not (is_bad_suffix asked.within)
 
 -- the command tells a text that is whole before it is written; a session answers as it reads
 abbrev pub IsTelling : Plan → Type 0
 IsTelling (asks.Serve workers max within) = ⊥
+IsTelling (asks.ServeLog asked) = ⊥
 IsTelling plan = Unit {0}
+
+-- the session has a log
+abbrev pub has_log : Plan → Bool
+has_log (asks.ServeLog asked) = true
+has_log plan = false

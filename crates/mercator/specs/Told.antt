@@ -4,20 +4,26 @@ use Rattle.std.specs.Io.KnownBytes.{Appends}
 use Rattle.std.specs.declared.alloc.Global.{Global}
 use Rattle.crawl_keys.specs.CanonicalText.{canonical}
 use Rattle.mercator.specs.Ending.{Begins}
-use Rattle.mercator.specs.FaultText.{fault_line}
+use Rattle.mercator.specs.FaultText.{fault_line, torn_line}
 use Rattle.mercator.specs.Faults.{status_of_fault}
 use Rattle.mercator.specs.KeyLine.{IsKeyLine}
 use Rattle.mercator.specs.Limits.{most_input_bytes}
-use Rattle.mercator.specs.Plans.{is_bad_suffix, is_input, known_bytes, known_seeds, suffixes_of, told_file}
+use Rattle.mercator.specs.Plans.{has_log, is_bad_suffix, is_input, known_bytes, known_seeds, suffixes_of, told_file}
 use Rattle.crawl_replay.specs.Replay.{IsReplay}
 use Rattle.crawl_replay.specs.Script.{script_of}
-use Rattle.crawl_session.specs.Sessions.{session_text}
+use Rattle.crawl_session.specs.Answers.{answer_lines}
+use Rattle.crawl_session.specs.Sessions.{answers, session_text, state_after}
+use Rattle.crawl_session.specs.Settings.{Settings}
+use Rattle.crawl_core.specs.State.{start}
+use Rattle.std.specs.Str.Lines.{lines}
 use Rattle.mercator.specs.WebCrawl.{IsBegun, IsCrawlText, IsUnbegun}
+use Rattle.mercator.specs.declared.commands.planned.LogPlan.{LogPlan}
 use Rattle.mercator.specs.declared.commands.planned.Plan.{Plan}
 use Rattle.mercator.specs.declared.commands.planned.Plan.TheVariants as asks
 use Rattle.mercator.specs.declared.commands.words.PlanError.{PlanError}
 use Rattle.mercator.specs.declared.commands.words.PlanError.TheVariants as unplanned
 use Rattle.mercator.specs.declared.commands.fault.Fault.{Fault}
+use Rattle.mercator.specs.declared.commands.log_file.LogFault.TheVariants as unlogged
 use Rattle.mercator.specs.declared.commands.fault.Fault.TheVariants as wrong
 
 -- it holds of some bytes that a file can have: those that are known of it, if they are, and no more than the limit
@@ -38,6 +44,17 @@ pub record IsAnswered (workers max : ℕ) (suffixes : List (List ℕ)) (input : 
   pub read : IfSome input (λ known. bytes ≡ known)
   pub answered : text ≡ session_text (record { workers = workers; suffixes = suffixes }) max bytes
 
+abbrev pub settings_of : LogPlan → Settings
+settings_of asked = record { workers = asked.workers; suffixes = suffixes_of asked.within }
+
+-- the text has the answers of a session that goes on from a log. Whatever requests the log had, behind its first line: the text
+-- has the answers, from the state after these, to the lines of an input
+pub record GoesOn (asked : LogPlan) (input : Option (List ℕ)) (text : List ℕ) : Type 0 where
+  pub log : List ℕ
+  pub bytes : List ℕ
+  pub read : IfSome input (λ known. bytes ≡ known)
+  pub answered : text ≡ answer_lines (answers (settings_of asked) (state_after (settings_of asked) (start asked.workers asked.max) (lines log)) (lines bytes))
+
 -- the text is the plan's
 abbrev pub IsTold : Plan → Option (List ℕ) → List ℕ → Type 0
 IsTold (asks.Crawl workers max queues sources within file listed seeds) input text =
@@ -46,6 +63,7 @@ IsTold (asks.Crawl workers max queues sources within file listed seeds) input te
 IsTold (asks.Key url workers) input text = IsKeyLine (string_bytes url) workers text
 IsTold (asks.Replay file) input text = OfFile (known_bytes (string_bytes file) input) (λ bytes. IsReplay bytes text)
 IsTold (asks.Serve workers max within) input text = (is_bad_suffix within ≡ false) × IsAnswered workers max (suffixes_of within) input text
+IsTold (asks.ServeLog asked) input text = (is_bad_suffix asked.within ≡ false) × GoesOn asked input text
 
 -- why a replay fails: the FILE cannot be read, or is no script, by this fault; or want of memory
 abbrev pub FailsReplay : List ℕ → Option (List ℕ) → Fault → Type 0
@@ -76,11 +94,23 @@ FailsSession within wrong.BadSuffix = is_bad_suffix within ≡ true
 FailsSession within wrong.NoMemory = Unit {0}
 FailsSession within _ = ⊥
 
--- why it ends before its input does: the input cannot be read, an answer cannot be written, or want of memory
+-- why one with a log does not begin: its suffix is bad, the log is at fault, or want of memory
+abbrev pub FailsLog : Option (String Global) → Fault → Type 0
+FailsLog within wrong.BadSuffix = is_bad_suffix within ≡ true
+FailsLog within (wrong.Log fault) = is_bad_suffix within ≡ false
+FailsLog within wrong.NoMemory = Unit {0}
+FailsLog within _ = ⊥
+
+-- why it ends before its input does: the input cannot be read, an answer or the log cannot be written, or want of
+-- memory
 abbrev pub BreaksOff : Plan → Fault → Type 0
 BreaksOff (asks.Serve workers max within) wrong.CannotRead = is_bad_suffix within ≡ false
 BreaksOff (asks.Serve workers max within) wrong.CannotWrite = is_bad_suffix within ≡ false
 BreaksOff (asks.Serve workers max within) wrong.NoMemory = is_bad_suffix within ≡ false
+BreaksOff (asks.ServeLog asked) wrong.CannotRead = is_bad_suffix asked.within ≡ false
+BreaksOff (asks.ServeLog asked) wrong.CannotWrite = is_bad_suffix asked.within ≡ false
+BreaksOff (asks.ServeLog asked) wrong.NoMemory = is_bad_suffix asked.within ≡ false
+BreaksOff (asks.ServeLog asked) (wrong.Log unlogged.CannotWrite) = is_bad_suffix asked.within ≡ false
 BreaksOff plan fault = ⊥
 
 -- the fault is one by which the plan's command fails before it writes
@@ -89,6 +119,7 @@ Fails (asks.Crawl workers max queues sources within file listed seeds) input fau
 Fails (asks.Key url workers) input fault = FailsKey (string_bytes url) fault
 Fails (asks.Replay file) input fault = FailsReplay (string_bytes file) input fault
 Fails (asks.Serve workers max within) input fault = FailsSession within fault
+Fails (asks.ServeLog asked) input fault = FailsLog asked.within fault
 
 -- there is nothing that the command could tell: the FILE is known and no script; whatever bytes the files of a crawl have, by
 -- what is known of them, there is no web, a seed has no canonical URL, or there is no seed; a suffix is bad; or the URL has no canonical URL
@@ -98,6 +129,7 @@ CannotTell (asks.Crawl workers max queues sources within file listed seeds) inpu
 CannotTell (asks.Key url workers) input = IsErr (canonical (string_bytes url))
 CannotTell (asks.Replay file) input = IsSomeAnd (known_bytes (string_bytes file) input) (λ bytes. IsErr (script_of bytes))
 CannotTell (asks.Serve workers max within) input = is_bad_suffix within ≡ true
+CannotTell (asks.ServeLog asked) input = is_bad_suffix asked.within ≡ true
 
 -- a crawl alone can be incomplete, and it is one of a saved web from seeds, one at least, that have canonical URLs
 abbrev pub MayLose : Plan → Option (List ℕ) → Type 0
@@ -116,12 +148,22 @@ pub record Gains (plan : Plan) (input old new : Option (List ℕ)) : Type 0 wher
 abbrev pub EndsBy : Plan → Option (List ℕ) → Fault → Type 0 → Type 0
 EndsBy plan input fault Unwritten = (Fails plan input fault × Unwritten) ⊎ (((fault ≡ wrong.CannotWrite) × ((text : List ℕ) × IsTold plan input text)) ⊎ BreaksOff plan fault)
 
+-- what a session with a log may tell beside a fault: that the log's last line was torn
+abbrev pub MayNote : Plan → Option (List ℕ) → Option (List ℕ) → Type 0
+MayNote (asks.ServeLog asked) old new = Begins old new (torn_line (string_bytes asked.file))
+MayNote plan old new = Unit {0}
+
+-- the writer for faults gained the line, up to where it refused it; of a session with a log, behind what that may tell
+abbrev pub TellsFault : Plan → Option (List ℕ) → Option (List ℕ) → List ℕ → Type 0
+TellsFault (asks.ServeLog asked) old new line = (middle : Option (List ℕ)) × MayNote (asks.ServeLog asked) old middle × Begins middle new line
+TellsFault plan old new line = Begins old new line
+
 -- a command ended by a fault. The status is the fault's, and the writer for faults gained the fault's line, up to where it
 -- refused it
 pub record EndsByFault (plan : Plan) (ended : ℕ) (input err_old err_new : Option (List ℕ)) (Unwritten : Type 0) : Type 0 where
   pub fault : Fault
   pub status : ended ≡ status_of_fault fault
-  pub told : Begins err_old err_new (fault_line (told_file plan fault) fault)
+  pub told : TellsFault plan err_old err_new (fault_line (told_file plan fault) fault)
   pub why : EndsBy plan input fault Unwritten
 
 -- both plans crawl the input, from the same seeds of the command line within the same suffix, and tell the sources or not; with
@@ -142,3 +184,9 @@ TellsWords unplanned.NoMemory old new = ⊥
 -- is written
 abbrev pub FailsWithoutPlan : Option (List ℕ) → Option (List ℕ) → Type 0 → Type 0
 FailsWithoutPlan old new Unwritten = Begins old new (fault_line [] wrong.CannotWrite) ⊎ (Begins old new (fault_line [] wrong.NoMemory) × Unwritten)
+
+-- a session with a log is done, and may have told that the log's last line was torn
+pub record IsDoneWithNote (plan : Plan) (input out_old out_new err_old err_new : Option (List ℕ)) : Type 0 where
+  pub logged : has_log plan ≡ true
+  pub gains : Gains plan input out_old out_new
+  pub noted : MayNote plan err_old err_new

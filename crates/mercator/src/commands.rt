@@ -4,8 +4,8 @@ ghost use Rattle.std.specs.Io.KnownBytes.{Appends};
 ghost use Rattle.mercator.specs.Ending.{Begins};
 ghost use Rattle.mercator.specs.FaultText.{fault_line};
 ghost use Rattle.mercator.specs.Faults.{status_of_fault};
-ghost use Rattle.mercator.specs.Plans.{IsShown, IsWithinLimits, reads_input};
-ghost use Rattle.mercator.specs.Told.{CannotTell, EndsBy, EndsByFault, FailsWithoutPlan, Gains, MayLose, TellsWords};
+ghost use Rattle.mercator.specs.Plans.{IsShown, IsWithinLimits, has_log, reads_input};
+ghost use Rattle.mercator.specs.Told.{CannotTell, EndsBy, EndsByFault, FailsWithoutPlan, Gains, IsDoneWithNote, MayLose, MayNote, TellsWords};
 ghost use Rattle.mercator.specs.declared.commands.planned.Plan.{Plan};
 ghost use Rattle.mercator.specs.declared.commands.words.PlanError.{PlanError};
 ghost use Rattle.mercator.specs.declared.commands.fault.Fault.TheVariants as wrong;
@@ -14,22 +14,26 @@ mod command_line;
 mod fault;
 mod fault_text;
 mod input;
+mod log_file;
 mod planned;
 mod queues;
+mod resuming;
 mod serving;
 mod source;
 mod tell;
 mod web_crawl;
+mod window;
 mod words;
 mod writing;
 
 pub use fault::Fault;
 pub use input::{INPUT_LIMIT, InputLimits, READ_LIMIT, Unread, read_input};
-pub use planned::Plan;
+pub use log_file::{LockFiles, LogFault};
+pub use planned::{LogPlan, Plan};
 pub use queues::queue_text;
+use resuming::serve_log;
 use serving::serve_plan;
 use std::alloc::Global;
-use std::fs::Files;
 use std::io::{Read, Write};
 use std::sync::Wait;
 use std::thread::Threads;
@@ -42,7 +46,7 @@ use writing::{begin, end, tell_fault};
 /// Runs the program and answers its status: 0 done, 1 a fault, 2 an incomplete crawl, 3 a bad command line. The words are those
 /// after the program's name, and [`plan`] reads them; [`run_plan`] runs what they ask for. Help that is asked for is written to
 /// `out`, and what is wrong with the words to `err`. It is for a process that ends then, as [`run_plan`] is.
-pub fn run_words<R: Files + Threads + Wait + Sync, I: Read, O: Write, E: Write>(
+pub fn run_words<R: LockFiles + Threads + Wait + Sync, I: Read, O: Write, E: Write>(
     rt: &R,
     alloc: Global,
     words: &[String],
@@ -55,7 +59,10 @@ pub fn run_words<R: Files + Threads + Wait + Sync, I: Read, O: Write, E: Write>(
     // Done: help is written, or all that the plan within the limits tells which the words are.
     ensures done { result ≡ 0 → ((input.new ≡ input.old) × ((text : List ℕ) × Appends (O.contents out.old) (O.contents out.new) text))
         ⊎ ((plan : Plan) × IsWithinLimits plan × Gains plan (I.remaining input.old) (O.contents out.old) (O.contents out.new)) }
-    ensures silent { result ≡ 0 → err.new ≡ err.old }
+
+    // A session with a log may tell that its last line was torn; what else is done tells nothing to `err`.
+    ensures silent { result ≡ 0 → (err.new ≡ err.old)
+        ⊎ ((plan : Plan) × IsWithinLimits plan × IsDoneWithNote plan (I.remaining input.old) (O.contents out.old) (O.contents out.new) (E.contents err.old) (E.contents err.new)) }
 
     // A fault: help cannot be written, or there is no memory for the plan, or the plan's command ends by it.
     ensures fault { result ≡ 1 → ((input.new ≡ input.old) × FailsWithoutPlan (E.contents err.old) (E.contents err.new) (out.new ≡ out.old))
@@ -80,7 +87,7 @@ pub fn run_words<R: Files + Threads + Wait + Sync, I: Read, O: Write, E: Write>(
 ///
 /// It is for a process that ends then: a crawl's web and pages are not dropped but left to its end, which gives their memory back
 /// at once. What crawls again and again in one process calls [`crawl_saved_web`], which leaves nothing.
-pub fn run_plan<R: Files + Threads + Wait + Sync, I: Read, O: Write, E: Write>(
+pub fn run_plan<R: LockFiles + Threads + Wait + Sync, I: Read, O: Write, E: Write>(
     rt: &R,
     alloc: Global,
     plan: &Plan,
@@ -93,7 +100,10 @@ pub fn run_plan<R: Files + Threads + Wait + Sync, I: Read, O: Write, E: Write>(
 
     // What is written when a command is done, by the bytes of its FILE.
     ensures done { result ≡ 0 → Gains plan.now (I.remaining input.old) (O.contents out.old) (O.contents out.new) }
-    ensures silent { result ≡ 0 → err.new ≡ err.old }
+    ensures silent { has_log plan.now ≡ false → result ≡ 0 → err.new ≡ err.old }
+
+    // The last line of a log may be torn.
+    ensures noted { result ≡ 0 → MayNote plan.now (E.contents err.old) (E.contents err.new) }
 
     // Else it ends by a fault, which is told in its line; the fault that comes first, and one by which this plan fails.
     ensures fault { 0 < result → EndsByFault plan.now result (I.remaining input.old) (E.contents err.old) (E.contents err.new) (out.new ≡ out.old) }
@@ -106,7 +116,7 @@ pub fn run_plan<R: Files + Threads + Wait + Sync, I: Read, O: Write, E: Write>(
     ensures unreported { result ≡ 2 → out.new ≡ out.old }
     ensures unread { reads_input plan.now ≡ false → input.new ≡ input.old }
 {
-    match run(rt, alloc, plan, input, out) {
+    match run(rt, alloc, plan, input, out, err) {
         Ok(()) => 0,
         Err(fault) => {
             tell_fault(alloc, err, plan.told_file(fault), fault);
@@ -116,12 +126,13 @@ pub fn run_plan<R: Files + Threads + Wait + Sync, I: Read, O: Write, E: Write>(
 }
 
 /// Runs a plan, but for what is told of its fault.
-fn run<R: Files + Threads + Wait + Sync, I: Read, O: Write>(
+fn run<R: LockFiles + Threads + Wait + Sync, I: Read, O: Write, E: Write>(
     rt: &R,
     alloc: Global,
     plan: &Plan,
     input: &mut I,
     out: &mut O,
+    err: &mut E,
 ) -> Result<(), Fault>
     requires { IsWithinLimits plan.now }
     ensures done { IfOk result (λ _. Gains plan.now (I.remaining input.old) (O.contents out.old) (O.contents out.new)) }
@@ -129,16 +140,18 @@ fn run<R: Files + Threads + Wait + Sync, I: Read, O: Write>(
     ensures refused { CannotTell plan.now (I.remaining input.old) → IfErr result (λ fault. status_of_fault fault ≡ 1) × IsErr result × (out.new ≡ out.old) }
     ensures incomplete { IfErr result (λ fault. status_of_fault fault ≡ 2 → MayLose plan.now (I.remaining input.old) × (out.new ≡ out.old)) }
     ensures unread { reads_input plan.now ≡ false → input.new ≡ input.old }
+    ensures silent { has_log plan.now ≡ false → err.new ≡ err.old }
+    ensures noted { MayNote plan.now (E.contents err.old) (E.contents err.new) }
 {
-    if let Plan::Serve {
-        workers,
-        max,
-        within,
-    } = plan
-    {
-        return serve_plan(alloc, *workers, *max, within, input, out);
+    match plan {
+        Plan::Serve {
+            workers,
+            max,
+            within,
+        } => serve_plan(alloc, *workers, *max, within, input, out),
+        Plan::ServeLog(asked) => serve_log(rt, alloc, asked, input, out, err),
+        _ => end(out, tell(rt, alloc, plan, input)),
     }
-    end(out, tell(rt, alloc, plan, input))
 }
 
 /// Shows why words are no plan: help in the output, and what is wrong with them in the writer for faults.

@@ -9,9 +9,9 @@ mod key;
 pub mod laws;
 
 pub use commands::{
-    BAD_COMMAND_LINE, Fault, INPUT_LIMIT, InputLimits, Plan, PlanError, READ_LIMIT, Report, Unread,
-    crawl_saved_web, fault_line, plan, queue_text, read_input, report_of_saved_web, run_plan,
-    run_words,
+    BAD_COMMAND_LINE, Fault, INPUT_LIMIT, InputLimits, LockFiles, LogFault, LogPlan, Plan,
+    PlanError, READ_LIMIT, Report, Unread, crawl_saved_web, fault_line, plan, queue_text,
+    read_input, report_of_saved_web, run_plan, run_words,
 };
 pub use crawl_certificate::{CertError, CrawlResult, certify};
 pub use crawl_replay::{Script, ScriptError, read_script, replay_text};

@@ -90,7 +90,9 @@ fn serve_command<'a>(alloc: Global) -> Result<Command<'a>, AllocError> {
         .after_help(SERVE_HELP)
         .arg(workers(alloc, "Workers, each with a subqueue of its own: 1 to 512"))?
         .arg(max_pending(alloc))?
-        .arg(within(alloc))
+        .arg(within(alloc))?
+        .arg(log(alloc))?
+        .arg(sync(alloc)?)
 }
 
 fn workers<'a>(alloc: Global, help: &'a str) -> Arg<'a> {
@@ -137,6 +139,20 @@ fn within<'a>(alloc: Global) -> Arg<'a> {
         .long("within")
         .value_name("SUFFIX")
         .help("Crawls only hosts that are SUFFIX or end with a dot and it")
+}
+
+fn log<'a>(alloc: Global) -> Arg<'a> {
+    Arg::new(alloc, "log").long("log").value_name("FILE").help(
+        "Appends each request to FILE before it is answered, and begins where FILE ends",
+    )
+}
+
+fn sync<'a>(alloc: Global) -> Result<Arg<'a>, AllocError> {
+    Arg::new(alloc, "sync")
+        .long("sync")
+        .action(ArgAction::SetTrue)
+        .help("The disk has each request before it is answered")
+        .requires_arg("log")
 }
 
 fn file<'a>(alloc: Global, help: &'a str) -> Arg<'a> {

@@ -4,6 +4,7 @@ ghost use Rattle.mercator.specs.Faults.{of_script, of_seeds, of_web, of_url, of_
 ghost use Rattle.mercator.specs.declared.commands.fault.Fault.TheVariants as wrong;
 
 use crate::commands::input::Unread;
+use crate::commands::log_file::LogFault;
 use crate::crawling::CrawlError;
 use crawl_keys::{FilterError, KeyError};
 use crawl_replay::ScriptError;
@@ -36,6 +37,8 @@ pub enum Fault {
     BadSuffix,
     /// A write or a flush failed.
     CannotWrite,
+    /// The log is at fault.
+    Log(LogFault),
     /// A growth was refused. The other variants never hold this reason.
     NoMemory,
 }

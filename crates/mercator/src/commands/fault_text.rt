@@ -1,8 +1,9 @@
 //! The texts of faults.
 ghost use Rattle.std.specs.Prelude.{Some};
-ghost use Rattle.mercator.specs.FaultText.{fault_text, line_text, web_text, seeds_text, script_text, crawl_text};
+ghost use Rattle.mercator.specs.FaultText.{fault_text, line_text, log_text, web_text, seeds_text, script_text, crawl_text};
 
 use crate::commands::fault::Fault;
+use crate::commands::log_file::LogFault;
 use crate::crawling::CrawlError;
 use crawl_certificate::CertError;
 use crawl_frontier::FinishError;
@@ -51,6 +52,10 @@ impl fmt::Display for FaultText<'_> {
             Fault::Crawl(error) => {
                 let text = CrawlText(error);
                 write!(f, "incomplete: {text}")
+            }
+            Fault::Log(fault) => {
+                let (file, text) = (self.file, LogText(fault));
+                write!(f, "log {file}: {text}")
             }
         }
     }
@@ -211,6 +216,23 @@ impl fmt::Display for CrawlText {
             CrawlError::Cert(CertError::NoMemory)
             | CrawlError::Finish(FinishError::NoMemory)
             | CrawlError::NoMemory => f.write_str("out of memory"),
+        }
+    }
+}
+
+#[derive(Clone, Copy)]
+struct LogText(LogFault);
+
+impl fmt::Display for LogText {
+    ghost output = { λ told. Some (log_text told.0) };
+
+    fn fmt<W: fmt::Write>(&self, f: &mut fmt::Formatter<W>) -> fmt::Result {
+        match self.0 {
+            LogFault::CannotOpen => f.write_str("cannot open"),
+            LogFault::InUse => f.write_str("in use"),
+            LogFault::CannotRead => f.write_str("cannot read"),
+            LogFault::OtherSettings => f.write_str("other settings"),
+            LogFault::CannotWrite => f.write_str("cannot write"),
         }
     }
 }

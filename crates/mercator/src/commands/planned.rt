@@ -48,6 +48,23 @@ pub enum Plan {
         /// The suffix of the hosts that are wanted, where not all are.
         within: Option<String>,
     },
+    /// `serve --log`: the same, from where a log stands, which gains the requests.
+    ServeLog(LogPlan),
+}
+
+/// A session that has a log.
+#[derive(Debug, Drop)]
+pub struct LogPlan {
+    /// How many workers, and so subqueues, the frontier has: 1 to 512.
+    pub workers: u32,
+    /// The frontier's maximum of pending URLs: 1 to 2^40.
+    pub max: u64,
+    /// The suffix of the hosts that are wanted, where not all are.
+    pub within: Option<String>,
+    /// The log's name.
+    pub file: String,
+    /// Whether the disk has each request before it is answered.
+    pub sync: bool,
 }
 
 impl Plan {
@@ -58,11 +75,12 @@ impl Plan {
         match self {
             Plan::Crawl { file, .. } | Plan::Replay { file } => file.as_str(),
             Plan::Key { .. } => "",
-            Plan::Serve { .. } => "-",
+            Plan::Serve { .. } | Plan::ServeLog(_) => "-",
         }
     }
 
-    /// The file that this fault speaks of: that of the seeds where this one cannot be read, else FILE.
+    /// The file that this fault speaks of: that of the seeds where this one cannot be read, the log where this one is at fault,
+    /// else FILE.
     pub fn told_file(&self, fault: Fault) -> &str
         ensures { result.now ≡ told_file self.now fault }
     {
@@ -74,6 +92,7 @@ impl Plan {
                 },
                 Fault::CannotReadSeeds,
             ) => listed.as_str(),
+            (Plan::ServeLog(asked), Fault::Log(_)) => asked.file.as_str(),
             _ => self.file(),
         }
     }

@@ -54,7 +54,7 @@ pub fn serve_plan<I: Read, O: Write>(
     Ok(())
 }
 
-fn session_of(alloc: Global, workers: u32, max: u64, filter: Filter) -> Result<Session, Fault>
+pub fn session_of(alloc: Global, workers: u32, max: u64, filter: Filter) -> Result<Session, Fault>
     requires { AreLimits workers max }
     ensures start { IfOk result (λ session. Shows session.core (start workers max)) }
     ensures workers { IfOk result (λ session. session.settings.workers ≡ workers) }

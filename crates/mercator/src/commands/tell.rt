@@ -68,7 +68,7 @@ pub fn tell<R: Files + Threads + Wait + Sync, I: Read>(
             text
         }
         Plan::Key { url, workers } => tell_key(alloc, url, *workers),
-        Plan::Serve { .. } => unreachable!("a session tells as it reads"),
+        Plan::Serve { .. } | Plan::ServeLog(_) => unreachable!("a session tells as it reads"),
     }
 }
 

@@ -5,7 +5,7 @@ ghost use Rattle.mercator.specs.Plans.{IsWithinLimits, IsShown, lists_input};
 ghost use Rattle.mercator.specs.declared.commands.words.PlanError.TheVariants as wrong;
 
 use crate::commands::command_line::{self, command_line};
-use crate::commands::planned::Plan;
+use crate::commands::planned::{LogPlan, Plan};
 use clap::ArgMatches;
 use clap::error::ErrorKind;
 use crawl_core::{PENDING_LIMIT, WORKER_LIMIT};
@@ -180,11 +180,21 @@ fn serve_of(alloc: Global, found: &ArgMatches<'_>) -> Result<Plan, PlanError>
     let (Some(workers), Some(max)) = (workers_of(found), max_of(found)) else {
         return Err(misread(alloc));
     };
-    Ok(Plan::Serve {
+    let within = option_of(alloc, found, "within")?;
+    let Some(file) = option_of(alloc, found, "log")? else {
+        return Ok(Plan::Serve {
+            workers,
+            max,
+            within,
+        });
+    };
+    Ok(Plan::ServeLog(LogPlan {
         workers,
         max,
-        within: option_of(alloc, found, "within")?,
-    })
+        within,
+        file,
+        sync: found.get_flag("sync"),
+    }))
 }
 
 /// The number of workers, tested once more.

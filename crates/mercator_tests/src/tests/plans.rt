@@ -3,8 +3,9 @@ use crate::tests::runs::words;
 use mercator::{Plan, plan};
 use std::alloc::{AllocError, Global};
 
-/// Words, and all of their plan: workers, maximum, queues, sources, suffix, FILE, file of seeds, seeds.
-const ROWS: [(&str, &str); 14] = [
+/// Words, and all of their plan: workers, maximum, queues, sources, suffix, FILE, file of seeds, seeds; or the log, and whether it is
+/// synced.
+const ROWS: [(&str, &str); 16] = [
     (
         "crawl - x",
         "crawl 4 1048576 false false None - None [\"x\"]",
@@ -49,6 +50,11 @@ const ROWS: [(&str, &str); 14] = [
         "serve --workers=512 --max-pending=1099511627776",
         "serve 512 1099511627776 None",
     ),
+    ("serve --log l", "serve 4 1048576 None l false"),
+    (
+        "serve --sync --within=b.test --log=l --workers 2",
+        "serve 2 1048576 Some(\"b.test\") l true",
+    ),
 ];
 
 /// The plan in one line.
@@ -73,6 +79,11 @@ fn plan_line(alloc: Global, plan: &Plan) -> Result<String, AllocError> {
             max,
             within,
         } => format!(in alloc; "serve {workers} {max} {within:?}"),
+        Plan::ServeLog(asked) => {
+            let (workers, max, sync) = (asked.workers, asked.max, asked.sync);
+            let (within, file) = (&asked.within, &asked.file);
+            format!(in alloc; "serve {workers} {max} {within:?} {file} {sync}")
+        }
     }
 }
 

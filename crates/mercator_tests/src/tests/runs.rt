@@ -1,7 +1,6 @@
 //! Runs of the program by its words, over a reader and writers that may fail.
-use mercator::run_words;
+use mercator::{LockFiles, run_words};
 use std::alloc::{AllocError, Global};
-use std::fs::Files;
 use std::io::{self, ErrorKind, Read, Write};
 use std::sync::Wait;
 use std::thread::Threads;
@@ -115,7 +114,7 @@ pub fn words(alloc: Global, text: &str) -> Result<Vec<String>, AllocError> {
 }
 
 /// Whether the program ends as the row says, where these fail.
-pub fn holds<R: Files + Threads + Wait + Sync>(
+pub fn holds<R: LockFiles + Threads + Wait + Sync>(
     rt: &R,
     alloc: Global,
     row: &Row,

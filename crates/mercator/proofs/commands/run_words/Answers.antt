@@ -1,8 +1,14 @@
 use Rattle.std.proofs.Common.{arith, inr}
+use Rattle.mercator.proofs.Serves.{done_words}
 use Rattle.mercator.proofs.commands.run_words.Goals as goal
 
 pub returns-in-Ok-clause-done : goal.returns-in-Ok-clause-done
 returns-in-Ok-clause-done g c = λ zero. inr (c.in-Ok.plan, c.in-Ok.ensures.limits, c.run_plan.ensures.done zero)
+
+pub returns-in-Ok-clause-silent : goal.returns-in-Ok-clause-silent
+returns-in-Ok-clause-silent g c =
+    λ zero. done_words c.in-Ok.plan (g.E.Write.contents) (g.I.Read.remaining c.args.input.now) (g.O.Write.contents c.args.out.now) (g.O.Write.contents c.run_plan.new.out) c.args.err.now c.run_plan.new.err
+    c.in-Ok.ensures.limits (c.run_plan.ensures.done zero) (λ plain. c.run_plan.ensures.silent plain zero) (c.run_plan.ensures.noted zero)
 
 pub returns-in-Ok-clause-fault : goal.returns-in-Ok-clause-fault
 returns-in-Ok-clause-fault g c = λ one. inr (c.in-Ok.plan, c.in-Ok.ensures.limits, c.run_plan.ensures.fault (omega (arith, one)))
