@@ -1,0 +1,124 @@
+"""Parts: the Python client, and what it raises."""
+
+from __future__ import annotations
+
+import fcntl
+import os
+import signal
+import threading
+import time
+from typing import List
+
+from mercator_frontier import (
+    Accepted, Closed, Frontier, FrontierEnded, NoSuchQueue, NothingTaken, Pending, ProgramMissing,
+    QueueBusy, Refusal,
+)
+from serving.trial import SECONDS, Differs, Trial, expect, expect_error
+
+F_SETPIPE_SZ = 1031
+
+
+def client_values(trial: Trial) -> None:
+    """What each call answers and raises."""
+    with Frontier(1, program=trial.program, within="test", max_pending=3) as frontier:
+        expect(frontier.offer("http://A.test:80/x/../y#f") == Accepted(0, 0), "accepted")
+        told = frontier.offer_all(iter([
+            "http://a.test/y", "http://b.other/", "mailto:a@b.test", "nowhere", "http://a.test/" + "x" * 5000,
+            "http://a.test/\udc00", "http://a.te\nst/\r\nnext 0\n", "http://a.test/\n" + "y" * 9000, "http://a.test/full",
+        ]))
+        expect(told == [
+            Refusal.SEEN, Refusal.FILTERED, Refusal.NOT_HTTP, Refusal.NOT_URL, Refusal.TOO_LONG, Refusal.NOT_TEXT,
+            Accepted(0, 1), Refusal.TOO_LONG, Refusal.FULL,
+        ], f"offers: {told}")
+        expect(bool(told[6]) and not told[0], "a refusal is false")
+        expect(frontier.offer_all([]) == [], "no offer")
+        expect(frontier.try_take(0) == "http://a.test/y", "try_take")
+        for error, call in ((QueueBusy, lambda: frontier.take(0)), (NoSuchQueue, lambda: frontier.take(1)),
+                            (NoSuchQueue, lambda: frontier.done(-1))):
+            expect_error(error, call)
+        expect(frontier.done(0) == 2, "done")
+        expect_error(NothingTaken, lambda: frontier.done(0))
+        expect(frontier.take(0) == "http://a.test/next%200", "take")
+        expect((frontier.end_seeds(), frontier.end_seeds()) == (1, None), "end_seeds")
+        if trial.has_link:
+            texts = ("../y", "f g", "", " \t", "mailto:x", "//b.other")
+            told = [frontier.link("http://a.test/d/e?q", text) for text in texts]
+            expect(told == [
+                Refusal.SEEN, Accepted(0, 2), Accepted(0, 3), Refusal.FULL, Refusal.NOT_HTTP, Refusal.FILTERED,
+            ], f"links: {told}")
+        while frontier.done(0):
+            expect(isinstance(frontier.take(0), str), "a URL")
+        expect((frontier.take(0), frontier.try_take(0)) == (None, Closed.CLOSED), "closed")
+        expect(frontier.offer("http://a.test/late") is Refusal.CLOSED, "late")
+    expect_error(FrontierEnded, lambda: frontier.take(0))
+    with Frontier(2, program=trial.program) as frontier:
+        frontier.offer("http://a.test/")
+        taken = [frontier.try_take(queue) for queue in (0, 1)]
+        expect("http://a.test/" in taken and Pending(2) in taken, f"pending: {taken}")
+
+
+def client_ends(trial: Trial) -> None:
+    """A program that is missing, that refuses its words, or that is killed."""
+    expect_error(ProgramMissing, lambda: Frontier(program="/no/such/program"))
+    with Frontier(513, program=trial.program) as frontier:
+        try:
+            frontier.end_seeds()
+            raise Differs("513 workers are not refused")
+        except FrontierEnded as error:
+            expect(error.status == 3 and "513" in error.told and "513" in str(error), f"{error}")
+    for is_killed in (True, False):
+        with Frontier(2, program=trial.program) as frontier:
+            ends: List[FrontierEnded] = []
+            fetchers = [threading.Thread(target=wait, args=(frontier, queue, ends)) for queue in range(2)]
+            for fetcher in fetchers:
+                fetcher.start()
+            time.sleep(0.1)
+            if is_killed:
+                os.kill(pid_of(frontier), signal.SIGKILL)
+            else:
+                frontier.close()
+            expect_error(FrontierEnded, lambda: frontier.offer("http://a.test/"))
+            for fetcher in fetchers:
+                fetcher.join(SECONDS)
+            status = -9 if is_killed else 0
+            expect([end.status for end in ends] == [status] * 2, f"what the fetchers are told: {ends}")
+
+
+def wait(frontier: Frontier, queue: int, ends: List[FrontierEnded]) -> None:
+    try:
+        frontier.take(queue)
+    except FrontierEnded as error:
+        ends.append(error)
+
+
+def interrupted_call(trial: Trial) -> None:
+    """Ctrl-C in the midst of a call, whose answers nobody reads, ends the frontier."""
+    with Frontier(2, program=trial.program) as frontier:
+        os.kill(pid_of(frontier), signal.SIGSTOP)
+        threading.Timer(0.2, signal.pthread_kill, (threading.get_ident(), signal.SIGINT)).start()
+        try:
+            frontier.offer("http://a.test/")
+        except KeyboardInterrupt:
+            pass
+        else:
+            raise Differs("the call was not interrupted")
+        expect_error(FrontierEnded, lambda: frontier.offer("http://b.test/"))
+
+
+def pid_of(frontier: Frontier) -> int:
+    return frontier._channel._process.pid
+
+
+def client_small_pipes(trial: Trial) -> None:
+    """With pipes of one page, neither side waits for the other."""
+    count = trial.lines
+    with Frontier(3, program=trial.program) as frontier:
+        process = frontier._channel._process
+        for pipe in (process.stdin, process.stdout):
+            assert pipe
+            fcntl.fcntl(pipe.fileno(), F_SETPIPE_SZ, 4096)
+        offers = frontier.offer_all(f"http://h{number % 50}.test/{number}" for number in range(count))
+        expect(all(offers) and len(offers) == count, "offers")
+        # Each of these answers is longer than its request.
+        expect(frontier.offer_all(["a:"] * count) == [Refusal.NOT_HTTP] * count, "refusals")
+        expect(bool(frontier.offer("http://a.test/" + "x" * 4000)), "a long one")

@@ -1,0 +1,206 @@
+"""Parts: the crawlers of `examples/`, over HTTP on this machine."""
+
+from __future__ import annotations
+
+import http.client
+import http.server
+import re
+import shutil
+import subprocess
+import sys
+import threading
+import time
+from pathlib import Path
+from typing import Dict, List, Tuple
+from urllib.parse import urlsplit
+
+import drawn
+from serving import ROOT
+from serving.trial import SECONDS, Differs, Skipped, Trial, expect
+
+CRAWLER = ROOT / "examples/crawl_http.py"
+
+
+class Folder:
+    """`python3 -m http.server` over a folder."""
+
+    def __init__(self, folder: Path, address: str = "127.0.0.1") -> None:
+        words = [sys.executable, "-u", "-m", "http.server", "0", "--bind", address, "--directory", str(folder)]
+        self.process = subprocess.Popen(words, stdout=subprocess.PIPE, stderr=subprocess.DEVNULL)
+        assert self.process.stdout
+        port = re.findall(rb"port (\d+)", self.process.stdout.readline())[0].decode()
+        self.url = f"http://{address}:{port}/"
+
+    def __enter__(self) -> Folder:
+        return self
+
+    def __exit__(self, *_: object) -> None:
+        self.process.kill()
+        self.process.wait()
+
+
+def found_by_search(start: str) -> Dict[str, str]:
+    """Each URL of the server with its status, by a search of this script."""
+    found: Dict[str, str] = {}
+    rest = [start]
+    while rest:
+        url = rest.pop()
+        if url in found or not url.startswith(start):
+            continue
+        connection = http.client.HTTPConnection(urlsplit(url).netloc)
+        connection.request("GET", url[len(start) - 1:])
+        answer = connection.getresponse()
+        found[url] = str(answer.status)
+        page = answer.read().decode("utf-8", "replace") if answer.headers.get_content_type() == "text/html" else ""
+        texts = re.findall(r"<(?:a|area|link)\s[^>]*?href=[\"']([^\"']*)|<(?:img|script|iframe)\s[^>]*?src=[\"']([^\"']*)", page)
+        base = re.findall(r"<base\s+href=[\"']([^\"']*)", page)
+        links = [one or other for one, other in texts if answer.status == 200]
+        links += [text for text in [answer.getheader("Location")] if text]
+        page_url = drawn.url_of(base[0], drawn.url_of(url)) if base else drawn.url_of(url)
+        rest += [str(link) for link in (drawn.url_or_none(unescaped(text), page_url) for text in links) if link]
+        connection.close()
+    return found
+
+
+def unescaped(text: str) -> str:
+    return text.replace("&amp;", "&")
+
+
+def crawler_words(trial: Trial, *words: str) -> List[str]:
+    return [sys.executable, str(CRAWLER), "--program", trial.program, *words]
+
+
+def run_crawler(words: List[str], seconds: float = SECONDS) -> subprocess.CompletedProcess[bytes]:
+    try:
+        return subprocess.run(words, capture_output=True, timeout=seconds, check=False)
+    except subprocess.TimeoutExpired as late:
+        raise Differs(f"the crawler runs on for {seconds} s: {late.stderr!r}") from None
+
+
+def told_by_crawler(output: bytes) -> List[Tuple[str, str]]:
+    """The URL and status of each whole line."""
+    lines = [line.split(" ") for line in output.decode().split("\n")[:-1]]
+    return [(url, status) for status, _, url in lines]
+
+
+def crawler(trial: Trial) -> None:
+    """The shipped site by `http.server`: the URLs and statuses that a search of this script finds."""
+    trial.want_link()
+    with Folder(ROOT / "examples/site") as folder:
+        wanted = found_by_search(folder.url)
+        words = crawler_words(trial, "--delay", "0", "--within", "127.0.0.1", folder.url)
+        done = run_crawler(words)
+        told = told_by_crawler(done.stdout)
+        expect(done.returncode == 0 and not done.stderr, f"status {done.returncode}: {done.stderr.decode()}")
+        expect(len(told) == len(wanted) and dict(told) == wanted, f"other URLs: {set(told) ^ set(wanted.items())}")
+        print(f"  {len(told)} URLs")
+
+
+def bash_crawler(trial: Trial) -> None:
+    """The crawler in bash, which reads no `<base>`: each URL once, those of the search among them."""
+    trial.want_link()
+    if not shutil.which("curl"):
+        raise Skipped("there is no curl")
+    with Folder(ROOT / "examples/site") as folder:
+        wanted = found_by_search(folder.url)
+        words = ["env", f"MERCATOR={trial.program}", "DELAY=0", str(ROOT / "examples/crawl_http.sh"), "127.0.0.1", folder.url]
+        done = run_crawler(words)
+        told = dict(line.split(" ")[::-1] for line in done.stdout.decode().split("\n")[:-1])
+        expect(done.returncode == 0 and not done.stderr, f"status {done.returncode}: {done.stderr.decode()}")
+        expect(len(told) == done.stdout.count(b"\n"), "a URL is told twice")
+        other = {url for url in set(told) & set(wanted) if told[url] != wanted[url]}
+        expect(not other and len(set(wanted) - set(told)) <= 2, f"other URLs: {other or set(told) ^ set(wanted)}")
+
+
+class Polite(http.server.BaseHTTPRequestHandler):
+    """A host with robots.txt, a redirect, a page without an end, and a page of all its links."""
+
+    asked: List[Tuple[float, str, str]] = []
+    pages = {
+        "/robots.txt": "User-agent: *\nDisallow: /private\n",
+        "/": "<a href=/private/x>x</a><A HREF='moved'>m</A><a href=endless>e</a><base href=/d/><a href=y&amp;z>y</a>",
+    }
+
+    def do_GET(self) -> None:
+        Polite.asked.append((time.monotonic(), self.path, self.headers["User-Agent"]))
+        page = Polite.pages.get(self.path)
+        if self.path == "/moved":
+            self.send_response(301)
+            self.send_header("Location", "../to?q#f")
+            self.end_headers()
+        elif self.path == "/d/endless":
+            self.send_response(200)
+            self.send_header("Content-Type", "text/html")
+            self.end_headers()
+            try:
+                while True:
+                    self.wfile.write(b"<a href=/n>n</a>".ljust(10_000))
+            except OSError:
+                return
+        else:
+            self.send_response(200 if page else 404)
+            self.send_header("Content-Type", "text/plain" if self.path == "/robots.txt" else "text/html")
+            self.end_headers()
+            self.wfile.write((page or "").encode())
+
+    def log_message(self, format: str, *words: object) -> None:
+        return
+
+
+def polite_crawler(trial: Trial) -> None:
+    """robots.txt, the delay, redirects, and a page without an end."""
+    trial.want_link()
+    server = http.server.ThreadingHTTPServer(("127.0.0.1", 0), Polite)
+    threading.Thread(target=server.serve_forever, daemon=True).start()
+    site = f"http://127.0.0.1:{server.server_port}"
+    words = crawler_words(trial, "--delay", "0.2", "--largest", "100000", "--agent", "bell", "--within", "127.0.0.1", f"{site}/")
+    done = run_crawler(words)
+    server.shutdown()
+    wanted = {"/": "200", "/private/x": "robots", "/d/moved": "404", "/d/endless": "200", "/d/y&z": "404", "/n": "404"}
+    told = {url[len(site):]: status for url, status in told_by_crawler(done.stdout)}
+    expect(told == wanted and done.returncode == 0, f"{told}, status {done.returncode}: {done.stderr.decode()}")
+    paths = [path for _, path, _ in Polite.asked]
+    expect(paths[0] == "/robots.txt" and sorted(paths[1:]) == sorted(set(wanted) - {"/private/x"}), f"asked: {paths}")
+    expect({agent for _, _, agent in Polite.asked} == {"bell"}, "the agent")
+    times = [when for when, _, _ in Polite.asked]
+    expect(all(later - earlier >= 0.19 for earlier, later in zip(times, times[1:])), f"the delay: {times}")
+
+
+def saved_documentation(trial: Trial) -> None:
+    """Python's documentation by `http.server`, and from its folder by `mercator crawl`: the same URLs.
+
+    Where no documentation is installed, the shipped site stands in.
+    """
+    trial.want_link()
+    said = subprocess.run([trial.program, "crawl", "--help"], capture_output=True, check=False)
+    if said.returncode:
+        raise Skipped("the program has no `crawl`")
+    installed = sorted(Path("/usr/share/doc").glob("python3*/html/library/index.html"))
+    site = installed[0].parent.parent.resolve() if installed else ROOT / "examples/site"
+    with Folder(site) as folder:
+        wanted = found_in_saved_web(trial, site, folder.url)
+        words = ("--delay", "0", "--largest", "100000000", "--within", "127.0.0.1", folder.url)
+        done = run_crawler(crawler_words(trial, *words), 5 * SECONDS)  # some minutes under load
+        told = told_by_crawler(done.stdout)
+        expect(done.returncode == 0 and not done.stderr, f"status {done.returncode}: {done.stderr.decode()}")
+        expect(len(told) == len(dict(told)), "a URL is told twice")
+        other = sorted(set(dict(told)) ^ set(wanted))
+        expect(not other, f"{len(other)} other URLs: {other[:5]}")
+        status = {"ok": "200", "missing": "404", "moved": "301"}
+        other = [url for url, word in sorted(wanted.items()) if dict(told)[url] != status[word]]
+        expect(not other, f"{len(other)} other statuses: {other[:5]}")
+        print(f"  {len(told)} URLs of {site}")
+
+
+def found_in_saved_web(trial: Trial, site: Path, url: str) -> Dict[str, str]:
+    """Each URL that `mercator crawl` finds in the saved web of a folder, with its word."""
+    web = trial.folder / "folder.web"
+    with open(web, "wb") as file:
+        subprocess.run(
+            [sys.executable, str(ROOT / "tools/site_to_web.py"), str(site), url],
+            stdout=file, stderr=subprocess.DEVNULL, timeout=SECONDS, check=True,
+        )
+    words = [trial.program, "crawl", "--within", "127.0.0.1", str(web), url]
+    report = subprocess.run(words, capture_output=True, timeout=SECONDS, check=True).stdout.decode()
+    lines = [line.split(" ") for line in report.splitlines()[:-1]]
+    return {line[-1]: line[0] for line in lines}

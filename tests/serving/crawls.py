@@ -1,0 +1,110 @@
+"""Parts: crawls of generated webs by the Python client, in threads."""
+
+from __future__ import annotations
+
+import threading
+from collections import Counter
+from random import Random
+from typing import List, Set
+from urllib.parse import urljoin
+
+import drawn
+from mercator_frontier import Frontier, FrontierEnded
+from serving.trial import SECONDS, Trial, expect
+
+
+class Web:
+    """Pages over some hosts, with links in many spellings, and the URLs that a search finds."""
+
+    def __init__(self, draw: Random) -> None:
+        hosts = draw.randrange(1, 30)
+        urls = [f"http://h{draw.randrange(hosts)}.test/d/{number}" for number in range(draw.randrange(20, 400))]
+        self.links = {url: [self.spelled(draw, url, draw.choice(urls)) for _ in range(draw.randrange(6))] for url in urls}
+        self.seeds = urls[:2]
+        self.reached: Set[str] = set(self.seeds)
+        rest = list(self.seeds)
+        while rest:
+            url = rest.pop()
+            for text in self.links[url]:
+                link = drawn.url_or_none(text, drawn.url_of(url))
+                if link and str(link) in self.links and str(link) not in self.reached:
+                    self.reached.add(str(link))
+                    rest.append(str(link))
+
+    @staticmethod
+    def spelled(draw: Random, page: str, url: str) -> str:
+        host, path = url[7:].split("/", 1)
+        texts = [url, f"HTTP://{host.upper()}:80/x/../{path}#part", f"//{host}/./{path}", "mailto:x", "http://o.other/", "//["]
+        return draw.choice([*texts, f"/{path}", f"../{path}#f"] if page[7:].split("/")[0] == host else texts)
+
+
+class Crawl:
+    """A crawl in threads, which may be cut off and go on."""
+
+    def __init__(self, web: Web, trial: Trial) -> None:
+        self.web, self.trial = web, trial
+        self.lock = threading.Lock()
+        self.fetched: Counter[str] = Counter()
+        self.hosts: Counter[str] = Counter()
+        self.in_hands: Counter[str] = Counter()
+        self.wrong: List[str] = []
+        self.told_closed = 0
+
+    def work(self, frontier: Frontier, queue: int) -> None:
+        try:
+            while True:
+                url = frontier.take(queue)
+                if url is None:
+                    break
+                self.fetch(frontier, queue, url)
+        except FrontierEnded:
+            return
+        except BaseException as error:
+            self.wrong.append(repr(error))
+        else:
+            with self.lock:
+                self.told_closed += 1
+
+    def fetch(self, frontier: Frontier, queue: int, url: str) -> None:
+        host = url.split("/")[2]
+        with self.lock:
+            self.fetched[url] += 1
+            self.in_hands[url] += 1
+            self.hosts[host] += 1
+            if self.hosts[host] > 1:
+                self.wrong.append(f"two fetchers at {host}")
+        texts = self.web.links.get(url, [])
+        with self.lock:
+            self.hosts[host] -= 1
+        if self.trial.has_link:
+            frontier.links(url, texts)
+        else:
+            frontier.offer_all(urljoin(url, text) if text != "//[" else text for text in texts)
+        frontier.done(queue)
+        with self.lock:
+            self.in_hands[url] -= 1
+
+    def run(self, workers: int) -> bool:
+        """Crawls to its end; whether each fetcher was told that it is over."""
+        self.told_closed = 0
+        with Frontier(workers, within="test", program=self.trial.program) as frontier:
+            fetchers = [threading.Thread(target=self.work, args=(frontier, queue), daemon=True) for queue in range(workers)]
+            for fetcher in fetchers:
+                fetcher.start()
+            frontier.offer_all(self.web.seeds)
+            frontier.end_seeds()
+            for fetcher in fetchers:
+                fetcher.join(SECONDS)
+                expect(not fetcher.is_alive(), "a fetcher waits for ever")
+        expect(not self.wrong, f"{self.wrong[:3]}")
+        return self.told_closed == workers
+
+
+def crawls(trial: Trial) -> None:
+    """Each URL once, each host by one fetcher at a time, and each fetcher told that the crawl is over."""
+    for number in range(10):
+        draw = trial.draw(f"crawl {number}")
+        for workers in (1, 2, 7, 64):
+            crawl = Crawl(Web(draw), trial)
+            expect(crawl.run(workers), "a fetcher was not told that it is over")
+            expect(crawl.fetched == Counter(crawl.web.reached), f"crawl {number} of {workers}: other URLs")

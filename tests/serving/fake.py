@@ -1,0 +1,270 @@
+#!/usr/bin/python3
+"""A frontier in Python that answers as `mercator serve` does: for the tests of its clients alone.
+
+Usage: fake.py serve [--workers N] [--max-pending M] [--within SUFFIX] [--part I/K]
+                     [--log FILE [--sync]]
+
+It tries a client where the program lacks a request, and is a second reckoning of the program. Its
+URLs are those of drawn.py. It has no `--compact`, and the first line of its log is its own.
+"""
+
+from __future__ import annotations
+
+import argparse
+import fcntl
+import os
+import re
+import sys
+from collections import deque
+from functools import lru_cache
+from pathlib import Path
+from typing import Deque, List, NamedTuple, NoReturn, Optional, Set, Tuple
+
+sys.path.insert(0, str(Path(__file__).resolve().parent.parent))
+
+LINE_LIMIT = 4096
+READ_SIZE = 65_536
+# A URL that is canonical as it stands: no escapes, no dots alone, no port, a host of letters first.
+PLAIN = re.compile(
+    r"http://([a-z][a-z0-9-]*(?:\.[a-z][a-z0-9-]*)*)(?:/[A-Za-z0-9_~-][\w~.-]*)*/?", re.A
+)
+LOCAL = re.compile(r"[A-Za-z0-9_~-][\w~.-]*(?:/[A-Za-z0-9_~-][\w~.-]*)*", re.A)
+
+
+class Settings(NamedTuple):
+    """What a log's first line names."""
+
+    workers: int
+    most: int
+    suffix: Optional[str]
+    part: int
+    parts: int
+
+    def __str__(self) -> str:
+        within = "" if self.suffix is None else f" within {self.suffix}"
+        return f"workers {self.workers} max {self.most}{within} part {self.part}/{self.parts}"
+
+
+class Frontier:
+    """The frontier of one part, over sets and lists."""
+
+    def __init__(self, settings: Settings) -> None:
+        self.settings = settings
+        self.first = settings.part * settings.workers
+        self.waiting: List[Deque[str]] = [deque() for _ in range(settings.workers)]
+        self.in_hand: List[Optional[str]] = [None] * settings.workers
+        self.numbers = [0] * settings.workers
+        self.seen: Set[str] = set()
+        self.count = 1
+        self.has_seeds = True
+        self.is_closed = False
+        self.identity = ""
+
+    def answer(self, line: bytes) -> str:
+        if len(line) > LINE_LIMIT:
+            return "line too long"
+        try:
+            text = line.decode()
+        except UnicodeDecodeError:
+            return "not UTF-8"
+        word, space, rest = text.partition(" ")
+        if word == "offer" and space:
+            return self.offer(rest)
+        if word == "link" and " " in rest:
+            base, _, rest = rest.partition(" ")
+            return self.offer(rest, base)
+        if word in ("next", "done", "again") and re.fullmatch("[0-9]{1,20}", rest):
+            return self.of_queue(word, int(rest)) if int(rest) < 2**32 else "bad line"
+        if text == "endseeds":
+            if not self.has_seeds:
+                return "refused nothing"
+            self.has_seeds = False
+            return self.lower()
+        if text == "sync":
+            return "synced"
+        if text == "identity" and self.identity:
+            return f"identity {self.identity}"
+        return "bad line"
+
+    def of_queue(self, word: str, queue: int) -> str:
+        place = queue - self.first
+        if not 0 <= place < self.settings.workers:
+            return "refused nosuch"
+        url = self.in_hand[place]
+        if word == "again":
+            return "refused nothing" if url is None else f"taken {url}"
+        if word == "done":
+            if url is None:
+                return "refused nothing"
+            self.in_hand[place] = None
+            return self.lower()
+        if url is not None:
+            return "refused busy"
+        if self.waiting[place]:
+            url = self.in_hand[place] = self.waiting[place].popleft()
+            return f"taken {url}"
+        self.is_closed = self.count == 0
+        return "closed" if self.is_closed else f"pending {self.count}"
+
+    def lower(self) -> str:
+        self.count -= 1
+        return f"count {self.count}"
+
+    def offer(self, text: str, base: Optional[str] = None) -> str:
+        settings = self.settings
+        url, host = read_url(text, base)
+        if not host:
+            return url
+        if settings.suffix is not None and not f".{host}".endswith(f".{settings.suffix}"):
+            return "filtered"
+        queue = queue_of(host, settings.workers * settings.parts)
+        place = queue - self.first
+        if not 0 <= place < settings.workers:
+            return f"elsewhere {queue // settings.workers} {url}"
+        if self.is_closed:
+            return "refused closed"
+        if self.count >= settings.most:
+            return "refused full"
+        if url in self.seen:
+            return "seen"
+        self.seen.add(url)
+        self.waiting[place].append(url)
+        self.count += 1
+        self.numbers[place] += 1
+        return f"accepted {queue} {self.numbers[place] - 1}"
+
+
+def read_url(text: str, base: Optional[str]) -> Tuple[str, str]:
+    """The canonical URL of a text, and its host; or the answer, and no host."""
+    plain = PLAIN.fullmatch(text)
+    if plain and (base is None or PLAIN.fullmatch(base)):
+        return (text if text.count("/") > 2 else text + "/"), plain[1]
+    if base is not None and LOCAL.fullmatch(text):
+        plain = PLAIN.fullmatch(base)
+        if plain and base.count("/") > 2:
+            return base[:base.rindex("/") + 1] + text, plain[1]
+    import drawn  # which takes a while, and is seldom wanted
+    try:
+        url = drawn.url_of(text) if base is None else drawn.url_of(text, drawn.url_of(base))
+    except drawn.NotUrl:
+        return "not a URL", ""
+    except drawn.NotHttp:
+        return "not http or https", ""
+    return str(url), url.host
+
+
+@lru_cache(maxsize=100_000)
+def queue_of(host: str, queues: int) -> int:
+    number = 0
+    for byte in host.encode():
+        number = (31 * number + byte) % 2**32
+    return number % queues
+
+
+class Log:
+    """The file that has each request before it is answered."""
+
+    def __init__(self, name: str, settings: Settings, is_synced: bool) -> None:
+        self.is_synced = is_synced
+        try:
+            self.file = os.open(name, os.O_RDWR | os.O_CREAT | os.O_APPEND, 0o666)
+            fcntl.flock(self.file, fcntl.LOCK_EX | fcntl.LOCK_NB)
+        except BlockingIOError:
+            fail(f"{name}: another process has the log")
+        except OSError:
+            fail(f"cannot open {name}")
+        with open(name, "rb") as file:
+            text = file.read()
+        whole = text.rfind(b"\n") + 1
+        if whole < len(text):
+            os.ftruncate(self.file, whole)
+            print(f"mercator: {name}: cut off: {len(text) - whole} bytes", file=sys.stderr)
+        self.head, *self.lines = text[:whole].split(b"\n")[:-1] or [b""]
+        named, _, identity = self.head.decode().rpartition(" identity ")
+        if not self.head:
+            identity = os.urandom(8).hex()
+            self.append(f"mercator log 1 {settings} identity {identity}\n".encode())
+        elif named != f"mercator log 1 {settings}":
+            fail(f"{name}: the log of other settings")
+        self.identity = identity
+
+    def append(self, data: bytes) -> None:
+        """Adds all of it, or nothing."""
+        before = os.fstat(self.file).st_size
+        try:
+            if os.write(self.file, data) < len(data):
+                os.ftruncate(self.file, before)
+                fail("cannot write the log")
+            if self.is_synced:
+                os.fsync(self.file)
+        except OSError:
+            fail("cannot write the log")
+
+
+def fail(why: str) -> NoReturn:
+    print(f"mercator: {why}", file=sys.stderr)
+    sys.exit(1)
+
+
+def serve(frontier: Frontier, log: Optional[Log]) -> None:
+    """Answers each line once it is in the log: all whole lines of a read, by one write."""
+    held = b""
+    while True:
+        try:
+            some = os.read(0, READ_SIZE)
+        except OSError:
+            fail("cannot read -")
+        if not some and not held:
+            return
+        *lines, held = (held + some).split(b"\n") if some else [held, b""]
+        held = held[:LINE_LIMIT + 2]
+        lines = [line[:LINE_LIMIT + 2] for line in lines]
+        if not lines:
+            continue
+        if log:
+            log.append(b"".join(line + b"\n" for line in lines))
+            if b"sync" in lines:
+                os.fsync(log.file)
+        answers = "".join(f"{frontier.answer(cut(line))}\n" for line in lines).encode()
+        while answers:
+            try:
+                answers = answers[os.write(1, answers):]
+            except OSError:
+                fail("cannot write")
+
+
+def cut(line: bytes) -> bytes:
+    return line[:-1] if line.endswith(b"\r") else line
+
+
+def main() -> None:
+    parser = argparse.ArgumentParser(
+        description=__doc__, formatter_class=argparse.RawDescriptionHelpFormatter
+    )
+    serving = parser.add_subparsers(required=True).add_parser("serve")
+    serving.add_argument("--workers", type=int, default=4)
+    serving.add_argument("--max-pending", type=int, default=2**20)
+    serving.add_argument("--within", type=str.lower)
+    serving.add_argument("--part", default="0/1")
+    serving.add_argument("--log")
+    serving.add_argument("--sync", action="store_true")
+    words = parser.parse_args()
+    part, parts = map(int, words.part.split("/"))
+    if not (1 <= words.workers and 0 <= part < parts and words.workers * parts <= 512):
+        told = f"--workers {words.workers} --part {words.part}"
+        print(f"mercator: bad number: {told}", file=sys.stderr)
+        sys.exit(3)
+    settings = Settings(words.workers, words.max_pending, words.within, part, parts)
+    frontier = Frontier(settings)
+    log = None
+    if words.log is not None:
+        log = Log(words.log, settings, words.sync)
+        for line in log.lines:
+            frontier.answer(cut(line))
+        frontier.identity = log.identity
+        log.lines.clear()
+    serve(frontier, log)
+
+
+if __name__ == "__main__":
+    main()

@@ -1,0 +1,120 @@
+"""The second reckoning of a session, over that of drawn.py for URLs and the machine."""
+
+from __future__ import annotations
+
+import re
+from random import Random
+from typing import List, Optional, Sequence, Tuple
+
+import drawn
+
+LINE_LIMIT = 4096
+
+
+class Reckoning:
+    """What a session answers, by the table of requests."""
+
+    def __init__(self, workers: int, most: int, suffix: Optional[str] = None) -> None:
+        self.machine = drawn.Machine(drawn.Script(workers, most, []))
+        self.suffix = suffix
+
+    def answer(self, line: bytes) -> str:
+        if len(line) > LINE_LIMIT:
+            return "line too long"
+        try:
+            text = line.decode()
+        except UnicodeDecodeError:
+            return "not UTF-8"
+        word, space, rest = text.partition(" ")
+        if word == "offer" and space:
+            return self.offer(rest)
+        if word == "link" and " " in rest:
+            base, _, rest = rest.partition(" ")
+            return self.offer(rest, base)
+        if text == "endseeds":
+            return self.machine.reply("endseeds", 0, None)
+        if word in ("next", "done", "again") and re.fullmatch("[0-9]{1,20}", rest) and int(rest) < 2**32:
+            return self.of_queue(word, int(rest))
+        return "bad line"
+
+    def of_queue(self, word: str, queue: int) -> str:
+        machine = self.machine
+        if word == "done":
+            return machine.reply("done", queue, None)
+        if word == "next":
+            reply = machine.reply("take", queue, None)
+            return machine.reply("close", 0, None) if reply == "empty" else reply
+        if queue >= len(machine.accepted):
+            return "refused nosuch"
+        if queue not in machine.busy:
+            return "refused nothing"
+        return f"taken {machine.accepted[queue][machine.taken[queue] - 1][1]}"
+
+    def offer(self, text: str, base: Optional[str] = None) -> str:
+        try:
+            url = drawn.url_of(text) if base is None else drawn.url_of(text, drawn.url_of(base))
+        except drawn.NotUrl:
+            return "not a URL"
+        except drawn.NotHttp:
+            return "not http or https"
+        if self.suffix is not None and not f".{url.host}".endswith(f".{self.suffix}"):
+            return "filtered"
+        self.machine.reply("look", 0, None)
+        reply = self.machine.reply("enter", 0, None)
+        if not reply.startswith("entered"):
+            return reply
+        reply = self.machine.reply("admit", 0, url)
+        if reply == "seen":
+            self.machine.reply("back", 0, None)
+        return reply
+
+
+ODD_LINES = (
+    b"", b" ", b"offer", b"Offer http://a.test/", b"offers http://a.test/", b"next", b"next 0 ", b"next  0", b"done -1",
+    b"done +1", b"next 4294967296", b"next 4294967295", b"again", b"again x", b"endseeds ", b"end", b"link", b"look 0",
+    b"link http://a.test/", b"enter 0", b"close", b"offer \xff", b"\xc3", b"offer http://\xe2\x82", b"\r", b"next 0\r",
+    b"done 00000000000000000000", b"done 000000000000000000000", b"offer ", b"link  x", b"link  http://a.test/",
+)
+
+
+def drawn_line(draw: Random, workers: int, has_link: bool, hosts: Sequence[drawn.Target]) -> bytes:
+    kind = draw.randrange(100)
+    queue = draw.choice((*range(min(workers, 4)), *range(min(workers, 4)), workers - 1, workers))
+    if kind < 40:
+        return f"offer {drawn.spelled(draw, draw.choice(hosts))}".encode()
+    if kind < 43:
+        return f"offer {draw.choice(drawn.NO_SEEDS)}".encode()
+    if kind < 58 and has_link:
+        base = draw.choice(("http://a.test/", "x", "", "ftp://a.test/", *[drawn.spelled(draw, draw.choice(hosts))] * 30))
+        return f"link {base} {drawn.drawn_link(draw, list(hosts))}".encode()
+    if kind < 75:
+        return b"next %d" % queue
+    if kind < 92:
+        return b"done %d" % queue
+    if kind < 95 and has_link:
+        return b"again %d" % queue
+    if kind < 97:
+        return draw.choice(ODD_LINES)
+    if kind < 98:
+        length = draw.choice((4095, 4096, 4097, 4098, 4099, 9000))
+        return draw.choice((b"offer http://a.test/", b"x")).ljust(length, b"a") + draw.choice((b"", b"\r"))
+    return b"next 0"
+
+
+def drawn_session(draw: Random, count: int, words: Sequence[str], has_link: bool) -> Tuple[bytes, List[str]]:
+    """Lines with their ends, and what they are answered."""
+    settings = dict(zip(words[::2], words[1::2]))
+    workers = int(settings.get("--workers", "4"))
+    reckoning = Reckoning(workers, int(settings.get("--max-pending", "1048576")), settings.get("--within"))
+    hosts = [target for _ in range(12) for target in drawn.drawn_targets(draw, 20)]
+    data: List[bytes] = []
+    answers: List[str] = []
+    while len(answers) < count:
+        line = drawn_line(draw, workers, has_link, hosts) if len(answers) != count // 2 else b"endseeds"
+        end = draw.choice((b"\n", b"\n", b"\n", b"\r\n"))
+        try:
+            answers.append(reckoning.answer(line[:-1] if end == b"\n" and line.endswith(b"\r") else line))
+        except drawn.NotPlain:
+            continue
+        data.append(line + end)
+    return b"".join(data), answers

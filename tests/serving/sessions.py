@@ -1,0 +1,202 @@
+"""Parts: sessions over pipes, as the program reads and answers them."""
+
+from __future__ import annotations
+
+import re
+import signal
+import subprocess
+import sys
+import threading
+import time
+from collections import Counter
+from pathlib import Path
+from random import Random
+from typing import Iterator, List, Tuple
+
+from serving.reckoning import drawn_session
+from serving import ROOT
+from serving.trial import SECONDS, Serve, Trial, expect
+
+SETTINGS: Tuple[Tuple[str, ...], ...] = (
+    ("--workers", "2", "--max-pending", "9"), (), ("--workers", "1", "--max-pending", "1"),
+    ("--workers", "3", "--max-pending", "60", "--within", "a.test"), ("--workers", "512", "--within", "test"),
+    ("--workers", "7", "--max-pending", "25"),
+)
+ANSWERS = {
+    "accepted", "seen", "filtered", "not a URL", "not http or https", "taken", "pending", "closed", "count", "refused busy",
+    "refused closed", "refused full", "refused nothing", "refused nosuch", "bad line", "line too long", "not UTF-8",
+}
+
+
+def compare(data: bytes, wanted: List[str], told: bytes) -> None:
+    lines = told.decode("utf-8", "backslashreplace").split("\n")
+    expect(lines.pop() == "", "the last answer has no end")
+    requests = data.split(b"\n")
+    for number, (request, want, line) in enumerate(zip(requests, wanted, lines), 1):
+        expect(want == line, f"line {number}, {request[:200]!r}: {line!r}, {want!r} wanted")
+    expect(len(lines) == len(wanted), f"{len(lines)} answers, {len(wanted)} wanted")
+
+
+def random_pieces(draw: Random, data: bytes) -> Iterator[bytes]:
+    begin = 0
+    while begin < len(data):
+        size = draw.choice((1, 7, 50, 4000, 65_535, 65_536, 65_537, 200_000, draw.randrange(1, 9000)))
+        yield data[begin:begin + size]
+        if draw.randrange(50) == 0:
+            time.sleep(0.001)
+        begin += size
+
+
+def drawn_sessions(trial: Trial) -> None:
+    came: Counter[str] = Counter()
+    for number, words in enumerate(SETTINGS):
+        draw = trial.draw(f"session {number}")
+        data, wanted = drawn_session(draw, trial.lines, words, trial.has_link)
+        came.update(re.sub(r"^(accepted|taken|pending|count) .*", r"\1", line) for line in wanted)
+        session = Serve(trial.program, words)
+        compare(data, wanted, session.exchange(random_pieces(draw, data)))
+        expect(session.end() == (0, ""), "its end is not that of an input that ended")
+    expect(set(came) == ANSWERS, f"these answers never came: {ANSWERS - set(came)}")
+
+
+def transcript(trial: Trial) -> None:
+    """The session that docs/SESSION.md shows."""
+    trial.want_link()
+    text = (ROOT / "docs/SESSION.md").read_text("utf-8")
+    shown = re.findall(r"^> (.*)\n(.*?)(?:  .*)?$", text.partition("```text\n")[2].partition("```")[0], re.M)
+    expect(len(shown) > 10, "no transcript")
+    session = Serve(trial.program, ("--workers", "2"))
+    for request, answer in shown:
+        told = session.ask(request.encode())
+        expect(told == answer, f"{request}: {told!r}, {answer!r} shown")
+    expect(session.end() == (0, ""), "its end")
+
+
+def all_at_once(trial: Trial) -> None:
+    data, wanted = drawn_session(trial.draw("at once"), trial.lines, SETTINGS[0], trial.has_link)
+    file = trial.folder / "requests"
+    file.write_bytes(data.rstrip(b"\r\n"))
+    with open(file, "rb") as requests:
+        done = subprocess.run([trial.program, "serve", *SETTINGS[0]], stdin=requests, capture_output=True, timeout=SECONDS)
+    ends = data.rstrip(b"\r\n").count(b"\n") + 1
+    compare(data, wanted[:ends], done.stdout)
+    expect(done.returncode == 0 and done.stderr == b"", f"status {done.returncode}")
+
+
+def byte_by_byte(trial: Trial) -> None:
+    """Each answer comes before a byte of the next line is sent."""
+    data, wanted = drawn_session(trial.draw("bytes"), trial.lines // 20, SETTINGS[3], trial.has_link)
+    session = Serve(trial.program, SETTINGS[3])
+    for request, want in zip(data.split(b"\n"), wanted):
+        if len(request) < 500:
+            for place in range(len(request)):
+                session.send(request[place:place + 1])
+        else:
+            session.send(request)
+        line = session.ask(b"")
+        expect(line == want, f"{request!r}: {line!r}, {want!r} wanted")
+    expect(session.end() == (0, ""), "its end")
+
+
+def stopped_between(trial: Trial) -> None:
+    """SIGSTOP and SIGCONT, while requests and answers are under way."""
+    draw = trial.draw("stop")
+    data, wanted = drawn_session(draw, trial.lines, SETTINGS[5], trial.has_link)
+    session = Serve(trial.program, SETTINGS[5])
+    ended = threading.Event()
+
+    def stop() -> None:
+        while not ended.wait(draw.random() / 100):
+            session.process.send_signal(signal.SIGSTOP)
+            time.sleep(draw.random() / 100)
+            session.process.send_signal(signal.SIGCONT)
+    stopper = threading.Thread(target=stop)
+    stopper.start()
+    try:
+        compare(data, wanted, session.exchange(random_pieces(draw, data)))
+    finally:
+        ended.set()
+        stopper.join()
+    expect(session.end() == (0, ""), "its end")
+
+
+# A client that sends as much as a pipe holds, reads nothing and is killed.
+DYING = """
+import os, signal, subprocess, sys
+serve = subprocess.Popen([sys.argv[1], "serve"], stdin=-1, stdout=-1, stderr=subprocess.DEVNULL)
+print(serve.pid, flush=True)
+os.set_blocking(serve.stdin.fileno(), False)
+os.write(serve.stdin.fileno(), sys.stdin.buffer.read())
+os.kill(os.getpid(), signal.SIGKILL)
+"""
+
+
+def dying_client(trial: Trial) -> None:
+    """A client that dies with unread answers, or in the midst of a line, leaves no process behind."""
+    for requests in (b"next 0\n" * 200_000, b"offer http://a.test/\noffer http://a.te", b"offer http://b.test/x" * 100_000):
+        words = [sys.executable, "-c", DYING, trial.program]
+        done = subprocess.run(words, input=requests, capture_output=True, timeout=SECONDS, check=False)
+        left = Path(f"/proc/{int(done.stdout)}")
+        end = time.monotonic() + SECONDS
+        while left.exists() and "State:\tZ" not in status_of(left) and time.monotonic() < end:
+            time.sleep(0.01)
+        expect(not left.exists() or "State:\tZ" in status_of(left), "it runs on when its client is dead")
+
+
+def status_of(process: Path) -> str:
+    try:
+        return (process / "status").read_text()
+    except OSError:
+        return "State:\tZ"
+
+
+def closed_output(trial: Trial) -> None:
+    """An output that nobody reads, that is closed or that is full ends it with a fault and its line."""
+    session = Serve(trial.program)
+    session.ask(b"offer http://a.test/")
+    session.stdout.close()
+    session.send(b"next 0\n")
+    expect(session.wait() == (1, "mercator: cannot write"), "at an output that nobody reads")
+    for redirection in (">&-", "> /dev/full"):
+        words = ["sh", "-c", f'echo next 0 | "$0" serve {redirection}', trial.program]
+        done = subprocess.run(words, capture_output=True, timeout=SECONDS, check=False)
+        told = (done.returncode, done.stderr.decode())
+        expect(told == (1, "mercator: cannot write\n"), f"{redirection}: {told}")
+    done = subprocess.run([trial.program, "serve"], input=b"", capture_output=True, timeout=SECONDS, check=False)
+    expect((done.returncode, done.stdout, done.stderr) == (0, b"", b""), "at an empty input")
+    done = subprocess.run(["sh", "-c", '"$0" serve <&-', trial.program], capture_output=True, timeout=SECONDS, check=False)
+    expect((done.returncode, done.stderr) == (1, b"mercator: cannot read -\n"), f"at no input: {done.stderr!r}")
+
+
+def memory(trial: Trial) -> None:
+    """Requests that keep nothing need no memory, however many; a URL needs some hundred bytes."""
+    count = trial.words.requests
+    session = Serve(trial.program)
+    block = b"offer http://A.test:80/x/../#f\nnext 9\nbad\noffer mailto:x\n" * 250
+    before = session.flood(iter([block]), 1000)
+    after = session.flood((block for _ in range(count // 1000)), count // 1000 * 1000)
+    expect(after - before < 4_000_000, f"{after - before} bytes for {count} requests that keep nothing")
+    expect(session.end() == (0, ""), "its end")
+    session = Serve(trial.program)
+    before = session.flood(iter([block]), 1000)
+    blocks = (b"".join(b"offer http://h%d.test/p/%d\n" % (url % 100, url) for url in range(begin, begin + 1000))
+              for begin in range(0, count, 1000))
+    after = session.flood(blocks, -(-count // 1000) * 1000)
+    print(f"  {(after - before) // count} bytes for each of {count} URLs of 25 bytes")
+    expect(after - before < 600 * count + 4_000_000, f"{after - before} bytes for {count} URLs")
+    expect(session.end() == (0, ""), "its end")
+
+
+def long_line(trial: Trial) -> None:
+    """A line of any length has one answer, and needs no memory."""
+    session = Serve(trial.program)
+    piece = b"offer http://a.test/".ljust(1_000_000, b"a")
+    rest = trial.words.longest
+    session.flood(iter([b"next 0\n" * 10]), 10)
+    before = session.memory()
+    after = session.flood((piece[:min(len(piece), rest - sent)] for sent in range(0, rest, len(piece))), 0)
+    session.send(b"\nendseeds\n")
+    expect(session.lines(2) == [b"line too long", b"count 0"], "its answer")
+    after = session.memory()
+    expect(after - before < 4_000_000, f"{after - before} bytes for a line of {rest}")
+    expect(session.end() == (0, ""), "its end")
