@@ -1,7 +1,7 @@
 #!/usr/bin/env python3
 """A crawler over `mercator serve`: fetches pages by HTTP in N threads, each host by one of them.
 
-Usage: crawl_http.py [--workers N] [--within SUFFIX] [--delay S] [--largest BYTES]
+Usage: crawl_http.py [--workers N] [--within SUFFIX] [--log FILE] [--delay S] [--largest BYTES]
                      [--pages N] [--agent NAME] [--program FILE] SEED..
 
 It writes a line for each URL that it has fetched: the status, how many of its links are new, the
@@ -11,6 +11,7 @@ URL. The status is `robots` where robots.txt forbids the URL, and `failed` where
   Crawl-delay of robots.txt where that is longer.
 - It reads --largest bytes of a page at most, in at most SECONDS.
 - It offers where a redirect leads to, and does not follow it.
+- With --log it goes on where it was ended, by Ctrl-C, `kill -9` or a crash: give the same words.
 
 Status 0: no URL is left; 1: the frontier failed; 2: Ctrl-C, or --pages URLs were fetched.
 """
@@ -211,6 +212,7 @@ def words_of_command_line() -> argparse.Namespace:
     option = parser.add_argument
     option("--workers", type=int, default=4, metavar="N", help="fetchers; 4")
     option("--within", metavar="SUFFIX", help="only this host and those that end with a dot and it")
+    option("--log", metavar="FILE", help="what the crawl goes on from")
     option("--delay", type=float, default=1, metavar="S", help="between two requests to a host; 1")
     option("--largest", type=int, default=5_000_000, metavar="BYTES", help="of a page; 5000000")
     option("--pages", type=int, default=0, metavar="N", help="stops after so many URLs")
@@ -222,11 +224,12 @@ def words_of_command_line() -> argparse.Namespace:
 
 def main() -> int:
     words = words_of_command_line()
-    options = {"within": words.within, "program": words.program}
+    options = {"within": words.within, "log": words.log, "program": words.program}
     try:
         with Frontier(words.workers, **options) as frontier:
             for seed, offer in zip(words.seed, frontier.offer_all(words.seed)):
-                if isinstance(offer, Refusal) and offer is not Refusal.SEEN:
+                # A crawl that goes on has seen its seeds, or has come to its end.
+                if isinstance(offer, Refusal) and offer not in (Refusal.SEEN, Refusal.CLOSED):
                     print(f"crawl_http: {seed}: {offer.value}", file=sys.stderr)
             frontier.end_seeds()
             crawl = Crawl(frontier, words)

@@ -2,12 +2,12 @@
 """Tries `mercator serve`, its Python client and the crawlers over it, outside the gate.
 
 Usage: serve.py [--program FILE] [--part NAME].. [--lines N] [--requests N] [--longest BYTES]
-                [--seed S]
+                [--kills N] [--seed S]
 
 PROGRAM is --program, else what MERCATOR of the environment names, else `mercator` of PATH, else the
-built program. A part that wants the requests `link` and `again` is skipped, and said to be, where
-the program has them not. Drawn sessions are compared with a reckoning of these tests, over that of
-drawn.py for URLs and the machine.
+built program. A part that wants `--log` or the requests `link` and `again` is skipped, and said to
+be, where the program has them not; so is a full disk where the user may mount none. Drawn sessions
+are compared with a reckoning of these tests, over that of drawn.py for URLs and the machine.
 SECONDS of the environment is the time limit of each wait. At last it prints `N passed, M failed`.
 
 The parts stand in `serving/`, and `serving/fake.py` is a frontier in Python. As --program it has to
@@ -27,16 +27,18 @@ import traceback
 from pathlib import Path
 from typing import Callable, Tuple
 
-from serving import clients, crawlers, crawls, sessions
+from serving import clients, crawlers, crawls, logs, sessions
 from serving.trial import Differs, Skipped, Trial
 
 PARTS: Tuple[Callable[[Trial], None], ...] = (
     sessions.transcript, sessions.drawn_sessions, sessions.all_at_once, sessions.byte_by_byte,
     sessions.stopped_between, sessions.dying_client, sessions.closed_output, sessions.memory,
     sessions.long_line,
+    logs.killed_sessions, logs.refused_logs, logs.full_disk, logs.compacted_logs,
     clients.client_values, clients.client_ends, clients.interrupted_call,
-    clients.client_small_pipes,
-    crawls.crawls, crawlers.crawler, crawlers.bash_crawler, crawlers.polite_crawler,
+    clients.client_small_pipes, clients.log_in_use,
+    crawls.crawls, crawls.killed_crawls,
+    crawlers.crawler, crawlers.bash_crawler, crawlers.killed_crawler, crawlers.polite_crawler,
     crawlers.saved_documentation,
 )
 
@@ -52,6 +54,7 @@ def main() -> None:
     option("--lines", type=int, default=20_000, metavar="N", help="of a drawn session")
     option("--requests", type=int, default=1_000_000, metavar="N", help="of the part memory")
     option("--longest", type=int, default=10**9, metavar="BYTES", help="of the part long_line")
+    option("--kills", type=int, default=200, metavar="N", help="of the part killed_crawls")
     option("--seed", default="1", help="draws other inputs")
     words = parser.parse_args()
     passed = failed = 0

@@ -3,7 +3,7 @@
 A crawl has N fetchers and as many queues, numbered from 0. Fetcher Q takes the URLs of queue Q, one
 at a time. It fetches the URL, offers the links of the page, and is done with it::
 
-    with Frontier(workers=4) as frontier:
+    with Frontier(workers=4, log="crawl.log") as frontier:
         frontier.offer("http://example.org/")
         frontier.end_seeds()
         ...                                    # in a thread for each queue:
@@ -14,6 +14,7 @@ at a time. It fetches the URL, offers the links of the page, and is done with it
 - Each URL is given out once, whatever its spelling.
 - All URLs of a host are in one queue, so no two fetchers visit one host at a time.
 - `take` answers None when every accepted URL is done, and then for good.
+- With `log=`, a crawl that was cut off goes on: start it again with the same words.
 
 The frontier itself is proved; this client, and what a fetcher does with a URL, is not. All calls
 may come from any threads. The client needs Linux and Python 3.9, and nothing else.
@@ -23,18 +24,21 @@ may come from any threads. The client needs Linux and Python 3.9, and nothing el
 from __future__ import annotations
 
 import enum
+import fcntl
 import itertools
 import os
 import select
 import subprocess
 import tempfile
 import threading
+import time
 from types import TracebackType
 from typing import Dict, Iterable, List, NamedTuple, NoReturn, Optional, Sequence, Type, Union
 
 __all__ = [
-    "Accepted", "Closed", "Frontier", "FrontierEnded", "FrontierError", "NoSuchQueue",
-    "NothingTaken", "Offer", "Pending", "ProgramMissing", "QueueBusy", "Refusal", "UnknownAnswer",
+    "Accepted", "Channel", "Closed", "Frontier", "FrontierEnded", "FrontierError", "LogInUse",
+    "NoSuchQueue", "NothingTaken", "Offer", "Pending", "ProgramMissing", "QueueBusy", "Refusal",
+    "UnknownAnswer", "link_word", "request_lines",
 ]
 
 # So many bytes of requests are sent at a time. The next piece goes out while the answers to the one
@@ -63,6 +67,10 @@ class FrontierError(Exception):
 
 class ProgramMissing(FrontierError):
     """The program `mercator` could not be started."""
+
+
+class LogInUse(FrontierError):
+    """The program of another frontier has the log."""
 
 
 class FrontierEnded(FrontierError):
@@ -148,6 +156,8 @@ class Frontier:
         *,
         max_pending: Optional[int] = None,
         within: Optional[str] = None,
+        log: Union[str, os.PathLike[str], None] = None,
+        sync: bool = False,
         program: Union[str, os.PathLike[str], None] = None,
     ) -> None:
         """Starts `mercator serve`.
@@ -155,18 +165,30 @@ class Frontier:
         workers      how many fetchers, and so queues: 1 to 512
         max_pending  the most URLs that are not done at one time
         within       keeps the crawl to hosts that are this suffix, or end with a dot and it
+        log          a file that each request is appended to before it is answered. A frontier that
+                     is started with it goes on where it ends, by the same options
+        sync         the log outlives the machine too, and each answer waits for the disk
         program      the program; else it is what MERCATOR of the environment names, else `mercator`
         """
         command = [os.fspath(program or os.environ.get("MERCATOR") or "mercator"), "serve"]
         command += ["--workers", str(workers)]
         command += [] if max_pending is None else ["--max-pending", str(max_pending)]
         command += [] if within is None else ["--within", within]
+        command += [] if log is None else ["--log", os.fspath(log)]
+        command += ["--sync"] if sync else []
         self.workers = workers
         # One lock for the process. Each queue's condition stands on it, and `take` waits there.
         self._lock = threading.Lock()
         self._changed = [threading.Condition(self._lock) for _ in range(workers)]
         self._waiting = 0
-        self._channel = _Channel(command)
+        self._channel = Channel(command, log)
+        self._cut_off: Dict[int, str] = {}
+        if log is not None:
+            try:
+                self._cut_off = self._ask_again()
+            except BaseException:
+                self.close()
+                raise
 
     # ---- what a crawler asks
 
@@ -180,16 +202,17 @@ class Frontier:
 
     def link(self, base: str, text: str) -> Offer:
         """Offers the URL that a link with this text leads to, from a page with the URL `base`."""
-        return self._offer_slice(_link_word(base), [text])[0]
+        return self._offer_slice(link_word(base), [text])[0]
 
     def links(self, base: str, texts: Iterable[str]) -> List[Offer]:
         """Offers the URLs of all links of a page, in their order, and answers what came of each."""
-        return self._offer_each(_link_word(base), texts)
+        return self._offer_each(link_word(base), texts)
 
     def end_seeds(self) -> Optional[int]:
         """No more seeds come, so that the crawl may end.
 
-        Answers how many URLs are not done; or None where the seeds had ended before.
+        Answers how many URLs are not done; or None where the seeds had ended before, as they may
+        have after a restart.
         """
         with self._lock:
             answer = self._ask(b"endseeds\n")
@@ -198,7 +221,8 @@ class Frontier:
     def take(self, queue: int) -> Optional[str]:
         """The URL that has waited longest in the queue, or None when the crawl is over.
 
-        It waits until there is one of both.
+        It waits until there is one of both. A queue gives first what its fetcher had in hand when
+        the frontier ended that wrote the log.
         """
         with self._lock:
             while True:
@@ -225,22 +249,18 @@ class Frontier:
         """
         with self._lock:
             self._check(queue)
-            return self._count_in(self._ask(b"done %d\n" % queue))
+            count = self._count_in(self._ask(b"done %d\n" % queue))
+            self._cut_off.pop(queue, None)
+            return count
 
     def again(self, queue: int) -> Optional[str]:
         """The URL that the queue gave last, if it is not done: what a fetcher that died had in hand."""
         with self._lock:
             self._check(queue)
-            answer = self._ask(b"again %d\n" % queue)
-            word, _, rest = answer.partition(b" ")
-            if word == b"taken":
-                return rest.decode()
-            if answer == b"refused nothing":
-                return None
-            _refuse(answer)
+            return _in_hand(self._ask(b"again %d\n" % queue))
 
     def close(self) -> None:
-        """Ends the program; the URLs that it holds are lost.
+        """Ends the program; what no log has is lost.
 
         A call that waits, or that comes later, raises `FrontierEnded`.
         """
@@ -271,7 +291,7 @@ class Frontier:
             offers += self._offer_slice(word, some)
 
     def _offer_slice(self, word: str, texts: List[str]) -> List[Offer]:
-        requests = _lines(word, texts)
+        requests = request_lines(word, texts)
         with self._lock:
             offers = _offers_in(self._ask_all(requests, len(texts)))
             if self._waiting:
@@ -280,6 +300,8 @@ class Frontier:
 
     def _next(self, queue: int) -> Union[str, Pending, Closed]:
         self._check(queue)
+        if queue in self._cut_off:
+            return self._cut_off.pop(queue)
         answer = self._ask(b"next %d\n" % queue)
         word, _, rest = answer.partition(b" ")
         if word == b"taken":
@@ -290,6 +312,12 @@ class Frontier:
             self._wake(range(self.workers))
             return Closed.CLOSED
         _refuse(answer)
+
+    def _ask_again(self) -> Dict[int, str]:
+        """The URL that each queue had given out when the log ended."""
+        requests = b"".join(b"again %d\n" % queue for queue in range(self.workers))
+        urls = map(_in_hand, self._ask_all(requests, self.workers))
+        return {queue: url for queue, url in enumerate(urls) if url is not None}
 
     def _count_in(self, answer: bytes) -> int:
         word, _, rest = answer.partition(b" ")
@@ -319,11 +347,19 @@ class Frontier:
                 self._changed[queue].notify_all()
 
 
-class _Channel:
-    """The process, and its requests and answers. One thread at a time may use it."""
+class Channel:
+    """The program as a process, and its requests and answers as lines.
 
-    def __init__(self, command: Sequence[str]) -> None:
+    One thread at a time may use it.
+    """
+
+    def __init__(
+        self, command: Sequence[str], log: Union[str, os.PathLike[str], None] = None
+    ) -> None:
+        """Starts the program, once no other has the log that it is started with."""
         self._program = command[0]
+        if log is not None:
+            _wait_for(log)
         # A file, since a pipe that nobody reads might fill.
         self._told = tempfile.TemporaryFile()
         try:
@@ -428,10 +464,30 @@ class _Channel:
         return self._end
 
 
+def _wait_for(log: Union[str, os.PathLike[str]]) -> None:
+    """Waits until no program has the log. That of a crawler that was killed has it a moment."""
+    try:
+        file = os.open(log, os.O_RDONLY)
+    except FileNotFoundError:
+        return
+    end = time.monotonic() + _SECONDS_TO_END
+    try:
+        while True:
+            try:
+                fcntl.flock(file, fcntl.LOCK_SH | fcntl.LOCK_NB)
+                return
+            except BlockingIOError:
+                if time.monotonic() > end:
+                    raise LogInUse(os.fspath(log)) from None
+                time.sleep(0.02)
+    finally:
+        os.close(file)
+
+
 # ---- requests and answers as bytes
 
 
-def _lines(word: str, texts: List[str]) -> bytes:
+def request_lines(word: str, texts: List[str]) -> bytes:
     """A request line for each text."""
     lines = f"{word}{(chr(10) + word).join(texts)}\n"
     if lines.count("\n") != len(texts) or max(map(len, texts)) > _LONGEST:
@@ -441,7 +497,7 @@ def _lines(word: str, texts: List[str]) -> bytes:
     return lines.encode("utf-8", "surrogatepass")
 
 
-def _link_word(base: str) -> str:
+def link_word(base: str) -> str:
     """What stands before a link's text. A base ends at its first space, so its own are escaped."""
     return f"link {base.strip(_TRIMMED).translate(_IN_BASE)} "
 
@@ -458,6 +514,16 @@ def _offers_in(answers: List[bytes]) -> List[Offer]:
         else:
             _refuse(answer)
     return offers
+
+
+def _in_hand(answer: bytes) -> Optional[str]:
+    """The URL that `again` answers, if any."""
+    word, _, rest = answer.partition(b" ")
+    if word == b"taken":
+        return rest.decode()
+    if answer == b"refused nothing":
+        return None
+    _refuse(answer)
 
 
 def _refuse(answer: bytes) -> NoReturn:

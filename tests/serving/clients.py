@@ -10,8 +10,8 @@ import time
 from typing import List
 
 from mercator_frontier import (
-    Accepted, Closed, Frontier, FrontierEnded, NoSuchQueue, NothingTaken, Pending, ProgramMissing,
-    QueueBusy, Refusal,
+    Accepted, Closed, Frontier, FrontierEnded, LogInUse, NoSuchQueue, NothingTaken, Pending,
+    ProgramMissing, QueueBusy, Refusal,
 )
 from serving.trial import SECONDS, Differs, Trial, expect, expect_error
 
@@ -82,6 +82,24 @@ def client_ends(trial: Trial) -> None:
                 fetcher.join(SECONDS)
             status = -9 if is_killed else 0
             expect([end.status for end in ends] == [status] * 2, f"what the fetchers are told: {ends}")
+
+
+def log_in_use(trial: Trial) -> None:
+    """One program has a log at a time; what it had given out is given out again by the next one."""
+    trial.want_log()
+    log = trial.folder / "used.log"
+    with Frontier(1, log=log, sync=trial.has_sync, program=trial.program) as frontier:
+        frontier.offer("http://a.test/")
+        expect(frontier.take(0) == "http://a.test/", "take")
+        expect_error(LogInUse, lambda: Frontier(1, log=log, program=trial.program))
+    for _ in range(2):
+        with Frontier(1, log=log, program=trial.program) as frontier:
+            expect(frontier.again(0) == "http://a.test/", "again")
+            expect(frontier.take(0) == "http://a.test/", "the URL that was in hand")
+            expect_error(QueueBusy, lambda: frontier.take(0))
+    with Frontier(1, log=log, program=trial.program) as frontier:
+        expect(frontier.done(0) == 1, "done of the URL that was in hand")
+        expect((frontier.again(0), frontier.try_take(0)) == (None, Pending(1)), "nothing more")
 
 
 def wait(frontier: Frontier, queue: int, ends: List[FrontierEnded]) -> None:

@@ -11,7 +11,7 @@ import sys
 import threading
 import time
 from pathlib import Path
-from typing import Dict, List, Tuple
+from typing import Dict, List, Optional, Tuple
 from urllib.parse import urlsplit
 
 import drawn
@@ -110,6 +110,35 @@ def bash_crawler(trial: Trial) -> None:
         expect(len(told) == done.stdout.count(b"\n"), "a URL is told twice")
         other = {url for url in set(told) & set(wanted) if told[url] != wanted[url]}
         expect(not other and len(set(wanted) - set(told)) <= 2, f"other URLs: {other or set(told) ^ set(wanted)}")
+
+
+def killed_crawler(trial: Trial) -> None:
+    """The crawler is killed again and again, and goes on from its log."""
+    trial.want_log()
+    trial.want_link()
+    draw = trial.draw("crawler")
+    with Folder(ROOT / "examples/site") as folder:
+        wanted = found_by_search(folder.url)
+        log = trial.folder / "crawler.log"
+        told: List[Tuple[str, str]] = []
+        status: Optional[int] = None
+        kills = 0
+        while status is None:
+            words = crawler_words(trial, "--delay", "0.02", "--within", "127.0.0.1", "--log", str(log), folder.url)
+            process = subprocess.Popen(words, stdout=subprocess.PIPE)
+            assert process.stdout
+            try:
+                status = process.wait(0.3 + draw.random() if kills < 10 else SECONDS)
+            except subprocess.TimeoutExpired:
+                process.kill()
+                process.wait()
+                kills += 1
+            told += told_by_crawler(process.stdout.read())
+        expect(status == 0, f"status {status}")
+        expect(set(told) == set(wanted.items()), f"other URLs: {set(told) ^ set(wanted.items())}")
+        # One host has one fetcher, which has one URL in its hands.
+        expect(len(told) <= len(wanted) + kills, f"{len(told)} lines for {len(wanted)} URLs and {kills} kills")
+        print(f"  {kills} kills; {len(told) - len(wanted)} lines were written again")
 
 
 class Polite(http.server.BaseHTTPRequestHandler):

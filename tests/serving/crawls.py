@@ -2,14 +2,17 @@
 
 from __future__ import annotations
 
+import os
+import signal
 import threading
 from collections import Counter
 from random import Random
-from typing import List, Set
+from typing import List, Optional, Set
 from urllib.parse import urljoin
 
 import drawn
 from mercator_frontier import Frontier, FrontierEnded
+from serving.clients import pid_of
 from serving.trial import SECONDS, Trial, expect
 
 
@@ -49,6 +52,7 @@ class Crawl:
         self.in_hands: Counter[str] = Counter()
         self.wrong: List[str] = []
         self.told_closed = 0
+        self.ended = threading.Event()
 
     def work(self, frontier: Frontier, queue: int) -> None:
         try:
@@ -84,18 +88,34 @@ class Crawl:
         with self.lock:
             self.in_hands[url] -= 1
 
-    def run(self, workers: int) -> bool:
-        """Crawls to its end; whether each fetcher was told that it is over."""
+    def kill(self, pid: int, after: int, seconds: float) -> None:
+        """Kills the program a moment after so many fetches."""
+        after += sum(self.fetched.values())
+        while sum(self.fetched.values()) < after and not self.ended.wait(0.0005):
+            pass
+        if not self.ended.wait(seconds):
+            os.kill(pid, signal.SIGKILL)
+
+    def run(self, workers: int, log: Optional[str] = None, after: int = 0, seconds: float = 0.0) -> bool:
+        """Crawls to its end, or until the program is killed after so many fetches; whether it came to its end."""
         self.told_closed = 0
-        with Frontier(workers, within="test", program=self.trial.program) as frontier:
+        self.ended.clear()
+        with Frontier(workers, within="test", log=log, program=self.trial.program) as frontier:
             fetchers = [threading.Thread(target=self.work, args=(frontier, queue), daemon=True) for queue in range(workers)]
-            for fetcher in fetchers:
-                fetcher.start()
-            frontier.offer_all(self.web.seeds)
-            frontier.end_seeds()
+            killer = threading.Thread(target=self.kill, args=(pid_of(frontier), after, seconds), daemon=True)
+            for thread in [killer, *fetchers] if after else fetchers:
+                thread.start()
+            try:
+                frontier.offer_all(self.web.seeds)
+                frontier.end_seeds()
+            except FrontierEnded:
+                expect(after > 0, "the program ended by itself")
             for fetcher in fetchers:
                 fetcher.join(SECONDS)
                 expect(not fetcher.is_alive(), "a fetcher waits for ever")
+            self.ended.set()
+            if after:
+                killer.join()
         expect(not self.wrong, f"{self.wrong[:3]}")
         return self.told_closed == workers
 
@@ -108,3 +128,38 @@ def crawls(trial: Trial) -> None:
             crawl = Crawl(Web(draw), trial)
             expect(crawl.run(workers), "a fetcher was not told that it is over")
             expect(crawl.fetched == Counter(crawl.web.reached), f"crawl {number} of {workers}: other URLs")
+
+
+def killed_crawls(trial: Trial) -> None:
+    """A crawl is killed again and again, and goes on from its log.
+
+    It fetches every URL: once, but for those that were in a fetcher's hands.
+    """
+    trial.want_log()
+    kills = again = number = 0
+    while kills < trial.words.kills and number < 1000:
+        number += 1
+        draw = trial.draw(f"killed {number}")
+        crawl = Crawl(Web(draw), trial)
+        log = str(trial.folder / f"killed-{number}.log")
+        is_torn = number % 4 == 3  # the machine crashes too: the log ends somewhere near its end
+        may: Counter[str] = Counter(crawl.web.reached)
+        workers = draw.choice((1, 2, 7, 16))
+        while not crawl.run(workers, log, draw.randrange(1, 60), draw.random() / 200):
+            kills += 1
+            may += crawl.in_hands
+            crawl.in_hands.clear()
+            crawl.hosts.clear()
+            if is_torn:
+                tear(log, draw.randrange(200))
+        again += sum(crawl.fetched.values()) - len(crawl.fetched)
+        expect(set(crawl.fetched) == crawl.web.reached, f"killed {number}: {len(crawl.fetched)} of {len(crawl.web.reached)} URLs")
+        expect(is_torn or not crawl.fetched - may, f"killed {number}: twice: {crawl.fetched - may}")
+    print(f"  {kills} kills; {again} URLs were fetched again")
+
+
+def tear(log: str, lost: int) -> None:
+    """Cuts bytes off a log, but not of its first line, which was synced before any answer."""
+    with open(log, "rb") as file:
+        least = len(file.readline())
+    os.truncate(log, max(least, os.path.getsize(log) - lost))

@@ -188,15 +188,18 @@ def memory(trial: Trial) -> None:
 
 
 def long_line(trial: Trial) -> None:
-    """A line of any length has one answer, and needs no memory."""
-    session = Serve(trial.program)
-    piece = b"offer http://a.test/".ljust(1_000_000, b"a")
-    rest = trial.words.longest
-    session.flood(iter([b"next 0\n" * 10]), 10)
-    before = session.memory()
-    after = session.flood((piece[:min(len(piece), rest - sent)] for sent in range(0, rest, len(piece))), 0)
-    session.send(b"\nendseeds\n")
-    expect(session.lines(2) == [b"line too long", b"count 0"], "its answer")
-    after = session.memory()
-    expect(after - before < 4_000_000, f"{after - before} bytes for a line of {rest}")
-    expect(session.end() == (0, ""), "its end")
+    """A line of any length has one answer, and needs no memory, with a log or without."""
+    for log in ((), ("--log", str(trial.folder / "long.log")))[:1 + trial.has_log]:
+        session = Serve(trial.program, log)
+        piece = b"offer http://a.test/".ljust(1_000_000, b"a")
+        rest = trial.words.longest
+        session.flood(iter([b"next 0\n" * 10]), 10)
+        before = session.memory()
+        session.flood((piece[:min(len(piece), rest - sent)] for sent in range(0, rest, len(piece))), 0)
+        session.send(b"\nendseeds\n")
+        expect(session.lines(2) == [b"line too long", b"count 0"], "its answer")
+        after = session.memory()
+        expect(after - before < 4_000_000, f"{after - before} bytes for a line of {rest}")
+        expect(session.end() == (0, ""), "its end")
+        if log:
+            expect(Path(log[1]).stat().st_size < 1_000_000, "the log has the whole line")

@@ -135,6 +135,12 @@ class Trial:
     def __init__(self, words: argparse.Namespace, folder: Path) -> None:
         self.words, self.folder = words, folder
         self.program = program_of(words.program)
+        said = subprocess.run(
+            [self.program, "serve", "--help"], capture_output=True, check=False, stdin=subprocess.DEVNULL
+        )
+        self.has_log, self.has_sync, self.has_compact = (
+            word in said.stdout for word in (b"--log", b"--sync", b"--compact")
+        )
         session = Serve(self.program)
         self.has_link = session.ask(b"again 0") != "bad line"
         session.end()
@@ -142,6 +148,10 @@ class Trial:
 
     def draw(self, name: str) -> Random:
         return Random(f"{name} of seed {self.words.seed}")
+
+    def want_log(self) -> None:
+        if not self.has_log:
+            raise Skipped("the program has no --log")
 
     def want_link(self) -> None:
         if not self.has_link:

@@ -1,0 +1,197 @@
+"""Parts: what `--log` keeps, when the program is killed, and when it is refused."""
+
+from __future__ import annotations
+
+import os
+import subprocess
+import threading
+import time
+from pathlib import Path
+from random import Random
+from typing import List, Sequence, Tuple
+
+import drawn
+from mercator_frontier import Frontier, FrontierEnded, Refusal
+from serving.reckoning import drawn_session
+from serving.sessions import compare, random_pieces
+from serving.trial import SECONDS, Differs, Serve, Skipped, Trial, expect
+
+SETTINGS: Tuple[Tuple[str, ...], ...] = (
+    ("--workers", "2", "--max-pending", "9"), ("--workers", "7"),
+    ("--workers", "3", "--max-pending", "60", "--within", "a.test"),
+)
+
+
+def answered(log: Path) -> int:
+    """How many whole lines stand in a log, but for its first, which names the settings."""
+    return max(0, log.read_bytes().count(b"\n") - 1) if log.exists() else 0
+
+
+def lines_of(data: bytes) -> List[bytes]:
+    return [line + b"\n" for line in data.split(b"\n")[:-1]]
+
+
+def killed_sessions(trial: Trial) -> None:
+    """Whatever moment it is killed at, it goes on as if it had run on, from what its log has.
+
+    What was answered is in the log, unless a crash of the machine took the log's end.
+    """
+    trial.want_log()
+    kills = torn = 0
+    for number, words in enumerate(SETTINGS):
+        draw = trial.draw(f"killed session {number}")
+        data, wanted = drawn_session(draw, trial.lines, words, trial.has_link)
+        lines = lines_of(data)
+        log = trial.folder / f"session-{number}.log"
+        words = (*words, "--log", str(log))
+        begin = 0
+        for _ in range(20):
+            session = Serve(trial.program, words)
+            told = killed_after(session, b"".join(lines[begin:]), draw)
+            kills += 1
+            compare_some(lines[begin:], wanted[begin:], told)
+            least = begin + len(told)
+            if draw.randrange(3) == 0 and answered(log):
+                # The last line of a log has at least a byte, and the first line stays.
+                last = len(log.read_bytes().rstrip(b"\n").rpartition(b"\n")[2])
+                os.truncate(log, log.stat().st_size - 1 - draw.randrange(last + 1))
+                torn += 1
+                least = 0
+            begin = answered(log)
+            expect(least <= begin <= len(lines), f"{begin} lines in the log, {least} were answered")
+        session = Serve(trial.program, words)
+        rest = b"".join(lines[begin:])
+        compare(rest, wanted[begin:], session.exchange(random_pieces(draw, rest)))
+        session.end()
+    print(f"  {kills} kills, {torn} torn logs")
+
+
+def killed_after(session: Serve, data: bytes, draw: Random) -> List[str]:
+    """Kills it once so many answers came, or a moment later; the whole answers that came."""
+    least = min(draw.choice((0, 1, draw.randrange(2000))), data.count(b"\n"))
+
+    def send() -> None:
+        try:
+            for piece in random_pieces(draw, data):
+                session.send(piece)
+        except BrokenPipeError:
+            pass
+    sender = threading.Thread(target=send, daemon=True)
+    sender.start()
+    try:
+        told = b"".join(line + b"\n" for line in session.lines(least)) + session.held
+        time.sleep(draw.random() / 500)
+    finally:
+        session.process.kill()
+    told += session.stdout.read()
+    sender.join(SECONDS)
+    session.end()
+    return told.decode("utf-8", "backslashreplace").split("\n")[:-1]
+
+
+def compare_some(lines: Sequence[bytes], wanted: Sequence[str], told: Sequence[str]) -> None:
+    expect(len(told) <= len(wanted), f"{len(told)} answers to {len(wanted)} lines")
+    for line, want, answer in zip(lines, wanted, told):
+        expect(want == answer, f"{line[:200]!r}: {answer!r}, {want!r} wanted")
+
+
+def refused_logs(trial: Trial) -> None:
+    """A log of other settings, in use, or none at all: status 1, no answer, the log as it was."""
+    trial.want_log()
+    log = trial.folder / "refused.log"
+    words = ("--workers", "3", "--within", "test", "--log", str(log))
+    session = Serve(trial.program, words)
+    expect(session.ask(b"offer http://a.test/").startswith("accepted"), "the first session")
+    refuses(trial, words, log)
+    expect(session.end() == (0, ""), "its end")
+    for others in (
+        ("--workers", "4", "--within", "test"), ("--workers", "3"), (*words[:4], "--max-pending", "9"),
+    ):
+        refuses(trial, (*others, "--log", str(log)), log)
+    session = Serve(trial.program, words)
+    expect(session.ask(b"offer http://a.test/") == "seen", "by the same settings it goes on")
+    session.end()
+    none = trial.folder / "no.log"
+    none.write_bytes(b"offer http://a.test/\n")
+    refuses(trial, (*words[:-1], str(none)), none)
+    refuses(trial, (*words[:-1], str(trial.folder)), log)
+    refuses(trial, (*words[:-1], str(trial.folder / "none" / "log")), log)
+
+
+def refuses(trial: Trial, words: Sequence[str], log: Path) -> None:
+    before = log.read_bytes()
+    done = subprocess.run(
+        [trial.program, "serve", *words], input=b"offer http://b.test/\n", capture_output=True,
+        timeout=SECONDS, check=False,
+    )
+    told = done.stderr.decode()
+    expect((done.returncode, done.stdout) == (1, b""), f"{words}: {done.returncode}, {done.stdout!r}")
+    expect(told.startswith("mercator: ") and told.count("\n") == 1, f"{words}: {told!r}")
+    expect(log.read_bytes() == before, f"{words}: the log is not as it was")
+
+
+def full_disk(trial: Trial) -> None:
+    """What finds no room in the log is not answered; with room the crawl goes on."""
+    trial.want_log()
+    disk = trial.folder / "disk"
+    disk.mkdir()
+    mounted = subprocess.run(
+        ["mount", "-t", "tmpfs", "-o", "size=64k", "none", str(disk)],
+        capture_output=True, check=False,
+    )
+    if mounted.returncode:
+        raise Skipped("no file system can be mounted here")
+    try:
+        log = disk / "log"
+        accepted = fill(trial, log)
+        subprocess.run(["mount", "-o", "remount,size=1m", str(disk)], check=True)
+        with Frontier(2, log=log, program=trial.program) as frontier:
+            told = frontier.offer_all(accepted)
+            expect(told == [Refusal.SEEN] * len(accepted), "what was answered is not in the log")
+            queue = drawn.queue_of(drawn.url_of("http://a.test/"), 2)
+            for url in accepted:
+                expect(frontier.take(queue) == url, "another URL")
+                frontier.done(queue)
+    finally:
+        subprocess.run(["umount", str(disk)], check=False)
+
+
+def fill(trial: Trial, log: Path) -> List[str]:
+    """Offers URLs until the disk is full; those that were accepted."""
+    accepted: List[str] = []
+    with Frontier(2, log=log, program=trial.program) as frontier:
+        try:
+            for number in range(100_000):
+                if frontier.offer(f"http://a.test/{number}"):
+                    accepted.append(f"http://a.test/{number}")
+        except FrontierEnded as error:
+            expect(error.status == 1 and "cannot write" in error.told, f"what is told: {error}")
+            return accepted
+    raise Differs("a full disk is not told")
+
+
+def compacted_logs(trial: Trial) -> None:
+    """A compacted log is shorter, and a session goes on from it as from the whole one."""
+    trial.want_log()
+    if not trial.has_compact:
+        raise Skipped("the program has no --compact")
+    for number, words in enumerate(SETTINGS):
+        draw = trial.draw(f"compacted {number}")
+        data, wanted = drawn_session(draw, trial.lines, words, trial.has_link)
+        lines = lines_of(data)
+        log = trial.folder / f"whole-{number}.log"
+        before = log
+        for part in range(4):
+            begin, end = (len(lines) * place // 4 for place in (part, part + 1))
+            some = b"".join(lines[begin:end])
+            session = Serve(trial.program, (*words, "--log", str(log)))
+            compare(some, wanted[begin:end], session.exchange(random_pieces(draw, some)))
+            expect(session.end()[0] == 0, "its end")
+            before, log = log, trial.folder / f"short-{number}-{part}.log"
+            done = subprocess.run(
+                [trial.program, "serve", *words, "--log", str(before), "--compact", str(log)],
+                stdin=subprocess.DEVNULL, capture_output=True, timeout=SECONDS, check=False,
+            )
+            told = done.stderr.decode()
+            expect(done.returncode == 0 and not done.stdout, f"status {done.returncode}: {told}")
+            expect(log.stat().st_size < before.stat().st_size, "it is no shorter")
