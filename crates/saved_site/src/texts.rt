@@ -1,5 +1,5 @@
 //! The links of a document: the one module that `html_links` gives texts to.
-ghost use Rattle.std.specs.Prelude.{◌≡◌, true};
+ghost use Rattle.std.specs.Prelude.{◌≡◌, true, map};
 ghost use Rattle.saved_site.specs.Texts.{fits};
 
 use crate::base_href::{Given, Meant, given_of, meaning_of};
@@ -60,22 +60,41 @@ pub(crate) fn links_at(
     charset: Charset,
     url: &CanonUrl,
 ) -> Result<(LinkLines, LinkCounts), AllocError> {
-    let mut texts = Texts::new(alloc, charset, Given::None);
-    let base = read_links(alloc, text, false, &mut texts)?;
+    let mut found = Found {
+        alloc,
+        texts: Vec::new(alloc),
+    };
+    let base = read_links(alloc, text, false, &mut found)?;
+    // The base also holds for the links before it, so all are read first.
     let given = match base {
         Some(base) => given_of(alloc, base.as_slice(), url)?,
         None => Given::None,
     };
-    if matches!(given, Given::None) {
-        return Ok(texts.into_lines());
-    }
-    // The base also holds for the links before it, so the document is read once more.
     let mut texts = Texts::new(alloc, charset, given);
-    read_links(alloc, text, false, &mut texts)?;
+    for text in &found.texts {
+        texts.push(text.as_slice())?;
+    }
     Ok(texts.into_lines())
 }
 
-impl Links for Texts {
+/// The texts of a document's links, as they were found.
+#[derive(Drop)]
+struct Found {
+    alloc: Global,
+    texts: Vec<Vec<u8>>,
+}
+
+impl Links for Found {
+    ghost texts = { λ found. map (λ text. text.items) found.texts.items };
+
+    fn push(&mut self, text: &[u8]) -> Result<(), AllocError> {
+        self.texts.push(Vec::from_slice(self.alloc, text)?)?;
+        Ok(())
+    }
+}
+
+impl Texts {
+    /// The next link's text.
     fn push(&mut self, text: &[u8]) -> Result<(), AllocError> {
         let text = trimmed(text);
         if !has_breaks(text) {
@@ -88,9 +107,7 @@ impl Links for Texts {
         push_without_breaks(text, &mut clean)?;
         self.push_clean(clean.as_slice())
     }
-}
 
-impl Texts {
     fn new(alloc: Global, charset: Charset, given: Given) -> Texts {
         Texts {
             alloc,
