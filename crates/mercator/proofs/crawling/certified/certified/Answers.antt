@@ -8,7 +8,7 @@ use Rattle.mercator.proofs.crawling.certified.certified.Goals as goal
 
 pub returns-in_err-certify_in_threads-in-Threads-clause-fault : goal.returns-in_err-certify_in_threads-in-Threads-clause-fault
 returns-in_err-certify_in_threads-in-Threads-clause-fault g c =
-    let r = c.from_residual-in_err-certify_in_threads-in-Threads in
+    let r = c.from_residual in
     let p = err_from_is_err_and r.result r.ensures.1 in
     let allowed = allows c.args.filter.now in
     let seeds = c.args.seeds.now in
