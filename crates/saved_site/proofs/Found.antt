@@ -1,18 +1,16 @@
 -- The saved web of pages has at each URL the page that these have.
-use Rattle.std.proofs.Common.{◌≡◌, inl, inr, ℕ, Bool, true, false, ◌||◌, List, [], ◌∷◌, ◌++◌, Option, Some, None, codes, refl, sym, ap, subst, ◌∙◌}
-use Rattle.std.specs.Bool.{if◌then◌else◌}
+use Rattle.std.proofs.Common.{◌≡◌, inl, inr, ℕ, true, List, [], ◌∷◌, ◌++◌, Option, Some, None, codes, refl, sym, ap, ◌∙◌}
 use Rattle.std.specs.List.{flat_map}
 use Rattle.std.specs.Str.{bytes_eq}
 use Rattle.std.specs.Str.Lines.{lines}
 use Rattle.std.proofs.lemmas.Bool.{and_parts, cases_Bool, cond-true, cond-false}
 use Rattle.crawl_web.specs.SavedWeb.{lines_behind, put_link, link_texts, put_moved, moved_text, page_with, page_behind, page_of}
 use Rattle.crawl_web.specs.WebLines.{is_page_at}
-use Rattle.crawl_web.specs.declared.page.Page.{Page}
 use Rattle.crawl_web.specs.declared.saved_web.line.Line.{Line}
 use Rattle.saved_site.proofs.Says as lemma
 use Rattle.saved_site.proofs.Sound.{AllPages, links, under_lines, page_lines, at_link, at_moved, at_page, at_header, web_cut}
 use Rattle.saved_site.specs.Meaning.{under_page, page_in}
-use Rattle.saved_site.specs.Pages.{web_text, fits_under, IsPage}
+use Rattle.saved_site.specs.Pages.{web_text, fits_under}
 use Rattle.saved_site.specs.Texts.{fits, all_fit}
 use Rattle.saved_site.specs.declared.page.SitePage.{SitePage}
 use Rattle.saved_site.specs.declared.page.Under.{Under}

@@ -1,9 +1,9 @@
 -- The lines of pages in order are a saved web.
-use Rattle.std.proofs.Common.{◌≡◌, ℕ, ◌+◌, ◌<◌, ◌==◌, Bool, true, false, ◌||◌, List, [], ◌∷◌, ◌++◌, length, Option, Some, None, Ok, codes, refl, sym, ap, subst, ◌∙◌, arith, append_assoc, append-nil, length-append, ne_eqb}
+use Rattle.std.proofs.Common.{◌≡◌, ℕ, ◌+◌, ◌<◌, ◌==◌, Bool, true, false, ◌||◌, List, [], ◌∷◌, ◌++◌, length, Some, None, codes, refl, sym, ap, subst, ◌∙◌, arith, append_assoc, append-nil, length-append, ne_eqb}
 use Rattle.std.specs.Prelude.{Result}
 use Rattle.std.specs.Bool.{if◌then◌else◌}
 use Rattle.std.specs.Cmp.Lexicographic.{slice_cmp}
-use Rattle.std.specs.List.{list_any, list_all, flat_map}
+use Rattle.std.specs.List.{list_any, flat_map}
 use Rattle.std.specs.Option.{option_map_or}
 use Rattle.std.specs.Ordering.{is_lt, is_eq, nat_cmp}
 use Rattle.std.specs.declared.cmp.Ordering.{Ordering}
@@ -11,14 +11,14 @@ use Rattle.std.specs.Result.{result_ok}
 use Rattle.std.specs.Str.{bytes_eq}
 use Rattle.std.specs.Str.Lines.{lines}
 use Rattle.std.specs.declared.cmp.Ordering.TheVariants.{Less, Equal, Greater}
-use Rattle.std.proofs.lemmas.Bool.{and_parts, or_from, cond-true, cond-false, false_from_ne_true}
+use Rattle.std.proofs.lemmas.Bool.{and_parts, or_from, cond-true, cond-false}
 use Rattle.std.proofs.lemmas.Cmp.{nat_list_cmp_total}
 use Rattle.std.proofs.lemmas.Map.Text.{is_eq-slice_cmp}
 use Rattle.std.proofs.lemmas.List.Folds.{list_any-append}
 use Rattle.crawl_keys.specs.declared.error.KeyError.{KeyError}
 use Rattle.crawl_web.proofs.ReadWeb.{under_more}
 use Rattle.crawl_web.specs.LeastFault.{SoundAfter}
-use Rattle.crawl_web.specs.WebChecks.{Before, is_second, under_last_page, before, header_of, header_fault, page_fault, under_fault, said_fault, text_fault, fault_after}
+use Rattle.crawl_web.specs.WebChecks.{is_second, under_last_page, before, header_of, header_fault, page_fault, under_fault, said_fault, text_fault, fault_after}
 use Rattle.crawl_web.specs.WebFaults.{IsSound}
 use Rattle.crawl_web.specs.WebLines.{says_page, says_moved, url_said, is_page, is_moved_line, is_link, is_page_at}
 use Rattle.crawl_web.specs.declared.saved_web.error.WebError.{WebError}
@@ -29,7 +29,7 @@ use Rattle.saved_site.proofs.Lines.{first_line, fits_inner, line_on}
 use Rattle.saved_site.proofs.Says as lemma
 use Rattle.saved_site.proofs.Says.{Says}
 use Rattle.saved_site.specs.Pages.{under_text, page_text, web_text, is_behind, AscendsBehind, fits_under, IsPage}
-use Rattle.saved_site.specs.Texts.{fits, all_fit, page_line, link_line, link_lines, moved_line}
+use Rattle.saved_site.specs.Texts.{fits, all_fit, page_line, link_line, link_lines}
 use Rattle.saved_site.specs.declared.page.SitePage.{SitePage}
 use Rattle.saved_site.specs.declared.page.Under.{Under}
 use Rattle.saved_site.specs.declared.page.Under.TheVariants.{Links, Moved}

@@ -1,4 +1,3 @@
-use Rattle.std.proofs.Common.{List, ℕ, ◌∷◌, ◌++◌, []}
 use Rattle.saved_site.proofs.Lines.{pushed, pushed_links}
 use Rattle.saved_site.proofs.link_lines.LinkLines.push.Goals as goal
 
