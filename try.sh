@@ -24,7 +24,7 @@ if [ -x "$program" ]; then
     "$program" "${words[@]}" < "$scratch/web" > "$scratch/report"
     said="by the proved program, $program"
 elif [ "${1:-}" = --proved ]; then
-    echo "proving and building the program, which takes 32 minutes of processor .." >&2
+    echo "proving and building the program, which takes 47 minutes of processor .." >&2
     (cd crates/mercator_cli && rt run -- "${words[@]}" < "$scratch/web" > "$scratch/report" 2> "$scratch/told") || { cat "$scratch/told"; exit 1; }
     said="by the proved program, $program"
 else
