@@ -5,4 +5,5 @@ pub mod Seeds
 pub mod SiteCrawls
 pub mod WithoutLoss
 pub mod Serves
+mod Verdicts
 mod Windows

@@ -1,7 +1,7 @@
 use Rattle.std.proofs.Common.{sym, subst, ◌∙◌}
 use Rattle.std.proofs.lemmas.Result.{err_from_is_err_and}
 use Rattle.crawl_certificate.proofs.Crawls.{whole_crawl}
-use Rattle.crawl_certificate.proofs.Verdicts.{no_fault_from}
+use Rattle.mercator.proofs.Verdicts.{no_fault_from}
 use Rattle.crawl_certificate.specs.AccountEntries.{entries_of}
 use Rattle.crawl_keys.specs.HostFilter.{allows}
 use Rattle.mercator.proofs.RunResults.{all_pages, judged, urls_counted}
