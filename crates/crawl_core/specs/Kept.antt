@@ -7,7 +7,7 @@ use Rattle.std.specs.BTreeMap.{is_at}
 use Rattle.std.specs.Map.{lookup}
 use Rattle.crawl_core.specs.declared.word.Word.{Word}
 use Rattle.crawl_core.specs.Flags.{one_if}
-use Rattle.crawl_core.specs.Limits.{pending_limit}
+use Rattle.crawl_limits.specs.Limits.{pending_limit}
 use Rattle.crawl_core.specs.GateSide.{GateSide, units_out, shown_word}
 
 -- of a subqueue: the URLs that wait, oldest first; those that it ever accepted, oldest first; how many of each sender it

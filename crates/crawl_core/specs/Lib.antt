@@ -6,7 +6,6 @@ pub mod Growth
 pub mod History
 pub mod Invariants
 pub mod Kept
-pub mod Limits
 pub mod Messages
 pub mod Moves
 pub mod Run

@@ -5,7 +5,6 @@ mod error;
 mod event;
 /// What holds of whole runs.
 pub mod laws;
-mod limits;
 mod machine;
 mod reply;
 mod runs;
@@ -14,9 +13,9 @@ mod url_queue;
 mod url_queues;
 mod word;
 
+pub use crawl_limits::{PENDING_LIMIT, WORKER_LIMIT};
 pub use error::{CoreError, NoMemory};
 pub use event::Event;
-pub use limits::{PENDING_LIMIT, WORKER_LIMIT};
 pub use machine::Core;
 pub use reply::{Refusal, Reply};
 pub use runs::run;

@@ -2,7 +2,7 @@
 ghost use Rattle.std.specs.Prelude.{◌≡◌, ◌<◌, ◌≤◌, ◌⊎◌, ◌↔◌, false, Err, IfOk, OnOk, OnErr};
 ghost use Rattle.std.specs.Result.{IsOk};
 ghost use Rattle.crawl_core.specs.Growth.{needs_memory};
-ghost use Rattle.crawl_core.specs.Limits.{AreLimits, worker_limit, pending_limit};
+ghost use Rattle.crawl_limits.specs.Limits.{AreLimits, worker_limit, pending_limit};
 ghost use Rattle.crawl_core.specs.State.{start};
 ghost use Rattle.crawl_core.specs.Shows.{Shows, Makes};
 ghost use Rattle.crawl_core.specs.Moves.{Moves};
@@ -10,10 +10,10 @@ ghost use Rattle.crawl_core.specs.declared.error.CoreError.{CoreError};
 
 use crate::error::{CoreError, NoMemory};
 use crate::event::Event;
-use crate::limits::{PENDING_LIMIT, WORKER_LIMIT};
 use crate::reply::Reply;
 use crate::url_queues::UrlQueues;
 use crate::word::Word;
+use crawl_limits::{PENDING_LIMIT, WORKER_LIMIT};
 use std::alloc::Global;
 use std::collections::{BTreeMap, BTreeSet};
 use std::marker::Model;

@@ -1,6 +1,6 @@
 //! Whole runs.
 ghost use Rattle.std.specs.Prelude.{◌≡◌, ◌<◌, ◌≤◌, ◌⊎◌, ◌↔◌, Err, IfOk, OnOk};
-ghost use Rattle.crawl_core.specs.Limits.{AreLimits, worker_limit, pending_limit};
+ghost use Rattle.crawl_limits.specs.Limits.{AreLimits, worker_limit, pending_limit};
 ghost use Rattle.crawl_core.specs.Run.{IsRun};
 ghost use Rattle.crawl_core.specs.declared.error.CoreError.{CoreError};
 

@@ -14,11 +14,12 @@ use crate::pass::Pass;
 use crate::rule::{CountsUnits, FreshPass, View};
 use crate::unit::Unit;
 use atomic_table::Table;
+use crawl_limits::PENDING_LIMIT;
 use std::alloc::Global;
 use std::marker::Model;
 
-/// The greatest maximum, 2^40: counts stay far below bit 63, and a sum of many fits a u64.
-pub const MAX_PENDING_LIMIT: u64 = 1 << 40;
+/// The greatest maximum, 2^40.
+pub const MAX_PENDING_LIMIT: u64 = PENDING_LIMIT;
 
 /// A count of units, at most its maximum, and a closed bit, in one atomic word that threads share by `&`.
 #[derive(Drop)]

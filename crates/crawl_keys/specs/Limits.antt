@@ -1,6 +1,7 @@
 -- The limits of keys.
 use Rattle.std.specs.Prelude.{ℕ}
+use Rattle.crawl_limits.specs.Limits.{worker_limit}
 
 -- the greatest number of subqueues that keys are assigned to
 abbrev pub subqueues_limit : ℕ
-subqueues_limit = 512
+subqueues_limit = worker_limit

@@ -3,8 +3,10 @@ ghost use Rattle.std.specs.Prelude.{◌≡◌, ◌↔◌, ◌<◌, ◌≤◌, Is
 ghost use Rattle.crawl_keys.specs.Assignment as spec;
 ghost use Rattle.crawl_keys.specs.Limits.{subqueues_limit};
 
-/// The greatest number of subqueues that keys are assigned to.
-pub const SUBQUEUES_LIMIT: u32 = 512;
+use crawl_limits::WORKER_LIMIT;
+
+/// The greatest number of subqueues that keys are assigned to: one for each worker.
+pub const SUBQUEUES_LIMIT: u32 = WORKER_LIMIT;
 
 /// What the hash so far is multiplied by before the next byte is added.
 const MULTIPLIER: u32 = 31;

@@ -4,7 +4,7 @@ use Rattle.std.specs.Bool.{if◌then◌else◌}
 use Rattle.std.specs.Str.{bytes_eq}
 use Rattle.std.proofs.lemmas.Bool.{le-leb, leb-true, and_parts}
 use Rattle.std.proofs.lemmas.Slice.Eq.{bytes_eq-Decides}
-use Rattle.crawl_core.specs.Limits.{AreLimits, worker_limit, pending_limit}
+use Rattle.crawl_limits.specs.Limits.{AreLimits, worker_limit, pending_limit}
 use Rattle.crawl_web.specs.Lines.{text_of}
 use Rattle.crawl_web.specs.Parts.{at_space}
 use Rattle.crawl_web.specs.declared.lines.LineError.{LineError}

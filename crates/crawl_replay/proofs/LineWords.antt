@@ -5,7 +5,7 @@ use Rattle.std.specs.Str.{IsUtf8, is_utf8}
 use Rattle.std.proofs.lemmas.Str.{IsUtf8-from_is_utf8, is_utf8-from_IsUtf8, IsUtf8-nil}
 use Rattle.std.proofs.lemmas.Bool.Decides.{nat_tests}
 use Rattle.crawl_core.specs.declared.event.Event.{Event}
-use Rattle.crawl_web.specs.Limits.{line_limit}
+use Rattle.crawl_limits.specs.Limits.{line_limit}
 use Rattle.crawl_web.specs.Lines.{text_of}
 use Rattle.crawl_web.specs.declared.lines.LineError.{LineError}
 use Rattle.crawl_web.specs.declared.lines.LineError.TheVariants as without

@@ -8,8 +8,7 @@ use Rattle.crawl_keys.specs.CanonicalText.{canonical}
 use Rattle.crawl_keys.specs.declared.error.KeyError.{KeyError}
 use Rattle.crawl_core.specs.declared.event.Event.{Event}
 use Rattle.crawl_core.specs.declared.event.Event.TheVariants.{Look, Enter, Admit, Back, EndSeeds, Take, Done, Close}
-use Rattle.crawl_core.specs.Limits.{AreLimits}
-use Rattle.crawl_web.specs.Limits.{line_limit}
+use Rattle.crawl_limits.specs.Limits.{AreLimits, line_limit}
 use Rattle.crawl_replay.specs.Limits.{most_digits}
 use Rattle.crawl_replay.specs.Script.{Said}
 use Rattle.crawl_replay.specs.declared.script.header.Header.{Header}

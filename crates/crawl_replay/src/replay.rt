@@ -2,7 +2,7 @@
 ghost use Rattle.std.specs.Prelude.{IfOk, IfErr};
 ghost use Rattle.crawl_core.specs.Run.{IsRun};
 ghost use Rattle.crawl_replay.specs.Script.{script_of};
-ghost use Rattle.crawl_core.specs.Limits.{AreLimits};
+ghost use Rattle.crawl_limits.specs.Limits.{AreLimits};
 ghost use Rattle.crawl_keys.specs.Outcome.{IsRefusal};
 ghost use Rattle.crawl_replay.specs.Replay.{IsReplay};
 

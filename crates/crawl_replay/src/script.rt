@@ -4,10 +4,9 @@ ghost use Rattle.std.specs.Str.Lines.{lines};
 ghost use Rattle.crawl_keys.specs.Outcome.{Gives};
 ghost use Rattle.crawl_replay.specs.Script.{header_in, events_of, script_of};
 ghost use Rattle.crawl_replay.specs.ScriptContent.{content};
-ghost use Rattle.crawl_core.specs.Limits.{AreLimits};
+ghost use Rattle.crawl_limits.specs.Limits.{AreLimits, worker_limit};
 ghost use Rattle.crawl_replay.specs.Assignment.{IsAssigned, AreAddressed};
 ghost use Rattle.crawl_replay.specs.LeastFault.{IsScriptFault};
-ghost use Rattle.crawl_core.specs.Limits.{worker_limit};
 
 mod error;
 mod event;

@@ -11,7 +11,7 @@ use Rattle.std.proofs.lemmas.List.{length-append}
 use Rattle.std.proofs.lemmas.List.Elements.{All-head, All-tail}
 use Rattle.std.proofs.lemmas.Slice.Eq.{bytes_eq-Decides}
 use Rattle.std.proofs.lemmas.Str.Parse.{digit_at}
-use Rattle.crawl_core.specs.Limits.{AreLimits}
+use Rattle.crawl_limits.specs.Limits.{AreLimits}
 use Rattle.crawl_core.specs.Shows.{Shows}
 use Rattle.crawl_core.specs.State.{State}
 use Rattle.crawl_keys.specs.HostFilter.{is_good, is_suffix_byte}

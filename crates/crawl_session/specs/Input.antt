@@ -3,7 +3,7 @@ use Rattle.std.specs.Prelude.{◌≡◌, ◌⊎◌, ℕ, ◌+◌, false, List, [
 use Rattle.std.specs.List.{All}
 use Rattle.std.specs.Io.KnownBytes.{Appends, Consumes, IsAtEnd}
 use Rattle.std.specs.Str.Lines.{lines}
-use Rattle.crawl_web.specs.Limits.{line_limit}
+use Rattle.crawl_limits.specs.Limits.{line_limit}
 use Rattle.crawl_session.specs.Settings.{SessionView}
 use Rattle.crawl_session.specs.Serving.{ServesAll}
 

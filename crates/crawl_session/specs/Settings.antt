@@ -1,7 +1,7 @@
 -- What a session is made with, and what it keeps.
 use Rattle.std.specs.Prelude.{ℕ, ◌≤◌, List}
 use Rattle.crawl_core.specs.Kept.{Kept}
-use Rattle.crawl_core.specs.Limits.{worker_limit}
+use Rattle.crawl_limits.specs.Limits.{worker_limit}
 
 -- how many workers it has, and the suffixes of its filter
 pub record Settings : Type 0 where

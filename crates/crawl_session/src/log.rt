@@ -3,7 +3,7 @@ ghost use Rattle.std.specs.Prelude.{◌≡◌, ◌<◌, ◌≤◌, ◌++◌, ◌
 ghost use Rattle.std.specs.List.{All};
 ghost use Rattle.std.specs.Option.{option_map};
 ghost use Rattle.std.specs.Str.Lines.{lines};
-ghost use Rattle.crawl_core.specs.Limits.{AreLimits};
+ghost use Rattle.crawl_limits.specs.Limits.{AreLimits};
 ghost use Rattle.crawl_keys.specs.HostFilter.{is_good};
 ghost use Rattle.crawl_replay.specs.Script.{header_of};
 ghost use Rattle.crawl_session.specs.Input.{IsUnfinished};

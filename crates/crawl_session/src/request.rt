@@ -1,6 +1,6 @@
 //! A line, and what it asks of the frontier.
 ghost use Rattle.std.specs.Prelude.{◌≡◌, ◌≤◌};
-ghost use Rattle.crawl_core.specs.Limits.{worker_limit};
+ghost use Rattle.crawl_limits.specs.Limits.{worker_limit};
 ghost use Rattle.crawl_keys.specs.CanonicalText.{resolve};
 ghost use Rattle.crawl_keys.specs.Outcome.{Gives};
 ghost use Rattle.crawl_session.specs.Requests as spec;

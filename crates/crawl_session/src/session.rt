@@ -1,6 +1,6 @@
 //! A frontier that is asked by one client, line by line.
 ghost use Rattle.std.specs.Prelude.{◌≡◌, ◌<◌, ◌≤◌, ◌⊎◌, ◌↔◌, Err, IfOk, OnOk, OnErr};
-ghost use Rattle.crawl_core.specs.Limits.{AreLimits, worker_limit, pending_limit};
+ghost use Rattle.crawl_limits.specs.Limits.{AreLimits, worker_limit, pending_limit};
 ghost use Rattle.crawl_core.specs.Shows.{Shows};
 ghost use Rattle.crawl_core.specs.State.{start};
 ghost use Rattle.crawl_core.specs.declared.error.CoreError.{CoreError};

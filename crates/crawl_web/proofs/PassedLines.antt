@@ -2,7 +2,7 @@
 use Rattle.std.proofs.Common.{◌≡◌, ℕ, ◌==◌, Bool, true, false, List, length, nat_lt, None, Ok, Err}
 use Rattle.std.specs.Bool.{if◌then◌else◌}
 use Rattle.std.specs.Str.{is_utf8}
-use Rattle.crawl_web.specs.Limits.{line_limit}
+use Rattle.crawl_limits.specs.Limits.{line_limit}
 use Rattle.crawl_web.specs.WebChecks.{Before, said_fault, text_fault, line_fault}
 use Rattle.crawl_web.specs.WebLines.{line_of_text, line_of}
 use Rattle.crawl_web.specs.declared.lines.LineError.TheVariants.{TooLong, NotText}

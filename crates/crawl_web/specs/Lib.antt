@@ -1,7 +1,6 @@
 pub mod KnownLinks
 pub mod KnownPages
 pub mod LeastFault
-pub mod Limits
 pub mod LineEnds
 pub mod Lines
 pub mod OwnLines

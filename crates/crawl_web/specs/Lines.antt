@@ -2,7 +2,7 @@
 use Rattle.std.specs.Prelude.{ℕ, List, length, nat_lt, if◌then◌else◌, Result, Ok, Err}
 use Rattle.std.specs.Borrow.{Bor}
 use Rattle.std.specs.Str.{is_utf8}
-use Rattle.crawl_web.specs.Limits.{line_limit}
+use Rattle.crawl_limits.specs.Limits.{line_limit}
 use Rattle.crawl_web.specs.declared.lines.LineError.{LineError}
 use Rattle.crawl_web.specs.declared.lines.LineError.TheVariants.{TooLong, NotText}
 

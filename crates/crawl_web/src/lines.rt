@@ -4,10 +4,8 @@ ghost use Rattle.std.specs.Str.Lines.{lines, strip_carriage_return};
 ghost use Rattle.crawl_web.specs.Lines.{text_of, bytes_at};
 ghost use Rattle.crawl_web.specs.LineEnds.{EndsLine};
 
+pub use crawl_limits::LINE_LIMIT;
 use memchr::memchr;
-
-/// The most bytes of a line, without its LF and a CR directly before that.
-pub const LINE_LIMIT: usize = 4096;
 
 /// Why a line has no text, in the order of the checks. Each fault has the number of its line, from 1.
 #[derive(Clone, Copy, Debug, PartialEq, Eq)]

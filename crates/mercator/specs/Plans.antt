@@ -2,7 +2,7 @@
 use Rattle.std.specs.Prelude.{ℕ, ◌≤◌, ◌≡◌, ◌⊎◌, ◌&&◌, ◌||◌, Bool, true, false, not, List, [], ◌∷◌, codes, length, if◌then◌else◌, Option, Some, None, IsSome, String, string_bytes}
 use Rattle.std.specs.declared.alloc.Global.{Global}
 use Rattle.std.specs.Str.{bytes_eq}
-use Rattle.crawl_core.specs.Limits.{worker_limit, AreLimits}
+use Rattle.crawl_limits.specs.Limits.{worker_limit, AreLimits}
 use Rattle.crawl_keys.specs.HostFilter.{is_good}
 use Rattle.mercator.specs.declared.commands.fault.Fault.{Fault}
 use Rattle.mercator.specs.declared.commands.fault.Fault.TheVariants as fault

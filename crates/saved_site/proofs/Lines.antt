@@ -9,7 +9,7 @@ use Rattle.std.proofs.lemmas.List.Concat.{flat_map-append}
 use Rattle.std.proofs.lemmas.List.Folds.{list_all-append}
 use Rattle.std.proofs.lemmas.List.Splits.{slice_split_at, length-slice_split}
 use Rattle.std.proofs.lemmas.List.Sums.{AllPass-from_list_all}
-use Rattle.crawl_web.specs.Limits.{line_limit}
+use Rattle.crawl_limits.specs.Limits.{line_limit}
 use Rattle.saved_site.specs.Texts.{is_inner, fits, link_line, link_lines, all_fit, texts_in, AreLinks}
 
 abbrev is_lf : ℕ → Bool

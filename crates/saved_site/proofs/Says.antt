@@ -7,7 +7,7 @@ use Rattle.std.proofs.lemmas.Bool.{and_parts, leb-true, cond-true}
 use Rattle.std.proofs.lemmas.Str.{IsUtf8-append, IsUtf8-from_is_utf8}
 use Rattle.crawl_web.proofs.CutLines.{text_of-utf8}
 use Rattle.crawl_web.proofs.WebLines.{line_of-utf8}
-use Rattle.crawl_web.specs.Limits.{line_limit}
+use Rattle.crawl_limits.specs.Limits.{line_limit}
 use Rattle.crawl_web.specs.Lines.{text_of}
 use Rattle.crawl_web.specs.Parts.{at_space}
 use Rattle.crawl_web.specs.WebLines.{said_apart, line_of_text, line_of}

@@ -3,7 +3,7 @@ use Rattle.std.specs.Prelude.{◌≡◌, ℕ, ◌+◌, ◌==◌, Bool, true, not
 use Rattle.std.specs.Str.{is_utf8}
 use Rattle.std.specs.List.{list_all, flat_map}
 use Rattle.std.specs.Str.Lines.{lines}
-use Rattle.crawl_web.specs.Limits.{line_limit}
+use Rattle.crawl_limits.specs.Limits.{line_limit}
 
 -- the byte ends no line: it is neither LF nor CR
 abbrev pub is_inner : ℕ → Bool

@@ -3,7 +3,7 @@ ghost use Rattle.std.specs.Prelude.{◌≡◌};
 ghost use Rattle.crawl_replay.specs.Script.{is_within, header_of};
 
 use crate::numbers::{number32, number64};
-use crawl_core::{PENDING_LIMIT, WORKER_LIMIT};
+use crawl_limits::{PENDING_LIMIT, WORKER_LIMIT};
 use crawl_web::split_space;
 
 /// What the first line says.

@@ -1,7 +1,7 @@
 //! The commands and options as `clap` knows them, and their help.
 use clap::builder::ValueParser;
 use clap::{Arg, ArgAction, Command};
-use crawl_core::{PENDING_LIMIT, WORKER_LIMIT};
+use crawl_limits::{PENDING_LIMIT, WORKER_LIMIT};
 use std::alloc::{AllocError, Global};
 
 /// The program's name, as usage lines have it.

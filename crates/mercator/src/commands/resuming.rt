@@ -1,7 +1,7 @@
 //! A session that goes on from its log.
 ghost use Rattle.std.specs.Prelude.{◌≡◌, ◌≤◌, ◌⊎◌, ℕ, List, length, true, string_bytes, IfOk, IfErr, IsErr, OnOk};
 ghost use Rattle.std.specs.Str.Lines.{lines};
-ghost use Rattle.crawl_core.specs.Limits.{AreLimits};
+ghost use Rattle.crawl_limits.specs.Limits.{AreLimits};
 ghost use Rattle.crawl_session.specs.Logs.{Reruns};
 ghost use Rattle.mercator.specs.Ending.{Begins};
 ghost use Rattle.mercator.specs.FaultText.{torn_line};

@@ -1,6 +1,6 @@
 //! The frontier as a co-process.
 ghost use Rattle.std.specs.Prelude.{◌≡◌, IfOk, IfErr, IsErr, true};
-ghost use Rattle.crawl_core.specs.Limits.{AreLimits};
+ghost use Rattle.crawl_limits.specs.Limits.{AreLimits};
 ghost use Rattle.crawl_core.specs.Shows.{Shows};
 ghost use Rattle.crawl_core.specs.State.{start};
 ghost use Rattle.mercator.specs.Faults.{of_session, status_of_fault};

@@ -1,6 +1,6 @@
 //! What each command tells.
 ghost use Rattle.std.specs.Prelude.{◌≡◌, ◌≤◌, ◌⊎◌, ◌&&◌, ◌||◌, map, string_bytes, vec_len, true, false, IfOk, IfErr, IfSome, IsSome};
-ghost use Rattle.crawl_core.specs.Limits.{worker_limit};
+ghost use Rattle.crawl_limits.specs.Limits.{worker_limit};
 ghost use Rattle.crawl_keys.specs.HostFilter.{filter_of};
 ghost use Rattle.crawl_keys.specs.Outcome.{Gives};
 ghost use Rattle.mercator.specs.KeyLine.{IsKeyLine};

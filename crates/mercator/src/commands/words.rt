@@ -1,6 +1,6 @@
 //! The words of a command line, read by `clap`.
 ghost use Rattle.std.specs.Prelude.{◌≡◌, ◌≤◌, IfOk, IfErr, IfSome};
-ghost use Rattle.crawl_core.specs.Limits.{worker_limit, pending_limit};
+ghost use Rattle.crawl_limits.specs.Limits.{worker_limit, pending_limit};
 ghost use Rattle.mercator.specs.Plans.{IsWithinLimits, IsShown, lists_input};
 ghost use Rattle.mercator.specs.declared.commands.words.PlanError.TheVariants as wrong;
 
@@ -8,7 +8,7 @@ use crate::commands::command_line::{self, command_line};
 use crate::commands::planned::{LogPlan, Plan};
 use clap::ArgMatches;
 use clap::error::ErrorKind;
-use crawl_core::{PENDING_LIMIT, WORKER_LIMIT};
+use crawl_limits::{PENDING_LIMIT, WORKER_LIMIT};
 use std::alloc::{AllocError, AllocFailed, Global};
 
 /// Why words are no plan.

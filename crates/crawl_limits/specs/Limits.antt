@@ -1,4 +1,4 @@
--- The limits of a frontier.
+-- The limits that several crates share. Each number stands here alone.
 use Rattle.std.specs.Prelude.{ℕ, ◌≤◌, ◌^◌}
 
 -- the most workers, and so subqueues
@@ -8,6 +8,10 @@ worker_limit = 512
 -- the greatest maximum of units that are out at one time
 abbrev pub pending_limit : ℕ
 pending_limit = 2 ^ 40
+
+-- the most bytes of a line
+abbrev pub line_limit : ℕ
+line_limit = 4096
 
 -- a frontier can be made with these numbers
 pub record AreLimits (workers max : ℕ) : Type 0 where
