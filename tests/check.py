@@ -162,6 +162,28 @@ def compare_drawn(call: str, count: int, seed: int) -> int:
     return series.end()
 
 
+def compare_changed(call: str, count: int, seed: int) -> int:
+    """Compares folders of the shipped site in which each document is changed at one place."""
+    series, draw = Series("changed folders"), Random(seed)
+    kinds: Counter[str] = Counter()
+    for number in range(count):
+        with tempfile.TemporaryDirectory() as above:
+            folder = Path(above, f"site{number}")
+            drawing.change_folder(draw, loading.ROOT / "examples/site", folder)
+            kinds += compare_folder(series, call, str(folder), Asked(BASE, unreached=True))
+    print("rows of changed folders:", dict(kinds))
+    return series.end()
+
+
+def compare_large(call: str, count: int) -> int:
+    """Compares a folder of many pages."""
+    series = Series("large folders")
+    with tempfile.TemporaryDirectory() as folder:
+        drawing.fill_large(Path(folder), count)
+        print("rows of a large folder:", dict(compare_folder(series, call, folder, Asked(BASE))))
+    return series.end()
+
+
 def compare_folders(call: str, folders: List[str]) -> int:
     """Compares folders as they stand."""
     series = Series("folders")
@@ -203,6 +225,8 @@ def main() -> int:
     words = argparse.ArgumentParser(description=__doc__, formatter_class=argparse.RawDescriptionHelpFormatter)
     words.add_argument("folders", nargs="*", metavar="FOLDER")
     words.add_argument("--drawn", type=int, default=1000, metavar="COUNT")
+    words.add_argument("--changed", type=int, default=100, metavar="COUNT")
+    words.add_argument("--large", type=int, default=0, metavar="PAGES", help="a folder of so many pages too")
     words.add_argument("--seed", type=int, default=1)
     words.add_argument("--tags", type=int, default=0, metavar="COUNT", help="documents whose tags are compared with html5lib's")
     words.add_argument("--reckoning", action="store_true", help="without the program")
@@ -212,7 +236,9 @@ def main() -> int:
     if call:
         shipped = str(loading.ROOT / "examples/site")
         folders = given.folders or [folder for folder in drawing.SITE.DOCUMENTS if os.path.isdir(folder)]
-        failed += compare_folders(call, [shipped, *folders]) + compare_drawn(call, given.drawn, given.seed)
+        failed += compare_folders(call, [shipped, *folders])
+        failed += compare_drawn(call, given.drawn, given.seed) + compare_changed(call, given.changed, given.seed)
+        failed += compare_large(call, given.large) if given.large else 0
     if given.tags:
         failed += compare_tags(given.tags, given.seed)
     return 1 if failed else 0
