@@ -57,35 +57,39 @@ fn links_in(
     charset: Charset,
     url: &CanonUrl,
 ) -> Result<(LinkLines, LinkCounts), AllocError> {
-    match charset {
-        Charset::Utf8 => utf8_links(alloc, without_mark(body), url),
-        Charset::Utf16Le | Charset::Utf16Be => {
-            let is_little = charset == Charset::Utf16Le;
-            let text = from_utf16(alloc, body.get(2..).unwrap_or(&[]), is_little)?;
-            links_at(alloc, text.as_slice(), charset, url)
-        }
-        Charset::Windows1252 | Charset::Other => {
-            let text = from_windows(alloc, body)?;
-            links_at(alloc, text.as_slice(), charset, url)
-        }
+    match made_text(alloc, body, charset)? {
+        Some(text) => links_at(alloc, text.as_slice(), charset, url),
+        None => links_at(alloc, without_mark(body), charset, url),
     }
 }
 
-fn without_mark(body: &[u8]) -> &[u8] {
+/// The text of a document in UTF-8, where it is made; none where the document is that text itself, behind its mark.
+pub(crate) fn made_text(
+    alloc: Global,
+    body: &[u8],
+    charset: Charset,
+) -> Result<Option<Vec<u8>>, AllocError> {
+    match charset {
+        Charset::Utf8 => mended(alloc, without_mark(body)),
+        Charset::Utf16Le => from_utf16(alloc, body.get(2..).unwrap_or(&[]), true).map(Some),
+        Charset::Utf16Be => from_utf16(alloc, body.get(2..).unwrap_or(&[]), false).map(Some),
+        Charset::Windows1252 | Charset::Other => from_windows(alloc, body).map(Some),
+    }
+}
+
+/// The bytes with U+FFFD for what is not UTF-8; none where all is.
+fn mended(alloc: Global, bytes: &[u8]) -> Result<Option<Vec<u8>>, AllocError> {
+    if simdutf8::is_utf8(bytes) {
+        return Ok(None);
+    }
+    let text = String::from_utf8_lossy(alloc, bytes)?;
+    Ok(Some(text.into_bytes()))
+}
+
+/// The document without the mark of UTF-8.
+pub(crate) fn without_mark(body: &[u8]) -> &[u8] {
     match body {
         [0xef, 0xbb, 0xbf, behind @ ..] => behind,
         _ => body,
     }
-}
-
-fn utf8_links(
-    alloc: Global,
-    body: &[u8],
-    url: &CanonUrl,
-) -> Result<(LinkLines, LinkCounts), AllocError> {
-    if simdutf8::is_utf8(body) {
-        return links_at(alloc, body, Charset::Utf8, url);
-    }
-    let text = String::from_utf8_lossy(alloc, body)?;
-    links_at(alloc, text.as_bytes(), Charset::Utf8, url)
 }

@@ -1,7 +1,8 @@
 //! The files and folders below a folder.
 use crate::error::SiteError;
 use crate::notes::{Left, Note};
-use std::io::ErrorKind;
+use std::alloc::Global;
+use std::io::{ErrorKind, Read};
 use std::rt::Files;
 use std::{fs, io};
 
@@ -32,18 +33,18 @@ struct Walk {
 
 /// The files and folders below a folder in the order of their names' bytes, and what was left out. Symbolic links are followed,
 /// but not back up.
-pub(crate) fn entries_below<R: Files + AllocGlobal + Clone + Drop>(
+pub(crate) fn entries_below<R: Files>(
     rt: &R,
+    alloc: Global,
     top: &str,
 ) -> Result<(Vec<String>, Vec<Note>), SiteError> {
-    let alloc = rt.alloc();
     let mut walk = Walk {
         names: Vec::new(alloc),
         entered: Vec::new(alloc),
         waiting: Vec::new(alloc),
         notes: Vec::new(alloc),
     };
-    let real = fs::canonicalize(rt, top)?;
+    let real = rt.canonicalize(alloc, top)?;
     if !fs::metadata(rt, top)?.is_dir() {
         return Err(SiteError::Io(io::Error::from(ErrorKind::InvalidInput)));
     }
@@ -77,44 +78,43 @@ impl Walk {
     }
 
     /// Adds what is in a folder.
-    fn read<R: Files + AllocGlobal + Clone + Drop>(
-        &mut self,
-        rt: &R,
-        top: &str,
-        folder: Waiting,
-    ) -> Result<(), SiteError> {
+    fn read<R: Files>(&mut self, rt: &R, top: &str, folder: Waiting) -> Result<(), SiteError> {
         let Waiting { name, entered } = folder;
-        let path = format!(in rt.alloc(); "{top}/{name}")?;
-        let entries = match fs::read_dir(rt, path.as_str()) {
-            Ok(entries) => entries,
+        let alloc = *self.names.allocator();
+        let path = format!(in alloc; "{top}/{name}")?;
+        let listed = match names_in(rt, alloc, path.as_str()) {
+            Ok(listed) => listed,
             Err(error) if name.is_empty() => return Err(SiteError::Io(error)),
             Err(_) => return self.tell(Left::FolderUnread, name),
         };
-        for entry in entries {
-            match entry {
-                Ok(entry) => {
-                    let own = format!(in rt.alloc(); "{name}{}", entry.file_name())?;
+        for own in listed.as_slice().split(|byte| *byte == 0) {
+            if matches!(own, [] | [b'.'] | [b'.', b'.']) {
+                continue;
+            }
+            match str::from_utf8(own) {
+                Ok(text) => {
+                    let own = format!(in alloc; "{name}{text}")?;
                     self.add(rt, top, own, entered)?;
                 }
-                Err(error) if error.kind() == ErrorKind::InvalidFilename => {
-                    let place = format!(in rt.alloc(); "{name}..")?;
+                Err(_) => {
+                    let text = String::from_utf8_lossy(alloc, own)?;
+                    let place = format!(in alloc; "{name}{text}")?;
                     self.tell(Left::NotUtf8, place)?;
                 }
-                Err(error) => return Err(SiteError::Io(error)),
             }
         }
         Ok(())
     }
 
     /// Adds a file or a folder, and nothing else.
-    fn add<R: Files + AllocGlobal + Clone + Drop>(
+    fn add<R: Files>(
         &mut self,
         rt: &R,
         top: &str,
         name: String,
         from: usize,
     ) -> Result<(), SiteError> {
-        let path = format!(in rt.alloc(); "{top}/{name}")?;
+        let path = format!(in *self.names.allocator(); "{top}/{name}")?;
         match fs::metadata(rt, path.as_str()) {
             Ok(found) if found.is_dir() => self.add_folder(rt, path.as_str(), name, from),
             Ok(found) if found.is_file() => Ok(self.names.push(name)?),
@@ -122,7 +122,7 @@ impl Walk {
         }
     }
 
-    fn add_folder<R: Files + AllocGlobal + Clone + Drop>(
+    fn add_folder<R: Files>(
         &mut self,
         rt: &R,
         path: &str,
@@ -132,7 +132,7 @@ impl Walk {
         let mut name = name;
         name.push('/')?;
         self.names.push(name.clone()?)?;
-        let Ok(real) = fs::canonicalize(rt, path) else {
+        let Ok(real) = rt.canonicalize(*self.names.allocator(), path) else {
             return self.tell(Left::FolderUnread, name);
         };
         let real = real.as_path();
@@ -157,4 +157,11 @@ impl Walk {
         }
         false
     }
+}
+
+/// The names in a folder, each ended by a NUL.
+fn names_in<R: Files>(rt: &R, alloc: Global, path: &str) -> io::Result<Vec<u8>> {
+    let mut names = Vec::new(alloc);
+    rt.open_dir(path)?.read_to_end(&mut names)?;
+    Ok(names)
 }

@@ -172,6 +172,11 @@ impl Site {
         })
     }
 
+    /// The URL of the top.
+    pub(crate) fn top(&self) -> &str {
+        self.top.as_str()
+    }
+
     /// The page with this URL, by its index.
     pub(crate) fn find(&self, url: &str) -> Option<usize> {
         self.entries

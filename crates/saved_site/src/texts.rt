@@ -12,8 +12,9 @@ use crate::in_query::push_with_query;
 use crate::link_lines::LinkLines;
 use crate::text::{LINK_FRONT, TEXT_LIMIT, fits};
 use crawl_keys::CanonUrl;
-use html_links::{Links, read_links};
+use html_links::{Base, Links, read_links};
 use std::alloc::{AllocError, Global};
+use std::mem;
 
 /// What became of links.
 #[derive(Clone, Copy, Debug, PartialEq, Eq, Default)]
@@ -42,7 +43,7 @@ impl LinkCounts {
 
 /// The lines of links, as they are read.
 #[derive(Drop)]
-struct Texts {
+pub(crate) struct Texts {
     alloc: Global,
     charset: Charset,
     given: Given,
@@ -66,11 +67,7 @@ pub(crate) fn links_at(
     };
     let base = read_links(alloc, text, false, &mut found)?;
     // The base also holds for the links before it, so all are read first.
-    let given = match base {
-        Some(base) => given_of(alloc, base.as_slice(), url)?,
-        None => Given::None,
-    };
-    let mut texts = Texts::new(alloc, charset, given);
+    let mut texts = Texts::under(alloc, charset, base, url)?;
     for text in &found.texts {
         texts.push(text.as_slice())?;
     }
@@ -94,6 +91,26 @@ impl Links for Found {
 }
 
 impl Texts {
+    /// No lines yet, of a page with this base at a URL.
+    pub(crate) fn under(
+        alloc: Global,
+        charset: Charset,
+        base: Base,
+        url: &CanonUrl,
+    ) -> Result<Texts, AllocError> {
+        let given = match base {
+            Some(base) => given_of(alloc, base.as_slice(), url)?,
+            None => Given::None,
+        };
+        Ok(Texts::new(alloc, charset, given))
+    }
+
+    /// The line of this link's text alone, if it has one.
+    pub(crate) fn line_of(&mut self, text: &[u8]) -> Result<LinkLines, AllocError> {
+        self.push(text)?;
+        Ok(mem::replace(&mut self.links, LinkLines::new(self.alloc)))
+    }
+
     /// The next link's text.
     fn push(&mut self, text: &[u8]) -> Result<(), AllocError> {
         let text = trimmed(text);

@@ -28,7 +28,7 @@ fn main(rt: HostRuntime) -> io::Result<()> {
     let (Some(folder), Some(base)) = (folder, base) else {
         return Err(io::Error::from(ErrorKind::InvalidInput));
     };
-    match folder_web(&rt, folder.as_str(), base.as_str(), &rules) {
+    match folder_web(&rt, rt.alloc(), folder.as_str(), base.as_str(), &rules) {
         Ok(web) => {
             for note in &web.notes {
                 eprintln!(rt; "site_trial: {}: {:?}", note.left, note.place)?;
