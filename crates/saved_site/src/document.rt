@@ -1,8 +1,9 @@
 //! The links of a document, whatever its encoding.
+use crate::anchors::Anchors;
 use crate::charset::{Charset, charset_of, declared, from_utf16, from_windows};
 use crate::kinds::start_of;
 use crate::link_lines::LinkLines;
-use crate::texts::{LinkCounts, links_at};
+use crate::texts::{LinkCounts, Read, links_at};
 use crawl_keys::CanonUrl;
 use std::alloc::{AllocError, Global};
 
@@ -11,6 +12,8 @@ use std::alloc::{AllocError, Global};
 pub(crate) struct Document {
     pub(crate) links: LinkLines,
     pub(crate) counts: LinkCounts,
+    /// Its anchors, where they are wanted.
+    pub(crate) anchors: Option<Anchors>,
     /// The name of its encoding, where that is not known here.
     pub(crate) encoding: Option<String>,
 }
@@ -21,12 +24,13 @@ impl Document {
         Document {
             links: LinkLines::new(alloc),
             counts: LinkCounts::default(),
+            anchors: None,
             encoding: None,
         }
     }
 }
 
-/// The lines of the links of a document at a URL.
+/// The lines of the links of a document at a URL, and its anchors where they are wanted.
 ///
 /// # Errors
 /// Where a growth was refused.
@@ -34,9 +38,17 @@ pub(crate) fn document_at(
     alloc: Global,
     body: &[u8],
     url: &CanonUrl,
+    wants_anchors: bool,
 ) -> Result<Document, AllocError> {
     let charset = charset_of(body);
-    let (links, counts) = links_in(alloc, body, charset, url)?;
+    let Read {
+        lines: links,
+        counts,
+        anchors,
+    } = match made_text(alloc, body, charset)? {
+        Some(text) => links_at(alloc, text.as_slice(), charset, url, wants_anchors)?,
+        None => links_at(alloc, without_mark(body), charset, url, wants_anchors)?,
+    };
     let encoding = match charset {
         Charset::Other => {
             let name = declared(start_of(body)).unwrap_or(&[]);
@@ -47,20 +59,9 @@ pub(crate) fn document_at(
     Ok(Document {
         links,
         counts,
+        anchors,
         encoding,
     })
-}
-
-fn links_in(
-    alloc: Global,
-    body: &[u8],
-    charset: Charset,
-    url: &CanonUrl,
-) -> Result<(LinkLines, LinkCounts), AllocError> {
-    match made_text(alloc, body, charset)? {
-        Some(text) => links_at(alloc, text.as_slice(), charset, url),
-        None => links_at(alloc, without_mark(body), charset, url),
-    }
 }
 
 /// The text of a document in UTF-8, where it is made; none where the document is that text itself, behind its mark.

@@ -1,7 +1,7 @@
 //! Which file a page of a site is made of.
 use crate::error::SiteError;
-use crate::kinds::{Kind, is_document, kind_of};
-use crate::located::{Anchors, LinkAt, document_anchors, located_links};
+use crate::kinds::{is_document, kind_of};
+use crate::located::{LinkAt, located_links};
 use crate::site::{Rules, Site, Source, split_name};
 use crate::spellings::plain_of;
 use crate::web::SiteNames;
@@ -105,34 +105,9 @@ impl<'a> SiteFiles<'a> {
         }
     }
 
-    /// The anchors of that page; none where the file is no document.
-    ///
-    /// # Errors
-    /// Where a growth was refused.
-    pub fn anchors(
-        &self,
-        alloc: Global,
-        index: usize,
-        body: &[u8],
-        url: &CanonUrl,
-    ) -> Result<Option<Anchors>, AllocError> {
-        if self.is_document(index, body) {
-            document_anchors(alloc, body, url).map(Some)
-        } else {
-            Ok(None)
-        }
-    }
-
     fn is_document(&self, index: usize, body: &[u8]) -> bool {
         let name = self.name(index).unwrap_or("");
         let (path, _) = split_name(name, self.rules.queries);
         is_document(kind_of(path), body)
-    }
-
-    /// Whether the file with this index may be a document, by its name.
-    pub fn may_be_document(&self, index: usize) -> bool {
-        let name = self.name(index).unwrap_or("");
-        let (path, _) = split_name(name, self.rules.queries);
-        kind_of(path) != Kind::Other
     }
 }

@@ -1,6 +1,7 @@
 //! The saved web of a folder of files: the pages that a plain static server answers, and the links that a browser reads in them.
 #![tactic(auto)]
 
+mod anchors;
 mod base_href;
 mod batch;
 mod charset;
@@ -25,10 +26,11 @@ mod text;
 mod texts;
 mod web;
 
+pub use anchors::{AnchorLink, Anchors};
 pub use error::SiteError;
 pub use files::SiteFiles;
 pub use link_lines::LinkLines;
-pub use located::{AnchorLink, Anchors, LinkAt};
+pub use located::LinkAt;
 pub use notes::{Left, Note};
 pub use on_disk::{FolderNames, folder_body, folder_names, folder_web, folder_web_of};
 pub use page::{SitePage, Under};
@@ -36,4 +38,4 @@ pub use print::print_web;
 pub use site::Rules;
 pub use text::LineText;
 pub use texts::LinkCounts;
-pub use web::{SiteNames, Summary, Web, site_web};
+pub use web::{PageAnchors, SiteNames, Summary, Web, site_web};

@@ -1,7 +1,6 @@
 //! The saved web of a folder, whose files the calling thread reads.
 ghost use Rattle.std.specs.Prelude.{IfOk};
-ghost use Rattle.std.specs.Str.Lines.{lines};
-ghost use Rattle.crawl_web.specs.WebFaults.{IsSound};
+ghost use Rattle.saved_site.specs.Meaning.{IsSiteWeb};
 
 use crate::batch::Batch;
 use crate::error::SiteError;
@@ -51,7 +50,7 @@ pub fn folder_web<R: Files + Threads + Sync>(
     base: &str,
     rules: &Rules,
 ) -> Result<Web, SiteError>
-    ensures { IfOk result (λ web. IsSound (lines web.bytes.items)) }
+    ensures { IfOk result (λ web. IsSiteWeb web.bytes.items) }
 {
     let FolderNames { names, notes } = folder_names(rt, alloc, folder)?;
     let input = SiteNames {
@@ -73,7 +72,7 @@ pub fn folder_web_of<R: Files + Threads + Sync>(
     input: SiteNames<'_>,
     told: Vec<Note>,
 ) -> Result<Web, SiteError>
-    ensures { IfOk result (λ web. IsSound (lines web.bytes.items)) }
+    ensures { IfOk result (λ web. IsSiteWeb web.bytes.items) }
 {
     let mut contents = OnDisk { rt, alloc, folder };
     web_of(rt, alloc, input, told, &mut contents)

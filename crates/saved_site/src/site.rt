@@ -14,6 +14,8 @@ pub struct Rules {
     pub queries: bool,
     /// Whether other spellings of a page's URL are no pages.
     pub exact: bool,
+    /// Whether the parts of documents and links to parts are read too.
+    pub anchors: bool,
     /// How many threads make pages; one where this is 0.
     pub threads: usize,
 }

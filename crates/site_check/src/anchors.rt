@@ -2,18 +2,17 @@
 ghost use Rattle.std.specs.Prelude.{◌≡◌, [], IfOk, OnOk};
 ghost use Rattle.site_check.specs.Told.{rows_in};
 
-use crate::check::Bodies;
 use crate::ignored::is_ignored;
 use crate::indicated::is_indicated;
 use crate::located::Located;
 use crate::shown::shown;
 use check_report::{Broken, Kind};
 use crawl_web::{NoMemory, Page, PageResult};
-use saved_site::{Anchors, SiteFiles};
+use saved_site::{Anchors, PageAnchors};
 use std::alloc::Global;
 use std::collections::BTreeMap;
 
-/// A part that a page lacks: the number of the page among the results, and what is behind the `#`.
+/// A part that a document lacks: the number of the document, and what is behind the `#`.
 #[derive(Drop, PartialEq, Eq, PartialOrd, Ord)]
 pub(crate) struct Part {
     pub(crate) page: usize,
@@ -32,47 +31,52 @@ pub(crate) struct Count {
 /// The parts that pages lack and links lead to.
 pub(crate) type Lacking = BTreeMap<Part, Count>;
 
-/// The anchors of each result's page, its ids in ascending order; none where it is no document or cannot be read.
-pub(crate) fn read_all<B: Bodies>(
-    alloc: Global,
-    results: &[PageResult],
-    files: &SiteFiles<'_>,
-    bodies: &mut B,
-) -> Result<Vec<Option<Anchors>>, NoMemory> {
-    let mut all = Vec::new(alloc);
-    for result in results {
-        all.push(read_one(alloc, result, files, bodies)?)?;
-    }
-    Ok(all)
+/// The results of a crawl, and the anchors of the site's documents, both ascending by URL.
+#[derive(Clone, Copy)]
+pub(crate) struct Pages<'a> {
+    pub(crate) results: &'a [PageResult],
+    pub(crate) anchors: &'a [PageAnchors],
 }
 
-fn read_one<B: Bodies>(
-    alloc: Global,
-    result: &PageResult,
-    files: &SiteFiles<'_>,
-    bodies: &mut B,
-) -> Result<Option<Anchors>, NoMemory> {
-    if !is_found(&result.page) {
-        return Ok(None);
-    }
-    let Some(index) = files.file_of(alloc, result.url.as_str())? else {
-        return Ok(None);
-    };
-    if !files.may_be_document(index) {
-        return Ok(None);
-    }
-    let Some(name) = files.name(index) else {
-        return Ok(None);
-    };
-    let Some(body) = bodies.body(name)? else {
-        return Ok(None);
-    };
-    match files.anchors(alloc, index, body.as_slice(), &result.url)? {
-        Some(mut anchors) => {
-            anchors.ids.sort()?;
-            Ok(Some(anchors))
+impl<'a> Pages<'a> {
+    /// The number of the document that a URL leads to, by one redirect at most.
+    pub(crate) fn find(&self, url: &str) -> Option<usize> {
+        if let Some(page) = self.find_document(url) {
+            return Some(page);
         }
-        None => Ok(None),
+        let results = self.results;
+        let number = results
+            .binary_search_by(|result| result.url.as_str().cmp(url))
+            .ok()?;
+        match &results.get(number)?.page {
+            Page::Moved { to: Some(to) } => self.find_document(to.as_str()),
+            _ => None,
+        }
+    }
+
+    fn find_document(&self, url: &str) -> Option<usize> {
+        let anchors = self.anchors;
+        anchors
+            .binary_search_by(|page| page.url.as_str().cmp(url))
+            .ok()
+    }
+
+    /// The anchors of a result's page, where it was found and is a document.
+    fn anchors_of(&self, result: &PageResult) -> Option<&'a Anchors> {
+        let anchors = self.anchors;
+        if !is_found(&result.page) {
+            return None;
+        }
+        let page = anchors.get(self.find_document(result.url.as_str())?)?;
+        Some(&page.anchors)
+    }
+
+    /// Whether a document has the part that a text behind a `#` indicates; it does where there is no such document.
+    fn has_part(&self, alloc: Global, page: usize, text: &[u8]) -> Result<bool, NoMemory> {
+        match self.anchors.get(page) {
+            Some(page) => is_indicated(alloc, page.anchors.ids.as_slice(), text),
+            None => Ok(true),
+        }
     }
 }
 
@@ -80,17 +84,13 @@ fn is_found(page: &Page) -> bool {
     matches!(page, Page::Found { .. })
 }
 
-/// The parts that pages lack, with how many results link to each; and of each result whether it links to one.
-pub(crate) fn lacking(
-    alloc: Global,
-    results: &[PageResult],
-    all: &[Option<Anchors>],
-) -> Result<(Lacking, Vec<bool>), NoMemory> {
+/// The parts that documents lack, with how many results link to each; and of each result whether it links to one.
+pub(crate) fn lacking(alloc: Global, pages: Pages<'_>) -> Result<(Lacking, Vec<bool>), NoMemory> {
     let mut lacking = BTreeMap::new(alloc);
     let mut leading = Vec::new(alloc);
-    for (source, anchors) in all.iter().enumerate() {
-        let leads = match anchors {
-            Some(anchors) => add_all(alloc, results, all, (source, anchors), &mut lacking)?,
+    for (source, result) in pages.results.iter().enumerate() {
+        let leads = match pages.anchors_of(result) {
+            Some(anchors) => add_all(alloc, pages, source, anchors, &mut lacking)?,
             None => false,
         };
         leading.push(leads)?;
@@ -98,20 +98,18 @@ pub(crate) fn lacking(
     Ok((lacking, leading))
 }
 
-/// Adds the parts that a result links to and pages lack, and answers whether there is one.
+/// Adds the parts that a result links to and documents lack, and answers whether there is one.
 fn add_all(
     alloc: Global,
-    results: &[PageResult],
-    all: &[Option<Anchors>],
-    from: (usize, &Anchors),
+    pages: Pages<'_>,
+    source: usize,
+    anchors: &Anchors,
     lacking: &mut Lacking,
 ) -> Result<bool, NoMemory> {
-    let (source, anchors) = from;
     let mut leads = false;
     for link in &anchors.links {
-        if let Some(page) = page_at(results, link.url.as_str())
-            && let Some(Some(target)) = all.get(page)
-            && !is_indicated(alloc, target.ids.as_slice(), link.fragment.as_slice())?
+        if let Some(page) = pages.find(link.url.as_str())
+            && !pages.has_part(alloc, page, link.fragment.as_slice())?
         {
             let fragment = link.fragment.clone()?;
             count(lacking, Part { page, fragment }, source)?;
@@ -136,31 +134,16 @@ fn count(lacking: &mut Lacking, part: Part, source: usize) -> Result<(), NoMemor
     Ok(())
 }
 
-/// The number of the result that a URL leads to, by one redirect at most.
-pub(crate) fn page_at(results: &[PageResult], url: &str) -> Option<usize> {
-    let number = find(results, url)?;
-    match &results.get(number)?.page {
-        Page::Moved { to: Some(to) } => find(results, to.as_str()),
-        _ => Some(number),
-    }
-}
-
-fn find(results: &[PageResult], url: &str) -> Option<usize> {
-    results
-        .binary_search_by(|result| result.url.as_str().cmp(url))
-        .ok()
-}
-
 /// The texts of the parts that pages lack, in order.
 pub(crate) fn part_texts(
     alloc: Global,
     front: &str,
-    results: &[PageResult],
+    pages: Pages<'_>,
     lacking: &Lacking,
 ) -> Result<Vec<String>, NoMemory> {
     let mut texts = Vec::new(alloc);
     for part in lacking.keys() {
-        texts.push(part_text(alloc, front, results, part)?)?;
+        texts.push(part_text(alloc, front, pages, part)?)?;
     }
     Ok(texts)
 }
@@ -169,11 +152,11 @@ pub(crate) fn part_texts(
 fn part_text(
     alloc: Global,
     front: &str,
-    results: &[PageResult],
+    pages: Pages<'_>,
     part: &Part,
 ) -> Result<String, NoMemory> {
-    let url = match results.get(part.page) {
-        Some(result) => shown(front, result.url.as_str()),
+    let url = match pages.anchors.get(part.page) {
+        Some(page) => shown(front, page.url.as_str()),
         None => "",
     };
     let mut text = String::from_str(alloc, url)?;

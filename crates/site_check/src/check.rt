@@ -4,7 +4,7 @@ ghost use Rattle.std.specs.List.{flat_map};
 ghost use Rattle.site_check.specs.Broken.{broken_of, linked_at, redirects_of, rows_with};
 ghost use Rattle.site_check.specs.Told.{rows_in, way_of};
 
-use crate::anchors::{anchor_rows, lacking, part_texts, read_all};
+use crate::anchors::{Pages, anchor_rows, lacking, part_texts};
 use crate::ignored::unused;
 use crate::linked::{Linked, linked_results};
 use crate::located::{Wanted, locate_all, none_located, targets};
@@ -15,7 +15,7 @@ use crate::unreached::unreached;
 use crate::worst::{place_count, worst};
 use check_report::{Broken, FileCount, Findings, Kind, Redirect, Totals};
 use crawl_web::{NoMemory, Page, PageResult};
-use saved_site::SiteFiles;
+use saved_site::{PageAnchors, SiteFiles};
 use std::alloc::Global;
 
 /// Gives the bytes of a site's files.
@@ -34,8 +34,8 @@ pub struct Asked<'a> {
     pub front: &'a str,
     /// What is known to be broken: each entry stands for the targets that begin with it.
     pub ignores: &'a [String],
-    /// Whether links to parts that pages lack are told.
-    pub anchors: bool,
+    /// The anchors of the site's documents, ascending by URL; where there are none, no part is told that a page lacks.
+    pub anchors: &'a [PageAnchors],
     /// Whether files that no link leads to are told.
     pub unreached: bool,
 }
@@ -88,8 +88,12 @@ pub fn check_results<B: Bodies>(
     // Those of redirects are the moved results that are linked to.
     ensures redirects { IfOk result (λ checked. map way_of checked.redirects.items ≡ redirects_of asked.entry.front.now results.now) }
 {
+    let pages = Pages {
+        results,
+        anchors: asked.anchors,
+    };
     let linked = linked_results(alloc, results)?;
-    let (broken, texts) = broken_all(alloc, results, files, bodies, asked, linked.as_slice())?;
+    let (broken, texts) = broken_all(alloc, pages, files, bodies, asked, linked.as_slice())?;
     let redirects = redirect_rows(alloc, asked.front, linked.as_slice())?;
     let unused_ignores = unused_entries(alloc, asked, linked.as_slice(), texts.as_slice())?;
     let unreached = if asked.unreached {
@@ -113,7 +117,7 @@ pub fn check_results<B: Bodies>(
 /// all such parts.
 fn broken_all<B: Bodies>(
     alloc: Global,
-    results: &[PageResult],
+    pages: Pages<'_>,
     files: &SiteFiles<'_>,
     bodies: &mut B,
     asked: Asked<'_>,
@@ -121,24 +125,19 @@ fn broken_all<B: Bodies>(
 ) -> Result<(Vec<Broken>, Vec<String>), NoMemory>
     ensures { IfOk result (λ r. rows_in r.0.items ≡ flat_map (rows_with asked.entry.front.now (map string_bytes asked.entry.ignores.now)) (map linked_at linked.now)) }
 {
-    let anchors = if asked.anchors {
-        read_all(alloc, results, files, bodies)?
-    } else {
-        Vec::new(alloc)
-    };
-    let (lacking, leading) = lacking(alloc, results, anchors.as_slice())?;
+    let (lacking, leading) = lacking(alloc, pages)?;
     let targets = targets(alloc, asked.front, asked.ignores, linked)?;
     let wanted = Wanted {
-        results,
+        pages,
         files,
         targets: &targets,
         lacking: &lacking,
-        pages: linked.len(),
+        before: linked.len(),
     };
     let mut found = none_located(alloc, linked.len(), lacking.len())?;
     locate_all(alloc, wanted, leading.as_slice(), bodies, &mut found)?;
     name_all(alloc, asked.front, linked, files, found.as_mut_slice())?;
-    let texts = part_texts(alloc, asked.front, results, &lacking)?;
+    let texts = part_texts(alloc, asked.front, pages, &lacking)?;
     let rows = broken_rows(alloc, asked, linked, found.as_mut_slice())?;
     let parts = anchor_rows(alloc, asked.ignores, texts.as_slice(), &lacking, &mut found)?;
     Ok((with_parts(rows, parts)?, texts))

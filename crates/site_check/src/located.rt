@@ -1,5 +1,5 @@
 //! Where broken links stand: the pages that have one are read again, and no others.
-use crate::anchors::{Lacking, Part, page_at};
+use crate::anchors::{Lacking, Pages, Part};
 use crate::check::Bodies;
 use crate::ignored::is_ignored;
 use crate::linked::Linked;
@@ -85,12 +85,12 @@ fn moved_to(targets: &Targets<'_>, result: &PageResult) -> Option<usize> {
 /// What is looked for in pages: links that lead to no page, and links to parts that pages lack.
 #[derive(Clone, Copy)]
 pub(crate) struct Wanted<'a> {
-    pub(crate) results: &'a [PageResult],
+    pub(crate) pages: Pages<'a>,
     pub(crate) files: &'a SiteFiles<'a>,
     pub(crate) targets: &'a Targets<'a>,
     pub(crate) lacking: &'a Lacking,
     /// How many numbers are before those of parts.
-    pub(crate) pages: usize,
+    pub(crate) before: usize,
 }
 
 /// Adds the places of the links of all results that are wanted, where `lead_to_parts` says which have links to parts that pages
@@ -102,7 +102,7 @@ pub(crate) fn locate_all<B: Bodies>(
     bodies: &mut B,
     found: &mut [Located],
 ) -> Result<(), NoMemory> {
-    for (number, result) in wanted.results.iter().enumerate() {
+    for (number, result) in wanted.pages.results.iter().enumerate() {
         let to_part = lead_to_parts.get(number).copied().unwrap_or(false);
         if to_part || leads_to(wanted.targets, &result.page) {
             locate(alloc, wanted, result, bodies, found)?;
@@ -172,9 +172,9 @@ fn number_of(wanted: Wanted<'_>, link: LinkAt) -> Option<usize> {
     if wanted.lacking.is_empty() {
         return None;
     }
-    let page = page_at(wanted.results, url.as_str())?;
+    let page = wanted.pages.find(url.as_str())?;
     let count = wanted.lacking.get(&Part { page, fragment })?;
-    Some(wanted.pages.saturating_add(count.number))
+    Some(wanted.before.saturating_add(count.number))
 }
 
 /// The places by file, line and column, each once.

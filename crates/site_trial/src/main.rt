@@ -12,6 +12,7 @@ fn main(rt: HostRuntime) -> io::Result<()> {
         index: String::from_str(rt.alloc(), "index.html")?,
         queries: false,
         exact: false,
+        anchors: false,
         threads: 4,
     };
     for word in env::args(&rt)?.skip(1) {
