@@ -24,6 +24,9 @@ URL_LENGTH = 4_090  # with `page ` and the LF it is a line of 4,096 bytes
 # std's FoldHasher, by which the program orders texts: its first state, the number in each of its steps, and a word's bits.
 HASH_START, HASH_STEP, WORD = 0x243F_6A88_85A3_08D3, 0x9E37_79B9_7F4A_7C15, (1 << 64) - 1
 HASHED = 48  # bytes of a URL of the one hash: two steps, the state after them, and a name of eight bytes
+# the bits of a hash by which `hash_index` picks a bucket of slots among those for a million texts, and those of a slot's mark
+BUCKET_BITS, MARK_BITS = (1 << 24) - 8, WORD >> 33 << 33
+NAME_LETTERS = string.ascii_letters + string.digits + "-_"
 # those that stand in a path as they are
 PATH_BYTES = frozenset((string.ascii_letters + string.digits + "-_~!$&'()*+,;=:@").encode())
 
@@ -109,11 +112,12 @@ def hash_of(text):
     return hash_step(state, text, len(text) - 16)
 
 
-def prefix_of_one_hash():
-    """A URL's text of 40 bytes behind which any eight bytes give the hash 0.
+def hash_prefix(factor):
+    """A URL's text of 40 bytes behind which the last step of the hash has this factor.
 
-    Its last eight bytes are the state that the 32 before them lead to, so the last step multiplies by 0. The 32 are
-    numbered until that state is of bytes that a path keeps; some 10,000 tries find it.
+    Its last eight bytes are the state that the 32 before them lead to, but for the factor's bits. The 32 are numbered until
+    these are bytes that a path keeps; some 10,000 tries find them. With factor 0 any eight bytes behind it give the hash 0,
+    with factor 1 the hash is these eight bytes, but for the bits of a constant.
     """
     number = 0
     while True:
@@ -121,18 +125,30 @@ def prefix_of_one_hash():
         state = HASH_START + HASHED & WORD
         for place in (0, 16):
             state = hash_step(state, text, place)
-        last = state.to_bytes(8, "little")
+        last = (state ^ factor).to_bytes(8, "little")
         if PATH_BYTES.issuperset(last):
             return (text + last).decode()
         number += 1
 
 
-def one_hash(prefix):
-    """A page that links to all others by their whole URLs, so that pages, link texts and offers all have one hash."""
+def digits(number, letters, width):
+    """The number with these letters for digits, the least one first."""
+    text = ""
+    for _ in range(width):
+        number, digit = divmod(number, len(letters))
+        text += letters[digit]
+    return text
+
+
+def colliding(factor, name, bits):
+    """A page that links to all others by their whole URLs, so that pages, link texts and offers all have these bits of their hash
+    in common. `name` has the last eight bytes of a page's URL."""
+    prefix = hash_prefix(factor)
+    first = hash_of((prefix + name(0)).encode())
 
     def url(page):
-        text = f"{prefix}{page:08}"
-        assert len(text) == HASHED and hash_of(text.encode()) == 0
+        text = prefix + name(page)
+        assert len(text) == HASHED and (hash_of(text.encode()) ^ first) & bits == 0
         return text
 
     def lines(pages):
@@ -224,9 +240,9 @@ def chained(hosts):
     return web(lines, seed, MILLION)
 
 
-def hashed_to_one():
-    lines, seed = one_hash(prefix_of_one_hash())
-    return web(lines, seed, 100_000)
+def collided(pages, factor, name, bits):
+    lines, seed = colliding(factor, name, bits)
+    return web(lines, seed, pages)
 
 
 def page_and_missing(links):
@@ -248,7 +264,9 @@ ATTACKS = {
     "grown": prefixed(URL_LENGTH - 4, 20_000, filling='"'),
     "one_host": prefixed(52, 100_000),
     "prefix_2000": prefixed(2_000, 100_000),
-    "one_hash": hashed_to_one(),
+    "one_hash": collided(100_000, 0, lambda page: f"{page:08}", WORD),
+    "one_bucket": collided(MILLION, 1, lambda page: "000" + digits(page, NAME_LETTERS, 5), BUCKET_BITS),
+    "one_mark": collided(MILLION, 1, lambda page: digits(page, NAME_LETTERS, 4) + "0000", MARK_BITS),
     "script_long_line": ("replay", "-", 1, long_line(SCRIPT, f"admit 1 {SEED}"), count(LINE), None),
     "script_line_ends": ("replay", "-", 0, line_ends(SCRIPT), count(LINE), None),
     "long_base": web(long_base, LONG_BASE, 50_000, page_and_missing),

@@ -6,7 +6,7 @@
 set -uo pipefail
 cd "$(dirname "$0")/.."
 program=$PWD/crates/mercator_cli/out/mercator_cli
-data=$PWD/crates/examples/data
+data=$PWD/examples
 scratch=$(mktemp -d)
 trap 'rm -rf "$scratch"' EXIT
 [ -x "$program" ] || (cd crates/mercator_cli && rt run -- key http://a.test/ > "$scratch/build" 2>&1) || { cat "$scratch/build"; exit 1; }

@@ -167,7 +167,7 @@ searched() {
 }
 
 python3 tools/site_to_web.py examples/site http://site.test/ > "$made/site.web" 2> "$made/left"
-crawls "the shipped site" "$made/site.web" http://site.test/ crates/examples/data/site.report "$made/stored.sources"
+crawls "the shipped site" "$made/site.web" http://site.test/ examples/site.report "$made/stored.sources"
 searched "the shipped site" examples/site http://site.test/
 
 found=

@@ -242,4 +242,4 @@ def main():
 
 main()
 RUN
-python3 "$scratch/run.py" "$program" "$scratch" "$PWD/crates/examples/data" "${1:-commands}"
+python3 "$scratch/run.py" "$program" "$scratch" "$PWD/examples" "${1:-commands}"

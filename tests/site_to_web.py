@@ -252,7 +252,7 @@ class TheShippedSite(Converting):
         self.assertIn(f"{len(SHIPPED)} pages, 5 of them moved; {links} links; ", self.told)
 
     def test_its_stored_web_is_what_the_tool_writes(self):
-        with open(os.path.join(ROOT, "crates", "examples", "data", "site.web"), "rb") as stored:
+        with open(os.path.join(ROOT, "examples", "site.web"), "rb") as stored:
             self.assertEqual(run(SITE, "http://site.test/").out, stored.read())
 
     def test_a_server_answers_as_the_web_says(self):

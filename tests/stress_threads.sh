@@ -1,6 +1,6 @@
 #!/bin/bash
 # Runs the built program with 512 workers, each in a thread of its own, on two processors' worth of time: 200 times on the ring
-# (crates/examples/data), whose report is stored, and 200 times on a generated web (bench/make_web.py of 10,000 pages, on
+# (examples/ring.web), whose report is stored, and 200 times on a generated web (bench/make_web.py of 10,000 pages, on
 # more hosts than there are workers), whose report is made here from the web's text and not by the program. Each run is to
 # end with status 0 and with the report's bytes, and nothing on standard error, within 60 seconds. It prints how long the
 # runs took, and stops at the first that ends otherwise.
@@ -47,5 +47,5 @@ runs_on() {
 }
 
 generated
-runs_on ring crates/examples/data/ring.web http://a.test/ crates/examples/data/ring.report "$runs"
+runs_on ring examples/ring.web http://a.test/ examples/ring.report "$runs"
 runs_on generated "$scratch/web" "$(sed -n '2s/^page //p' "$scratch/web")" "$scratch/report" "$runs"
