@@ -1,0 +1,17 @@
+use Rattle.std.proofs.Common.{◌++◌, codes, decimal, ap, ◌∙◌}
+use Rattle.check_report.specs.Page.{html, script_part, verdict_start}
+use Rattle.check_report.proofs.Adding.{behind, last_behind}
+use Rattle.check_report.proofs.as_page.put_heading.Goals as goal
+
+pub returns : goal.returns
+returns c =
+    let t = c.args.totals in
+    let old = c.args.out.now.items in
+    let site = html c.args.base.now in
+    let verdict = verdict_start t in
+    let links = decimal t.broken_links in
+    let first = c.in_ok-put.ensures ∙ ap (λ w. old ++ w) c.script_part.ensures in
+    let second = behind old c.put.new.out.items c.put_html.new.out.items script_part site first c.in_ok-put_html.ensures in
+    let third = behind old c.put_html.new.out.items c.put-2.new.out.items (script_part ++ site) verdict second (c.in_ok-put-2.ensures ∙ ap (λ w. c.put_html.new.out.items ++ w) c.verdict_start.ensures) in
+    let fourth = behind old c.put-2.new.out.items c.put_count.new.out.items (script_part ++ site ++ verdict) links third c.in_ok-put_count.ensures in
+    last_behind c.put-3.result old c.put_count.new.out.items c.put-3.new.out.items (script_part ++ site ++ verdict ++ links) (codes "</b> broken links</h1>\n<ul>\n") fourth c.put-3.ensures

@@ -1,0 +1,7 @@
+use Rattle.std.proofs.Common.{take, map}
+use Rattle.check_report.specs.Printing.{Adds}
+use Rattle.check_report.specs.Rows.{worst}
+use Rattle.check_report.proofs.printing.with_counts.Given as goal
+
+abbrev pub invariant-loop-count : goal.invariant-loop-count
+invariant-loop-count l = Adds l.form l.fn.out.items l.out.items (map worst (take l.count-index l.counts))

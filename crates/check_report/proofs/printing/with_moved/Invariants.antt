@@ -1,0 +1,7 @@
+use Rattle.std.proofs.Common.{take, map}
+use Rattle.check_report.specs.Printing.{Adds}
+use Rattle.check_report.specs.Rows.{redirect}
+use Rattle.check_report.proofs.printing.with_moved.Given as goal
+
+abbrev pub invariant-loop-page : goal.invariant-loop-page
+invariant-loop-page l = Adds l.form l.fn.out.items l.out.items (map redirect (take l.page-index l.pages))

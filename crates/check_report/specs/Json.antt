@@ -1,0 +1,93 @@
+-- A row as a JSON object in a line of its own.
+use Rattle.std.specs.Prelude.{ℕ, Bool, true, false, List, [], ◌∷◌, ◌++◌, codes, decimal, string_bytes, if◌then◌else◌, Option, None, Some}
+use Rattle.std.specs.Option.{option_map}
+use Rattle.json.specs.Json.{Json, null, string, number, object, Members, no_members, member}
+use Rattle.json.specs.Print.{print}
+use Rattle.json.specs.Tree.{json_tokens}
+use Rattle.check_report.specs.Rows as line
+use Rattle.check_report.specs.Rows.{Line}
+use Rattle.check_report.specs.declared.row.Part.{Part}
+use Rattle.check_report.specs.declared.row.Part.TheVariants as part
+use Rattle.check_report.specs.declared.value.Broken.{Broken}
+use Rattle.check_report.specs.declared.value.Kind.{Kind}
+use Rattle.check_report.specs.declared.value.Kind.TheVariants.{NoPage, NoAnchor}
+use Rattle.check_report.specs.declared.value.Totals.{Totals}
+
+-- ---- members
+
+abbrev pub text_at : List ℕ → List ℕ → Members → Members
+text_at key text rest = member key (string text) rest
+
+abbrev pub count_at : List ℕ → ℕ → Members → Members
+count_at key count rest = member key (number (decimal count)) rest
+
+-- a text, or `null` where there is none
+abbrev pub text_or_null : Option (List ℕ) → Json
+text_or_null None = null
+text_or_null (Some text) = string text
+
+abbrev pub kind : List ℕ → Members → Members
+kind word rest = text_at (codes "kind") word rest
+
+-- ---- rows
+
+-- what is not there, in a word
+abbrev pub missing : Kind → List ℕ
+missing NoPage = codes "page"
+missing NoAnchor = codes "anchor"
+
+-- the target, and what of it is not there
+abbrev pub target_at : Broken → Members → Members
+target_at b rest = text_at (codes "target") (string_bytes b.target) (text_at (codes "missing") (missing b.kind) rest)
+
+-- what kind of row stands in a part
+abbrev pub row_kind : Part → List ℕ
+row_kind part.Broken = codes "broken"
+row_kind part.Worst = codes "worst"
+row_kind part.Redirects = codes "redirect"
+row_kind part.Unreached = codes "unreached"
+row_kind part.Unused = codes "unused"
+
+-- the counts of what is broken
+abbrev pub broken_counts : Totals → Members
+broken_counts t = count_at (codes "broken") t.broken_links (count_at (codes "missing_pages") t.broken_urls (count_at (codes "missing_anchors") t.broken_anchors no_members))
+
+abbrev pub total_members : List ℕ → Totals → ℕ → Members
+total_members base t unreached =
+    kind (codes "total") (text_at (codes "base") base (count_at (codes "pages") t.pages (count_at (codes "links") t.links
+    (count_at (codes "redirects") t.moved (count_at (codes "unreached") unreached (broken_counts t))))))
+
+abbrev pub members_of : Line → Members
+members_of (line.total base totals unreached) = total_members base totals unreached
+members_of (line.begin of_part) = no_members
+members_of (line.finish of_part) = no_members
+members_of (line.broken b) =
+    kind (codes "broken") (target_at b (count_at (codes "pages") b.pages (member (codes "same_name") (text_or_null (option_map string_bytes b.same_name)) no_members)))
+members_of (line.place b p) =
+    kind (codes "place") (target_at b (text_at (codes "file") (string_bytes p.file) (count_at (codes "line") p.line (count_at (codes "column") p.column no_members))))
+members_of (line.more count) = kind (codes "more") (count_at (codes "places") count no_members)
+members_of (line.worst c) = kind (codes "worst") (text_at (codes "file") (string_bytes c.file) (count_at (codes "links") c.links no_members))
+members_of (line.redirect r) =
+    kind (codes "redirect") (text_at (codes "page") (string_bytes r.page) (member (codes "to") (text_or_null (option_map string_bytes r.target)) (count_at (codes "pages") r.pages no_members)))
+members_of (line.name of_part text) = kind (row_kind of_part) (text_at (codes "name") text no_members)
+members_of line.last = no_members
+
+-- the row is an object
+abbrev pub is_object : Line → Bool
+is_object (line.total base totals unreached) = true
+is_object (line.begin of_part) = false
+is_object (line.finish of_part) = false
+is_object (line.broken b) = true
+is_object (line.place b p) = true
+is_object (line.more count) = true
+is_object (line.worst c) = true
+is_object (line.redirect r) = true
+is_object (line.name of_part text) = true
+is_object line.last = false
+
+-- an object with no space, and LF
+abbrev pub object_line : Members → List ℕ
+object_line members = print (json_tokens (object members)) ++ 10 ∷ []
+
+abbrev pub json_line : Line → List ℕ
+json_line line = if is_object line then object_line (members_of line) else []

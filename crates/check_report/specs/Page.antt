@@ -1,0 +1,101 @@
+-- A row in the HTML page. What is a text of others stands in an element, escaped.
+use Rattle.std.specs.Prelude.{ℕ, List, [], ◌++◌, codes, decimal, nat_lt, string_bytes, if◌then◌else◌}
+use Rattle.std.specs.Option.{option_map}
+use Rattle.check_report.specs.Escape.{escaped}
+use Rattle.check_report.specs.Rows as line
+use Rattle.check_report.specs.Rows.{Line}
+use Rattle.check_report.specs.Text.{counted, redirect_target, wrong_of}
+use Rattle.check_report.specs.declared.as_page.parts.TheConstants.{HEAD, SCRIPT, STYLE, TAIL, TOOLS}
+use Rattle.check_report.specs.declared.escape.Escape.TheVariants as escape
+use Rattle.check_report.specs.declared.row.Part.{Part}
+use Rattle.check_report.specs.declared.row.Part.TheVariants as part
+use Rattle.check_report.specs.declared.value.Broken.{Broken}
+use Rattle.check_report.specs.declared.value.FileCount.{FileCount}
+use Rattle.check_report.specs.declared.value.Place.{Place}
+use Rattle.check_report.specs.declared.value.Redirect.{Redirect}
+use Rattle.check_report.specs.declared.value.Totals.{Totals}
+
+-- ---- fixed parts
+
+unfoldable pub head_part : List ℕ
+head_part = HEAD.now
+
+unfoldable pub style_part : List ℕ
+style_part = STYLE.now
+
+unfoldable pub script_part : List ℕ
+script_part = SCRIPT.now
+
+unfoldable pub tools_part : List ℕ
+tools_part = TOOLS.now
+
+unfoldable pub tail_part : List ℕ
+tail_part = TAIL.now
+
+-- ---- totals
+
+abbrev pub html : List ℕ → List ℕ
+html text = escaped escape.Html text
+
+-- up to the body, with the title
+abbrev pub page_start : List ℕ → Totals → List ℕ
+page_start base t = head_part ++ decimal t.broken_links ++ codes " broken links - " ++ html base ++ style_part
+
+abbrev pub verdict_start : Totals → List ℕ
+verdict_start t = if nat_lt 0 t.broken_links then codes "</p>\n<h1 class=bad><b>" else codes "</p>\n<h1 class=good><b>"
+
+abbrev pub page_heading : List ℕ → Totals → List ℕ
+page_heading base t = script_part ++ html base ++ verdict_start t ++ decimal t.broken_links ++ codes "</b> broken links</h1>\n<ul>\n"
+
+-- a count that stands in a list of totals
+abbrev pub total_item : List ℕ → ℕ → List ℕ
+total_item word n = counted word n ++ codes "</b></li>\n"
+
+abbrev pub site_items : Totals → List ℕ
+site_items t = total_item (codes "<li>pages <b>") t.pages ++ total_item (codes "<li>links <b>") t.links ++ total_item (codes "<li>redirects <b>") t.moved
+
+abbrev pub broken_items : Totals → ℕ → List ℕ
+broken_items t unreached =
+    total_item (codes "<li>missing pages <b>") t.broken_urls ++ total_item (codes "<li>missing anchors <b>") t.broken_anchors ++ total_item (codes "<li>unreached <b>") unreached
+
+unfoldable pub page_total : List ℕ → Totals → ℕ → List ℕ
+page_total base t unreached = page_start base t ++ page_heading base t ++ site_items t ++ broken_items t unreached ++ tools_part
+
+-- ---- parts
+
+abbrev pub section_start : Part → List ℕ
+section_start part.Broken = codes "<section id=broken aria-labelledby=h-broken>\n<h2 id=h-broken>Broken links</h2>\n<pre class=plain>\n"
+section_start part.Worst = codes "<section id=worst aria-labelledby=h-worst>\n<h2 id=h-worst>Files with most broken links</h2>\n<pre>\n"
+section_start part.Redirects = codes "<section id=redirects aria-labelledby=h-redirects>\n<h2 id=h-redirects>Redirects to mend</h2>\n<pre>\n"
+section_start part.Unreached = codes "<section id=unreached aria-labelledby=h-unreached>\n<h2 id=h-unreached>Pages that no link leads to</h2>\n<pre>\n"
+section_start part.Unused = codes "<section id=unused aria-labelledby=h-unused>\n<h2 id=h-unused>Ignored, but not found</h2>\n<pre>\n"
+
+-- ---- rows
+
+abbrev pub broken_row : Broken → List ℕ
+broken_row b = codes "<b>" ++ html (string_bytes b.target) ++ codes "</b>\t" ++ wrong_of escape.Html b ++ codes "\n"
+
+abbrev pub place_row : Place → List ℕ
+place_row p = codes "\t" ++ html (string_bytes p.file) ++ counted (codes ":") p.line ++ counted (codes ":") p.column ++ codes "\n"
+
+abbrev pub more_row : ℕ → List ℕ
+more_row count = counted (codes "\tand ") count ++ codes " more\n"
+
+abbrev pub worst_row : FileCount → List ℕ
+worst_row c = html (string_bytes c.file) ++ counted (codes "\t") c.links ++ codes "\n"
+
+abbrev pub redirect_row : Redirect → List ℕ
+redirect_row r =
+    html (string_bytes r.page) ++ codes "\tto " ++ redirect_target escape.Html (option_map string_bytes r.target) ++ counted (codes "\tlinked from ") r.pages ++ codes "\n"
+
+abbrev pub page_line : Line → List ℕ
+page_line (line.total base totals unreached) = page_total base totals unreached
+page_line (line.begin of_part) = section_start of_part
+page_line (line.finish of_part) = codes "</pre>\n</section>\n"
+page_line (line.broken b) = broken_row b
+page_line (line.place b p) = place_row p
+page_line (line.more count) = more_row count
+page_line (line.worst c) = worst_row c
+page_line (line.redirect r) = redirect_row r
+page_line (line.name of_part text) = html text ++ codes "\n"
+page_line line.last = tail_part

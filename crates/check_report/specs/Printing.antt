@@ -1,0 +1,41 @@
+-- What is printed: the bytes of rows, one behind the other.
+use Rattle.std.specs.Prelude.{◌≡◌, ℕ, Bool, true, List, ◌++◌}
+use Rattle.std.specs.List.{flat_map}
+use Rattle.check_report.specs.Annotations.{annotation_line}
+use Rattle.check_report.specs.Json.{json_line}
+use Rattle.check_report.specs.Page.{page_line}
+use Rattle.check_report.specs.Rows.{Line, rows_of}
+use Rattle.check_report.specs.Text.{text_line}
+use Rattle.check_report.specs.declared.form.Form.{Form}
+use Rattle.check_report.specs.declared.form.Form.TheVariants as form
+use Rattle.check_report.specs.declared.value.Findings.{Findings}
+
+abbrev pub bytes_of : Form → Line → List ℕ
+bytes_of (form.Text colour) line = text_line colour line
+bytes_of form.Json line = json_line line
+bytes_of form.Annotations line = annotation_line line
+bytes_of form.Page line = page_line line
+
+-- these rows are printed behind the bytes
+abbrev pub Adds : Form → List ℕ → List ℕ → List Line → Type 0
+Adds how out more lines = more ≡ out ++ flat_map (bytes_of how) lines
+
+-- the bytes of a report
+abbrev pub printed : Form → Bool → Findings → List ℕ
+printed how all f = flat_map (bytes_of how) (rows_of all f)
+
+-- as text for people, with three places of each target or with all, and with colour or without
+abbrev pub printed_text : Bool → Bool → Findings → List ℕ
+printed_text all colour f = printed (form.Text colour) all f
+
+-- as JSON, with all places
+abbrev pub printed_json : Findings → List ℕ
+printed_json f = printed form.Json true f
+
+-- as commands that GitHub's jobs show beside files, with all places
+abbrev pub printed_annotations : Findings → List ℕ
+printed_annotations f = printed form.Annotations true f
+
+-- as one HTML page, with all places
+abbrev pub printed_page : Findings → List ℕ
+printed_page f = printed form.Page true f

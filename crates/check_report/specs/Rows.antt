@@ -1,0 +1,93 @@
+-- Which rows a report has, in which order.
+use Rattle.std.specs.Prelude.{ℕ, ◌-◌, Bool, true, false, List, [], ◌∷◌, ◌++◌, length, map, take, nat_lt, String, string_bytes, if◌then◌else◌}
+use Rattle.std.specs.List.{flat_map}
+use Rattle.std.specs.declared.alloc.Global.{Global}
+use Rattle.check_report.specs.declared.value.Broken.{Broken}
+use Rattle.check_report.specs.declared.value.FileCount.{FileCount}
+use Rattle.check_report.specs.declared.value.Findings.{Findings}
+use Rattle.check_report.specs.declared.value.Place.{Place}
+use Rattle.check_report.specs.declared.value.Redirect.{Redirect}
+use Rattle.check_report.specs.declared.value.Totals.{Totals}
+use Rattle.check_report.specs.declared.row.Part.{Part}
+use Rattle.check_report.specs.declared.row.Part.TheVariants as part
+use Rattle.check_report.specs.declared.row.Row.{Row}
+use Rattle.check_report.specs.declared.row.Row.TheVariants as row
+
+-- what a row says
+pub data Line : Type 0 where
+  -- the site, what was counted, and how many pages are unreached
+  total : List ℕ → Totals → ℕ → Line
+  -- a part of the report, which has rows, begins and ends
+  begin : Part → Line
+  finish : Part → Line
+  broken : Broken → Line
+  -- where a link to what is not there stands
+  place : Broken → Place → Line
+  -- how many places are left out
+  more : ℕ → Line
+  worst : FileCount → Line
+  redirect : Redirect → Line
+  -- a text that is a row of the part
+  name : Part → List ℕ → Line
+  last : Line
+
+-- what a row of the program says
+abbrev pub line_of : Row → Line
+line_of (row.Total base totals unreached) = total base.now totals unreached
+line_of (row.Begin of_part) = begin of_part
+line_of (row.Finish of_part) = finish of_part
+line_of (row.Broken target) = broken target.now
+line_of (row.Place target at) = place target.now at.now
+line_of (row.More count) = more count
+line_of (row.Worst count) = worst count.now
+line_of (row.Redirect page) = redirect page.now
+line_of (row.Name of_part text) = name of_part text.now
+line_of row.Last = last
+
+-- ---- broken links
+
+-- three places, or all of them
+abbrev pub shown_places : Bool → List Place → List Place
+shown_places true places = places
+shown_places false places = take 3 places
+
+-- how many places are left out, where some are
+abbrev pub left_out : Bool → ℕ → List Line
+left_out true places = []
+left_out false places = if nat_lt 3 places then more (places - 3) ∷ [] else []
+
+abbrev pub place_lines : Broken → List Place → List Line
+place_lines target places = map (place target) places
+
+abbrev pub target_lines : Bool → Broken → List Line
+target_lines all target = broken target ∷ place_lines target (shown_places all target.places.items) ++ left_out all (length target.places.items)
+
+abbrev pub broken_lines : Bool → List Broken → List Line
+broken_lines all targets = flat_map (target_lines all) targets
+
+-- ---- the report
+
+-- the line, where there are rows
+abbrev pub edge : ℕ → Line → List Line
+edge rows line = if nat_lt 0 rows then line ∷ [] else []
+
+-- a part begins and ends, where it has rows
+abbrev pub in_part : Part → ℕ → List Line → List Line
+in_part of_part rows lines = edge rows (begin of_part) ++ lines ++ edge rows (finish of_part)
+
+abbrev pub broken_part : Bool → List Broken → List Line
+broken_part all targets = in_part part.Broken (length targets) (broken_lines all targets)
+
+abbrev pub worst_part : List FileCount → List Line
+worst_part counts = in_part part.Worst (length counts) (map worst counts)
+
+abbrev pub redirect_part : List Redirect → List Line
+redirect_part pages = in_part part.Redirects (length pages) (map redirect pages)
+
+abbrev pub name_part : Part → List (String Global) → List Line
+name_part of_part texts = in_part of_part (length texts) (map (λ text. name of_part (string_bytes text)) texts)
+
+abbrev pub rows_of : Bool → Findings → List Line
+rows_of all f =
+    total f.base.now f.totals (length f.unreached.now) ∷ broken_part all f.broken.now ++ worst_part f.worst.now ++ redirect_part f.redirects.now
+    ++ name_part part.Unreached f.unreached.now ++ name_part part.Unused f.unused_ignores.now ++ last ∷ []

@@ -1,0 +1,215 @@
+//! A row as a JSON object.
+ghost use Rattle.std.specs.Prelude.{◌≡◌, ◌++◌, ◌∷◌, [], OnOk, IfOk, decimal, codes, string_bytes};
+ghost use Rattle.std.specs.Option.{option_map};
+ghost use Rattle.json.specs.Json.{object};
+ghost use Rattle.json.specs.Token.{begin_object, end_object, key, string, number};
+ghost use Rattle.json.specs.Tree.{json_tokens};
+ghost use Rattle.check_report.specs.Json.{is_object, json_line, members_of, missing, object_line, row_kind, text_or_null};
+ghost use Rattle.check_report.specs.Rows as line;
+ghost use Rattle.check_report.specs.Rows.{line_of};
+
+use crate::put::NoMemory;
+use crate::row::{Part, Row};
+use crate::value::{Broken, FileCount, Kind, Place, Redirect, Totals};
+use json::Writer;
+
+/// The bytes, and behind them the row's object with no space, ended by LF, if the row is one.
+pub fn with_json(out: Vec<u8>, row: Row<'_>) -> Result<Vec<u8>, NoMemory>
+    ensures { IfOk result (λ more. more.items ≡ out.items ++ json_line (line_of row.entry)) }
+{
+    if is_object(row) {
+        with_object(out, row)
+    } else {
+        Ok(out)
+    }
+}
+
+fn is_object(row: Row<'_>) -> bool
+    ensures { result ≡ is_object (line_of row.entry) }
+{
+    match row {
+        Row::Begin(_) | Row::Finish(_) | Row::Last => false,
+        Row::Total { .. }
+        | Row::Broken(_)
+        | Row::Place(_, _)
+        | Row::More(_)
+        | Row::Worst(_)
+        | Row::Redirect(_)
+        | Row::Name(_, _) => true,
+    }
+}
+
+fn with_object(out: Vec<u8>, row: Row<'_>) -> Result<Vec<u8>, NoMemory>
+    ensures { IfOk result (λ more. more.items ≡ out.items ++ object_line (members_of (line_of row.entry))) }
+{
+    let mut writer = Writer::new(out);
+    writer.begin_object()?;
+    put_row(&mut writer, row)?;
+    writer.end_object()?;
+    let mut out = writer.into_inner();
+    out.push(b'\n')?;
+    Ok(out)
+}
+
+// The object is begun, and not ended.
+fn put_row(out: &mut Writer, row: Row<'_>) -> Result<(), NoMemory>
+    requires { out.old.tokens ≡ begin_object ∷ [] }
+    ensures tokens { OnOk result (out.new.tokens ++ end_object ∷ [] ≡ json_tokens (object (members_of (line_of row.entry)))) }
+    ensures before { out.new.before ≡ out.old.before }
+{
+    match row {
+        Row::Total {
+            base,
+            totals,
+            unreached,
+        } => put_total(out, base, totals, unreached as u64),
+        Row::Broken(broken) => put_broken(out, broken),
+        Row::Place(broken, place) => put_place(out, broken, place),
+        Row::More(places) => put_more(out, places as u64),
+        Row::Worst(count) => put_worst(out, count),
+        Row::Redirect(page) => put_redirect(out, page),
+        Row::Name(part, text) => put_name(out, part, text),
+        Row::Begin(_) | Row::Finish(_) | Row::Last => Ok(()),
+    }
+}
+
+fn put_total(out: &mut Writer, base: &str, totals: Totals, unreached: u64) -> Result<(), NoMemory>
+    requires { out.old.tokens ≡ begin_object ∷ [] }
+    ensures tokens { OnOk result (out.new.tokens ++ end_object ∷ [] ≡ json_tokens (object (members_of (line.total base.now totals unreached)))) }
+    ensures before { out.new.before ≡ out.old.before }
+{
+    put_text(out, "kind", "total")?;
+    put_text(out, "base", base)?;
+    put_count(out, "pages", totals.pages)?;
+    put_count(out, "links", totals.links)?;
+    put_count(out, "redirects", totals.moved)?;
+    put_count(out, "unreached", unreached)?;
+    put_broken_counts(out, totals)
+}
+
+fn put_broken_counts(out: &mut Writer, totals: Totals) -> Result<(), NoMemory>
+    ensures tokens { OnOk result (out.new.tokens ≡ out.old.tokens ++ key (codes "broken") ∷ number (decimal totals.broken_links) ∷ key (codes "missing_pages") ∷ number (decimal totals.broken_urls) ∷ key (codes "missing_anchors") ∷ number (decimal totals.broken_anchors) ∷ []) }
+    ensures before { out.new.before ≡ out.old.before }
+{
+    put_count(out, "broken", totals.broken_links)?;
+    put_count(out, "missing_pages", totals.broken_urls)?;
+    put_count(out, "missing_anchors", totals.broken_anchors)
+}
+
+fn put_broken(out: &mut Writer, broken: &Broken) -> Result<(), NoMemory>
+    requires { out.old.tokens ≡ begin_object ∷ [] }
+    ensures tokens { OnOk result (out.new.tokens ++ end_object ∷ [] ≡ json_tokens (object (members_of (line.broken broken.now)))) }
+    ensures before { out.new.before ≡ out.old.before }
+{
+    put_target(out, "broken", broken)?;
+    put_count(out, "pages", broken.pages)?;
+    put_text_or_null(out, "same_name", &broken.same_name)
+}
+
+fn put_place(out: &mut Writer, broken: &Broken, place: &Place) -> Result<(), NoMemory>
+    requires { out.old.tokens ≡ begin_object ∷ [] }
+    ensures tokens { OnOk result (out.new.tokens ++ end_object ∷ [] ≡ json_tokens (object (members_of (line.place broken.now place.now)))) }
+    ensures before { out.new.before ≡ out.old.before }
+{
+    put_target(out, "place", broken)?;
+    put_text(out, "file", place.file.as_str())?;
+    put_count(out, "line", place.line)?;
+    put_count(out, "column", place.column)
+}
+
+fn put_more(out: &mut Writer, places: u64) -> Result<(), NoMemory>
+    requires { out.old.tokens ≡ begin_object ∷ [] }
+    ensures tokens { OnOk result (out.new.tokens ++ end_object ∷ [] ≡ json_tokens (object (members_of (line.more places)))) }
+    ensures before { out.new.before ≡ out.old.before }
+{
+    put_text(out, "kind", "more")?;
+    put_count(out, "places", places)
+}
+
+fn put_worst(out: &mut Writer, count: &FileCount) -> Result<(), NoMemory>
+    requires { out.old.tokens ≡ begin_object ∷ [] }
+    ensures tokens { OnOk result (out.new.tokens ++ end_object ∷ [] ≡ json_tokens (object (members_of (line.worst count.now)))) }
+    ensures before { out.new.before ≡ out.old.before }
+{
+    put_text(out, "kind", "worst")?;
+    put_text(out, "file", count.file.as_str())?;
+    put_count(out, "links", count.links)
+}
+
+fn put_redirect(out: &mut Writer, page: &Redirect) -> Result<(), NoMemory>
+    requires { out.old.tokens ≡ begin_object ∷ [] }
+    ensures tokens { OnOk result (out.new.tokens ++ end_object ∷ [] ≡ json_tokens (object (members_of (line.redirect page.now)))) }
+    ensures before { out.new.before ≡ out.old.before }
+{
+    put_text(out, "kind", "redirect")?;
+    put_text(out, "page", page.page.as_str())?;
+    put_text_or_null(out, "to", &page.target)?;
+    put_count(out, "pages", page.pages)
+}
+
+fn put_name(out: &mut Writer, part: Part, text: &str) -> Result<(), NoMemory>
+    requires { out.old.tokens ≡ begin_object ∷ [] }
+    ensures tokens { OnOk result (out.new.tokens ++ end_object ∷ [] ≡ json_tokens (object (members_of (line.name part text.now)))) }
+    ensures before { out.new.before ≡ out.old.before }
+{
+    put_text(out, "kind", row_kind(part))?;
+    put_text(out, "name", text)
+}
+
+fn row_kind(part: Part) -> &'static str
+    ensures { result.now ≡ row_kind part }
+{
+    match part {
+        Part::Broken => "broken",
+        Part::Worst => "worst",
+        Part::Redirects => "redirect",
+        Part::Unreached => "unreached",
+        Part::Unused => "unused",
+    }
+}
+
+// The row's kind, the target, and what of it is not there.
+fn put_target(out: &mut Writer, kind: &str, broken: &Broken) -> Result<(), NoMemory>
+    ensures tokens { OnOk result (out.new.tokens ≡ out.old.tokens ++ key (codes "kind") ∷ string kind.now ∷ key (codes "target") ∷ string (string_bytes broken.now.target) ∷ key (codes "missing") ∷ string (missing broken.now.kind) ∷ []) }
+    ensures before { out.new.before ≡ out.old.before }
+{
+    put_text(out, "kind", kind)?;
+    put_text(out, "target", broken.target.as_str())?;
+    put_text(out, "missing", missing(broken.kind))
+}
+
+fn missing(kind: Kind) -> &'static str
+    ensures { result.now ≡ missing kind }
+{
+    match kind {
+        Kind::NoPage => "page",
+        Kind::NoAnchor => "anchor",
+    }
+}
+
+fn put_text(out: &mut Writer, name: &str, text: &str) -> Result<(), NoMemory>
+    ensures tokens { OnOk result (out.new.tokens ≡ out.old.tokens ++ key name.now ∷ string text.now ∷ []) }
+    ensures before { out.new.before ≡ out.old.before }
+{
+    out.key(name)?;
+    out.string(text)
+}
+
+fn put_text_or_null(out: &mut Writer, name: &str, text: &Option<String>) -> Result<(), NoMemory>
+    ensures tokens { OnOk result (out.new.tokens ≡ out.old.tokens ++ key name.now ∷ json_tokens (text_or_null (option_map string_bytes text.now))) }
+    ensures before { out.new.before ≡ out.old.before }
+{
+    out.key(name)?;
+    match text {
+        Some(text) => out.string(text.as_str()),
+        None => out.null(),
+    }
+}
+
+fn put_count(out: &mut Writer, name: &str, count: u64) -> Result<(), NoMemory>
+    ensures tokens { OnOk result (out.new.tokens ≡ out.old.tokens ++ key name.now ∷ number (decimal count) ∷ []) }
+    ensures before { out.new.before ≡ out.old.before }
+{
+    out.key(name)?;
+    out.u64(count)
+}

@@ -1,0 +1,208 @@
+//! A row in the HTML page.
+ghost use Rattle.std.specs.Prelude.{◌≡◌, ◌++◌, OnOk, codes};
+ghost use Rattle.check_report.specs.Page.{broken_items, broken_row, head_part, html, more_row, page_heading, page_line, page_start, page_total, place_row, redirect_row, script_part, section_start, site_items, style_part, tail_part, tools_part, total_item, verdict_start, worst_row};
+ghost use Rattle.check_report.specs.Rows.{line_of};
+
+mod parts;
+
+use crate::as_text::{put_redirect_target, put_wrong_of};
+use crate::escape::{Escape, put_escaped};
+use crate::put::{NoMemory, put, put_count, put_counted};
+use crate::row::{Part, Row};
+use crate::value::{Broken, FileCount, Place, Redirect, Totals};
+use parts::{HEAD, SCRIPT, STYLE, TAIL, TOOLS};
+
+pub fn put_page(out: &mut Vec<u8>, row: Row<'_>) -> Result<(), NoMemory>
+    ensures { OnOk result (out.new.items ≡ out.old.items ++ page_line (line_of row.entry)) }
+{
+    match row {
+        Row::Total {
+            base,
+            totals,
+            unreached,
+        } => put_total(out, base, totals, unreached as u64),
+        Row::Begin(part) => put(out, section_start(part)),
+        Row::Finish(_) => put(out, "</pre>\n</section>\n"),
+        Row::Broken(broken) => put_broken(out, broken),
+        Row::Place(_, place) => put_place(out, place),
+        Row::More(count) => put_more(out, count as u64),
+        Row::Worst(count) => put_worst(out, count),
+        Row::Redirect(page) => put_redirect(out, page),
+        Row::Name(_, text) => put_name(out, text),
+        Row::Last => put(out, tail_part()),
+    }
+}
+
+// ---- fixed parts
+
+fn head_part() -> &'static str
+    ensures { result.now ≡ head_part }
+{
+    HEAD
+}
+
+fn style_part() -> &'static str
+    ensures { result.now ≡ style_part }
+{
+    STYLE
+}
+
+fn script_part() -> &'static str
+    ensures { result.now ≡ script_part }
+{
+    SCRIPT
+}
+
+fn tools_part() -> &'static str
+    ensures { result.now ≡ tools_part }
+{
+    TOOLS
+}
+
+fn tail_part() -> &'static str
+    ensures { result.now ≡ tail_part }
+{
+    TAIL
+}
+
+fn section_start(part: Part) -> &'static str
+    ensures { result.now ≡ section_start part }
+{
+    match part {
+        Part::Broken =>
+            "<section id=broken aria-labelledby=h-broken>\n<h2 id=h-broken>Broken links</h2>\n<pre class=plain>\n",
+        Part::Worst =>
+            "<section id=worst aria-labelledby=h-worst>\n<h2 id=h-worst>Files with most broken links</h2>\n<pre>\n",
+        Part::Redirects =>
+            "<section id=redirects aria-labelledby=h-redirects>\n<h2 id=h-redirects>Redirects to mend</h2>\n<pre>\n",
+        Part::Unreached =>
+            "<section id=unreached aria-labelledby=h-unreached>\n<h2 id=h-unreached>Pages that no link leads to</h2>\n<pre>\n",
+        Part::Unused =>
+            "<section id=unused aria-labelledby=h-unused>\n<h2 id=h-unused>Ignored, but not found</h2>\n<pre>\n",
+    }
+}
+
+// ---- totals
+
+fn put_total(out: &mut Vec<u8>, base: &str, totals: Totals, unreached: u64) -> Result<(), NoMemory>
+    ensures { OnOk result (out.new.items ≡ out.old.items ++ page_total base.now totals unreached) }
+{
+    put_start(out, base, totals)?;
+    put_heading(out, base, totals)?;
+    put_site_items(out, totals)?;
+    put_broken_items(out, totals, unreached)?;
+    put(out, tools_part())
+}
+
+fn put_start(out: &mut Vec<u8>, base: &str, totals: Totals) -> Result<(), NoMemory>
+    ensures { OnOk result (out.new.items ≡ out.old.items ++ page_start base.now totals) }
+{
+    put(out, head_part())?;
+    put_count(out, totals.broken_links)?;
+    put(out, " broken links - ")?;
+    put_html(out, base)?;
+    put(out, style_part())
+}
+
+fn put_heading(out: &mut Vec<u8>, base: &str, totals: Totals) -> Result<(), NoMemory>
+    ensures { OnOk result (out.new.items ≡ out.old.items ++ page_heading base.now totals) }
+{
+    put(out, script_part())?;
+    put_html(out, base)?;
+    put(out, verdict_start(totals))?;
+    put_count(out, totals.broken_links)?;
+    put(out, "</b> broken links</h1>\n<ul>\n")
+}
+
+fn verdict_start(totals: Totals) -> &'static str
+    ensures { result.now ≡ verdict_start totals }
+{
+    if totals.broken_links > 0 {
+        "</p>\n<h1 class=bad><b>"
+    } else {
+        "</p>\n<h1 class=good><b>"
+    }
+}
+
+fn put_site_items(out: &mut Vec<u8>, totals: Totals) -> Result<(), NoMemory>
+    ensures { OnOk result (out.new.items ≡ out.old.items ++ site_items totals) }
+{
+    put_item(out, "<li>pages <b>", totals.pages)?;
+    put_item(out, "<li>links <b>", totals.links)?;
+    put_item(out, "<li>redirects <b>", totals.moved)
+}
+
+fn put_broken_items(out: &mut Vec<u8>, totals: Totals, unreached: u64) -> Result<(), NoMemory>
+    ensures { OnOk result (out.new.items ≡ out.old.items ++ broken_items totals unreached) }
+{
+    put_item(out, "<li>missing pages <b>", totals.broken_urls)?;
+    put_item(out, "<li>missing anchors <b>", totals.broken_anchors)?;
+    put_item(out, "<li>unreached <b>", unreached)
+}
+
+fn put_item(out: &mut Vec<u8>, word: &str, count: u64) -> Result<(), NoMemory>
+    ensures { OnOk result (out.new.items ≡ out.old.items ++ total_item word.now count) }
+{
+    put_counted(out, word, count)?;
+    put(out, "</b></li>\n")
+}
+
+// ---- rows
+
+fn put_html(out: &mut Vec<u8>, text: &str) -> Result<(), NoMemory>
+    ensures { OnOk result (out.new.items ≡ out.old.items ++ html text.now) }
+{
+    put_escaped(out, Escape::Html, text)
+}
+
+fn put_broken(out: &mut Vec<u8>, broken: &Broken) -> Result<(), NoMemory>
+    ensures { OnOk result (out.new.items ≡ out.old.items ++ broken_row broken.now) }
+{
+    put(out, "<b>")?;
+    put_html(out, broken.target.as_str())?;
+    put(out, "</b>\t")?;
+    put_wrong_of(out, Escape::Html, broken)?;
+    put(out, "\n")
+}
+
+fn put_place(out: &mut Vec<u8>, place: &Place) -> Result<(), NoMemory>
+    ensures { OnOk result (out.new.items ≡ out.old.items ++ place_row place.now) }
+{
+    put(out, "\t")?;
+    put_html(out, place.file.as_str())?;
+    put_counted(out, ":", place.line)?;
+    put_counted(out, ":", place.column)?;
+    put(out, "\n")
+}
+
+fn put_more(out: &mut Vec<u8>, count: u64) -> Result<(), NoMemory>
+    ensures { OnOk result (out.new.items ≡ out.old.items ++ more_row count) }
+{
+    put_counted(out, "\tand ", count)?;
+    put(out, " more\n")
+}
+
+fn put_worst(out: &mut Vec<u8>, count: &FileCount) -> Result<(), NoMemory>
+    ensures { OnOk result (out.new.items ≡ out.old.items ++ worst_row count.now) }
+{
+    put_html(out, count.file.as_str())?;
+    put_counted(out, "\t", count.links)?;
+    put(out, "\n")
+}
+
+fn put_redirect(out: &mut Vec<u8>, page: &Redirect) -> Result<(), NoMemory>
+    ensures { OnOk result (out.new.items ≡ out.old.items ++ redirect_row page.now) }
+{
+    put_html(out, page.page.as_str())?;
+    put(out, "\tto ")?;
+    put_redirect_target(out, Escape::Html, &page.target)?;
+    put_counted(out, "\tlinked from ", page.pages)?;
+    put(out, "\n")
+}
+
+fn put_name(out: &mut Vec<u8>, text: &str) -> Result<(), NoMemory>
+    ensures { OnOk result (out.new.items ≡ out.old.items ++ html text.now ++ codes "\n") }
+{
+    put_html(out, text)?;
+    put(out, "\n")
+}

@@ -1,0 +1,180 @@
+//! The fixed parts of the page. The policy allows the one script by its SHA-256.
+
+/// Up to the title.
+pub static HEAD: &str = r#"<!doctype html>
+<html lang=en>
+<head>
+<meta charset=utf-8>
+<meta name=viewport content="width=device-width, initial-scale=1">
+<meta name=color-scheme content="light dark">
+<meta name=format-detection content="telephone=no">
+<meta name=referrer content=no-referrer>
+<meta http-equiv=Content-Security-Policy content="default-src 'none'; style-src 'unsafe-inline'; script-src 'sha256-5Kt2OB0iGRIIezCrkFtdEPhqKUoheJQUTUqgr64LpBU='; base-uri 'none'; form-action 'none'">
+<title>"#;
+
+/// From the title to the script.
+pub static STYLE: &str = r#"</title>
+<style>
+:root {
+  color-scheme: light dark;
+  --bg: #fff; --fg: #1c2024; --mute: #5b646d; --line: #dfe3e7; --soft: #f4f6f8; --edge: #868f98; --link: #0b57a4; --bad: #b3261e; --good: #1b7a3d;
+  --mono: .8125rem/1.55 ui-monospace, Menlo, Consolas, "DejaVu Sans Mono", monospace;
+}
+@media (prefers-color-scheme: dark) {
+  :root { --bg: #15181b; --fg: #e3e6e9; --mute: #9aa3ac; --line: #2f353b; --soft: #1f2428; --edge: #6b747d; --link: #86b8f2; --bad: #ff8d80; --good: #63c784; }
+}
+* { box-sizing: border-box; }
+body { margin: 0 auto; max-width: 84rem; padding: 0 clamp(1rem, 4vw, 3rem) 3rem; background: var(--bg); color: var(--fg); font: 1rem/1.5 system-ui, sans-serif; }
+:focus-visible { outline: 2px solid var(--link); outline-offset: 2px; }
+[hidden], .js .plain { display: none !important; }
+.skip { position: absolute; left: -99rem; padding: .5rem 1rem; background: var(--bg); }
+.skip:focus { left: 0; }
+#site { color: var(--mute); margin: 2rem 0 0; overflow-wrap: anywhere; unicode-bidi: isolate; }
+h1 { font-size: 2.25rem; line-height: 1.15; margin: .1em 0 .3em; }
+.bad b { color: var(--bad); }
+.good b { color: var(--good); }
+header ul { display: flex; flex-wrap: wrap; gap: 0 1.75rem; list-style: none; margin: 0; padding: 0; color: var(--mute); }
+b, .n { font-variant-numeric: tabular-nums; }
+#tools { display: flex; flex-wrap: wrap; gap: .5rem .75rem; align-items: center; padding: .75rem 0; margin-top: 1rem; border-bottom: 1px solid var(--line); background: var(--bg); position: sticky; top: 0; }
+#tools input[type=search] { flex: 1 1 16rem; min-width: 0; }
+input, select, button { font: inherit; color: inherit; padding: .35rem .6rem; background: var(--soft); border: 1px solid var(--edge); border-radius: 6px; }
+button { cursor: pointer; }
+#said { color: var(--mute); }
+section { margin-top: 2rem; }
+h2 { font-size: 1.25rem; margin: 0 0 .5rem; }
+pre, table, .rows { font: var(--mono); margin: 0; white-space: pre-wrap; overflow-wrap: anywhere; tab-size: 4; }
+pre { color: var(--mute); }
+pre b { color: var(--fg); }
+table { width: 100%; border-collapse: collapse; table-layout: fixed; }
+th, td { text-align: start; vertical-align: top; padding: .45rem .5rem .45rem 0; border-top: 1px solid var(--line); font-weight: 400; unicode-bidi: isolate; }
+thead th { font: .8125rem/1.4 system-ui, sans-serif; color: var(--mute); border: 0; }
+.n { width: 5rem; text-align: end; padding-inline-end: 1rem; }
+tbody th { font-weight: 600; }
+td ul { list-style: none; margin: 0; padding: 0; }
+.aside { color: var(--mute); font-weight: 400; }
+a, summary { color: var(--link); }
+summary { cursor: pointer; }
+@media (max-width: 40rem) { .n { width: 3rem; } }
+@media print { #tools, .skip, #more { display: none !important; } }
+</style>
+"#;
+
+/// The script, and the page up to the site's name.
+pub static SCRIPT: &str = r#"<script>
+// Reads the plain rows once, then draws them by target or by page. Texts enter the page as text nodes alone.
+(() => {
+'use strict';
+const root = document.documentElement;
+root.className = 'js'; // hides the plain rows of broken links; they come back where anything below fails
+addEventListener('DOMContentLoaded', () => {
+  try { start(); } catch (fault) { root.className = ''; throw fault; }
+});
+function start() {
+const STEP = 200, FEW = 5; // rows drawn at once; a longer list of places is folded
+const $ = (id) => document.getElementById(id);
+if (!$('end')) $('cut').hidden = false;
+const part = $('broken');
+if (!part) return;
+function make(tag, attributes, ...children) {
+  const node = document.createElement(tag);
+  Object.assign(node, attributes);
+  node.append(...children);
+  return node;
+}
+const targets = [], pages = new Map();
+for (const line of part.querySelector('pre').textContent.split('\n')) {
+  if (line[0] === '\t') {
+    const place = line.slice(1), file = place.replace(/:\d+:\d+$/, '');
+    const target = targets[targets.length - 1];
+    target.list.push(place);
+    if (!pages.has(file)) pages.set(file, { name: file, note: '', list: [] });
+    pages.get(file).list.push(target.name + ' at ' + place.slice(file.length + 1) + ': ' + target.note);
+  } else if (line) {
+    const [name, note] = line.split('\t');
+    targets.push({ name, note, list: [] });
+  }
+}
+const views = { target: targets, page: [...pages.values()] };
+const most = (rows) => rows.slice().sort((a, b) => b.list.length - a.list.length);
+const lows = new Map(); // what is searched, of each view
+function low(by) {
+  if (!lows.has(by)) lows.set(by, views[by].map((row) => [row.name, row.note, ...row.list].join('\n').toLowerCase()));
+  return lows.get(by);
+}
+let rows = [], drawn = 0;
+const body = make('tbody'), headA = make('th', { scope: 'col' }), headB = make('th', { scope: 'col' });
+const table = make('table', {}, make('thead', {}, make('tr', {}, make('th', { scope: 'col', className: 'n' }, 'Links'), headA, headB)), body);
+table.setAttribute('aria-labelledby', 'h-broken');
+const more = make('button', { type: 'button', id: 'more' });
+part.append(table, more);
+function text(value) {
+  return /^https?:\/\//i.test(value) ? make('a', { href: value, rel: 'noreferrer' }, value) : value;
+}
+function items(list) { return list.map((one) => make('li', {}, one)); }
+function cell(list) {
+  if (list.length <= FEW) return make('td', {}, make('ul', {}, ...items(list)));
+  const rest = make('details', {}, make('summary', {}, list.length - FEW + ' more'));
+  rest.addEventListener('toggle', () => { if (!rest.querySelector('ul')) rest.append(make('ul', {}, ...items(list.slice(FEW)))); });
+  return make('td', {}, make('ul', {}, ...items(list.slice(0, FEW))), rest);
+}
+function draw() {
+  const end = Math.min(rows.length, drawn + STEP), some = document.createDocumentFragment();
+  for (; drawn < end; drawn++) {
+    const row = rows[drawn], head = make('th', { scope: 'row' }, text(row.name));
+    if (row.note) head.append(make('div', { className: 'aside' }, row.note));
+    some.append(make('tr', {}, make('td', { className: 'n' }, row.list.length), head, cell(row.list)));
+  }
+  body.append(some);
+  more.hidden = drawn === rows.length;
+  more.textContent = 'Show more (' + drawn + ' of ' + rows.length + ')';
+}
+function search() {
+  const by = $('by').value, all = views[by], searched = low(by);
+  const words = $('q').value.toLowerCase().split(/\s+/).filter(Boolean);
+  rows = words.length ? all.filter((_, k) => words.every((word) => searched[k].includes(word))) : all;
+  if ($('order').value === 'most') rows = most(rows);
+  headA.textContent = by === 'page' ? 'Page' : 'Target';
+  headB.textContent = by === 'page' ? 'Broken links' : 'Places';
+  body.textContent = '';
+  drawn = 0;
+  draw();
+  $('said').textContent = rows.length + ' of ' + all.length + (by === 'page' ? ' pages' : ' targets');
+}
+more.addEventListener('click', () => {
+  const next = drawn;
+  draw();
+  body.rows[next].tabIndex = -1;
+  body.rows[next].focus();
+});
+$('tools').addEventListener('input', search);
+$('tools').addEventListener('submit', (event) => event.preventDefault());
+$('tools').hidden = false;
+search();
+}
+})();
+</script>
+</head>
+<body>
+<a class=skip href=#main>Skip to the rows</a>
+<header>
+<p id=site>"#;
+
+/// Behind the totals: search and order.
+pub static TOOLS: &str = r#"</ul>
+<p id=cut hidden>This file is cut off: rows are missing.</p>
+</header>
+<main id=main>
+<form id=tools role=search hidden>
+<input type=search id=q aria-label="Search broken links" placeholder="Search: all words">
+<select id=by aria-label="Rows"><option value=target>by target</option><option value=page>by page</option></select>
+<select id=order aria-label="Order"><option value=given>as found</option><option value=most>most links first</option></select>
+<span id=said role=status></span>
+</form>
+"#;
+
+/// The end.
+pub static TAIL: &str = r#"</main>
+<footer id=end></footer>
+</body>
+</html>
+"#;

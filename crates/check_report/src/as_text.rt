@@ -1,0 +1,235 @@
+//! A row as text for people.
+ghost use Rattle.std.specs.Prelude.{◌≡◌, ◌++◌, OnOk, string_bytes};
+ghost use Rattle.std.specs.Option.{option_map};
+ghost use Rattle.check_report.specs.Rows.{line_of};
+ghost use Rattle.check_report.specs.Text.{begin_text, broken_text, broken_total, message, more_text, moves_text, name_text, place_start, place_text, redirect_target, redirect_text, same_name_text, site_total, target_text, text_line, title, total_text, verdict, worst_text, wrong_of, wrong_text};
+
+use crate::escape::{Escape, put_escaped, put_shown};
+use crate::put::{NoMemory, put, put_code, put_counted};
+use crate::row::{Part, Row};
+use crate::value::{Broken, FileCount, Kind, Place, Redirect, Totals};
+
+const BOLD: &str = "\x1b[1m";
+
+const RED: &str = "\x1b[31m";
+
+const GREEN: &str = "\x1b[32m";
+
+const PLAIN: &str = "\x1b[0m";
+
+pub fn put_text(out: &mut Vec<u8>, row: Row<'_>, colour: bool) -> Result<(), NoMemory>
+    ensures { OnOk result (out.new.items ≡ out.old.items ++ text_line colour (line_of row.entry)) }
+{
+    match row {
+        Row::Total {
+            totals,
+            unreached,
+            ..
+        } => put_total(out, totals, unreached as u64, colour),
+        Row::Begin(part) => put_begin(out, part, colour),
+        Row::Broken(broken) => put_broken(out, broken, colour),
+        Row::Place(broken, place) => put_place(out, broken, place, colour),
+        Row::More(count) => put_more(out, count as u64),
+        Row::Worst(count) => put_worst(out, count),
+        Row::Redirect(redirect) => put_redirect(out, redirect),
+        Row::Name(_, text) => put_name(out, text),
+        Row::Finish(_) | Row::Last => Ok(()),
+    }
+}
+
+fn put_total(
+    out: &mut Vec<u8>,
+    totals: Totals,
+    unreached: u64,
+    colour: bool,
+) -> Result<(), NoMemory>
+    ensures { OnOk result (out.new.items ≡ out.old.items ++ total_text colour totals unreached) }
+{
+    put_site_total(out, totals, unreached)?;
+    put(out, "\n")?;
+    put_broken_total(out, totals, colour)?;
+    put(out, "\n")
+}
+
+fn put_site_total(out: &mut Vec<u8>, totals: Totals, unreached: u64) -> Result<(), NoMemory>
+    ensures { OnOk result (out.new.items ≡ out.old.items ++ site_total totals unreached) }
+{
+    put_counted(out, "pages ", totals.pages)?;
+    put_counted(out, ", links ", totals.links)?;
+    put_counted(out, ", redirects ", totals.moved)?;
+    put_counted(out, ", unreached ", unreached)
+}
+
+fn put_broken_total(out: &mut Vec<u8>, totals: Totals, colour: bool) -> Result<(), NoMemory>
+    ensures { OnOk result (out.new.items ≡ out.old.items ++ broken_total colour totals) }
+{
+    put_code(out, colour, verdict(totals))?;
+    put_counted(out, "broken links ", totals.broken_links)?;
+    put_code(out, colour, PLAIN)?;
+    put_counted(out, ", missing pages ", totals.broken_urls)?;
+    put_counted(out, ", missing anchors ", totals.broken_anchors)
+}
+
+/// Red, where a link is broken.
+fn verdict(totals: Totals) -> &'static str
+    ensures { result.now ≡ verdict totals }
+{
+    if totals.broken_links > 0 { RED } else { GREEN }
+}
+
+fn put_begin(out: &mut Vec<u8>, part: Part, colour: bool) -> Result<(), NoMemory>
+    ensures { OnOk result (out.new.items ≡ out.old.items ++ begin_text colour part) }
+{
+    put(out, "\n")?;
+    put_code(out, colour, BOLD)?;
+    put(out, title(part))?;
+    put_code(out, colour, PLAIN)
+}
+
+fn title(part: Part) -> &'static str
+    ensures { result.now ≡ title part }
+{
+    match part {
+        Part::Broken => "",
+        Part::Worst => "files with most broken links:\n",
+        Part::Redirects => "redirects to mend:\n",
+        Part::Unreached => "pages that no link leads to:\n",
+        Part::Unused => "ignored, but not found:\n",
+    }
+}
+
+fn put_broken(out: &mut Vec<u8>, broken: &Broken, colour: bool) -> Result<(), NoMemory>
+    ensures { OnOk result (out.new.items ≡ out.old.items ++ broken_text colour broken.now) }
+{
+    if broken.places.len() > 0 {
+        Ok(())
+    } else {
+        put_target(out, broken, colour)
+    }
+}
+
+fn put_place(
+    out: &mut Vec<u8>,
+    broken: &Broken,
+    place: &Place,
+    colour: bool,
+) -> Result<(), NoMemory>
+    ensures { OnOk result (out.new.items ≡ out.old.items ++ place_text colour broken.now place.now) }
+{
+    put_code(out, colour, BOLD)?;
+    put_place_start(out, place)?;
+    put_code(out, colour, PLAIN)?;
+    put_target(out, broken, colour)
+}
+
+fn put_place_start(out: &mut Vec<u8>, place: &Place) -> Result<(), NoMemory>
+    ensures { OnOk result (out.new.items ≡ out.old.items ++ place_start place.now) }
+{
+    put_shown(out, place.file.as_str())?;
+    put_counted(out, ":", place.line)?;
+    put_counted(out, ":", place.column)?;
+    put(out, ": ")
+}
+
+fn put_target(out: &mut Vec<u8>, broken: &Broken, colour: bool) -> Result<(), NoMemory>
+    ensures { OnOk result (out.new.items ≡ out.old.items ++ target_text colour broken.now) }
+{
+    put_shown(out, broken.target.as_str())?;
+    put(out, ": ")?;
+    put_wrong(out, broken.kind, colour)?;
+    put_same_name(out, Escape::Shown, &broken.same_name)?;
+    put(out, "\n")
+}
+
+fn put_wrong(out: &mut Vec<u8>, kind: Kind, colour: bool) -> Result<(), NoMemory>
+    ensures { OnOk result (out.new.items ≡ out.old.items ++ wrong_text colour kind) }
+{
+    put_code(out, colour, RED)?;
+    put(out, message(kind))?;
+    put_code(out, colour, PLAIN)
+}
+
+fn message(kind: Kind) -> &'static str
+    ensures { result.now ≡ message kind }
+{
+    match kind {
+        Kind::NoPage => "no such page",
+        Kind::NoAnchor => "no such anchor",
+    }
+}
+
+/// What is wrong with the target, and the page with its name.
+pub fn put_wrong_of(out: &mut Vec<u8>, how: Escape, broken: &Broken) -> Result<(), NoMemory>
+    ensures { OnOk result (out.new.items ≡ out.old.items ++ wrong_of how broken.now) }
+{
+    put(out, message(broken.kind))?;
+    put_same_name(out, how, &broken.same_name)
+}
+
+fn put_same_name(out: &mut Vec<u8>, how: Escape, page: &Option<String>) -> Result<(), NoMemory>
+    ensures { OnOk result (out.new.items ≡ out.old.items ++ same_name_text how (option_map string_bytes page.now)) }
+{
+    match page {
+        Some(page) => {
+            put(out, " (same name: ")?;
+            put_escaped(out, how, page.as_str())?;
+            put(out, ")")
+        }
+        None => Ok(()),
+    }
+}
+
+fn put_more(out: &mut Vec<u8>, count: u64) -> Result<(), NoMemory>
+    ensures { OnOk result (out.new.items ≡ out.old.items ++ more_text count) }
+{
+    put_counted(out, "  and ", count)?;
+    put(out, " more\n")
+}
+
+fn put_worst(out: &mut Vec<u8>, count: &FileCount) -> Result<(), NoMemory>
+    ensures { OnOk result (out.new.items ≡ out.old.items ++ worst_text count.now) }
+{
+    put_counted(out, "  ", count.links)?;
+    put(out, " ")?;
+    put_shown(out, count.file.as_str())?;
+    put(out, "\n")
+}
+
+fn put_redirect(out: &mut Vec<u8>, redirect: &Redirect) -> Result<(), NoMemory>
+    ensures { OnOk result (out.new.items ≡ out.old.items ++ redirect_text redirect.now) }
+{
+    put_moves(out, redirect)?;
+    put_counted(out, " (linked from ", redirect.pages)?;
+    put(out, ")\n")
+}
+
+fn put_moves(out: &mut Vec<u8>, redirect: &Redirect) -> Result<(), NoMemory>
+    ensures { OnOk result (out.new.items ≡ out.old.items ++ moves_text redirect.now) }
+{
+    put(out, "  ")?;
+    put_shown(out, redirect.page.as_str())?;
+    put(out, " -> ")?;
+    put_redirect_target(out, Escape::Shown, &redirect.target)
+}
+
+/// Where a page moved to.
+pub fn put_redirect_target(
+    out: &mut Vec<u8>,
+    how: Escape,
+    page: &Option<String>,
+) -> Result<(), NoMemory>
+    ensures { OnOk result (out.new.items ≡ out.old.items ++ redirect_target how (option_map string_bytes page.now)) }
+{
+    match page {
+        Some(page) => put_escaped(out, how, page.as_str()),
+        None => put(out, "-"),
+    }
+}
+
+fn put_name(out: &mut Vec<u8>, text: &str) -> Result<(), NoMemory>
+    ensures { OnOk result (out.new.items ≡ out.old.items ++ name_text text.now) }
+{
+    put(out, "  ")?;
+    put_shown(out, text)?;
+    put(out, "\n")
+}

@@ -1,0 +1,13 @@
+//! The form in which rows are printed.
+
+#[derive(Clone, Copy)]
+pub enum Form {
+    /// For people, with colour or without.
+    Text(bool),
+    /// JSON objects, one a line.
+    Json,
+    /// Commands that GitHub's jobs show beside files.
+    Annotations,
+    /// One HTML page.
+    Page,
+}

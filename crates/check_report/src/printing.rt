@@ -1,0 +1,248 @@
+//! A report as bytes.
+ghost use Rattle.std.specs.Prelude.{◌≡◌, [], ◌∷◌, IfOk, length, map, string_bytes};
+ghost use Rattle.check_report.specs.Printing.{Adds, printed, printed_annotations, printed_json, printed_page, printed_text};
+ghost use Rattle.check_report.specs.Rows as line;
+ghost use Rattle.check_report.specs.Rows.{line_of, broken_lines, broken_part, edge, left_out, name_part, place_lines, redirect_part, shown_places, target_lines, worst_part};
+
+use crate::as_annotations::put_annotation;
+use crate::as_json::with_json;
+use crate::as_page::put_page;
+use crate::as_text::put_text;
+use crate::form::Form;
+use crate::put::NoMemory;
+use crate::row::{Part, Row};
+use crate::value::{Broken, FileCount, Findings, Place, Redirect};
+use std::alloc::Global;
+
+/// For people: the totals, each broken target with its places, the worst files, and the other parts that have rows.
+/// Three places of a target are told, or all of them. Colour is ANSI codes.
+///
+/// # Errors
+/// Out of memory alone.
+pub fn print_text(
+    alloc: Global,
+    findings: &Findings<'_>,
+    all: bool,
+    colour: bool,
+) -> Result<Vec<u8>, NoMemory>
+    ensures { IfOk result (λ text. text.items ≡ printed_text all colour findings.now) }
+{
+    print(alloc, findings, all, Form::Text(colour))
+}
+
+/// For programs: a JSON object for each row, one a line.
+///
+/// # Errors
+/// Out of memory alone.
+pub fn print_json(alloc: Global, findings: &Findings<'_>) -> Result<Vec<u8>, NoMemory>
+    ensures { IfOk result (λ text. text.items ≡ printed_json findings.now) }
+{
+    print(alloc, findings, true, Form::Json)
+}
+
+/// For GitHub's jobs: an `::error` command for each place of a broken link.
+///
+/// # Errors
+/// Out of memory alone.
+pub fn print_annotations(alloc: Global, findings: &Findings<'_>) -> Result<Vec<u8>, NoMemory>
+    ensures { IfOk result (λ text. text.items ≡ printed_annotations findings.now) }
+{
+    print(alloc, findings, true, Form::Annotations)
+}
+
+/// One HTML page that needs no network. Without script it shows every row; its script draws broken links by target or by page,
+/// with search.
+///
+/// # Errors
+/// Out of memory alone.
+pub fn print_page(alloc: Global, findings: &Findings<'_>) -> Result<Vec<u8>, NoMemory>
+    ensures { IfOk result (λ text. text.items ≡ printed_page findings.now) }
+{
+    print(alloc, findings, true, Form::Page)
+}
+
+fn print(alloc: Global, findings: &Findings<'_>, all: bool, form: Form) -> Result<Vec<u8>, NoMemory>
+    ensures { IfOk result (λ text. text.items ≡ printed form all findings.now) }
+{
+    let begun = with(Vec::new(alloc), form, total_of(findings))?;
+    let broken = with_broken(begun, form, findings.broken, all)?;
+    let worst = with_worst(broken, form, findings.worst)?;
+    let redirects = with_redirects(worst, form, findings.redirects)?;
+    let unreached = with_names(redirects, form, Part::Unreached, findings.unreached)?;
+    let unused = with_names(unreached, form, Part::Unused, findings.unused_ignores)?;
+    let all = with(unused, form, Row::Last)?;
+    Ok(all)
+}
+
+fn total_of<'r>(findings: &Findings<'r>) -> Row<'r>
+    ensures { line_of result ≡ line.total findings.now.base.now findings.now.totals (length findings.now.unreached.now) }
+{
+    Row::Total {
+        base: findings.base,
+        totals: findings.totals,
+        unreached: findings.unreached.len(),
+    }
+}
+
+/// The bytes, and behind them the row's.
+fn with(mut out: Vec<u8>, form: Form, row: Row<'_>) -> Result<Vec<u8>, NoMemory>
+    ensures { IfOk result (λ more. Adds form out.items more.items (line_of row.entry ∷ [])) }
+{
+    match form {
+        Form::Text(colour) => {
+            put_text(&mut out, row, colour)?;
+            Ok(out)
+        }
+        Form::Json => with_json(out, row),
+        Form::Annotations => {
+            put_annotation(&mut out, row)?;
+            Ok(out)
+        }
+        Form::Page => {
+            put_page(&mut out, row)?;
+            Ok(out)
+        }
+    }
+}
+
+/// The row, where a part has rows.
+fn with_edge(out: Vec<u8>, form: Form, row: Row<'_>, rows: usize) -> Result<Vec<u8>, NoMemory>
+    ensures { IfOk result (λ more. Adds form out.items more.items (edge rows (line_of row.entry))) }
+{
+    if rows > 0 {
+        with(out, form, row)
+    } else {
+        Ok(out)
+    }
+}
+
+fn with_broken(out: Vec<u8>, form: Form, targets: &[Broken], all: bool) -> Result<Vec<u8>, NoMemory>
+    ensures { IfOk result (λ more. Adds form out.items more.items (broken_part all targets.now)) }
+{
+    let rows = targets.len();
+    let begun = with_edge(out, form, Row::Begin(Part::Broken), rows)?;
+    let told = with_targets(begun, form, targets, all)?;
+    with_edge(told, form, Row::Finish(Part::Broken), rows)
+}
+
+fn with_targets(
+    mut out: Vec<u8>,
+    form: Form,
+    targets: &[Broken],
+    all: bool,
+) -> Result<Vec<u8>, NoMemory>
+    ensures { IfOk result (λ more. Adds form out.items more.items (broken_lines all targets.now)) }
+{
+    for target in targets {
+        out = with_target(out, form, target, all)?;
+    }
+    Ok(out)
+}
+
+fn with_target(out: Vec<u8>, form: Form, target: &Broken, all: bool) -> Result<Vec<u8>, NoMemory>
+    ensures { IfOk result (λ more. Adds form out.items more.items (target_lines all target.now)) }
+{
+    let places = target.places.as_slice();
+    let begun = with(out, form, Row::Broken(target))?;
+    let told = with_places(begun, form, target, shown_places(places, all))?;
+    with_left_out(told, form, places.len(), all)
+}
+
+/// Three places, or all of them.
+fn shown_places(places: &[Place], all: bool) -> &[Place]
+    ensures { result.now ≡ shown_places all places.now }
+{
+    if all || places.len() <= 3 {
+        places
+    } else {
+        &places[..3]
+    }
+}
+
+fn with_places(
+    mut out: Vec<u8>,
+    form: Form,
+    target: &Broken,
+    places: &[Place],
+) -> Result<Vec<u8>, NoMemory>
+    ensures { IfOk result (λ more. Adds form out.items more.items (place_lines target.now places.now)) }
+{
+    for place in places {
+        out = with(out, form, Row::Place(target, place))?;
+    }
+    Ok(out)
+}
+
+fn with_left_out(out: Vec<u8>, form: Form, places: usize, all: bool) -> Result<Vec<u8>, NoMemory>
+    ensures { IfOk result (λ more. Adds form out.items more.items (left_out all places)) }
+{
+    if all || places <= 3 {
+        Ok(out)
+    } else {
+        with(out, form, Row::More(places - 3))
+    }
+}
+
+fn with_worst(out: Vec<u8>, form: Form, counts: &[FileCount]) -> Result<Vec<u8>, NoMemory>
+    ensures { IfOk result (λ more. Adds form out.items more.items (worst_part counts.now)) }
+{
+    let rows = counts.len();
+    let begun = with_edge(out, form, Row::Begin(Part::Worst), rows)?;
+    let told = with_counts(begun, form, counts)?;
+    with_edge(told, form, Row::Finish(Part::Worst), rows)
+}
+
+fn with_counts(mut out: Vec<u8>, form: Form, counts: &[FileCount]) -> Result<Vec<u8>, NoMemory>
+    ensures { IfOk result (λ more. Adds form out.items more.items (map line.worst counts.now)) }
+{
+    for count in counts {
+        out = with(out, form, Row::Worst(count))?;
+    }
+    Ok(out)
+}
+
+fn with_redirects(out: Vec<u8>, form: Form, pages: &[Redirect]) -> Result<Vec<u8>, NoMemory>
+    ensures { IfOk result (λ more. Adds form out.items more.items (redirect_part pages.now)) }
+{
+    let rows = pages.len();
+    let begun = with_edge(out, form, Row::Begin(Part::Redirects), rows)?;
+    let told = with_moved(begun, form, pages)?;
+    with_edge(told, form, Row::Finish(Part::Redirects), rows)
+}
+
+fn with_moved(mut out: Vec<u8>, form: Form, pages: &[Redirect]) -> Result<Vec<u8>, NoMemory>
+    ensures { IfOk result (λ more. Adds form out.items more.items (map line.redirect pages.now)) }
+{
+    for page in pages {
+        out = with(out, form, Row::Redirect(page))?;
+    }
+    Ok(out)
+}
+
+fn with_names(
+    out: Vec<u8>,
+    form: Form,
+    of_part: Part,
+    texts: &[String],
+) -> Result<Vec<u8>, NoMemory>
+    ensures { IfOk result (λ more. Adds form out.items more.items (name_part of_part texts.now)) }
+{
+    let rows = texts.len();
+    let begun = with_edge(out, form, Row::Begin(of_part), rows)?;
+    let told = with_texts(begun, form, of_part, texts)?;
+    with_edge(told, form, Row::Finish(of_part), rows)
+}
+
+fn with_texts(
+    mut out: Vec<u8>,
+    form: Form,
+    of_part: Part,
+    texts: &[String],
+) -> Result<Vec<u8>, NoMemory>
+    ensures { IfOk result (λ more. Adds form out.items more.items (map (λ text. line.name of_part (string_bytes text)) texts.now)) }
+{
+    for text in texts {
+        out = with(out, form, Row::Name(of_part, text.as_str()))?;
+    }
+    Ok(out)
+}

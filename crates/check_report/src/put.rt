@@ -1,0 +1,38 @@
+//! Bytes behind bytes.
+ghost use Rattle.std.specs.Prelude.{◌≡◌, ◌++◌, OnOk, decimal};
+ghost use Rattle.check_report.specs.Text.{code, counted};
+
+use itoa::Buffer;
+use std::alloc::AllocError;
+
+/// A growth was refused.
+pub type NoMemory = AllocError;
+
+/// The text at the end.
+pub fn put(out: &mut Vec<u8>, text: &str) -> Result<(), NoMemory>
+    ensures { OnOk result (out.new.items ≡ out.old.items ++ text.now) }
+{
+    out.extend_from_slice(text.as_bytes())
+}
+
+pub fn put_count(out: &mut Vec<u8>, count: u64) -> Result<(), NoMemory>
+    ensures { OnOk result (out.new.items ≡ out.old.items ++ decimal count) }
+{
+    let mut buffer = Buffer::new();
+    put(out, buffer.format(count))
+}
+
+/// The word, and a count behind it.
+pub fn put_counted(out: &mut Vec<u8>, word: &str, count: u64) -> Result<(), NoMemory>
+    ensures { OnOk result (out.new.items ≡ out.old.items ++ counted word.now count) }
+{
+    put(out, word)?;
+    put_count(out, count)
+}
+
+/// The code, where colour is asked for.
+pub fn put_code(out: &mut Vec<u8>, colour: bool, text: &str) -> Result<(), NoMemory>
+    ensures { OnOk result (out.new.items ≡ out.old.items ++ code colour text.now) }
+{
+    if colour { put(out, text) } else { Ok(()) }
+}
