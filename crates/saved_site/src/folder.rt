@@ -38,29 +38,45 @@ pub(crate) fn entries_below<R: Files>(
     alloc: Global,
     top: &str,
 ) -> Result<(Vec<String>, Vec<Note>), SiteError> {
-    let mut walk = Walk {
-        names: Vec::new(alloc),
-        entered: Vec::new(alloc),
-        waiting: Vec::new(alloc),
-        notes: Vec::new(alloc),
-    };
     let real = rt.canonicalize(alloc, top)?;
     if !fs::metadata(rt, top)?.is_dir() {
         return Err(SiteError::Io(io::Error::from(ErrorKind::InvalidInput)));
     }
-    walk.enter(real.as_path().to_string_lossy(), String::new(alloc), None)?;
+    let walk = Walk::from(alloc, real.as_path().to_string_lossy())?;
+    let Walk {
+        mut names,
+        notes,
+        ..
+    } = walked(rt, top, walk)?;
+    names.sort()?;
+    Ok((names, notes))
+}
+
+/// The walk, once nothing waits.
+fn walked<R: Files>(rt: &R, top: &str, walk: Walk) -> Result<Walk, SiteError> {
+    let mut walk = walk;
     for _ in 0..u64::MAX {
         let Some(folder) = walk.waiting.pop() else {
             break;
         };
         walk.read(rt, top, folder)?;
     }
-    walk.names.sort()?;
-    let Walk { names, notes, .. } = walk;
-    Ok((names, notes))
+    Ok(walk)
 }
 
 impl Walk {
+    /// One that begins with the top, whose own path this is.
+    fn from(alloc: Global, real: &str) -> Result<Walk, SiteError> {
+        let mut walk = Walk {
+            names: Vec::new(alloc),
+            entered: Vec::new(alloc),
+            waiting: Vec::new(alloc),
+            notes: Vec::new(alloc),
+        };
+        walk.enter(real, String::new(alloc), None)?;
+        Ok(walk)
+    }
+
     fn enter(&mut self, real: &str, name: String, from: Option<usize>) -> Result<(), SiteError> {
         let alloc = *self.names.allocator();
         let entered = self.entered.len();
@@ -88,22 +104,31 @@ impl Walk {
             Err(_) => return self.tell(Left::FolderUnread, name),
         };
         for own in listed.as_slice().split(|byte| *byte == 0) {
-            if matches!(own, [] | [b'.'] | [b'.', b'.']) {
-                continue;
-            }
-            match str::from_utf8(own) {
-                Ok(text) => {
-                    let own = format!(in alloc; "{name}{text}")?;
-                    self.add(rt, top, own, entered)?;
-                }
-                Err(_) => {
-                    let text = String::from_utf8_lossy(alloc, own)?;
-                    let place = format!(in alloc; "{name}{text}")?;
-                    self.tell(Left::NotUtf8, place)?;
-                }
-            }
+            self.add_listed(rt, top, name.as_str(), own, entered)?;
         }
         Ok(())
+    }
+
+    /// Adds what a folder lists, but itself and the one above.
+    fn add_listed<R: Files>(
+        &mut self,
+        rt: &R,
+        top: &str,
+        folder: &str,
+        own: &[u8],
+        from: usize,
+    ) -> Result<(), SiteError> {
+        let alloc = *self.names.allocator();
+        if matches!(own, [] | [b'.'] | [b'.', b'.']) {
+            return Ok(());
+        }
+        let text = String::from_utf8_lossy(alloc, own)?;
+        let name = format!(in alloc; "{folder}{text}")?;
+        if is_text(own) {
+            self.add(rt, top, name, from)
+        } else {
+            self.tell(Left::NotUtf8, name)
+        }
     }
 
     /// Adds a file or a folder, and nothing else.
@@ -164,4 +189,8 @@ fn names_in<R: Files>(rt: &R, alloc: Global, path: &str) -> io::Result<Vec<u8>> 
     let mut names = Vec::new(alloc);
     rt.open_dir(path)?.read_to_end(&mut names)?;
     Ok(names)
+}
+
+fn is_text(bytes: &[u8]) -> bool {
+    str::from_utf8(bytes).is_ok()
 }

@@ -1,5 +1,5 @@
 //! A check of the results of a crawl of a folder's saved web.
-ghost use Rattle.std.specs.Prelude.{◌≡◌, [], IfOk, map, string_bytes};
+ghost use Rattle.std.specs.Prelude.{◌≡◌, ◌==◌, [], IfOk, map, not, string_bytes, vec_len};
 ghost use Rattle.std.specs.List.{flat_map};
 ghost use Rattle.site_check.specs.Broken.{broken_of, linked_at, redirects_of, rows_with};
 ghost use Rattle.site_check.specs.Told.{rows_in, way_of};
@@ -53,7 +53,10 @@ pub struct Checked {
 
 impl Checked {
     /// What is told of the site with this name.
-    pub fn findings<'a>(&'a self, base: &'a str) -> Findings<'a> {
+    pub fn findings<'a>(&'a self, base: &'a str) -> Findings<'a>
+        ensures broken { result.broken.now ≡ self.now.broken.items }
+        ensures redirects { result.redirects.now ≡ self.now.redirects.items }
+    {
         Findings {
             base,
             totals: self.totals,
@@ -66,7 +69,9 @@ impl Checked {
     }
 
     /// Whether something is broken.
-    pub fn is_broken(&self) -> bool {
+    pub fn is_broken(&self) -> bool
+        ensures { result ≡ not (vec_len self.now.broken == 0) }
+    {
         !self.broken.is_empty()
     }
 }
