@@ -16,6 +16,7 @@ pub mod Decoding
 pub mod Candidates
 pub mod Refresh
 pub mod Links
+pub mod Placed
 pub mod Reads
 pub mod Styles
 pub mod Styled

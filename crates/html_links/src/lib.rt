@@ -9,6 +9,7 @@ mod found;
 mod links;
 mod names;
 mod next_tag;
+mod placed;
 mod raw_text;
 mod reader;
 mod references;
@@ -19,7 +20,8 @@ mod style;
 mod tag;
 
 pub use document::{StartTagAt, tags};
-pub use links::Links;
+pub use links::{Links, PlacedLinks};
+pub use placed::read_places;
 pub use reader::{Base, read_links, read_page};
 pub use style::style_links;
 pub use tag::AttributeAt;

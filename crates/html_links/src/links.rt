@@ -15,3 +15,10 @@ pub trait Links {
     fn push(&mut self, text: &[u8]) -> Result<(), AllocError>
         ensures { OnOk result (texts self.new ≡ texts self.old ++ text.now ∷ []) };
 }
+
+/// Is given the texts of links, and where in the document their values begin.
+pub trait PlacedLinks: Links {
+    /// The value of the links that come next begins at this index.
+    fn begin_at(&mut self, index: usize)
+        ensures { Self.texts self.new ≡ Self.texts self.old };
+}

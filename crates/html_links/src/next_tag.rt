@@ -7,10 +7,12 @@ use crate::document::{Markup, after_element, after_tag, next_markup};
 use crate::element::{Element, element_of, wanted_of};
 use crate::found::{Values, values_in};
 
-/// A start tag: its element and wanted values, what is behind the tag, and what is behind the element where its text is raw.
+/// A start tag: what is behind its name, its element and wanted values, what is behind the tag, and what is behind the element
+/// where its text is raw.
 #[derive(Clone, Copy)]
 pub(crate) struct NextTag<'a> {
     pub(crate) name: &'a [u8],
+    pub(crate) inside: &'a [u8],
     pub(crate) element: Element,
     pub(crate) values: Values<'a>,
     pub(crate) text: &'a [u8],
@@ -51,6 +53,7 @@ fn start_tag<'a>(name: &'a [u8], bytes: &'a [u8]) -> Option<NextTag<'a>>
     match after_element(name, text) {
         Some(rest) => Some(NextTag {
             name,
+            inside: bytes,
             element,
             values,
             text,
@@ -58,6 +61,7 @@ fn start_tag<'a>(name: &'a [u8], bytes: &'a [u8]) -> Option<NextTag<'a>>
         }),
         None => Some(NextTag {
             name,
+            inside: bytes,
             element,
             values,
             text,

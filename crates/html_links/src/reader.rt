@@ -132,7 +132,7 @@ fn push_styles<L: Links>(
 }
 
 /// The base so far, or that of this tag.
-fn or_base(
+pub(crate) fn or_base(
     alloc: Global,
     base: Base,
     element: Element,
@@ -198,7 +198,7 @@ fn push_both<L: Links>(
     push_value(second, values.second, decoded, links)
 }
 
-fn is_refresh(equiv: Option<&[u8]>, decoded: &mut Vec<u8>) -> Result<bool, AllocError>
+pub(crate) fn is_refresh(equiv: Option<&[u8]>, decoded: &mut Vec<u8>) -> Result<bool, AllocError>
     ensures { IfOk result (λ is. is ≡ is_refresh (bytes_at equiv.entry)) }
 {
     let Some(value) = equiv else {
@@ -210,7 +210,7 @@ fn is_refresh(equiv: Option<&[u8]>, decoded: &mut Vec<u8>) -> Result<bool, Alloc
 }
 
 /// Whether the `rel` of a `link` says that it names a host and no document.
-fn names_host(rel: Option<&[u8]>, decoded: &mut Vec<u8>) -> Result<bool, AllocError>
+pub(crate) fn names_host(rel: Option<&[u8]>, decoded: &mut Vec<u8>) -> Result<bool, AllocError>
     ensures { IfOk result (λ names. names ≡ names_host (bytes_at rel.entry)) }
 {
     let Some(value) = rel else {
@@ -221,7 +221,7 @@ fn names_host(rel: Option<&[u8]>, decoded: &mut Vec<u8>) -> Result<bool, AllocEr
     Ok(has_host_hint(decoded.as_slice()))
 }
 
-fn push_value<L: Links>(
+pub(crate) fn push_value<L: Links>(
     form: Form,
     value: Option<&[u8]>,
     decoded: &mut Vec<u8>,

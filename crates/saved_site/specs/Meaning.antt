@@ -1,9 +1,12 @@
 -- The page that a crawl finds at a URL of a site.
-use Rattle.std.specs.Prelude.{ℕ, List, [], ◌∷◌, if◌then◌else◌}
+use Rattle.std.specs.Prelude.{◌≡◌, ℕ, List, [], ◌∷◌, if◌then◌else◌}
+use Rattle.std.specs.Str.Lines.{lines}
 use Rattle.std.specs.Str.{bytes_eq}
-use Rattle.crawl_web.specs.SavedWeb.{link_url, found_page}
+use Rattle.crawl_web.specs.SavedWeb.{link_url, found_page, page_of}
+use Rattle.crawl_web.specs.WebFaults.{IsSound}
 use Rattle.crawl_web.specs.declared.page.Page.{Page}
 use Rattle.crawl_web.specs.declared.page.Page.TheVariants as page
+use Rattle.saved_site.specs.Pages.{ascending, web_text}
 use Rattle.saved_site.specs.declared.page.Under.{Under}
 use Rattle.saved_site.specs.declared.page.Under.TheVariants.{Links, Moved}
 use Rattle.saved_site.specs.declared.page.SitePage.{SitePage}
@@ -17,3 +20,11 @@ under_page url (Moved text) = page.Moved (link_url url text)
 abbrev pub page_in : List SitePage → List ℕ → Page
 page_in [] url = page.Missing
 page_in (first ∷ more) url = if bytes_eq first.url url then under_page url first.under else page_in more url
+
+-- the bytes are the saved web of some pages, which ascend, each once: they are read as a saved web, which has at each URL the page
+-- that these have
+pub record IsSiteWeb (bytes : List ℕ) : Type 0 where
+  pub pages : List SitePage
+  pub written : bytes ≡ web_text (ascending pages)
+  pub sound : IsSound (lines bytes)
+  pub read : (url : List ℕ) → page_of (lines bytes) url ≡ page_in (ascending pages) url

@@ -1,8 +1,9 @@
 //! The links of a document, whatever its encoding.
+use crate::anchors::Anchors;
 use crate::charset::{Charset, charset_of, declared, from_utf16, from_windows};
 use crate::kinds::start_of;
 use crate::link_lines::LinkLines;
-use crate::texts::{LinkCounts, links_at};
+use crate::texts::{LinkCounts, Read, links_at};
 use crawl_keys::CanonUrl;
 use std::alloc::{AllocError, Global};
 
@@ -11,6 +12,8 @@ use std::alloc::{AllocError, Global};
 pub(crate) struct Document {
     pub(crate) links: LinkLines,
     pub(crate) counts: LinkCounts,
+    /// Its anchors, where they are wanted.
+    pub(crate) anchors: Option<Anchors>,
     /// The name of its encoding, where that is not known here.
     pub(crate) encoding: Option<String>,
 }
@@ -21,12 +24,13 @@ impl Document {
         Document {
             links: LinkLines::new(alloc),
             counts: LinkCounts::default(),
+            anchors: None,
             encoding: None,
         }
     }
 }
 
-/// The lines of the links of a document at a URL.
+/// The lines of the links of a document at a URL, and its anchors where they are wanted.
 ///
 /// # Errors
 /// Where a growth was refused.
@@ -34,9 +38,17 @@ pub(crate) fn document_at(
     alloc: Global,
     body: &[u8],
     url: &CanonUrl,
+    wants_anchors: bool,
 ) -> Result<Document, AllocError> {
     let charset = charset_of(body);
-    let (links, counts) = links_in(alloc, body, charset, url)?;
+    let Read {
+        lines: links,
+        counts,
+        anchors,
+    } = match made_text(alloc, body, charset)? {
+        Some(text) => links_at(alloc, text.as_slice(), charset, url, wants_anchors)?,
+        None => links_at(alloc, without_mark(body), charset, url, wants_anchors)?,
+    };
     let encoding = match charset {
         Charset::Other => {
             let name = declared(start_of(body)).unwrap_or(&[]);
@@ -47,45 +59,38 @@ pub(crate) fn document_at(
     Ok(Document {
         links,
         counts,
+        anchors,
         encoding,
     })
 }
 
-fn links_in(
+/// The text of a document in UTF-8, where it is made; none where the document is that text itself, behind its mark.
+pub(crate) fn made_text(
     alloc: Global,
     body: &[u8],
     charset: Charset,
-    url: &CanonUrl,
-) -> Result<(LinkLines, LinkCounts), AllocError> {
+) -> Result<Option<Vec<u8>>, AllocError> {
     match charset {
-        Charset::Utf8 => utf8_links(alloc, without_mark(body), url),
-        Charset::Utf16Le | Charset::Utf16Be => {
-            let is_little = charset == Charset::Utf16Le;
-            let text = from_utf16(alloc, body.get(2..).unwrap_or(&[]), is_little)?;
-            links_at(alloc, text.as_slice(), charset, url)
-        }
-        Charset::Windows1252 | Charset::Other => {
-            let text = from_windows(alloc, body)?;
-            links_at(alloc, text.as_slice(), charset, url)
-        }
+        Charset::Utf8 => mended(alloc, without_mark(body)),
+        Charset::Utf16Le => from_utf16(alloc, body.get(2..).unwrap_or(&[]), true).map(Some),
+        Charset::Utf16Be => from_utf16(alloc, body.get(2..).unwrap_or(&[]), false).map(Some),
+        Charset::Windows1252 | Charset::Other => from_windows(alloc, body).map(Some),
     }
 }
 
-fn without_mark(body: &[u8]) -> &[u8] {
+/// The bytes with U+FFFD for what is not UTF-8; none where all is.
+fn mended(alloc: Global, bytes: &[u8]) -> Result<Option<Vec<u8>>, AllocError> {
+    if simdutf8::is_utf8(bytes) {
+        return Ok(None);
+    }
+    let text = String::from_utf8_lossy(alloc, bytes)?;
+    Ok(Some(text.into_bytes()))
+}
+
+/// The document without the mark of UTF-8.
+pub(crate) fn without_mark(body: &[u8]) -> &[u8] {
     match body {
         [0xef, 0xbb, 0xbf, behind @ ..] => behind,
         _ => body,
     }
-}
-
-fn utf8_links(
-    alloc: Global,
-    body: &[u8],
-    url: &CanonUrl,
-) -> Result<(LinkLines, LinkCounts), AllocError> {
-    if simdutf8::is_utf8(body) {
-        return links_at(alloc, body, Charset::Utf8, url);
-    }
-    let text = String::from_utf8_lossy(alloc, body)?;
-    links_at(alloc, text.as_bytes(), Charset::Utf8, url)
 }

@@ -1,7 +1,8 @@
 //! The files and folders below a folder.
 use crate::error::SiteError;
 use crate::notes::{Left, Note};
-use std::io::ErrorKind;
+use std::alloc::Global;
+use std::io::{ErrorKind, Read};
 use std::rt::Files;
 use std::{fs, io};
 
@@ -32,34 +33,50 @@ struct Walk {
 
 /// The files and folders below a folder in the order of their names' bytes, and what was left out. Symbolic links are followed,
 /// but not back up.
-pub(crate) fn entries_below<R: Files + AllocGlobal + Clone + Drop>(
+pub(crate) fn entries_below<R: Files>(
     rt: &R,
+    alloc: Global,
     top: &str,
 ) -> Result<(Vec<String>, Vec<Note>), SiteError> {
-    let alloc = rt.alloc();
-    let mut walk = Walk {
-        names: Vec::new(alloc),
-        entered: Vec::new(alloc),
-        waiting: Vec::new(alloc),
-        notes: Vec::new(alloc),
-    };
-    let real = fs::canonicalize(rt, top)?;
+    let real = rt.canonicalize(alloc, top)?;
     if !fs::metadata(rt, top)?.is_dir() {
         return Err(SiteError::Io(io::Error::from(ErrorKind::InvalidInput)));
     }
-    walk.enter(real.as_path().to_string_lossy(), String::new(alloc), None)?;
+    let walk = Walk::from(alloc, real.as_path().to_string_lossy())?;
+    let Walk {
+        mut names,
+        notes,
+        ..
+    } = walked(rt, top, walk)?;
+    names.sort()?;
+    Ok((names, notes))
+}
+
+/// The walk, once nothing waits.
+fn walked<R: Files>(rt: &R, top: &str, walk: Walk) -> Result<Walk, SiteError> {
+    let mut walk = walk;
     for _ in 0..u64::MAX {
         let Some(folder) = walk.waiting.pop() else {
             break;
         };
         walk.read(rt, top, folder)?;
     }
-    walk.names.sort()?;
-    let Walk { names, notes, .. } = walk;
-    Ok((names, notes))
+    Ok(walk)
 }
 
 impl Walk {
+    /// One that begins with the top, whose own path this is.
+    fn from(alloc: Global, real: &str) -> Result<Walk, SiteError> {
+        let mut walk = Walk {
+            names: Vec::new(alloc),
+            entered: Vec::new(alloc),
+            waiting: Vec::new(alloc),
+            notes: Vec::new(alloc),
+        };
+        walk.enter(real, String::new(alloc), None)?;
+        Ok(walk)
+    }
+
     fn enter(&mut self, real: &str, name: String, from: Option<usize>) -> Result<(), SiteError> {
         let alloc = *self.names.allocator();
         let entered = self.entered.len();
@@ -77,44 +94,52 @@ impl Walk {
     }
 
     /// Adds what is in a folder.
-    fn read<R: Files + AllocGlobal + Clone + Drop>(
-        &mut self,
-        rt: &R,
-        top: &str,
-        folder: Waiting,
-    ) -> Result<(), SiteError> {
+    fn read<R: Files>(&mut self, rt: &R, top: &str, folder: Waiting) -> Result<(), SiteError> {
         let Waiting { name, entered } = folder;
-        let path = format!(in rt.alloc(); "{top}/{name}")?;
-        let entries = match fs::read_dir(rt, path.as_str()) {
-            Ok(entries) => entries,
+        let alloc = *self.names.allocator();
+        let path = format!(in alloc; "{top}/{name}")?;
+        let listed = match names_in(rt, alloc, path.as_str()) {
+            Ok(listed) => listed,
             Err(error) if name.is_empty() => return Err(SiteError::Io(error)),
             Err(_) => return self.tell(Left::FolderUnread, name),
         };
-        for entry in entries {
-            match entry {
-                Ok(entry) => {
-                    let own = format!(in rt.alloc(); "{name}{}", entry.file_name())?;
-                    self.add(rt, top, own, entered)?;
-                }
-                Err(error) if error.kind() == ErrorKind::InvalidFilename => {
-                    let place = format!(in rt.alloc(); "{name}..")?;
-                    self.tell(Left::NotUtf8, place)?;
-                }
-                Err(error) => return Err(SiteError::Io(error)),
-            }
+        for own in listed.as_slice().split(|byte| *byte == 0) {
+            self.add_listed(rt, top, name.as_str(), own, entered)?;
         }
         Ok(())
     }
 
+    /// Adds what a folder lists, but itself and the one above.
+    fn add_listed<R: Files>(
+        &mut self,
+        rt: &R,
+        top: &str,
+        folder: &str,
+        own: &[u8],
+        from: usize,
+    ) -> Result<(), SiteError> {
+        let alloc = *self.names.allocator();
+        if matches!(own, [] | [b'.'] | [b'.', b'.']) {
+            return Ok(());
+        }
+        let text = String::from_utf8_lossy(alloc, own)?;
+        let name = format!(in alloc; "{folder}{text}")?;
+        if is_text(own) {
+            self.add(rt, top, name, from)
+        } else {
+            self.tell(Left::NotUtf8, name)
+        }
+    }
+
     /// Adds a file or a folder, and nothing else.
-    fn add<R: Files + AllocGlobal + Clone + Drop>(
+    fn add<R: Files>(
         &mut self,
         rt: &R,
         top: &str,
         name: String,
         from: usize,
     ) -> Result<(), SiteError> {
-        let path = format!(in rt.alloc(); "{top}/{name}")?;
+        let path = format!(in *self.names.allocator(); "{top}/{name}")?;
         match fs::metadata(rt, path.as_str()) {
             Ok(found) if found.is_dir() => self.add_folder(rt, path.as_str(), name, from),
             Ok(found) if found.is_file() => Ok(self.names.push(name)?),
@@ -122,7 +147,7 @@ impl Walk {
         }
     }
 
-    fn add_folder<R: Files + AllocGlobal + Clone + Drop>(
+    fn add_folder<R: Files>(
         &mut self,
         rt: &R,
         path: &str,
@@ -132,7 +157,7 @@ impl Walk {
         let mut name = name;
         name.push('/')?;
         self.names.push(name.clone()?)?;
-        let Ok(real) = fs::canonicalize(rt, path) else {
+        let Ok(real) = rt.canonicalize(*self.names.allocator(), path) else {
             return self.tell(Left::FolderUnread, name);
         };
         let real = real.as_path();
@@ -157,4 +182,15 @@ impl Walk {
         }
         false
     }
+}
+
+/// The names in a folder, each ended by a NUL.
+fn names_in<R: Files>(rt: &R, alloc: Global, path: &str) -> io::Result<Vec<u8>> {
+    let mut names = Vec::new(alloc);
+    rt.open_dir(path)?.read_to_end(&mut names)?;
+    Ok(names)
+}
+
+fn is_text(bytes: &[u8]) -> bool {
+    str::from_utf8(bytes).is_ok()
 }

@@ -1,6 +1,7 @@
 //! The saved web of a folder of files: the pages that a plain static server answers, and the links that a browser reads in them.
 #![tactic(auto)]
 
+mod anchors;
 mod base_href;
 mod batch;
 mod charset;
@@ -8,10 +9,12 @@ mod cleaning;
 mod document;
 mod error;
 mod escapes;
+mod files;
 mod folder;
 mod in_query;
 mod kinds;
 mod link_lines;
+mod located;
 mod make;
 mod notes;
 mod on_disk;
@@ -23,13 +26,16 @@ mod text;
 mod texts;
 mod web;
 
+pub use anchors::{AnchorLink, Anchors};
 pub use error::SiteError;
+pub use files::SiteFiles;
 pub use link_lines::LinkLines;
+pub use located::LinkAt;
 pub use notes::{Left, Note};
-pub use on_disk::folder_web;
+pub use on_disk::{FolderNames, folder_body, folder_names, folder_web, folder_web_of};
 pub use page::{SitePage, Under};
 pub use print::print_web;
 pub use site::Rules;
 pub use text::LineText;
 pub use texts::LinkCounts;
-pub use web::{SiteNames, Summary, Web, site_web};
+pub use web::{PageAnchors, SiteNames, Summary, Web, site_web};

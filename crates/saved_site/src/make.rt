@@ -1,4 +1,5 @@
 //! Pages made of the bytes of their files.
+use crate::anchors::Anchors;
 use crate::batch::Batch;
 use crate::document::{Document, document_at};
 use crate::kinds::{is_document, kind_of};
@@ -53,6 +54,8 @@ pub(crate) struct Made {
     pub(crate) page: Option<SitePage>,
     pub(crate) spellings: Vec<Spelling>,
     pub(crate) counts: LinkCounts,
+    /// Its anchors, where they are wanted and the page is a document.
+    pub(crate) anchors: Option<Anchors>,
     pub(crate) notes: Vec<Note>,
 }
 
@@ -105,7 +108,7 @@ fn file_document(
     };
     let (path, _) = split_name(name, given.rules.queries);
     if is_document(kind_of(path), body) {
-        document_at(alloc, body, &task.url)
+        document_at(alloc, body, &task.url, given.rules.anchors)
     } else {
         Ok(Document::empty(alloc))
     }
@@ -121,6 +124,7 @@ fn linked_page(
     let Document {
         links,
         counts,
+        anchors,
         encoding,
     } = document;
     let mut notes = Vec::new(alloc);
@@ -139,7 +143,9 @@ fn linked_page(
         task.page(),
         links.as_bytes(),
     )?;
-    Made::new(task, Under::Links(links), found, counts, notes)
+    let mut made = Made::new(task, Under::Links(links), found, counts, notes)?;
+    made.anchors = anchors;
+    Ok(made)
 }
 
 /// A folder without its slash, which a server sends on to the folder with it, with the query that it was asked with.
@@ -203,6 +209,7 @@ impl Made {
             page,
             spellings,
             counts,
+            anchors: None,
             notes,
         })
     }

@@ -1,7 +1,6 @@
 //! The saved web of a folder, whose files the calling thread reads.
 ghost use Rattle.std.specs.Prelude.{IfOk};
-ghost use Rattle.std.specs.Str.Lines.{lines};
-ghost use Rattle.crawl_web.specs.WebFaults.{IsSound};
+ghost use Rattle.saved_site.specs.Meaning.{IsSiteWeb};
 
 use crate::batch::Batch;
 use crate::error::SiteError;
@@ -17,28 +16,82 @@ use std::rt::Files;
 use std::thread::Threads;
 use std::{fs, io};
 
+/// The names below a folder.
+#[derive(Drop)]
+pub struct FolderNames {
+    /// Files and folders in the order of their bytes; a folder's name ends in a slash.
+    pub names: Vec<String>,
+    /// What was left out.
+    pub notes: Vec<Note>,
+}
+
+/// The names of the files and folders below a folder. Symbolic links are followed, but not back up.
+///
+/// # Errors
+/// `Io` where the folder cannot be read; `NoMemory` where a growth was refused.
+pub fn folder_names<R: Files>(
+    rt: &R,
+    alloc: Global,
+    folder: &str,
+) -> Result<FolderNames, SiteError> {
+    let (names, notes) = entries_below(rt, alloc, folder)?;
+    Ok(FolderNames { names, notes })
+}
+
 /// The saved web of a folder whose top has the URL `base`.
 ///
 /// # Errors
 /// Those of `site_web`, and `Io` where the folder cannot be read. Where a file cannot be read, its page has no links, and that is
 /// told.
-pub fn folder_web<R: Files + AllocGlobal + Threads + Sync + Clone + Drop>(
+pub fn folder_web<R: Files + Threads + Sync>(
     rt: &R,
+    alloc: Global,
     folder: &str,
     base: &str,
     rules: &Rules,
 ) -> Result<Web, SiteError>
-    ensures { IfOk result (λ web. IsSound (lines web.bytes.items)) }
+    ensures { IfOk result (λ web. IsSiteWeb web.bytes.items) }
 {
-    let alloc = rt.alloc();
-    let (names, told) = entries_below(rt, folder)?;
-    let mut contents = OnDisk { rt, alloc, folder };
+    let FolderNames { names, notes } = folder_names(rt, alloc, folder)?;
     let input = SiteNames {
         names: names.as_slice(),
         base,
         rules,
     };
+    folder_web_of(rt, alloc, folder, input, notes)
+}
+
+/// The saved web of the files with these names below a folder, and what was told of them before.
+///
+/// # Errors
+/// Those of `site_web`. Where a file cannot be read, its page has no links, and that is told.
+pub fn folder_web_of<R: Files + Threads + Sync>(
+    rt: &R,
+    alloc: Global,
+    folder: &str,
+    input: SiteNames<'_>,
+    told: Vec<Note>,
+) -> Result<Web, SiteError>
+    ensures { IfOk result (λ web. IsSiteWeb web.bytes.items) }
+{
+    let mut contents = OnDisk { rt, alloc, folder };
     web_of(rt, alloc, input, told, &mut contents)
+}
+
+/// The bytes of a file below a folder.
+///
+/// # Errors
+/// Where it cannot be read, or a growth was refused.
+pub fn folder_body<R: Files>(
+    rt: &R,
+    alloc: Global,
+    folder: &str,
+    name: &str,
+) -> io::Result<Vec<u8>> {
+    let path = format!(in alloc; "{folder}/{name}")?;
+    let mut body = Vec::new(alloc);
+    fs::open(rt, path.as_str())?.read_to_end(&mut body)?;
+    Ok(body)
 }
 
 /// Files below a folder, whose documents are read.

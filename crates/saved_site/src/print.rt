@@ -3,7 +3,7 @@ ghost use Rattle.std.specs.Prelude.{◌≡◌, ◌++◌, ◌∷◌, [], ℕ, Lis
 ghost use Rattle.std.specs.Str.Lines.{lines};
 ghost use Rattle.crawl_web.specs.WebFaults.{IsSound};
 ghost use Rattle.crawl_web.specs.SavedWeb.{page_of};
-ghost use Rattle.saved_site.specs.Meaning.{page_in};
+ghost use Rattle.saved_site.specs.Meaning.{IsSiteWeb, page_in};
 ghost use Rattle.saved_site.specs.Pages.{ascending, is_behind, web_text};
 
 use crate::page::SitePage;
@@ -31,6 +31,17 @@ pub fn print_web(alloc: Global, pages: &[SitePage]) -> Result<Vec<u8>, AllocErro
             last = url;
         }
     }
+    Ok(web)
+}
+
+/// The same, in short.
+///
+/// # Errors
+/// Where a growth was refused.
+pub(crate) fn site_text(alloc: Global, pages: &[SitePage]) -> Result<Vec<u8>, AllocError>
+    ensures { IfOk result (λ web. IsSiteWeb web.items) }
+{
+    let web = print_web(alloc, pages)?;
     Ok(web)
 }
 

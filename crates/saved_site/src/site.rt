@@ -14,6 +14,8 @@ pub struct Rules {
     pub queries: bool,
     /// Whether other spellings of a page's URL are no pages.
     pub exact: bool,
+    /// Whether the parts of documents and links to parts are read too.
+    pub anchors: bool,
     /// How many threads make pages; one where this is 0.
     pub threads: usize,
 }
@@ -170,6 +172,11 @@ impl Site {
             top,
             entries: kept,
         })
+    }
+
+    /// The URL of the top.
+    pub(crate) fn top(&self) -> &str {
+        self.top.as_str()
     }
 
     /// The page with this URL, by its index.

@@ -74,7 +74,7 @@ fn spelling_at(
 }
 
 /// A canonical URL of the site as a file's page is spelled, where it is no page itself.
-fn plain_of(
+pub(crate) fn plain_of(
     alloc: Global,
     site: &Site,
     rules: &Rules,

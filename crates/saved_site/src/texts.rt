@@ -2,6 +2,7 @@
 ghost use Rattle.std.specs.Prelude.{◌≡◌, true, map};
 ghost use Rattle.saved_site.specs.Texts.{fits};
 
+use crate::anchors::{Anchors, anchors_of};
 use crate::base_href::{Given, Meant, given_of, meaning_of};
 use crate::charset::Charset;
 use crate::cleaning::{
@@ -12,8 +13,9 @@ use crate::in_query::push_with_query;
 use crate::link_lines::LinkLines;
 use crate::text::{LINK_FRONT, TEXT_LIMIT, fits};
 use crawl_keys::CanonUrl;
-use html_links::{Links, read_links};
+use html_links::{Base, Links, read_links, read_page};
 use std::alloc::{AllocError, Global};
+use std::mem;
 
 /// What became of links.
 #[derive(Clone, Copy, Debug, PartialEq, Eq, Default)]
@@ -42,7 +44,7 @@ impl LinkCounts {
 
 /// The lines of links, as they are read.
 #[derive(Drop)]
-struct Texts {
+pub(crate) struct Texts {
     alloc: Global,
     charset: Charset,
     given: Given,
@@ -50,7 +52,8 @@ struct Texts {
     counts: LinkCounts,
 }
 
-/// The lines of the links of a document in UTF-8 at a URL; `charset` is the encoding that it had.
+/// What a document in UTF-8 at a URL has: the lines of its links, and its anchors where they are wanted; `charset` is the
+/// encoding that it had.
 ///
 /// # Errors
 /// Where a growth was refused.
@@ -59,22 +62,41 @@ pub(crate) fn links_at(
     text: &[u8],
     charset: Charset,
     url: &CanonUrl,
-) -> Result<(LinkLines, LinkCounts), AllocError> {
-    let mut found = Found {
-        alloc,
-        texts: Vec::new(alloc),
+    wants_anchors: bool,
+) -> Result<Read, AllocError> {
+    let mut found = Found::new(alloc);
+    let mut ids = Found::new(alloc);
+    let base = if wants_anchors {
+        read_page(alloc, text, false, &mut found, &mut ids)?
+    } else {
+        read_links(alloc, text, false, &mut found)?
     };
-    let base = read_links(alloc, text, false, &mut found)?;
     // The base also holds for the links before it, so all are read first.
-    let given = match base {
-        Some(base) => given_of(alloc, base.as_slice(), url)?,
-        None => Given::None,
-    };
-    let mut texts = Texts::new(alloc, charset, given);
+    let mut texts = Texts::under(alloc, charset, base, url)?;
     for text in &found.texts {
         texts.push(text.as_slice())?;
     }
-    Ok(texts.into_lines())
+    let lines = mem::replace(&mut texts.links, LinkLines::new(alloc));
+    let counts = texts.counts;
+    let Found { texts: ids, .. } = ids;
+    let anchors = if wants_anchors {
+        Some(anchors_of(alloc, ids, found.texts.as_slice(), &mut texts, url)?)
+    } else {
+        None
+    };
+    Ok(Read {
+        lines,
+        counts,
+        anchors,
+    })
+}
+
+/// What is read of a document.
+#[derive(Drop)]
+pub(crate) struct Read {
+    pub(crate) lines: LinkLines,
+    pub(crate) counts: LinkCounts,
+    pub(crate) anchors: Option<Anchors>,
 }
 
 /// The texts of a document's links, as they were found.
@@ -82,6 +104,15 @@ pub(crate) fn links_at(
 struct Found {
     alloc: Global,
     texts: Vec<Vec<u8>>,
+}
+
+impl Found {
+    fn new(alloc: Global) -> Found {
+        Found {
+            alloc,
+            texts: Vec::new(alloc),
+        }
+    }
 }
 
 impl Links for Found {
@@ -94,6 +125,26 @@ impl Links for Found {
 }
 
 impl Texts {
+    /// No lines yet, of a page with this base at a URL.
+    pub(crate) fn under(
+        alloc: Global,
+        charset: Charset,
+        base: Base,
+        url: &CanonUrl,
+    ) -> Result<Texts, AllocError> {
+        let given = match base {
+            Some(base) => given_of(alloc, base.as_slice(), url)?,
+            None => Given::None,
+        };
+        Ok(Texts::new(alloc, charset, given))
+    }
+
+    /// The line of this link's text alone, if it has one.
+    pub(crate) fn line_of(&mut self, text: &[u8]) -> Result<LinkLines, AllocError> {
+        self.push(text)?;
+        Ok(mem::replace(&mut self.links, LinkLines::new(self.alloc)))
+    }
+
     /// The next link's text.
     fn push(&mut self, text: &[u8]) -> Result<(), AllocError> {
         let text = trimmed(text);
@@ -116,11 +167,6 @@ impl Texts {
             links: LinkLines::new(alloc),
             counts: LinkCounts::default(),
         }
-    }
-
-    fn into_lines(self) -> (LinkLines, LinkCounts) {
-        let Texts { links, counts, .. } = self;
-        (links, counts)
     }
 
     /// Appends a link without breaks. The letters of its query are escaped in the page's encoding.

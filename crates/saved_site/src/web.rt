@@ -1,14 +1,14 @@
 //! The saved web of a site, made round by round.
 ghost use Rattle.std.specs.Prelude.{IfOk};
-ghost use Rattle.std.specs.Str.Lines.{lines};
-ghost use Rattle.crawl_web.specs.WebFaults.{IsSound};
+ghost use Rattle.saved_site.specs.Meaning.{IsSiteWeb};
 
+use crate::anchors::Anchors;
 use crate::batch::Batch;
 use crate::error::SiteError;
 use crate::make::{Given, Made, Task, every};
 use crate::notes::Note;
 use crate::page::SitePage;
-use crate::print::print_web;
+use crate::print::site_text;
 use crate::site::{Rules, Site};
 use crate::texts::LinkCounts;
 use crawl_keys::CanonUrl;
@@ -29,6 +29,15 @@ pub struct Web {
     pub summary: Summary,
     /// What is not written as it was found, in the order of names and then of URLs.
     pub notes: Vec<Note>,
+    /// The anchors of its documents where the rules want them, ascending by URL.
+    pub anchors: Vec<PageAnchors>,
+}
+
+/// The anchors of the document at a URL.
+#[derive(Drop)]
+pub struct PageAnchors {
+    pub url: CanonUrl,
+    pub anchors: Anchors,
 }
 
 /// What a web has.
@@ -72,7 +81,7 @@ pub fn site_web<R: Threads + Sync>(
     input: SiteNames<'_>,
     bodies: &[Vec<u8>],
 ) -> Result<Web, SiteError>
-    ensures { IfOk result (λ web. IsSound (lines web.bytes.items)) }
+    ensures { IfOk result (λ web. IsSiteWeb web.bytes.items) }
 {
     let mut contents = InMemory { bodies };
     web_of(rt, alloc, input, Vec::new(alloc), &mut contents)
@@ -114,6 +123,7 @@ struct Making {
     pages: Vec<SitePage>,
     summary: Summary,
     notes: Vec<Note>,
+    anchors: Vec<PageAnchors>,
 }
 
 /// The saved web of files with these names, whose bytes are read.
@@ -124,13 +134,14 @@ pub(crate) fn web_of<R: Threads + Sync, C: Contents>(
     told: Vec<Note>,
     contents: &mut C,
 ) -> Result<Web, SiteError>
-    ensures { IfOk result (λ web. IsSound (lines web.bytes.items)) }
+    ensures { IfOk result (λ web. IsSiteWeb web.bytes.items) }
 {
     let SiteNames { names, base, rules } = input;
     let mut making = Making {
         pages: Vec::new(alloc),
         summary: Summary::default(),
         notes: told,
+        anchors: Vec::new(alloc),
     };
     let site = Site::new(alloc, base, names, rules, &mut making.notes)?;
     let given = Given {
@@ -143,15 +154,17 @@ pub(crate) fn web_of<R: Threads + Sync, C: Contents>(
 }
 
 fn finish(alloc: Global, making: Making) -> Result<Web, SiteError>
-    ensures { IfOk result (λ web. IsSound (lines web.bytes.items)) }
+    ensures { IfOk result (λ web. IsSiteWeb web.bytes.items) }
 {
     let Making {
         mut pages,
         summary,
         notes,
+        mut anchors,
     } = making;
+    anchors.sort_by(|a: &PageAnchors, b: &PageAnchors| a.url.as_str().cmp(b.url.as_str()))?;
     pages.sort_by(|a: &SitePage, b: &SitePage| a.url().as_str().cmp(b.url().as_str()))?;
-    let bytes = print_web(alloc, pages.as_slice())?;
+    let bytes = site_text(alloc, pages.as_slice())?;
     if bytes.len() > WEB_LIMIT {
         return Err(SiteError::TooLarge);
     }
@@ -159,6 +172,7 @@ fn finish(alloc: Global, making: Making) -> Result<Web, SiteError>
         bytes,
         summary,
         notes,
+        anchors,
     })
 }
 
@@ -283,11 +297,16 @@ impl Making {
     fn keep(&mut self, made: Vec<Made>) -> Result<(), SiteError> {
         for one in made {
             let Made {
+                url,
                 page,
                 counts,
+                anchors,
                 notes,
                 ..
             } = one;
+            if let Some(anchors) = anchors {
+                self.anchors.push(PageAnchors { url, anchors })?;
+            }
             for note in notes {
                 self.notes.push(note)?;
             }

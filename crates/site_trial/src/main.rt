@@ -12,6 +12,7 @@ fn main(rt: HostRuntime) -> io::Result<()> {
         index: String::from_str(rt.alloc(), "index.html")?,
         queries: false,
         exact: false,
+        anchors: false,
         threads: 4,
     };
     for word in env::args(&rt)?.skip(1) {
@@ -28,7 +29,7 @@ fn main(rt: HostRuntime) -> io::Result<()> {
     let (Some(folder), Some(base)) = (folder, base) else {
         return Err(io::Error::from(ErrorKind::InvalidInput));
     };
-    match folder_web(&rt, folder.as_str(), base.as_str(), &rules) {
+    match folder_web(&rt, rt.alloc(), folder.as_str(), base.as_str(), &rules) {
         Ok(web) => {
             for note in &web.notes {
                 eprintln!(rt; "site_trial: {}: {:?}", note.left, note.place)?;

@@ -1,0 +1,113 @@
+//! Which file a page of a site is made of.
+use crate::error::SiteError;
+use crate::kinds::{is_document, kind_of};
+use crate::located::{LinkAt, located_links};
+use crate::site::{Rules, Site, Source, split_name};
+use crate::spellings::plain_of;
+use crate::web::SiteNames;
+use crawl_keys::CanonUrl;
+use std::alloc::{AllocError, Global};
+
+/// The pages of a site by their URLs, and the files that they are made of.
+#[derive(Drop)]
+pub struct SiteFiles<'a> {
+    site: Site,
+    names: &'a [String],
+    rules: &'a Rules,
+}
+
+impl<'a> SiteFiles<'a> {
+    /// Those of a site.
+    ///
+    /// # Errors
+    /// `BadBase`, `NoFiles`; `NoMemory` where a growth was refused.
+    pub fn new(alloc: Global, input: SiteNames<'a>) -> Result<SiteFiles<'a>, SiteError> {
+        let SiteNames { names, base, rules } = input;
+        let mut notes = Vec::new(alloc);
+        let site = Site::new(alloc, base, names, rules, &mut notes)?;
+        Ok(SiteFiles { site, names, rules })
+    }
+
+    /// The URL of the site's top.
+    pub fn top(&self) -> &str {
+        self.site.top()
+    }
+
+    /// How many pages the site has, other spellings not counted.
+    pub fn page_count(&self) -> usize {
+        self.site.entries.len()
+    }
+
+    /// The URL of the page with this number, and the index of its file among the names, if it has one.
+    pub fn page(&self, number: usize) -> Option<(&str, Option<usize>)> {
+        let entry = self.site.entries.get(number)?;
+        match &entry.source {
+            Source::File(index) => Some((entry.url.as_str(), Some(*index))),
+            Source::Moved(_) => Some((entry.url.as_str(), None)),
+        }
+    }
+
+    /// How many names there are.
+    pub fn name_count(&self) -> usize {
+        self.names.len()
+    }
+
+    /// The file with this index among the names.
+    pub fn name(&self, index: usize) -> Option<&'a str> {
+        let names = self.names;
+        match names.get(index) {
+            Some(name) => Some(name.as_str()),
+            None => None,
+        }
+    }
+
+    /// The index of the file that the page at a URL is made of, also where the URL is another spelling of the page's; none where
+    /// there is no such file.
+    ///
+    /// # Errors
+    /// Where a growth was refused.
+    pub fn file_of(&self, alloc: Global, url: &str) -> Result<Option<usize>, AllocError> {
+        let number = match self.site.find(url) {
+            Some(number) => number,
+            None => match self.spelled(alloc, url)? {
+                Some(number) => number,
+                None => return Ok(None),
+            },
+        };
+        match self.page(number) {
+            Some((_, file)) => Ok(file),
+            None => Ok(None),
+        }
+    }
+
+    fn spelled(&self, alloc: Global, url: &str) -> Result<Option<usize>, AllocError> {
+        match plain_of(alloc, &self.site, self.rules, url)? {
+            Some(plain) => Ok(self.site.find(plain.as_str())),
+            None => Ok(None),
+        }
+    }
+
+    /// The links of the page at a URL, whose file with this index has these bytes.
+    ///
+    /// # Errors
+    /// Where a growth was refused.
+    pub fn links(
+        &self,
+        alloc: Global,
+        index: usize,
+        body: &[u8],
+        url: &CanonUrl,
+    ) -> Result<Vec<LinkAt>, AllocError> {
+        if self.is_document(index, body) {
+            located_links(alloc, body, url)
+        } else {
+            Ok(Vec::new(alloc))
+        }
+    }
+
+    fn is_document(&self, index: usize, body: &[u8]) -> bool {
+        let name = self.name(index).unwrap_or("");
+        let (path, _) = split_name(name, self.rules.queries);
+        is_document(kind_of(path), body)
+    }
+}

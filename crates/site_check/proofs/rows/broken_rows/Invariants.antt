@@ -1,0 +1,8 @@
+use Rattle.std.proofs.Common.{◌≡◌, take, map, string_bytes}
+use Rattle.std.specs.List.{flat_map}
+use Rattle.site_check.specs.Broken.{linked_at, rows_with}
+use Rattle.site_check.specs.Told.{rows_in}
+use Rattle.site_check.proofs.rows.broken_rows.Given as goal
+
+abbrev pub invariant-loop-index : goal.invariant-loop-index
+invariant-loop-index l = rows_in l.all.items ≡ flat_map (rows_with l.asked.front.now (map string_bytes l.asked.ignores.now)) (map linked_at (take l.index l.linked))

@@ -1,0 +1,89 @@
+-- What a check tells of the results of a crawl: the pages that are not there, and those that moved, with how many pages link to them.
+use Rattle.std.specs.Prelude.{◌==◌, ℕ, Bool, true, false, not, ◌&&◌, if◌then◌else◌, List, [], ◌∷◌, length, take, drop, map, filter, codes, Option, Some, None, Vec, String, string_bytes}
+use Rattle.std.specs.List.{list_any, flat_map}
+use Rattle.std.specs.Option.{option_map}
+use Rattle.std.specs.Str.{bytes_eq}
+use Rattle.crawl_sources.specs.Sources.{sources_of}
+use Rattle.crawl_web.specs.ReportText.{is_found}
+use Rattle.crawl_web.specs.declared.page.Page.{Page}
+use Rattle.crawl_web.specs.declared.page.Page.TheVariants.{Found, Moved, Missing}
+use Rattle.crawl_web.specs.declared.page.PageResult.{PageResult}
+use Rattle.site_check.specs.declared.linked.Linked as code
+
+-- ---- results that found no page
+
+abbrev pub is_unfound : PageResult → Bool
+is_unfound r = not (is_found r.page)
+
+-- a result, and how many pages link to its URL
+pub record Linked : Type 0 where
+  pub result : PageResult
+  pub pages : ℕ
+
+abbrev pub linked : List PageResult → PageResult → Linked
+linked results r = record { result = r; pages = length (sources_of results r.url) }
+
+abbrev pub linked_at : code.Linked → Linked
+linked_at l = record { result = l.result.now; pages = l.pages }
+
+-- ---- how a URL is told
+
+abbrev pub begins : List ℕ → List ℕ → Bool
+begins front text = bytes_eq (take (length front) text) front
+
+-- the top itself
+abbrev pub or_top : List ℕ → List ℕ
+or_top [] = codes "./"
+or_top text = text
+
+-- without the front, where it begins with it
+abbrev pub shown : List ℕ → List ℕ → List ℕ
+shown front url = or_top (if begins front url then drop (length front) url else url)
+
+-- ---- what is known to be broken
+
+-- an entry stands for the texts that begin with it
+abbrev pub is_ignored : List (List ℕ) → List ℕ → Bool
+is_ignored entries text = list_any (λ entry. begins entry text) entries
+
+-- the entries that stand for none of the texts
+abbrev pub unused_of : List (List ℕ) → List (List ℕ) → List (List ℕ)
+unused_of texts entries = filter (λ entry. not (list_any (begins entry) texts)) entries
+
+-- ---- the rows
+
+pub record Row : Type 0 where
+  pub text : List ℕ
+  pub pages : ℕ
+
+pub record Way : Type 0 where
+  pub page : List ℕ
+  pub target : Option (List ℕ)
+  pub pages : ℕ
+
+abbrev pub row_for : List (List ℕ) → List ℕ → ℕ → List Row
+row_for entries text pages = if is_ignored entries text then [] else record { text = text; pages = pages } ∷ []
+
+-- a page that is not there has a row, unless it is known
+abbrev pub rows_at : List ℕ → List (List ℕ) → List ℕ → ℕ → Page → List Row
+rows_at front entries url pages Missing = row_for entries (shown front url) pages
+rows_at front entries url pages _ = []
+
+abbrev pub rows_with : List ℕ → List (List ℕ) → Linked → List Row
+rows_with front entries l = rows_at front entries l.result.url l.pages l.result.page
+
+-- the rows of the pages that are not there
+abbrev pub broken_of : List ℕ → List (List ℕ) → List PageResult → List Row
+broken_of front entries results = flat_map (λ r. rows_with front entries (linked results r)) results
+
+-- a page that moved and is linked to has a row
+abbrev pub ways_at : List ℕ → List ℕ → ℕ → Page → List Way
+ways_at front url pages (Moved to) =
+    if pages == 0 then [] else record { page = shown front url; target = option_map (shown front) to; pages = pages } ∷ []
+ways_at front url pages _ = []
+
+abbrev pub ways_with : List ℕ → Linked → List Way
+ways_with front l = ways_at front l.result.url l.pages l.result.page
+
+abbrev pub redirects_of : List ℕ → List PageResult → List Way
+redirects_of front results = flat_map (λ r. ways_with front (linked results r)) results

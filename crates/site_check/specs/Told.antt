@@ -1,0 +1,23 @@
+-- The rows that values of a report stand for.
+use Rattle.std.specs.Prelude.{List, [], ◌∷◌, string_bytes}
+use Rattle.std.specs.List.{flat_map}
+use Rattle.std.specs.Option.{option_map}
+use Rattle.check_report.specs.declared.value.Broken.{Broken}
+use Rattle.check_report.specs.declared.value.Kind.{Kind}
+use Rattle.check_report.specs.declared.value.Kind.TheVariants.{NoPage, NoAnchor}
+use Rattle.check_report.specs.declared.value.Redirect.{Redirect}
+use Rattle.site_check.specs.Broken.{Row, Way}
+
+abbrev pub if_page : Kind → Row → List Row
+if_page NoPage row = row ∷ []
+if_page NoAnchor row = []
+
+-- the rows of pages that are not there; those of anchors are left out
+abbrev pub row_in : Broken → List Row
+row_in b = if_page b.kind (record { text = string_bytes b.target; pages = b.pages })
+
+abbrev pub rows_in : List Broken → List Row
+rows_in all = flat_map row_in all
+
+abbrev pub way_of : Redirect → Way
+way_of r = record { page = string_bytes r.page; target = option_map string_bytes r.target; pages = r.pages }

@@ -1,0 +1,209 @@
+//! Links to parts of pages that are there, where the page has no such part.
+ghost use Rattle.std.specs.Prelude.{◌≡◌, [], IfOk, OnOk};
+ghost use Rattle.site_check.specs.Told.{rows_in};
+
+use crate::ignored::is_ignored;
+use crate::indicated::is_indicated;
+use crate::located::Located;
+use crate::shown::shown;
+use check_report::{Broken, Kind};
+use crawl_web::{NoMemory, Page, PageResult};
+use saved_site::{Anchors, PageAnchors};
+use std::alloc::Global;
+use std::collections::BTreeMap;
+
+/// A part that a document lacks: the number of the document, and what is behind the `#`.
+#[derive(Drop, PartialEq, Eq, PartialOrd, Ord)]
+pub(crate) struct Part {
+    pub(crate) page: usize,
+    pub(crate) fragment: Vec<u8>,
+}
+
+/// How many pages link to a part, and which of them did last.
+#[derive(Clone, Copy)]
+pub(crate) struct Count {
+    pub(crate) pages: u64,
+    last: usize,
+    /// The part's number among all that are told.
+    pub(crate) number: usize,
+}
+
+/// The parts that pages lack and links lead to.
+pub(crate) type Lacking = BTreeMap<Part, Count>;
+
+/// The results of a crawl, and the anchors of the site's documents, both ascending by URL.
+#[derive(Clone, Copy)]
+pub(crate) struct Pages<'a> {
+    pub(crate) results: &'a [PageResult],
+    pub(crate) anchors: &'a [PageAnchors],
+}
+
+impl<'a> Pages<'a> {
+    /// The number of the document that a URL leads to, by one redirect at most.
+    pub(crate) fn find(&self, url: &str) -> Option<usize> {
+        if let Some(page) = self.find_document(url) {
+            return Some(page);
+        }
+        let results = self.results;
+        let number = results
+            .binary_search_by(|result| result.url.as_str().cmp(url))
+            .ok()?;
+        match &results.get(number)?.page {
+            Page::Moved { to: Some(to) } => self.find_document(to.as_str()),
+            _ => None,
+        }
+    }
+
+    fn find_document(&self, url: &str) -> Option<usize> {
+        let anchors = self.anchors;
+        anchors
+            .binary_search_by(|page| page.url.as_str().cmp(url))
+            .ok()
+    }
+
+    /// The anchors of a result's page, where it was found and is a document.
+    fn anchors_of(&self, result: &PageResult) -> Option<&'a Anchors> {
+        let anchors = self.anchors;
+        if !is_found(&result.page) {
+            return None;
+        }
+        let page = anchors.get(self.find_document(result.url.as_str())?)?;
+        Some(&page.anchors)
+    }
+
+    /// Whether a document has the part that a text behind a `#` indicates; it does where there is no such document.
+    fn has_part(&self, alloc: Global, page: usize, text: &[u8]) -> Result<bool, NoMemory> {
+        match self.anchors.get(page) {
+            Some(page) => is_indicated(alloc, page.anchors.ids.as_slice(), text),
+            None => Ok(true),
+        }
+    }
+}
+
+fn is_found(page: &Page) -> bool {
+    matches!(page, Page::Found { .. })
+}
+
+/// The parts that documents lack, with how many results link to each; and of each result whether it links to one.
+pub(crate) fn lacking(alloc: Global, pages: Pages<'_>) -> Result<(Lacking, Vec<bool>), NoMemory> {
+    let mut lacking = BTreeMap::new(alloc);
+    let mut leading = Vec::new(alloc);
+    for (source, result) in pages.results.iter().enumerate() {
+        let leads = match pages.anchors_of(result) {
+            Some(anchors) => add_all(alloc, pages, source, anchors, &mut lacking)?,
+            None => false,
+        };
+        leading.push(leads)?;
+    }
+    Ok((lacking, leading))
+}
+
+/// Adds the parts that a result links to and documents lack, and answers whether there is one.
+fn add_all(
+    alloc: Global,
+    pages: Pages<'_>,
+    source: usize,
+    anchors: &Anchors,
+    lacking: &mut Lacking,
+) -> Result<bool, NoMemory> {
+    let mut leads = false;
+    for link in &anchors.links {
+        if let Some(page) = pages.find(link.url.as_str())
+            && !pages.has_part(alloc, page, link.fragment.as_slice())?
+        {
+            let fragment = link.fragment.clone()?;
+            count(lacking, Part { page, fragment }, source)?;
+            leads = true;
+        }
+    }
+    Ok(leads)
+}
+
+/// Counts a result for a part, once.
+fn count(lacking: &mut Lacking, part: Part, source: usize) -> Result<(), NoMemory> {
+    let number = lacking.len();
+    let known = lacking.entry(part)?.or_insert(Count {
+        pages: 0,
+        last: source,
+        number,
+    });
+    if known.pages == 0 || known.last != source {
+        known.pages = known.pages.saturating_add(1);
+        known.last = source;
+    }
+    Ok(())
+}
+
+/// The texts of the parts that pages lack, in order.
+pub(crate) fn part_texts(
+    alloc: Global,
+    front: &str,
+    pages: Pages<'_>,
+    lacking: &Lacking,
+) -> Result<Vec<String>, NoMemory> {
+    let mut texts = Vec::new(alloc);
+    for part in lacking.keys() {
+        texts.push(part_text(alloc, front, pages, part)?)?;
+    }
+    Ok(texts)
+}
+
+/// The text of a part: its page, `#`, and the fragment.
+fn part_text(
+    alloc: Global,
+    front: &str,
+    pages: Pages<'_>,
+    part: &Part,
+) -> Result<String, NoMemory> {
+    let url = match pages.anchors.get(part.page) {
+        Some(page) => shown(front, page.url.as_str()),
+        None => "",
+    };
+    let mut text = String::from_str(alloc, url)?;
+    text.push('#')?;
+    let fragment = String::from_utf8_lossy(alloc, part.fragment.as_slice())?;
+    text.push_str(fragment.as_str())?;
+    Ok(text)
+}
+
+/// The rows of the parts with these texts, in order, but those that are known; behind so many pages, `found` has what was found
+/// of each.
+pub(crate) fn anchor_rows(
+    alloc: Global,
+    ignores: &[String],
+    texts: &[String],
+    lacking: &Lacking,
+    found: &mut [Located],
+) -> Result<Vec<Broken>, NoMemory>
+    ensures { IfOk result (λ all. rows_in all.items ≡ []) }
+{
+    let pages = found.len().saturating_sub(lacking.len());
+    let mut all = Vec::new(alloc);
+    for (text, count) in texts.iter().zip(lacking.values()) {
+        if !is_ignored(ignores, text.as_str()) {
+            let located = Located::take(alloc, found, pages.saturating_add(count.number));
+            push_part(text, count.pages, located, &mut all)?;
+        }
+    }
+    Ok(all)
+}
+
+fn push_part(
+    text: &String,
+    pages: u64,
+    located: Located,
+    all: &mut Vec<Broken>,
+) -> Result<(), NoMemory>
+    ensures { OnOk result (rows_in all.new.items ≡ rows_in all.old.items) }
+{
+    let Located { places, .. } = located;
+    let target = text.clone()?;
+    all.push(Broken {
+        target,
+        kind: Kind::NoAnchor,
+        pages,
+        places,
+        same_name: None,
+    })?;
+    Ok(())
+}

@@ -1,0 +1,207 @@
+//! A check of the results of a crawl of a folder's saved web.
+ghost use Rattle.std.specs.Prelude.{◌≡◌, ◌==◌, [], IfOk, map, not, string_bytes, vec_len};
+ghost use Rattle.std.specs.List.{flat_map};
+ghost use Rattle.site_check.specs.Broken.{broken_of, linked_at, redirects_of, rows_with};
+ghost use Rattle.site_check.specs.Told.{rows_in, way_of};
+
+use crate::anchors::{Pages, anchor_rows, lacking, part_texts};
+use crate::ignored::unused;
+use crate::linked::{Linked, linked_results};
+use crate::located::{Wanted, locate_all, none_located, targets};
+use crate::names::name_all;
+use crate::rows::{broken_rows, redirect_rows};
+use crate::shown::shown;
+use crate::unreached::unreached;
+use crate::worst::{place_count, worst};
+use check_report::{Broken, FileCount, Findings, Kind, Redirect, Totals};
+use crawl_web::{NoMemory, Page, PageResult};
+use saved_site::{PageAnchors, SiteFiles};
+use std::alloc::Global;
+
+/// Gives the bytes of a site's files.
+pub trait Bodies {
+    /// The bytes of the file with this name; none where it cannot be read.
+    ///
+    /// # Errors
+    /// Where a growth was refused.
+    fn body(&mut self, name: &str) -> Result<Option<Vec<u8>>, NoMemory>;
+}
+
+/// What is asked of a check.
+#[derive(Clone, Copy)]
+pub struct Asked<'a> {
+    /// What is left out at the front of each URL that is told; a text that no URL begins with leaves out nothing.
+    pub front: &'a str,
+    /// What is known to be broken: each entry stands for the targets that begin with it.
+    pub ignores: &'a [String],
+    /// The anchors of the site's documents, ascending by URL; where there are none, no part is told that a page lacks.
+    pub anchors: &'a [PageAnchors],
+    /// Whether files that no link leads to are told.
+    pub unreached: bool,
+}
+
+/// What a check found.
+#[derive(Drop)]
+pub struct Checked {
+    pub totals: Totals,
+    pub broken: Vec<Broken>,
+    pub worst: Vec<FileCount>,
+    pub redirects: Vec<Redirect>,
+    pub unreached: Vec<String>,
+    pub unused_ignores: Vec<String>,
+}
+
+impl Checked {
+    /// What is told of the site with this name.
+    pub fn findings<'a>(&'a self, base: &'a str) -> Findings<'a>
+        ensures broken { result.broken.now ≡ self.now.broken.items }
+        ensures redirects { result.redirects.now ≡ self.now.redirects.items }
+    {
+        Findings {
+            base,
+            totals: self.totals,
+            broken: self.broken.as_slice(),
+            worst: self.worst.as_slice(),
+            redirects: self.redirects.as_slice(),
+            unreached: self.unreached.as_slice(),
+            unused_ignores: self.unused_ignores.as_slice(),
+        }
+    }
+
+    /// Whether something is broken.
+    pub fn is_broken(&self) -> bool
+        ensures { result ≡ not (vec_len self.now.broken == 0) }
+    {
+        !self.broken.is_empty()
+    }
+}
+
+/// What the results of a crawl of a site's saved web tell of its links. The results ascend, and each URL has one at most.
+///
+/// # Errors
+/// Where a growth was refused.
+pub fn check_results<B: Bodies>(
+    alloc: Global,
+    results: &[PageResult],
+    files: &SiteFiles<'_>,
+    bodies: &mut B,
+    asked: Asked<'_>,
+) -> Result<Checked, NoMemory>
+    // The rows of pages that are not there are the missing results, in order, each with how many results link to it; those that
+    // are known are left out.
+    ensures broken { IfOk result (λ checked. rows_in checked.broken.items ≡ broken_of asked.entry.front.now (map string_bytes asked.entry.ignores.now) results.now) }
+    // Those of redirects are the moved results that are linked to.
+    ensures redirects { IfOk result (λ checked. map way_of checked.redirects.items ≡ redirects_of asked.entry.front.now results.now) }
+{
+    let pages = Pages {
+        results,
+        anchors: asked.anchors,
+    };
+    let linked = linked_results(alloc, results)?;
+    let (broken, texts) = broken_all(alloc, pages, files, bodies, asked, linked.as_slice())?;
+    let redirects = redirect_rows(alloc, asked.front, linked.as_slice())?;
+    let unused_ignores = unused_entries(alloc, asked, linked.as_slice(), texts.as_slice())?;
+    let unreached = if asked.unreached {
+        unreached(alloc, asked.front, results, files)?
+    } else {
+        Vec::new(alloc)
+    };
+    let totals = totals_of(results, broken.as_slice(), redirects.as_slice());
+    let worst = worst(alloc, broken.as_slice())?;
+    Ok(Checked {
+        totals,
+        broken,
+        worst,
+        redirects,
+        unreached,
+        unused_ignores,
+    })
+}
+
+/// The rows of the pages that are not there and of the parts that pages lack, with where links to them stand; and the texts of
+/// all such parts.
+fn broken_all<B: Bodies>(
+    alloc: Global,
+    pages: Pages<'_>,
+    files: &SiteFiles<'_>,
+    bodies: &mut B,
+    asked: Asked<'_>,
+    linked: &[Linked<'_>],
+) -> Result<(Vec<Broken>, Vec<String>), NoMemory>
+    ensures { IfOk result (λ r. rows_in r.0.items ≡ flat_map (rows_with asked.entry.front.now (map string_bytes asked.entry.ignores.now)) (map linked_at linked.now)) }
+{
+    let (lacking, leading) = lacking(alloc, pages)?;
+    let targets = targets(alloc, asked.front, asked.ignores, linked)?;
+    let wanted = Wanted {
+        pages,
+        files,
+        targets: &targets,
+        lacking: &lacking,
+        before: linked.len(),
+    };
+    let mut found = none_located(alloc, linked.len(), lacking.len())?;
+    locate_all(alloc, wanted, leading.as_slice(), bodies, &mut found)?;
+    name_all(alloc, asked.front, linked, files, found.as_mut_slice())?;
+    let texts = part_texts(alloc, asked.front, pages, &lacking)?;
+    let rows = broken_rows(alloc, asked, linked, found.as_mut_slice())?;
+    let parts = anchor_rows(alloc, asked.ignores, texts.as_slice(), &lacking, &mut found)?;
+    Ok((with_parts(rows, parts)?, texts))
+}
+
+/// The rows of pages, and then those of parts.
+fn with_parts(rows: Vec<Broken>, parts: Vec<Broken>) -> Result<Vec<Broken>, NoMemory>
+    requires { rows_in parts.items ≡ [] }
+    ensures { IfOk result (λ all. rows_in all.items ≡ rows_in rows.items) }
+{
+    let mut all = rows;
+    let mut parts = parts;
+    all.append(&mut parts)?;
+    Ok(all)
+}
+
+/// The entries that stand for no page that is not there, and for none of these parts.
+fn unused_entries(
+    alloc: Global,
+    asked: Asked<'_>,
+    linked: &[Linked<'_>],
+    parts: &[String],
+) -> Result<Vec<String>, NoMemory> {
+    let mut texts = Vec::new(alloc);
+    for part in parts {
+        texts.push(part.as_str())?;
+    }
+    for one in linked {
+        if one.result.page == Page::Missing {
+            texts.push(shown(asked.front, one.result.url.as_str()))?;
+        }
+    }
+    unused(alloc, asked.ignores, texts.as_slice())
+}
+
+fn totals_of(results: &[PageResult], broken: &[Broken], redirects: &[Redirect]) -> Totals {
+    let mut pages: u64 = 0;
+    let mut all: u64 = 0;
+    for result in results {
+        if let Page::Found { links, skipped } = &result.page {
+            pages = pages.saturating_add(1);
+            let count = (links.as_slice().len() as u64).saturating_add(*skipped);
+            all = all.saturating_add(count);
+        }
+    }
+    Totals {
+        pages,
+        links: all,
+        broken_links: place_count(broken),
+        broken_urls: count_of(broken, false),
+        broken_anchors: count_of(broken, true),
+        moved: redirects.len() as u64,
+    }
+}
+
+/// How many of the rows are those of parts, or of pages.
+fn count_of(broken: &[Broken], parts: bool) -> u64 {
+    broken
+        .iter()
+        .filter(|one| matches!(one.kind, Kind::NoAnchor) == parts)
+        .count() as u64
+}

@@ -1,0 +1,18 @@
+//! What a crawl of a folder's saved web tells of the folder's links: which lead to no page, and where they stand.
+#![tactic(auto)]
+
+mod anchors;
+mod check;
+mod ignored;
+mod indicated;
+mod linked;
+mod located;
+mod names;
+mod rows;
+mod shown;
+mod tally;
+mod unreached;
+mod worst;
+
+pub use check::{Asked, Bodies, Checked, check_results};
+pub use ignored::read_ignores;

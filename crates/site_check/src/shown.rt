@@ -1,0 +1,32 @@
+//! How a URL is told.
+ghost use Rattle.std.specs.Prelude.{◌≡◌, length, drop, if◌then◌else◌};
+ghost use Rattle.site_check.specs.Broken.{begins, or_top, shown};
+
+/// The URL without the front, where it begins with that.
+pub(crate) fn shown<'a>(front: &str, url: &'a str) -> &'a str
+    ensures { result.now ≡ shown front.now url.now }
+{
+    or_top(without(front, url))
+}
+
+fn without<'a>(front: &str, url: &'a str) -> &'a str
+    ensures { result.now ≡ (if begins front.now url.now then drop (length front.now) url.now else url.now) }
+{
+    match url.strip_prefix(front) {
+        Some(rest) => rest,
+        None => url,
+    }
+}
+
+fn or_top(text: &str) -> &str
+    ensures { result.now ≡ or_top text.now }
+{
+    if text.is_empty() { "./" } else { text }
+}
+
+/// Whether the text begins with the front.
+pub(crate) fn begins(front: &str, text: &str) -> bool
+    ensures { result ≡ begins front.now text.now }
+{
+    text.as_bytes().starts_with(front.as_bytes())
+}

@@ -1,0 +1,44 @@
+//! Files that no link leads to.
+use crate::shown::shown;
+use crawl_web::{NoMemory, Page, PageResult};
+use saved_site::SiteFiles;
+use std::alloc::Global;
+
+/// The pages of files of which no page was found, one for each file.
+pub(crate) fn unreached(
+    alloc: Global,
+    front: &str,
+    results: &[PageResult],
+    files: &SiteFiles<'_>,
+) -> Result<Vec<String>, NoMemory> {
+    let mut reached = reached_files(alloc, results, files)?;
+    let mut all = Vec::new(alloc);
+    for number in 0..files.page_count() {
+        if let Some((url, Some(index))) = files.page(number)
+            && let Some(is_reached) = reached.get_mut(index)
+            && !*is_reached
+        {
+            *is_reached = true;
+            all.push(String::from_str(alloc, shown(front, url))?)?;
+        }
+    }
+    Ok(all)
+}
+
+/// Of each file whether a page of it was found.
+fn reached_files(
+    alloc: Global,
+    results: &[PageResult],
+    files: &SiteFiles<'_>,
+) -> Result<Vec<bool>, NoMemory> {
+    let mut reached = vec![in alloc; false; files.name_count()]?;
+    for result in results {
+        if result.page != Page::Missing
+            && let Some(index) = files.file_of(alloc, result.url.as_str())?
+            && let Some(is_reached) = reached.get_mut(index)
+        {
+            *is_reached = true;
+        }
+    }
+    Ok(reached)
+}

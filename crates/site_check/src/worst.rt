@@ -1,0 +1,40 @@
+//! The files with most broken links.
+use check_report::{Broken, FileCount};
+use crawl_web::NoMemory;
+use std::alloc::Global;
+use std::collections::BTreeMap;
+
+/// How many files are told.
+const TOLD: usize = 10;
+
+/// The files with most broken links, most first, at most ten.
+pub(crate) fn worst(alloc: Global, broken: &[Broken]) -> Result<Vec<FileCount>, NoMemory> {
+    let mut counts: BTreeMap<&str, u64> = BTreeMap::new(alloc);
+    for one in broken {
+        for place in &one.places {
+            let count = counts.entry(place.file.as_str())?.or_insert(0);
+            *count = count.saturating_add(1);
+        }
+    }
+    let mut all: Vec<(&str, u64)> = Vec::new(alloc);
+    for (file, count) in &counts {
+        all.push((*file, *count))?;
+    }
+    all.sort_by(|a: &(&str, u64), b: &(&str, u64)| b.1.cmp(&a.1))?;
+    all.truncate(TOLD);
+    let mut told = Vec::new(alloc);
+    for (file, links) in all {
+        let file = String::from_str(alloc, file)?;
+        told.push(FileCount { file, links })?;
+    }
+    Ok(told)
+}
+
+/// How many places the links of these have.
+pub(crate) fn place_count(broken: &[Broken]) -> u64 {
+    let mut count: u64 = 0;
+    for one in broken {
+        count = count.saturating_add(one.places.len() as u64);
+    }
+    count
+}
