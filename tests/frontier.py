@@ -47,7 +47,7 @@ def expect(holds: bool, text: str) -> None:
 def answers(blocks: Sequence[list[str]]) -> list[list[str]]:
     """What the calls of each block answer, and behind them how the frontier ends."""
     text = "\n\n".join("\n".join(block) for block in blocks) + "\n"
-    ran = subprocess.run([*CALLS, "calls"], input=text, capture_output=True, text=True, timeout=SECONDS * 5)
+    ran = subprocess.run([*CALLS, "calls"], input=text, capture_output=True, text=True, timeout=2 * SECONDS)
     told = [block.splitlines() for block in ran.stdout.split("\n\n")][: len(blocks)]
     expect(len(told) == len(blocks), f"{len(told)} of {len(blocks)} blocks answered, status {ran.returncode}")
     return told
