@@ -2,6 +2,8 @@
 #![tactic(auto)]
 
 mod indicated;
+/// What holds of fragments.
+pub mod laws;
 mod search;
 
 pub use indicated::{NoMemory, is_indicated};
