@@ -3,3 +3,4 @@ pub mod Format
 pub mod Counts
 pub mod Adding
 pub mod Sets
+pub mod OneOrder

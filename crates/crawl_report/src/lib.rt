@@ -6,6 +6,7 @@ mod as_text;
 /// What holds of reports.
 pub mod laws;
 mod out;
+mod page_urls;
 mod printing;
 mod report;
 mod row;
@@ -14,6 +15,7 @@ mod tally;
 mod unseen;
 
 pub use crawl_web::NoMemory;
+pub use page_urls::page_urls;
 pub use printing::print;
 pub use report::{Report, Sources};
 pub use row::Row;

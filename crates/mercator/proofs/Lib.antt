@@ -1,5 +1,6 @@
 pub mod QueueCounts
 pub mod PlanTexts
+pub mod PlainTexts
 pub mod RunResults
 pub mod Seeds
 pub mod SiteCrawls
