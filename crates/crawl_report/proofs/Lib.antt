@@ -4,3 +4,4 @@ pub mod Counts
 pub mod Adding
 pub mod Sets
 pub mod OneOrder
+pub mod PageLines

@@ -27,7 +27,7 @@ urls_of_results (url ∷ urls) = ap (λ us. url ∷ us) (urls_of_results urls)
 
 sorted_results : (urls : List (List ℕ)) → IsSortedByKey (λ url. url) (slice_cmp nat_cmp) urls → IsSortedByKey (λ (r : PageResult). r.url) (slice_cmp nat_cmp) (map at urls)
 sorted_results urls sorted k d low below =
-    let within : k + 1 < length urls = subst (λ n. k + 1 < n) (length-map at urls) below in
+    let within : k + 1 < length urls = subst (λ n. k + 1 < n) (length-map urls at) below in
     let before : k < length urls = omega (arith, within) in
     let first : get_or (map at urls) k d ≡ at (get_or urls k d.url) = get_or-map at urls k d.url d before in
     let second : get_or (map at urls) (k + 1) d ≡ at (get_or urls (k + 1) d.url) = get_or-map at urls (k + 1) d.url d within in

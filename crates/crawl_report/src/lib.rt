@@ -6,17 +6,17 @@ mod as_text;
 /// What holds of reports.
 pub mod laws;
 mod out;
-mod page_urls;
 mod printing;
 mod report;
 mod row;
 mod sources;
 mod tally;
 mod unseen;
+mod web_urls;
 
 pub use crawl_web::NoMemory;
-pub use page_urls::page_urls;
 pub use printing::print;
 pub use report::{Report, Sources};
 pub use row::Row;
 pub use unseen::unreached;
+pub use web_urls::page_urls;

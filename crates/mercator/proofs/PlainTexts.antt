@@ -23,7 +23,7 @@ use Rattle.mercator.specs.declared.commands.planned.CrawlOptions.{CrawlOptions}
 in_order : (pages : List PageResult) → IsAscending (result_urls pages) → IsSortedByKey (λ r. r.url) (slice_cmp nat_cmp) pages
 in_order pages ascends k d low below =
     let url : PageResult → List ℕ = λ r. r.url in
-    let within : k + 1 < length (result_urls pages) = subst (λ n. k + 1 < n) (sym (length-map url pages)) below in
+    let within : k + 1 < length (result_urls pages) = subst (λ n. k + 1 < n) (sym (length-map pages url)) below in
     let first : get_or (result_urls pages) k d.url ≡ (get_or pages k d).url = get_or-map url pages k d d.url (omega (arith, below)) in
     let second : get_or (result_urls pages) (k + 1) d.url ≡ (get_or pages (k + 1) d).url = get_or-map url pages (k + 1) d d.url below in
     let less : slice_cmp nat_cmp (get_or pages k d).url (get_or pages (k + 1) d).url ≡ Less =

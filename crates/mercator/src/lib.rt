@@ -18,5 +18,5 @@ pub use crawl_report::Sources;
 pub use crawl_replay::{Script, ScriptError, read_script, replay_text};
 pub use crawl_web::{LINE_LIMIT, SessionFetch};
 pub use crawl_workers::{RunError, WorkerEnd, run_threads, run_turns, run_worker};
-pub use crawling::{CrawlError, Crawled, Mode, crawl, crawl_in};
+pub use crawling::{CrawlError, CrawlSettings, Crawled, Mode, crawl, crawl_with};
 pub use key::key_line;

@@ -16,7 +16,7 @@ use crate::commands::fault::Fault;
 use crate::commands::planned::{CrawlOptions, Plan};
 use crate::commands::source::read_file;
 use crate::commands::web_crawl::crawl_with_web;
-use crate::crawling::{Crawled, Mode};
+use crate::crawling::{CrawlSettings, Crawled, Mode};
 use crate::key::key_line;
 use crawl_keys::{Filter, FilterError};
 use crawl_replay::replay_text;
@@ -109,10 +109,13 @@ fn crawl_files<R: Files + Threads + Wait + Sync, I: Read>(
     let filter = filter_of(alloc, &options.within)?;
     let bytes = read_file(rt, alloc, file, input)?;
     let list = read_list(rt, alloc, &options.listed, input)?;
-    let mode = Mode::Threads;
-    let (web, crawled) = crawl_with_web(
-        rt, alloc, &bytes, &list, seeds, &filter, workers, max, mode,
-    )?;
+    let settings = CrawlSettings {
+        workers,
+        max_pending: max,
+        mode: Mode::Threads,
+        filter: &filter,
+    };
+    let (web, crawled) = crawl_with_web(rt, alloc, &bytes, &list, seeds, &settings)?;
     // As the pages, by `tell`.
     forget(web);
     Ok(WebFound {
