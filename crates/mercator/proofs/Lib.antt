@@ -1,4 +1,5 @@
 pub mod QueueCounts
+pub mod CrawlTexts
 pub mod PlanTexts
 pub mod PlainTexts
 pub mod RunResults
