@@ -61,9 +61,12 @@ class Asked(NamedTuple):
 
 def url_of(text: str, base: drawn.Url) -> Optional[str]:
     """The URL of a link without its fragment, where it is http or https."""
-    text = TOOL.cleaned(text).partition("#")[0]
+    text, mark, _ = TOOL.cleaned(text).partition("#")
     if not text:
         return str(base)
+    if mark:
+        # What stands before a fragment is no end of the text, where spaces would be cut off
+        text = re.sub(r"[\0-\x20]+\Z", lambda run: quote(run[0]), text)
     # All pages of a folder have one answer to such a text
     return resolved(text, base if text[0] == "?" else base._replace(path=(*base.path[:-1], ""), query=""))
 
