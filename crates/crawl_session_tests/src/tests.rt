@@ -1,10 +1,12 @@
 //! Sessions: drawn ones against a second reckoning, and a table of lines at their edges.
 mod reckoning;
 
-use crawl_keys::{Filter, FilterError};
+use crawl_core::Text;
+use crawl_keys::{Filter, FilterError, canonical};
 use crawl_replay::Header;
 use crawl_session::{
-    Compactor, ServeError, Session, read_settings, rerun, serve, settings_line, whole_len,
+    Compactor, Part, ServeError, Session, read_settings, read_start, rerun, serve, settings_line,
+    start_text, whole_len,
 };
 use reckoning::{MAX, Reckoning};
 use std::alloc::{AllocError, Global};
@@ -63,7 +65,10 @@ fn is(told: Option<(Vec<u8>, bool)>, wanted: &[u8], broke: bool) -> bool {
 }
 
 /// How many lines a drawn session has.
-const LINES: u64 = 4_000;
+const LINES: u64 = 1_600;
+
+/// Behind how many of them the seeds end.
+const SEED_LINES: u64 = 1_400;
 
 /// The requests that are drawn, and their answers by the reckoning.
 fn drawn(alloc: Global) -> Result<(String, String), AllocError> {
@@ -75,12 +80,12 @@ fn drawn(alloc: Global) -> Result<(String, String), AllocError> {
         seed = seed
             .wrapping_mul(6_364_136_223_846_793_005)
             .wrapping_add(1_442_695_040_888_963_407);
-        let kind = if number == 3_600 {
+        let kind = if number == SEED_LINES {
             15
         } else {
             (seed >> 40) % 15
         };
-        reckoning.ask(kind, (seed >> 50) % 700, &mut requests, &mut wanted)?;
+        reckoning.ask(kind, (seed >> 50) % 100, &mut requests, &mut wanted)?;
     }
     Ok((requests, wanted))
 }
@@ -124,7 +129,7 @@ fn a_log_brings_a_session_back(rt: HostRuntime) -> Result<(), Fail> {
     let alloc = rt.alloc();
     let (requests, wanted) = drawn(alloc)?;
     let log = requests.as_bytes();
-    for cut in [0, 1, 5_000, 40_001, log.len()] {
+    for cut in [0, 1, 5_000, 20_001, log.len()] {
         let whole = whole_len(&log[..cut.min(log.len())]);
         let mut session = session(alloc)?;
         rerun(&mut session, &log[..whole.min(log.len())])?;
@@ -163,7 +168,7 @@ fn a_drawn_log_is_compacted(rt: HostRuntime) -> Result<(), Fail> {
     let mut session = session(alloc)?;
     let mut compactor = Compactor::new(alloc);
     let mut kept = Vec::new(alloc);
-    let half = whole_len(&log[..log.len().min(20_000)]);
+    let half = whole_len(&log[..log.len().min(12_000)]);
     for piece in [&log[..half], &log[half..]] {
         let ended = compactor.compact(&mut session, piece, &mut kept);
         assert!(rt; ended == Ok(()));
@@ -196,6 +201,140 @@ fn compacts_lines_at_their_edges(rt: HostRuntime) -> Result<(), Fail> {
         let mut kept = Vec::new(rt.alloc());
         let ended = Compactor::new(rt.alloc()).compact(&mut session, log, &mut kept);
         assert!(rt; ended == Ok(()) && kept.as_slice() == wanted, "{log:?}");
+    }
+    Ok(())
+}
+
+/// What a session answers to a line, as text.
+fn told(alloc: Global, session: &mut Session, line: &str) -> Result<String, AllocError> {
+    let answer = session.answer(line.as_bytes())?;
+    let mut text = String::new(alloc);
+    write!(text, "{answer}")?;
+    Ok(text)
+}
+
+/// Part of this number, of two queues, of a crawl that has so many parts.
+fn part_of(alloc: Global, number: u32, parts: u32) -> Result<Session, FilterError> {
+    let filter = Filter::new(alloc, &["test"])?;
+    let part = Part {
+        number,
+        queues: 2,
+        identity: Text::from_str(alloc, "3f-a")?,
+    };
+    match Session::of_part(alloc, part, parts, MAX, filter) {
+        Ok(session) => Ok(session),
+        Err(_) => Err(FilterError::NoMemory),
+    }
+}
+
+#[test]
+fn parts_have_each_url_once(rt: HostRuntime) -> Result<(), Fail> {
+    let alloc = rt.alloc();
+    let mut counts = [0u64; 6];
+    for number in 0..3u32 {
+        let mut session = part_of(alloc, number, 3)?;
+        for host in 0..20 {
+            let mut url = String::new(alloc);
+            write!(url, "http://h{host}.test/")?;
+            let queue = canonical(alloc, &url)?.subqueue(6);
+            let mut line = String::new(alloc);
+            write!(line, "offer {url}")?;
+            let mut wanted = String::new(alloc);
+            let owner = queue / 2;
+            if owner == number {
+                let before = counts[queue as usize];
+                write!(wanted, "accepted {queue} {before}")?;
+                counts[queue as usize] = before.saturating_add(1);
+            } else {
+                write!(wanted, "elsewhere {owner} {url}")?;
+            }
+            assert_eq!(rt; told(alloc, &mut session, &line)?.as_str(), wanted.as_str());
+        }
+    }
+    assert_eq!(rt; counts.iter().sum::<u64>(), 20);
+    Ok(())
+}
+
+#[test]
+fn a_part_has_its_own_queues(rt: HostRuntime) -> Result<(), Fail> {
+    let alloc = rt.alloc();
+    let mut part = part_of(alloc, 1, 2)?;
+    let rows = [
+        ("next 1", "refused nosuch"),
+        ("next 2", "pending 1"),
+        ("again 3", "refused nothing"),
+        ("again 0", "refused nosuch"),
+        ("done 4", "refused nosuch"),
+        ("done 1", "refused nosuch"),
+        ("offer http://a.other/", "filtered"),
+        ("sync", "synced"),
+        ("identity", "identity 3f-a"),
+        ("sync 1", "bad line"),
+    ];
+    for (line, wanted) in rows {
+        assert_eq!(rt; told(alloc, &mut part, line)?.as_str(), wanted);
+    }
+    let mut alone = session(alloc)?;
+    assert_eq!(rt; told(alloc, &mut alone, "sync")?.as_str(), "bad line");
+    assert_eq!(rt; told(alloc, &mut alone, "identity")?.as_str(), "bad line");
+    for parts in [0, 1, 257, 65_536, 2_147_483_648] {
+        assert!(rt; part_of(alloc, 1, parts).is_err());
+    }
+    Ok(())
+}
+
+#[test]
+fn a_log_names_its_part(rt: HostRuntime) -> Result<(), Fail> {
+    let alloc = rt.alloc();
+    let text = start_text(alloc, Some((1, 4)), Some("3f-a"))?;
+    assert_eq!(rt; text.as_str(), "part 1 of 4 identity 3f-a ");
+    for (line, part, identity, rest) in [
+        (
+            "part 1 of 4 identity x workers 2 max 9",
+            Some((1, 4)),
+            Some("x"),
+            "workers 2 max 9",
+        ),
+        (
+            "within a.test workers 2 max 9",
+            None,
+            None,
+            "within a.test workers 2 max 9",
+        ),
+        (
+            "identity x workers 2 max 9",
+            None,
+            Some("x"),
+            "workers 2 max 9",
+        ),
+        (
+            "part 1 workers 2 max 9",
+            None,
+            None,
+            "part 1 workers 2 max 9",
+        ),
+    ] {
+        assert!(rt; read_start(line) == (part, identity, rest), "{line}");
+    }
+    Ok(())
+}
+
+/// A log twice: each part keeps what it accepted, and what it told elsewhere, once.
+#[test]
+fn a_compacted_log_keeps_what_is_told_elsewhere_once(rt: HostRuntime) -> Result<(), Fail> {
+    let alloc = rt.alloc();
+    let log =
+        "offer http://h0.test/\noffer http://h1.test/\noffer http://h2.test/\noffer http://h3.test/\noffer http://h4.test/#x\nsync\nlink http://h0.test/ //H1.test\nidentity\n";
+    for number in 0..2u32 {
+        let mut session = part_of(alloc, number, 2)?;
+        let mut kept = Vec::new(alloc);
+        let mut compactor = Compactor::new(alloc);
+        for _time in 0..2 {
+            let ended = compactor.compact(&mut session, log.as_bytes(), &mut kept);
+            assert!(rt; ended == Ok(()));
+        }
+        let wanted = &log[..log.len().min(112)];
+        assert!(rt; kept.as_slice() == wanted.as_bytes());
     }
     Ok(())
 }

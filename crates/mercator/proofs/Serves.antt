@@ -1,5 +1,5 @@
 -- What a session tells, by its plan.
-use Rattle.std.proofs.Common.{◌≡◌, ◌⊎◌, inl, inr, ℕ, List, [], false, IfSome, Option, String, Global, refl, sym, subst, ◌∙◌}
+use Rattle.std.proofs.Common.{◌≡◌, ◌⊎◌, inl, inr, ℕ, List, [], false, IfSome, Option, None, String, Global, refl, sym, subst, ◌∙◌}
 use Rattle.std.specs.Str.Lines.{lines}
 use Rattle.crawl_core.specs.Shows.{Shows}
 use Rattle.crawl_core.specs.State.{start}
@@ -7,7 +7,7 @@ use Rattle.crawl_session.specs.Answers.{answer_lines}
 use Rattle.crawl_session.specs.Input.{ServesInput}
 use Rattle.crawl_session.specs.Logs.{Reruns}
 use Rattle.crawl_session.specs.Sessions.{answers, state_after}
-use Rattle.crawl_session.specs.Settings.{SessionView}
+use Rattle.crawl_session.specs.Settings.{SessionView, alone}
 use Rattle.crawl_session.specs.declared.serving.ServeError.{ServeError}
 use Rattle.crawl_session.specs.declared.serving.ServeError.TheVariants as serving
 use Rattle.mercator.specs.Ending.{Begins}
@@ -24,9 +24,9 @@ use Rattle.mercator.specs.declared.commands.planned.Plan.TheVariants as asks
 
 -- a session that was served to the end of its input
 pub gains_answers : (session : SessionView) (workers max : ℕ) (within : Option (String Global)) (filter : List (List ℕ)) (input out_old out_new : Option (List ℕ)) (new : SessionView) → Shows session.core (start workers max) → session.settings.workers ≡ workers
-    → session.settings.suffixes ≡ filter → (is_bad_suffix within ≡ false) × (filter ≡ suffixes_of within) → ServesInput session input out_old out_new new → Gains (asks.Serve workers max within) input out_old out_new
-gains_answers session workers max within filter input out_old out_new new shown many filtered good served =
-    let is : session.settings ≡ record { workers = workers; suffixes = suffixes_of within } = λ i. record { workers = many i; suffixes = (filtered ∙ good.1) i } in
+    → session.settings.suffixes ≡ filter → session.settings.part ≡ None → (is_bad_suffix within ≡ false) × (filter ≡ suffixes_of within) → ServesInput session input out_old out_new new → Gains (asks.Serve workers max within) input out_old out_new
+gains_answers session workers max within filter input out_old out_new new shown many filtered whole good served =
+    let is : session.settings ≡ alone workers (suffixes_of within) = λ i. record { workers = many i; suffixes = (filtered ∙ good.1) i; part = whole i } in
     let told : served.text ≡ answer_lines (answers session.settings (start workers max) (lines served.bytes)) = (served.serves.comes (start workers max) shown).0 in
     record {
       text = served.text;
@@ -49,10 +49,10 @@ reruns_none session = ([], record { settings = refl; comes = λ state shown. sho
 
 -- a session that went on from a log, and was served to the end of its input
 pub gains_on : (session : SessionView) (asked : LogPlan) (filter : List (List ℕ)) (resumed : SessionView) (input given out_old out_new : Option (List ℕ)) (new : SessionView) → Shows session.core (start asked.workers asked.max) → session.settings.workers ≡ asked.workers
-    → session.settings.suffixes ≡ filter → (is_bad_suffix asked.within ≡ false) × (filter ≡ suffixes_of asked.within) → (bytes : List ℕ) × Reruns session (lines bytes) resumed → given ≡ input → ServesInput resumed given out_old out_new new
+    → session.settings.suffixes ≡ filter → session.settings.part ≡ None → (is_bad_suffix asked.within ≡ false) × (filter ≡ suffixes_of asked.within) → (bytes : List ℕ) × Reruns session (lines bytes) resumed → given ≡ input → ServesInput resumed given out_old out_new new
     → Gains (asks.ServeLog asked) input out_old out_new
-gains_on session asked filter resumed input given out_old out_new new shown many filtered good log same served =
-    let is : session.settings ≡ settings_of asked = λ i. record { workers = many i; suffixes = (filtered ∙ good.1) i } in
+gains_on session asked filter resumed input given out_old out_new new shown many filtered whole good log same served =
+    let is : session.settings ≡ settings_of asked = λ i. record { workers = many i; suffixes = (filtered ∙ good.1) i; part = whole i } in
     let behind : Shows resumed.core (state_after session.settings (start asked.workers asked.max) (lines log.0)) = log.1.comes (start asked.workers asked.max) shown in
     let told : served.text ≡ answer_lines (answers resumed.settings (state_after session.settings (start asked.workers asked.max) (lines log.0)) (lines served.bytes)) =
     (served.serves.comes (state_after session.settings (start asked.workers asked.max) (lines log.0)) behind).0 in

@@ -13,7 +13,7 @@ use Rattle.crawl_replay.specs.Replay.{IsReplay}
 use Rattle.crawl_replay.specs.Script.{script_of}
 use Rattle.crawl_session.specs.Answers.{answer_lines}
 use Rattle.crawl_session.specs.Sessions.{answers, session_text, state_after}
-use Rattle.crawl_session.specs.Settings.{Settings}
+use Rattle.crawl_session.specs.Settings.{Settings, alone}
 use Rattle.crawl_core.specs.State.{start}
 use Rattle.std.specs.Str.Lines.{lines}
 use Rattle.mercator.specs.WebCrawl.{IsBegun, IsCrawlText, IsUnbegun}
@@ -43,10 +43,10 @@ OfFiles file listed input P = OfFile (known_bytes file input) (λ bytes. OfFile 
 pub record IsAnswered (workers max : ℕ) (suffixes : List (List ℕ)) (input : Option (List ℕ)) (text : List ℕ) : Type 0 where
   pub bytes : List ℕ
   pub read : IfSome input (λ known. bytes ≡ known)
-  pub answered : text ≡ session_text (record { workers = workers; suffixes = suffixes }) max bytes
+  pub answered : text ≡ session_text (alone workers suffixes) max bytes
 
 abbrev pub settings_of : LogPlan → Settings
-settings_of asked = record { workers = asked.workers; suffixes = suffixes_of asked.within }
+settings_of asked = alone asked.workers (suffixes_of asked.within)
 
 -- the text has the answers of a session that goes on from a log. Whatever requests the log had, behind its first line: the text
 -- has the answers, from the state after these, to the lines of an input

@@ -1,5 +1,5 @@
 //! The frontier as a co-process.
-ghost use Rattle.std.specs.Prelude.{◌≡◌, IfOk, IfErr, IsErr, true};
+ghost use Rattle.std.specs.Prelude.{◌≡◌, IfOk, IfErr, IsErr, None, true};
 ghost use Rattle.crawl_limits.specs.Limits.{AreLimits};
 ghost use Rattle.crawl_core.specs.Shows.{Shows};
 ghost use Rattle.crawl_core.specs.State.{start};
@@ -59,6 +59,7 @@ pub fn session_of(alloc: Global, workers: u32, max: u64, filter: Filter) -> Resu
     ensures start { IfOk result (λ session. Shows session.core (start workers max)) }
     ensures workers { IfOk result (λ session. session.settings.workers ≡ workers) }
     ensures suffixes { IfOk result (λ session. session.settings.suffixes ≡ filter) }
+    ensures part { IfOk result (λ session. session.settings.part ≡ None) }
     ensures err { IfErr result (λ fault. fault ≡ wrong.NoMemory) }
 {
     match Session::new(alloc, workers, max, filter) {

@@ -29,7 +29,7 @@ returns-in-Ok-clause-done g c =
     let same : prepend_known (items logged.window) (g.I.Read.remaining logged.input.now) ≡ input =
     ap (λ i. prepend_known (items logged.window) (g.I.Read.remaining i)) c.in_ok-logged.ensures.begun ∙ ap (λ b. prepend_known b input) c.in_ok-logged.ensures.empty ∙ prepend_known-nil input in
     gains_on made.session c.args.asked.now c.in_ok-filter.filter c.resume.new.session input (prepend_known (items logged.window) (g.I.Read.remaining logged.input.now)) (g.O.Write.contents c.args.out.now) (g.O.Write.contents c.serve.new.out) c.serve.new.session
-    made.ensures.start made.ensures.workers made.ensures.suffixes filter c.in_ok-log.ensures.resumed same c.in-Ok.ensures
+    made.ensures.start made.ensures.workers made.ensures.suffixes made.ensures.part filter c.in_ok-log.ensures.resumed same c.in-Ok.ensures
 
 pub returns-clause-fault : goal.returns-clause-fault
 returns-clause-fault g c =

@@ -14,4 +14,4 @@ pub returns-clause-done : goal.returns-clause-done
 returns-clause-done g c =
     let filter = filter_is c.args.within.now _ c.in_ok-filter.ensures in
     let made = c.in_ok-session in
-    gains_answers made.session c.args.workers c.args.max c.args.within.now c.in_ok-filter.filter (g.I.Read.remaining c.args.input.now) (g.O.Write.contents c.args.out.now) (g.O.Write.contents c.serve.new.out) c.serve.new.session made.ensures.start made.ensures.workers made.ensures.suffixes filter c.in_ok-serve.ensures
+    gains_answers made.session c.args.workers c.args.max c.args.within.now c.in_ok-filter.filter (g.I.Read.remaining c.args.input.now) (g.O.Write.contents c.args.out.now) (g.O.Write.contents c.serve.new.out) c.serve.new.session made.ensures.start made.ensures.workers made.ensures.suffixes made.ensures.part filter c.in_ok-serve.ensures
