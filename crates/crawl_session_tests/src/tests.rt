@@ -2,7 +2,7 @@
 mod reckoning;
 
 use crawl_core::Text;
-use crawl_keys::{Filter, FilterError, canonical};
+use crawl_keys::{Filter, FilterError};
 use crawl_replay::Header;
 use crawl_session::{
     Compactor, Part, ServeError, Session, read_settings, read_start, rerun, serve, settings_line,
@@ -205,14 +205,6 @@ fn compacts_lines_at_their_edges(rt: HostRuntime) -> Result<(), Fail> {
     Ok(())
 }
 
-/// What a session answers to a line, as text.
-fn told(alloc: Global, session: &mut Session, line: &str) -> Result<String, AllocError> {
-    let answer = session.answer(line.as_bytes())?;
-    let mut text = String::new(alloc);
-    write!(text, "{answer}")?;
-    Ok(text)
-}
-
 /// Part of this number, of two queues, of a crawl that has so many parts.
 fn part_of(alloc: Global, number: u32, parts: u32) -> Result<Session, FilterError> {
     let filter = Filter::new(alloc, &["test"])?;
@@ -227,60 +219,108 @@ fn part_of(alloc: Global, number: u32, parts: u32) -> Result<Session, FilterErro
     }
 }
 
+/// Whether the part answers the input so.
+fn part_answers(alloc: Global, number: u32, parts: u32, input: &str, wanted: &str) -> bool {
+    let Ok(mut session) = part_of(alloc, number, parts) else {
+        return false;
+    };
+    let mut out = Vec::new(alloc);
+    let ended = serve(alloc, &mut session, &mut input.as_bytes(), &mut out);
+    ended == Ok(()) && out.as_slice() == wanted.as_bytes()
+}
+
+const OFFERS: &str = "offer http://h0.test/\n\
+    offer http://h1.test/\n\
+    offer http://h2.test/\n\
+    offer http://h3.test/\n\
+    offer http://h4.test/\n\
+    offer http://h5.test/\n\
+    offer http://h6.test/\n\
+    offer http://h7.test/\n\
+    offer http://h8.test/\n";
+
+/// What each of three parts answers to these offers, by hashes of the hosts reckoned elsewhere.
+const OWNERS: [(u32, &str); 3] = [
+    (
+        0,
+        "elsewhere 2 http://h0.test/\n\
+         elsewhere 2 http://h1.test/\n\
+         accepted 0 0\n\
+         accepted 1 0\n\
+         elsewhere 1 http://h4.test/\n\
+         elsewhere 1 http://h5.test/\n\
+         elsewhere 2 http://h6.test/\n\
+         elsewhere 2 http://h7.test/\n\
+         accepted 0 1\n",
+    ),
+    (
+        1,
+        "elsewhere 2 http://h0.test/\n\
+         elsewhere 2 http://h1.test/\n\
+         elsewhere 0 http://h2.test/\n\
+         elsewhere 0 http://h3.test/\n\
+         accepted 2 0\n\
+         accepted 3 0\n\
+         elsewhere 2 http://h6.test/\n\
+         elsewhere 2 http://h7.test/\n\
+         elsewhere 0 http://h8.test/\n",
+    ),
+    (
+        2,
+        "accepted 4 0\n\
+         accepted 5 0\n\
+         elsewhere 0 http://h2.test/\n\
+         elsewhere 0 http://h3.test/\n\
+         elsewhere 1 http://h4.test/\n\
+         elsewhere 1 http://h5.test/\n\
+         accepted 4 1\n\
+         accepted 5 1\n\
+         elsewhere 0 http://h8.test/\n",
+    ),
+];
+
 #[test]
-fn parts_have_each_url_once(rt: HostRuntime) -> Result<(), Fail> {
-    let alloc = rt.alloc();
-    let mut counts = [0u64; 6];
-    for number in 0..3u32 {
-        let mut session = part_of(alloc, number, 3)?;
-        for host in 0..20 {
-            let mut url = String::new(alloc);
-            write!(url, "http://h{host}.test/")?;
-            let queue = canonical(alloc, &url)?.subqueue(6);
-            let mut line = String::new(alloc);
-            write!(line, "offer {url}")?;
-            let mut wanted = String::new(alloc);
-            let owner = queue / 2;
-            if owner == number {
-                let before = counts[queue as usize];
-                write!(wanted, "accepted {queue} {before}")?;
-                counts[queue as usize] = before.saturating_add(1);
-            } else {
-                write!(wanted, "elsewhere {owner} {url}")?;
-            }
-            assert_eq!(rt; told(alloc, &mut session, &line)?.as_str(), wanted.as_str());
-        }
+fn parts_have_each_url_once(rt: HostRuntime) {
+    for (number, wanted) in OWNERS {
+        assert!(rt;
+            part_answers(rt.alloc(), number, 3, OFFERS, wanted),
+            "part {number}"
+        );
     }
-    assert_eq!(rt; counts.iter().sum::<u64>(), 20);
-    Ok(())
 }
 
 #[test]
-fn a_part_has_its_own_queues(rt: HostRuntime) -> Result<(), Fail> {
-    let alloc = rt.alloc();
-    let mut part = part_of(alloc, 1, 2)?;
-    let rows = [
-        ("next 1", "refused nosuch"),
-        ("next 2", "pending 1"),
-        ("again 3", "refused nothing"),
-        ("again 0", "refused nosuch"),
-        ("done 4", "refused nosuch"),
-        ("done 1", "refused nosuch"),
-        ("offer http://a.other/", "filtered"),
-        ("sync", "synced"),
-        ("identity", "identity 3f-a"),
-        ("sync 1", "bad line"),
-    ];
-    for (line, wanted) in rows {
-        assert_eq!(rt; told(alloc, &mut part, line)?.as_str(), wanted);
+fn a_part_has_its_own_queues(rt: HostRuntime) {
+    let input =
+        "next 1\nnext 2\nagain 3\nagain 0\ndone 4\ndone 1\noffer http://a.other/\nsync 1\nsync\nidentity\n";
+    let wanted =
+        "refused nosuch\npending 1\nrefused nothing\nrefused nosuch\nrefused nosuch\nrefused nosuch\nfiltered\nbad line\nsynced\nidentity 3f-a\n";
+    assert!(rt; part_answers(rt.alloc(), 1, 2, input, wanted));
+    let told = answers(rt.alloc(), b"sync\nidentity\n", 3, false);
+    assert!(rt; is(told, b"bad line\nbad line\n", false));
+}
+
+#[test]
+fn a_part_is_below_their_number_and_has_few_queues(rt: HostRuntime) {
+    for (parts, is_one) in [
+        (0, false),
+        (1, false),
+        (2, true),
+        (256, true),
+        (257, false),
+        (2_147_483_648, false),
+    ] {
+        assert!(rt;
+            part_of(rt.alloc(), 1, parts).is_ok() == is_one,
+            "{parts} parts"
+        );
     }
-    let mut alone = session(alloc)?;
-    assert_eq!(rt; told(alloc, &mut alone, "sync")?.as_str(), "bad line");
-    assert_eq!(rt; told(alloc, &mut alone, "identity")?.as_str(), "bad line");
-    for parts in [0, 1, 257, 65_536, 2_147_483_648] {
-        assert!(rt; part_of(alloc, 1, parts).is_err());
-    }
-    Ok(())
+}
+
+/// What stands before the settings, in one line.
+fn start_line(alloc: Global, line: &str) -> Result<String, AllocError> {
+    let (part, identity, rest) = read_start(line);
+    format!(in alloc; "{part:?} {identity:?} {rest}")
 }
 
 #[test]
@@ -288,55 +328,50 @@ fn a_log_names_its_part(rt: HostRuntime) -> Result<(), Fail> {
     let alloc = rt.alloc();
     let text = start_text(alloc, Some((1, 4)), Some("3f-a"))?;
     assert_eq!(rt; text.as_str(), "part 1 of 4 identity 3f-a ");
-    for (line, part, identity, rest) in [
+    for (line, wanted) in [
         (
             "part 1 of 4 identity x workers 2 max 9",
-            Some((1, 4)),
-            Some("x"),
-            "workers 2 max 9",
+            "Some((1, 4)) Some(\"x\") workers 2 max 9",
         ),
         (
             "within a.test workers 2 max 9",
-            None,
-            None,
-            "within a.test workers 2 max 9",
+            "None None within a.test workers 2 max 9",
         ),
         (
             "identity x workers 2 max 9",
-            None,
-            Some("x"),
-            "workers 2 max 9",
+            "None Some(\"x\") workers 2 max 9",
         ),
-        (
-            "part 1 workers 2 max 9",
-            None,
-            None,
-            "part 1 workers 2 max 9",
-        ),
+        ("part 1 workers 2 max 9", "None None part 1 workers 2 max 9"),
     ] {
-        assert!(rt; read_start(line) == (part, identity, rest), "{line}");
+        let told = start_line(alloc, line)?;
+        assert_eq!(rt; told.as_str(), wanted);
     }
     Ok(())
 }
 
-/// A log twice: each part keeps what it accepted, and what it told elsewhere, once.
-#[test]
-fn a_compacted_log_keeps_what_is_told_elsewhere_once(rt: HostRuntime) -> Result<(), Fail> {
-    let alloc = rt.alloc();
-    let log =
-        "offer http://h0.test/\noffer http://h1.test/\noffer http://h2.test/\noffer http://h3.test/\noffer http://h4.test/#x\nsync\nlink http://h0.test/ //H1.test\nidentity\n";
-    for number in 0..2u32 {
-        let mut session = part_of(alloc, number, 2)?;
-        let mut kept = Vec::new(alloc);
-        let mut compactor = Compactor::new(alloc);
-        for _time in 0..2 {
-            let ended = compactor.compact(&mut session, log.as_bytes(), &mut kept);
-            assert!(rt; ended == Ok(()));
-        }
-        let wanted = &log[..log.len().min(112)];
-        assert!(rt; kept.as_slice() == wanted.as_bytes());
+/// The log of a part that was given these lines twice.
+fn compacted(alloc: Global, number: u32, log: &str) -> Option<Vec<u8>> {
+    let mut session = part_of(alloc, number, 2).ok()?;
+    let mut compactor = Compactor::new(alloc);
+    let mut kept = Vec::new(alloc);
+    for _time in 0..2 {
+        compactor
+            .compact(&mut session, log.as_bytes(), &mut kept)
+            .ok()?;
     }
-    Ok(())
+    Some(kept)
+}
+
+/// What a part accepts, and what it tells elsewhere, each stays once.
+#[test]
+fn a_compacted_log_keeps_what_is_told_elsewhere_once(rt: HostRuntime) {
+    let log =
+        "offer http://h0.test/\noffer http://h1.test/#x\nlink http://h0.test/ //H1.test\nsync\nidentity\n";
+    let kept = "offer http://h0.test/\noffer http://h1.test/#x\n";
+    for number in 0..2u32 {
+        let told = compacted(rt.alloc(), number, log);
+        assert!(rt; told.is_some_and(|text| text.as_slice() == kept.as_bytes()));
+    }
 }
 
 #[test]

@@ -9,9 +9,10 @@ mod key;
 pub mod laws;
 
 pub use commands::{
-    BAD_COMMAND_LINE, CrawlOptions, Fault, INPUT_LIMIT, InputLimits, LockFiles, LogFault, LogPlan,
-    Plan, PlanError, READ_LIMIT, Report, Unread, crawl_saved_web, fault_line, plan, queue_text,
-    read_input, report_of_saved_web, run_plan, run_words,
+    BAD_COMMAND_LINE, CrawlOptions, Fault, INPUT_LIMIT, InputLimits, LockFile, LogFault, LogPlan,
+    Plan, PlanError, READ_LIMIT, Report, SessionPlan, Unread, crawl_saved_web, fault_line, plan,
+    queue_text, read_input, report_of_saved_web, run_plan, run_plan_with, run_words,
+    run_words_with,
 };
 pub use crawl_certificate::{CertError, CrawlResult, certify};
 pub use crawl_replay::{Script, ScriptError, read_script, replay_text};

@@ -1,7 +1,7 @@
 //! The program `mercator`.
 #![tactic(auto)]
 
-use mercator::{BAD_COMMAND_LINE, Fault, run_words};
+use mercator::{BAD_COMMAND_LINE, Fault, run_words_with};
 use std::io::{ErrorKind, Write};
 use std::process::ExitCode;
 use std::rt::Env;
@@ -12,7 +12,8 @@ fn main(rt: HostRuntime) -> ExitCode {
         Ok(words) => words,
         Err(error) => return ExitCode::from(without_words(&mut rt.stderr(), &error)),
     };
-    ExitCode::from(run_words(
+    ExitCode::from(run_words_with(
+        &rt,
         &rt,
         rt.alloc(),
         &words,

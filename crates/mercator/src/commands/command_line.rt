@@ -33,6 +33,8 @@ Requests, one a line, each answered by one line at once:
   again Q         taken URL | refused nothing | refused nosuch
   done Q          count COUNT | refused nothing | refused nosuch
   endseeds        count COUNT | refused nothing
+  sync, identity  synced, identity TEXT, of a part; a URL of another part is answered
+                  elsewhere P URL
 Any other line is answered 'bad line', 'line too long' or 'not UTF-8'.";
 
 /// The whole command line.
@@ -95,8 +97,10 @@ fn serve_command<'a>(alloc: Global) -> Result<Command<'a>, AllocError> {
         .arg(workers(alloc, "Workers, each with a subqueue of its own: 1 to 512"))?
         .arg(max_pending(alloc))?
         .arg(within(alloc))?
+        .arg(part(alloc))?
         .arg(log(alloc))?
-        .arg(sync(alloc)?)
+        .arg(sync(alloc)?)?
+        .arg(compact(alloc)?)
 }
 
 fn workers<'a>(alloc: Global, help: &'a str) -> Arg<'a> {
@@ -173,6 +177,12 @@ fn within<'a>(alloc: Global) -> Arg<'a> {
         .help("Crawls only hosts that are SUFFIX or end with a dot and it")
 }
 
+fn part<'a>(alloc: Global) -> Arg<'a> {
+    Arg::new(alloc, "part").long("part").value_name("I/K").help(
+        "Is part I, from 0, of K frontiers with N workers each that share a crawl",
+    )
+}
+
 fn log<'a>(alloc: Global) -> Arg<'a> {
     Arg::new(alloc, "log").long("log").value_name("FILE").help(
         "Appends each request to FILE before it is answered, and begins where FILE ends",
@@ -184,6 +194,14 @@ fn sync<'a>(alloc: Global) -> Result<Arg<'a>, AllocError> {
         .long("sync")
         .action(ArgAction::SetTrue)
         .help("The disk has each request before it is answered")
+        .requires_arg("log")
+}
+
+fn compact<'a>(alloc: Global) -> Result<Arg<'a>, AllocError> {
+    Arg::new(alloc, "compact")
+        .long("compact")
+        .value_name("NEW")
+        .help("Writes the requests of FILE that are needed to a new file, and ends")
         .requires_arg("log")
 }
 
