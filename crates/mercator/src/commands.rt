@@ -15,6 +15,7 @@ mod compacting;
 mod crawl_text;
 mod fault;
 mod fault_text;
+mod folder_words;
 mod input;
 mod log_file;
 mod opening;
@@ -45,7 +46,7 @@ use std::sync::Wait;
 use std::thread::Threads;
 use tell::tell;
 pub use web_crawl::{Report, crawl_saved_web, report_of_saved_web};
-pub use words::{BAD_COMMAND_LINE, PlanError, plan};
+pub use words::{BAD_COMMAND_LINE, PlanError, plan, whole_command};
 pub use writing::fault_line;
 use writing::{begin, end, tell_fault};
 

@@ -1,4 +1,5 @@
 //! The commands and options as `clap` knows them, and their help.
+use crate::commands::folder_words::{check_command, site_command};
 use clap::builder::ValueParser;
 use clap::{Arg, ArgAction, Command};
 use crawl_limits::{PENDING_LIMIT, WORKER_LIMIT};
@@ -8,8 +9,9 @@ use std::alloc::{AllocError, Global};
 pub const NAME: &str = "mercator";
 
 const STATUSES: &str = "\
-Status: 0 done, 1 a fault, 2 an incomplete crawl, 3 a bad command line.
-Example: mercator crawl site.web http://site.test/";
+Status: 0 done, 1 a fault, 2 an incomplete crawl, 3 a bad command line,
+4 a check that found something broken.
+Example: mercator check examples/site";
 
 const CRAWL_HELP: &str = "\
 The report has a line for each URL, in the order of their bytes, and a line of totals. It is the
@@ -46,7 +48,9 @@ pub fn command_line<'a>(alloc: Global) -> Result<Command<'a>, AllocError> {
         .subcommand(crawl_command(alloc)?)?
         .subcommand(key_command(alloc)?)?
         .subcommand(replay_command(alloc)?)?
-        .subcommand(serve_command(alloc)?)
+        .subcommand(serve_command(alloc)?)?
+        .subcommand(site_command(alloc)?)?
+        .subcommand(check_command(alloc)?)
 }
 
 fn crawl_command<'a>(alloc: Global) -> Result<Command<'a>, AllocError> {

@@ -6,8 +6,8 @@ ghost use Rattle.mercator.specs.declared.commands.words.PlanError.TheVariants as
 
 use crate::commands::command_line::{self, command_line};
 use crate::commands::planned::{CrawlOptions, LogPlan, Plan, SessionPlan};
-use clap::ArgMatches;
 use clap::error::ErrorKind;
+use clap::{ArgMatches, Command};
 use crawl_limits::{PENDING_LIMIT, WORKER_LIMIT};
 use crawl_replay::number32;
 use crawl_report::Sources;
@@ -57,6 +57,14 @@ pub fn plan(alloc: Global, words: &[String]) -> Result<Plan, PlanError>
         Ok(matches) => plan_of(alloc, &matches),
         Err(error) => Err(shown(alloc, &error)),
     }
+}
+
+/// The whole command line as `clap` knows it, with the commands that `mercator_site` runs; of their words no plan comes here.
+///
+/// # Errors
+/// Where a growth was refused.
+pub fn whole_command<'a>(alloc: Global) -> Result<Command<'a>, AllocError> {
+    command_line(alloc)
 }
 
 /// The words behind the program's name, which stands in usage lines.
