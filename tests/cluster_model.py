@@ -571,7 +571,6 @@ class Own:
                 parts[me] = parts[me]._replace(client=renumbered(client, new))
         return state._replace(streams=tuple(streams), parts=tuple(parts), late=tuple(sorted(late)))
 
-
     def forgotten(self, state: State) -> State:
         """Whether a part has begun, once it is ready; what it sent, where no page links to it."""
         for me, (frontier, client) in enumerate(state.parts):
@@ -637,7 +636,7 @@ class CounterClient(NamedTuple):
 
 
 class CounterState(NamedTuple):
-    count: int
+    units: int
     streams: Tuple[Urls, ...]
     parts: Tuple[Tuple[Frontier, Optional[CounterClient]], ...]
     fetched: int  # pages whose links were all sent or accepted, as bits, for the test alone
@@ -667,8 +666,8 @@ class Counter:
         return CounterState(sum(map(len, streams)), tuple(streams), parts, 0, self.crashes)
 
     def bad(self, state: CounterState) -> Optional[str]:
-        if state.fetched != self.all and state.count <= 0:
-            return f"the counter says {state.count} before all was fetched"
+        if state.fetched != self.all and state.units <= 0:
+            return f"the counter says {state.units} before all was fetched"
         if state.fetched != self.all and any(frontier.is_closed() for frontier, _ in state.parts):
             return "a gate closed before all was fetched"
         return None
@@ -689,11 +688,11 @@ class Counter:
                 move.go("CRASHES", c=None, kind="crash", crashes=state.crashes - 1)
             if client.owes:
                 move.go("lowers the counter, for the page is done", c=client._replace(owes=0),
-                        count=state.count - 1)
+                        units=state.units - 1)
                 continue
             move.read()
             move.fetch()
-            if state.count == 0 and not frontier.ended:
+            if state.units == 0 and not frontier.ended:
                 move.go("finds the counter 0; endseeds", f=frontier._replace(ended=1))
         return out
 
@@ -710,7 +709,7 @@ class _Move:
         state, me = self.state, self.me
         part = (changes.pop("f", self.frontier), changes.pop("c", self.client))
         after = state._replace(parts=state.parts[:me] + (part,) + state.parts[me + 1:], **changes)
-        self.out.append((f"part {me}: {what}; the counter is {after.count}", kind, after))
+        self.out.append((f"part {me}: {what}; the counter is {after.units}", kind, after))
 
     def streams_with(self, part: int, stream: Urls) -> Tuple[Urls, ...]:
         streams = self.state.streams
@@ -718,7 +717,7 @@ class _Move:
 
     def read(self) -> None:
         """One message at a time."""
-        client, mine, count = self.client, self.state.streams[self.me], self.state.count
+        client, mine, units = self.client, self.state.streams[self.me], self.state.units
         assert client is not None
         is_passed = self.of.how == "passed"
         if not client.reading:
@@ -732,22 +731,22 @@ class _Move:
         over = client._replace(reading=())
         if stage == "raise":
             self.go(f"raises the counter for {name}", c=client._replace(reading=(url, "offer")),
-                    count=count + 1)
+                    units=units + 1)
         elif stage == "offer":
             answer, after = self.frontier.offer(self.of.web, self.me, url)
             stage = "lower" if answer == "seen" else "ack"
             self.go(f"offer {name} -> {answer}", f=after, c=client._replace(reading=(url, stage)))
         elif stage == "lower" and is_passed:
             self.go(f"acknowledges {name} and lowers the counter, in one transaction", c=over,
-                    count=count - 1, streams=rest)
+                    units=units - 1, streams=rest)
         elif stage == "lower":
             self.go(f"lowers the counter, for {name} was seen",
-                    c=client._replace(reading=(url, "ack")), count=count - 1)
+                    c=client._replace(reading=(url, "ack")), units=units - 1)
         elif is_passed:
             self.go(f"acknowledges {name}", c=over, streams=rest)
         else:
             self.go(f"acknowledges {name} and counts the message off, in one transaction", c=over,
-                    count=count - 1, streams=rest)
+                    units=units - 1, streams=rest)
 
     def fetch(self) -> None:
         frontier, client = self.frontier, self.client
@@ -761,12 +760,12 @@ class _Move:
                     c=client._replace(page=(self.of.web.links[url], "", -1)))
 
     def of_page(self, client: CounterClient, links: Urls, stage: str, url: int) -> None:
-        count, frontier, part = self.state.count, self.frontier, self.of.web.part
+        units, frontier, part = self.state.units, self.frontier, self.of.web.part
         name = self.names[url] if url >= 0 else ""
         over = client._replace(page=(links, "", -1))
         if stage == "" and links:
             self.go(f"raises the counter for the link {self.names[links[0]]}",
-                    c=client._replace(page=(links[1:], "offer", links[0])), count=count + 1)
+                    c=client._replace(page=(links[1:], "offer", links[0])), units=units + 1)
         elif stage == "offer":
             answer, after = frontier.offer(self.of.web, self.me, url)
             stage = {"elsewhere": "send", "accepted": ""}.get(answer, "lower")
@@ -776,7 +775,7 @@ class _Move:
             streams = self.streams_with(part[url], self.state.streams[part[url]] + (url,))
             self.go(f"sends {name} to part {part[url]}", c=over, streams=streams)
         elif stage == "lower":
-            self.go(f"lowers the counter, for {name} was seen", c=over, count=count - 1)
+            self.go(f"lowers the counter, for {name} was seen", c=over, units=units - 1)
         else:
             self.finish(client, stage)
 
@@ -790,7 +789,7 @@ class _Move:
                     fetched=fetched)
         else:
             self.go(f"lowers the counter, for {self.names[hand]} is fetched",
-                    c=client._replace(page=((), "lowered", -1)), count=self.state.count - 1,
+                    c=client._replace(page=((), "lowered", -1)), units=self.state.units - 1,
                     fetched=fetched)
 
 

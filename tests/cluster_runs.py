@@ -1,11 +1,11 @@
 #!/usr/bin/python3
-"""Runs crawls that K parts share over a Redis of its own, with faults, and compares what they fetch.
+"""Runs crawls that K parts share over a Redis of its own, with faults; compares what they fetch.
 
 Usage: cluster_runs.py [--program FILE] [--part NAME].. [--webs N] [--seed S] [--pages N] [--keep]
 
 PROGRAM is --program, else what MERCATOR of the environment names, else the built program; it has
-to have `serve --part` and `--log`. `serving/fake.py` is a frontier in Python that has them. A web is
-generated, and a fetch reads it: no HTTP. What is to be fetched is what `mercator crawl` reports,
+to have `serve --part` and `--log`. `tests/serving/fake.py`, a frontier in Python, has them. A web
+is generated, and a fetch reads it: no HTTP. What is to be fetched is what `mercator crawl` reports,
 and an own search where PROGRAM has no `crawl`.
 
 A part is a process of this script with its frontier. Redis listens on a free port of the loopback,
@@ -29,10 +29,11 @@ import time
 import traceback
 from collections import Counter, defaultdict
 from pathlib import Path
-from typing import Any, Callable, Dict, Iterable, List, NamedTuple, Optional, Set, Tuple
+from typing import Any, Callable, Dict, Iterable, List, NamedTuple, Optional, Set, Tuple, Type
 
 ROOT = Path(__file__).resolve().parent.parent
 sys.path[:0] = [str(ROOT / "tests"), str(ROOT / "clients/python")]
+import mercator_cluster  # noqa: E402
 import redis  # noqa: E402
 from mercator_cluster import (  # noqa: E402
     Crawl, Cut, Fetched, OtherCrawl, Part, UnsafeRedis, run,
@@ -40,6 +41,7 @@ from mercator_cluster import (  # noqa: E402
 from mercator_frontier import FrontierEnded  # noqa: E402
 from serving.crawlers import Folder, found_by_search  # noqa: E402
 
+LONG = "\u00fc" * 1500
 SECONDS = float(os.environ.get("SECONDS", "120"))
 BUILT = ROOT / "crates/mercator_cli/out/mercator_cli"
 # How a process of a part ends.
@@ -87,7 +89,9 @@ def spelled(draw: random.Random, page: str, url: str) -> str:
     host, path = url[7:].split("/", 1)
     texts = [url, url, f"HTTP://{host.upper()}:80/x/../{path}#part", f"//{host}/./{path}"]
     if draw.randrange(8) == 0:
-        texts = [f"http://{host}/gone/{draw.randrange(9)}", "mailto:x", "http://o.other/", "x y"]
+        # The last one is canonical with three times as many bytes: no request has room for it.
+        texts = [f"http://{host}/gone/{draw.randrange(9)}", "mailto:x", "http://o.other/", "x y",
+                 f"http://{host}/{LONG}"]
     elif page[7:].split("/")[0] == host:
         texts += [f"/{path}", f"../{path}#f", path[2:]]
     return draw.choice(texts)
@@ -208,43 +212,60 @@ class Shared(NamedTuple):
     has_threads: bool = False
 
 
-class FaultyPart(Part):
-    """A part whose entries are sent twice, and late."""
+class Held(NamedTuple):
+    """A line that is held back, and until when."""
 
-    faults = Faults()
-    is_begun = False
+    due: float
+    to: int
+    line: bytes
+    owners: List[Any]
 
-    def __init__(self, *words: Any, **options: Any) -> None:
-        self.held: List[Tuple[float, bytes, bytes, Any]] = []
-        super().__init__(*words, **options)
-        self.is_begun = True
 
-    def _sendings(self, pipe: Any) -> Any:
-        now = time.monotonic()
-        for due in [held for held in self.held if held[0] <= now]:
-            self._outbox.setdefault(due[1], {}).setdefault(due[2], []).extend(due[3])
-        self.held = [held for held in self.held if held[0] > now]
-        if self.faults.late and self.is_begun:
-            for to, lines in self._outbox.items():
-                for line in [line for line in lines if random.random() < self.faults.late]:
-                    self.held.append((now + random.random() / 20, to, line, lines.pop(line)))
-            self._outbox = {to: lines for to, lines in self._outbox.items() if lines}
-        sendings = super()._sendings(pipe)
+class FaultyOutbox(mercator_cluster._Outbox):
+    """Sends entries twice, and lines late."""
+
+    def __init__(self, mine: int, faults: Faults) -> None:
+        super().__init__(mine)
+        self.faults = faults
+        self.held: List[Held] = []
+
+    def __bool__(self) -> bool:
+        return bool(self.held) or super().__bool__()
+
+    def send(self, pipe: Any, streams: List[str]) -> None:
+        self.release()
+        self.hold()
+        lines = self._lines
+        super().send(pipe, streams)
         if self.faults.is_twice:
-            super()._sendings(pipe)
-        return sendings
+            sendings = self._sendings.copy()
+            self._lines = lines
+            super().send(pipe, streams)
+            self._sendings = sendings
 
-    def _is_quiet(self) -> bool:
-        return not self.held and super()._is_quiet()
+    def release(self) -> None:
+        now = time.monotonic()
+        for held in self.held:
+            if held.due <= now:
+                lines = self._lines.setdefault(held.to, {})
+                lines.setdefault(held.line, []).extend(held.owners)
+        self.held = [held for held in self.held if held.due > now]
+
+    def hold(self) -> None:
+        for to, lines in self._lines.items():
+            for line in [line for line in lines if random.random() < self.faults.late]:
+                due = time.monotonic() + random.random() / 20
+                self.held.append(Held(due, to, line, lines.pop(line)))
+        self._lines = {to: lines for to, lines in self._lines.items() if lines}
 
 
 def started(shared: Shared, part: int) -> Part:
-    made = FaultyPart(
+    made = Part(
         shared.crawl, part, shared.folder / f"log.{part}", shared.web.seeds if part == 0 else (),
         max_pending=shared.max_pending, sync=shared.is_synced, program=shared.program,
     )
-    made.faults = shared.faults
-    process = made._frontier._channel._process  # type: ignore[attr-defined]
+    made._outbox = FaultyOutbox(part, shared.faults)  # which is empty once a part is ready
+    process = made._frontier._channel._process
     (shared.folder / f"frontier.{part}").write_text(str(process.pid))
     return made
 
@@ -384,9 +405,12 @@ def check(shared: Shared, server: Server, wanted: Dict[str, bool], stopped: Stop
     """Compares what was fetched; how many URLs were fetched again."""
     count, hosts = fetched_by(shared)
     missing, more = set(wanted) - set(count), set(count) - set(wanted)
-    some = sorted(missing)[:3]
+    some = sorted(url[:80] for url in missing)[:3]
     expect(not missing, f"{len(missing)} of {len(wanted)} URLs were not fetched: {some}")
     expect(not more, f"{len(more)} URLs should not be fetched: {sorted(more)[:3]}")
+    pages = {url for url in count if url in shared.web.pages}
+    other = pages ^ {url for url, is_page in wanted.items() if is_page}
+    expect(not other, f"pages for one alone: {sorted(other)[:3]}")
     again = sum(count.values()) - len(count)
     most = stopped.parts * shared.crawl.workers
     expect(again <= most, f"{again} URLs were fetched again, {most} can have been in hand")
@@ -459,8 +483,10 @@ def plain(trial: Trial) -> None:
     """1, 2, 4 and 8 parts: the URLs are those of one frontier, each once; with threads, too."""
     for parts in (1, 2, 4, 8):
         for number in range(trial.webs):
-            options = {"has_threads": number % 5 == 4, "is_synced": number % 2 == 0}
-            drawn_crawl(trial, "plain", number, parts, **options)
+            drawn_crawl(
+                trial, "plain", number, parts, has_threads=number % 5 == 4,
+                is_synced=number % 2 == 0,
+            )
 
 
 def killed(trial: Trial) -> None:
@@ -524,7 +550,7 @@ def refused(trial: Trial) -> None:
         trial.server.client.config_set("maxmemory-policy", "noeviction")
 
 
-def expect_refusal(kind: type, start: Callable[[], Part]) -> None:
+def expect_refusal(kind: Type[Exception], start: Callable[[], Part]) -> None:
     try:
         start().close()
     except kind:

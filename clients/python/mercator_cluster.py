@@ -28,8 +28,9 @@ without one of its logs, nor with other numbers of parts or queues.
 Redis should have `appendonly yes`. It has to have `maxmemory-policy noeviction`, since a stream
 that was evicted looks empty. The keys, for the crawl NAME, all on one node of a Redis cluster:
 
-    {NAME}:to:I       the stream of part I; an entry has the field `u`, a line for each URL, or for
-                      each link that part I had no room for: its base, a space, its text
+    {NAME}:to:I       the stream of part I; an entry has the field `u`, with a line for each URL. A
+                      link stands as its base, a space and its text: one that part I had no room
+                      for, and one whose URL no request has room for
     {NAME}:ready:RUN  the parts that sent their seeds to the Redis with this run_id
     {NAME}:complete   set when the crawl is complete, for good
     {NAME}:shape      the numbers of parts and queues, and the suffix
@@ -47,11 +48,12 @@ import os
 import time
 from collections import deque
 from concurrent.futures import ThreadPoolExecutor
+from dataclasses import dataclass
 from itertools import islice
 from queue import Empty, SimpleQueue
 from typing import (
-    Any, Callable, Deque, Dict, Iterable, Iterator, List, NamedTuple, Optional, Protocol, Set,
-    Tuple, TypeVar, Union,
+    Any, Callable, Deque, Dict, Iterable, Iterator, List, NamedTuple, Optional, Set, Tuple, TypeVar,
+    Union,
 )
 
 import redis
@@ -60,8 +62,8 @@ from mercator_frontier import (
 )
 
 __all__ = [
-    "ClusterError", "Counts", "Crawl", "Cut", "Fetched", "OtherCrawl", "Part", "PartFrontier",
-    "ServedPart", "Taken", "UnsafeRedis", "run",
+    "ClusterError", "Counts", "Crawl", "Cut", "Fetched", "OtherCrawl", "Part", "Taken",
+    "UnsafeRedis", "run",
 ]
 
 # The most URLs of one entry. Entries of one URL cost the clients three times as much, Redis eight.
@@ -76,6 +78,9 @@ _RECENT = 100_000
 
 # So many requests of a log are run at a time, to see what was for other parts.
 _SLICE = 1_000
+
+# The longest URL that `offer` has room for: a request has 4,096 bytes at most.
+_LONGEST_URL = 4_096 - len("offer ")
 
 # Seconds that an idle part waits for an entry before it looks again.
 _IDLE = 1.0
@@ -101,6 +106,7 @@ _NO_MATTER = frozenset((
 
 Thing = TypeVar("Thing")
 PathText = Union[str, "os.PathLike[str]"]
+Fetch = Callable[[int, str], Tuple[str, List[str]]]
 
 
 class ClusterError(FrontierError):
@@ -128,6 +134,10 @@ class Crawl(NamedTuple):
     name: str = "crawl"  # what its keys begin with
     redis: str = "redis://127.0.0.1:6379/0"
 
+    def shape(self) -> bytes:
+        """What Redis has of it, so that no part comes with another crawl."""
+        return f"parts {self.parts} workers {self.workers} within {self.within or '-'}".encode()
+
 
 class Taken(NamedTuple):
     """A URL to be fetched."""
@@ -144,38 +154,24 @@ class Fetched(NamedTuple):
     texts: List[str]
 
 
+@dataclass
 class Counts:
     """What a part did since it was started."""
 
-    def __init__(self) -> None:
-        self.pages = 0  # that are done
-        self.offers = 0
-        self.sent = 0  # URLs to other parts
-        self.entries = 0  # that they were sent in
-        self.rounds = 0
-        self.looks = 0  # whether the crawl is complete
-        self.too_long = 0  # URLs of other parts that no request has room for
+    pages: int = 0  # that are done
+    sent: int = 0  # URLs to other parts
+    entries: int = 0  # that they were sent in
 
 
-class PartFrontier(Protocol):
-    """The frontier of a part: what `ServedPart` is."""
-
-    def ask(self, requests: bytes, count: int) -> List[bytes]:
-        """The answer line of each of so many request lines; each is in the log before."""
-
-    def elsewhere(self) -> Iterator[bytes]:
-        """The `elsewhere` answers of all that the log has, in its order."""
-
-    def close(self) -> None:
-        """Ends it. The log has all."""
+# ---- the frontier
 
 
-class ServedPart:
+class _ServedPart:
     """`mercator serve --part`, over pipes."""
 
     def __init__(
-        self, crawl: Crawl, part: int, log: PathText, max_pending: Optional[int] = None,
-        program: Optional[PathText] = None,
+        self, crawl: Crawl, part: int, log: PathText, max_pending: Optional[int],
+        program: Optional[PathText],
     ) -> None:
         """Starts the program from its log, once no other has the log."""
         self._log = log
@@ -184,31 +180,33 @@ class ServedPart:
         self._command += [] if crawl.within is None else ["--within", crawl.within]
         pending = [] if max_pending is None else ["--max-pending", str(max_pending)]
         self._channel = Channel([*self._command, *pending, "--log", os.fspath(log)], log)
-        self._second: Optional[Channel] = None
 
     def ask(self, requests: bytes, count: int) -> List[bytes]:
+        """The answers to so many lines. Each line is in the log before."""
         return self._channel.exchange(requests, count)
 
-    def elsewhere(self) -> Iterator[bytes]:
-        with open(self._log, "rb") as log:
-            log.readline()
-            offers = (line for line in log if line.startswith((b"offer ", b"link ")))
-            for lines in _slices(offers):
-                if self._second is None:
-                    # With room for no URL it answers `elsewhere` as the first, and holds none.
-                    self._second = Channel([*self._command, "--max-pending", "1"])
-                answers = self._second.exchange(b"".join(lines), len(lines))
-                yield from (answer for answer in answers if answer.startswith(b"elsewhere "))
-        self._end_second()
+    def identity(self) -> bytes:
+        """What tells the log from every other."""
+        word, _, identity = self.ask(b"identity\n", 1)[0].partition(b" ")
+        if word != b"identity":
+            raise UnknownAnswer("the program does not tell its log's identity")
+        return identity
+
+    def offers_of_log(self) -> Iterator[Tuple[List[bytes], List[bytes]]]:
+        """All offers of the log, some at a time, and their answers by a frontier without room."""
+        # It answers `elsewhere` as the first one, and holds no URL.
+        second = Channel([*self._command, "--max-pending", "1"])
+        try:
+            with open(self._log, "rb") as log:
+                log.readline()
+                offers = (line for line in log if line.startswith((b"offer ", b"link ")))
+                for lines in _slices(offers, _SLICE):
+                    yield lines, second.exchange(b"".join(lines), len(lines))
+        finally:
+            second.close()
 
     def close(self) -> None:
         self._channel.close()
-        self._end_second()
-
-    def _end_second(self) -> None:
-        if self._second is not None:
-            self._second.close()
-            self._second = None
 
 
 class _Owner:
@@ -239,24 +237,9 @@ class _Entry(_Owner):
         super().__init__()
         self.number, self.text = number, text  # the lines that are to be offered
 
-    def count(self) -> int:
+    def size(self) -> int:
+        """How many lines are to be offered."""
         return self.text.count(b"\n") + 1 if self.text else 0
-
-
-class _Recent:
-    """URLs that were sent not long ago: a link that many pages have is sent once."""
-
-    def __init__(self) -> None:
-        self.young: Set[bytes] = set()
-        self.old: Set[bytes] = set()
-
-    def __contains__(self, url: bytes) -> bool:
-        return url in self.young or url in self.old
-
-    def add(self, url: bytes) -> None:
-        if len(self.young) >= _RECENT:
-            self.old, self.young = self.young, set()
-        self.young.add(url)
 
 
 class _Offers(NamedTuple):
@@ -264,7 +247,199 @@ class _Offers(NamedTuple):
 
     owner: _Owner
     requests: bytes
-    count: int
+    size: int
+
+    def lines(self) -> List[bytes]:
+        """The requests as they stand in an entry: without their first words."""
+        return [line.partition(b" ")[2] for line in self.requests.splitlines()]
+
+
+# ---- streams
+
+
+class _Broker:
+    """What Redis holds of the crawl, over one connection."""
+
+    def __init__(self, crawl: Crawl, part: int) -> None:
+        self._redis = _connected(crawl.redis)
+        self._part = part
+        self._name = f"{{{crawl.name}}}:"
+        self.streams = [f"{self._name}to:{to}" for to in range(crawl.parts)]
+        self.mine = self.streams[part]
+        self._complete = self._name + "complete"
+        # What names the life of this Redis, from one start to the next.
+        self._ready = f"{self._name}ready:{self._redis.info('server')['run_id']}"
+
+    def pipeline(self) -> Any:
+        """Commands that are sent together, and executed one by one."""
+        return self._redis.pipeline(transaction=False)
+
+    def join(self, crawl: Crawl, log: bytes) -> bool:
+        """Sees that crawl and log are those that Redis knows, if any; whether the part is ready."""
+        part, shape, logs = self._part, self._name + "shape", self._name + "logs"
+        _, its_shape, _, its_log, is_ready = self._at_once(
+            ("SETNX", shape, crawl.shape()), ("GET", shape),
+            ("HSETNX", logs, part, log), ("HGET", logs, part), ("SISMEMBER", self._ready, part),
+        )
+        if its_shape != crawl.shape():
+            raise OtherCrawl(f"crawl {crawl.name} has {its_shape.decode()}")
+        if its_log != log:
+            raise OtherCrawl(f"part {part} of crawl {crawl.name} has another log")
+        return bool(is_ready)
+
+    def make_ready(self) -> None:
+        self._at_once(("XADD", self.mine, "*", "u", b""), ("SADD", self._ready, self._part))
+
+    def is_complete(self, removed: List[bytes]) -> bool:
+        """One look at all parts, at the moment at which these entries leave the own stream.
+
+        What it sees is told to all parts.
+        """
+        replies = self._at_once(
+            *([("XDEL", self.mine, *removed)] if removed else []),
+            *(("XLEN", stream) for stream in self.streams),
+            ("SCARD", self._ready), ("EXISTS", self._complete),
+        )
+        *lengths, ready, is_told = replies[1:] if removed else replies
+        is_seen = ready == len(lengths) and not any(lengths)
+        if is_seen and not is_told:
+            self.tell_complete()
+        return bool(is_seen or is_told)
+
+    def tell_complete(self) -> None:
+        """It is so for good. An empty entry wakes each part."""
+        wake = (("XADD", stream, "*", "u", b"") for stream in self.streams)
+        self._at_once(("SET", self._complete, "1"), *wake)
+
+    def _at_once(self, *commands: Tuple[Any, ...]) -> List[Any]:
+        """A transaction, once Redis has room for it."""
+        while True:
+            pipe = self._redis.pipeline(transaction=True)
+            for command in commands:
+                pipe.execute_command(*command)
+            try:
+                return list(pipe.execute())
+            except redis.ResponseError as error:
+                if not _is_out_of_memory(error):
+                    raise
+            time.sleep(_PAUSE)
+
+
+class _Outbox:
+    """Lines that are to be sent to parts, each with those who wait for it."""
+
+    def __init__(self, mine: int) -> None:
+        self._mine = mine
+        self._lines: Dict[int, Dict[bytes, List[_Owner]]] = {}  # by part
+        self._sendings: List[Tuple[int, Dict[bytes, List[_Owner]]]] = []  # that have no reply yet
+        # URLs that were sent not long ago: a link that many pages have is sent once.
+        self._young: Set[bytes] = set()
+        self._old: Set[bytes] = set()
+
+    def __bool__(self) -> bool:
+        return bool(self._lines)
+
+    def put(self, to: int, line: bytes, owner: _Owner) -> None:
+        if line not in self._young and line not in self._old:
+            owner.owes += 1
+            self._lines.setdefault(to, {}).setdefault(line, []).append(owner)
+
+    def send(self, pipe: Any, streams: List[str]) -> None:
+        """XADD all."""
+        for to, lines in self._lines.items():
+            for some in _slices(lines.items(), _ENTRY):
+                self._sendings.append((to, dict(some)))
+                text = b"\n".join(line for line, _ in some)
+                pipe.execute_command("XADD", streams[to], "*", "u", text)
+        self._lines = {}
+
+    def receive(self, replies: List[Any], counts: Counts) -> None:
+        """What was sent is owed no more. What a full Redis refused is sent again."""
+        for (to, lines), reply in zip(self._sendings, replies):
+            if _is_out_of_memory(reply):
+                self._lines.setdefault(to, {}).update(lines)
+                continue
+            counts.entries += 1
+            counts.sent += len(lines)
+            for owners in lines.values():
+                for owner in owners:
+                    owner.owes -= 1
+            if to != self._mine:
+                self._remember(lines)
+        self._sendings = []
+        if self._lines:
+            time.sleep(_PAUSE)
+
+    def _remember(self, lines: Iterable[bytes]) -> None:
+        if len(self._young) >= _RECENT:
+            self._old, self._young = self._young, set()
+        self._young.update(lines)
+
+
+class _Inbox:
+    """The entries of the part's own stream that were read, and those of them that are done with."""
+
+    def __init__(self) -> None:
+        self.waiting = 0  # so many lines are to be offered
+        self._cursor: Union[str, bytes] = "0-0"
+        self._entries: Deque[_Entry] = deque()
+        self._kept: Optional[bytes] = None  # the last entry that is done with
+        self._removable: List[bytes] = []  # those before it
+
+    def __bool__(self) -> bool:
+        return bool(self._entries)
+
+    def ask(self, pipe: Any, stream: str, seconds: float) -> bool:
+        """XDEL what is done with, and XREAD what came, if there is room: then it answers so."""
+        if self._removable:
+            pipe.execute_command("XDEL", stream, *self._removable)
+            self._removable = []
+        has_room = self.waiting < _WAITING
+        if has_room:
+            block = int(seconds * 1000) or None
+            pipe.xread({stream: self._cursor}, count=_READ, block=block)
+        return has_room
+
+    def read(self, streams: Any) -> None:
+        for _, entries in streams or ():
+            for number, fields in entries:
+                self._cursor = number
+                entry = _Entry(number, fields[b"u"])
+                self._entries.append(entry)
+                self.waiting += entry.size()
+
+    def first(self, room: Optional[int]) -> List[_Entry]:
+        """The first entries with lines to be offered, one at least, as far as there is room."""
+        some: List[_Entry] = []
+        room = self.waiting if room is None else room
+        for entry in self._entries:
+            if entry.text:
+                some.append(entry)
+                room -= entry.size()
+                if room <= 0:
+                    break
+        return some
+
+    def leave(self, entry: _Entry, lines: List[bytes]) -> None:
+        """An entry was offered, but for these lines."""
+        self.waiting -= entry.size() - len(lines)
+        entry.text = b"\n".join(lines)
+
+    def retire(self) -> None:
+        """Entries are done with in their order, once all their URLs were offered and sent on."""
+        while self._entries and not self._entries[0].text and not self._entries[0].owes:
+            if self._kept is not None:
+                self._removable.append(self._kept)
+            self._kept = self._entries.popleft().number
+
+    def empty(self) -> List[bytes]:
+        """All that is done with, the last one too: for a part that has nothing else."""
+        removable = self._removable + ([] if self._kept is None else [self._kept])
+        self._removable, self._kept = [], None
+        return removable
+
+
+# ---- a part
 
 
 class Part:
@@ -284,7 +459,6 @@ class Part:
         max_pending: Optional[int] = None,
         sync: bool = True,
         program: Optional[PathText] = None,
-        frontier: Optional[PartFrontier] = None,
     ) -> None:
         """Starts the frontier from its log, and makes the part ready.
 
@@ -293,36 +467,25 @@ class Part:
         max_pending  the most URLs of this part that are not done at one time; at least 2
         sync         an entry leaves Redis only when the disk has what it brought
         program      as for `Frontier`
-        frontier     another than the program's
         """
         if max_pending is not None and max_pending < 2:
             raise ValueError("max_pending is less than 2: no URL would have room beside the seeds")
         self.counts = Counts()
-        self._crawl, self._part, self._is_synced = crawl, part, sync
+        self._part, self._sync = part, b"sync\n" if sync else b""
         self._queues = range(part * crawl.workers, (part + 1) * crawl.workers)
-        self._streams = {b"%d" % to: f"{{{crawl.name}}}:to:{to}" for to in range(crawl.parts)}
-        self._mine = b"%d" % part
-        self._cursor: Union[str, bytes] = "0-0"
-        self._entries: Deque[_Entry] = deque()  # that were read, and are not done with
-        self._waiting = 0  # so many lines of them are to be offered
-        self._kept: Optional[bytes] = None  # the last entry that is done with
-        self._removable: List[bytes] = []  # those before it
+        self._inbox, self._outbox = _Inbox(), _Outbox(part)
         self._pages: Dict[int, _Page] = {}  # by queue
         self._again: List[Taken] = []
-        self._some: Set[int] = set()  # queues without a page that may have a URL
-        self._outbox: Dict[bytes, Dict[bytes, List[_Owner]]] = {}  # by part, by line
-        self._recent = _Recent()
+        self._some: Set[int] = set(self._queues)  # queues without a page that may have a URL
         self._most = _MOST if max_pending is None else max_pending
         self._room: Optional[int] = None  # for so many URLs, once one had none
         self._is_closed = False
         with _cuts_are_told():
-            self._redis = _connected(crawl.redis)
-        self._frontier: PartFrontier = frontier or ServedPart(
-            crawl, part, log, max_pending, program
-        )
+            self._broker = _Broker(crawl, part)
+        self._frontier = _ServedPart(crawl, part, log, max_pending, program)
         try:
             with _cuts_are_told():
-                self._begin(seeds)
+                self._begin(crawl, seeds)
         except BaseException:
             self.close()
             raise
@@ -332,7 +495,7 @@ class Part:
     @property
     def workers(self) -> int:
         """How many queues the part has, and so fetches at one time."""
-        return self._crawl.workers
+        return len(self._queues)
 
     @property
     def in_hand(self) -> int:
@@ -351,7 +514,7 @@ class Part:
             self._offer_entries()
             self._exchange()
             taken += self._take()
-            if self._is_quiet() and self._is_complete():
+            if self._is_quiet() and self._broker.is_complete(self._inbox.empty()):
                 self._end()
                 return None
             return taken
@@ -368,42 +531,21 @@ class Part:
 
     # ---- the start
 
-    def _begin(self, seeds: Iterable[str]) -> None:
-        name = f"{{{self._crawl.name}}}:"
-        self._complete, self._ready = name + "complete", name + "ready:" + _run_of(self._redis)
-        is_ready = self._is_of_the_crawl(name + "shape", name + "logs")
+    def _begin(self, crawl: Crawl, seeds: Iterable[str]) -> None:
+        is_ready = self._broker.join(crawl, self._frontier.identity())
         self._take_again()
         answer = self._next_of_first()
         if answer.startswith(b"taken "):
             self._again.append(self._taken(self._queues[0], answer))
         self._is_closed = answer == b"closed"
         if self._is_closed:
-            self._tell_complete()  # its log has `endseeds`
+            self._broker.tell_complete()  # the log has `endseeds`
         elif not is_ready:
             self._announce(seeds)
-
-    def _is_of_the_crawl(self, shape_key: str, logs_key: str) -> bool:
-        """Sees that crawl and log are those that Redis knows, if any; whether the part is ready."""
-        crawl, part = self._crawl, str(self._part)
-        shape = f"parts {crawl.parts} workers {crawl.workers} within {crawl.within or '-'}".encode()
-        word, _, identity = self._frontier.ask(b"identity\n", 1)[0].partition(b" ")
-        if word != b"identity":
-            raise UnknownAnswer("the program does not tell its log's identity")
-        _, its_shape, _, its_log, is_ready = self._transaction(
-            ("SETNX", shape_key, shape), ("GET", shape_key),
-            ("HSETNX", logs_key, part, identity), ("HGET", logs_key, part),
-            ("SISMEMBER", self._ready, part),
-        )
-        if its_shape != shape:
-            raise OtherCrawl(f"crawl {crawl.name} has {its_shape.decode()}, not {shape.decode()}")
-        if its_log != identity:
-            raise OtherCrawl(f"part {part} of crawl {crawl.name} has another log")
-        return bool(is_ready)
 
     def _take_again(self) -> None:
         """What was in hand when the log ended is fetched again."""
         requests = b"".join(b"again %d\n" % queue for queue in self._queues)
-        self._some = set(self._queues)
         for queue, answer in zip(self._queues, self._frontier.ask(requests, len(self._queues))):
             if answer.startswith(b"taken "):
                 self._again.append(self._taken(queue, answer))
@@ -411,27 +553,28 @@ class Part:
     def _announce(self, seeds: Iterable[str]) -> None:
         """Sends the seeds, and what the log says was for others; then the part is ready."""
         nobody = _Owner()
-        for answers in _slices(self._frontier.elsewhere()):
-            for answer in answers:
-                self._put(answer, nobody)
+        for lines, answers in self._frontier.offers_of_log():
+            offers = _Offers(nobody, b"".join(lines), len(lines))
+            for place, answer in enumerate(answers):
+                if answer.startswith(b"elsewhere "):
+                    self._put(answer, offers, place)
             self._send_all()
-        for some in _slices(filter(None, map(_line_of_seed, seeds))):
-            self._outbox[self._mine] = {line: [nobody] for line in some}
+        for some in _slices(filter(None, map(_line_of_seed, seeds)), _SLICE):
+            for line in some:
+                self._outbox.put(self._part, line, nobody)
             self._send_all()
-        self._transaction(
-            ("XADD", self._streams[self._mine], "*", "u", b""), ("SADD", self._ready, self._part)
-        )
+        self._broker.make_ready()
 
     def _send_all(self) -> None:
         while self._outbox:
-            pipe = self._redis.pipeline(transaction=False)
-            sendings = self._sendings(pipe)
-            self._sent(sendings, pipe.execute(raise_on_error=False))
+            pipe = self._broker.pipeline()
+            self._outbox.send(pipe, self._broker.streams)
+            self._outbox.receive(_replies_to(pipe), self.counts)
 
     # ---- the steps of a round
 
     def _offer_links(self, fetched: Iterable[Fetched]) -> None:
-        offers: List[_Offers] = []
+        todo: List[_Offers] = []
         for page in fetched:
             owner = self._pages.get(page.queue)
             if owner is None:
@@ -439,53 +582,38 @@ class Part:
             owner.is_fetched = True
             if page.texts:
                 requests = request_lines(link_word(page.base), page.texts)
-                offers.append(_Offers(owner, requests, len(page.texts)))
-        for offer, refused in zip(offers, self._offer(offers, b"")):
+                todo.append(_Offers(owner, requests, len(page.texts)))
+        for offers, refused in zip(todo, self._offer(todo, b"")):
             # The part's own stream takes what its frontier has no room for.
             for line in refused:
-                self._owe(self._mine, line, offer.owner)
+                self._outbox.put(self._part, line, offers.owner)
 
     def _offer_entries(self) -> None:
         """Offers what came, as far as there is room; and sees which entries are done with."""
-        if self._waiting and self._room != 0:
-            todo = self._with_room()
-            offers = [_Offers(entry, _offers_of(entry.text), entry.count()) for entry in todo]
-            sync = b"sync\n" if self._is_synced else b""
-            for entry, refused in zip(todo, self._offer(offers, sync)):
-                self._waiting -= entry.count() - len(refused)
-                entry.text = b"\n".join(refused)
-        self._retire()
+        if self._inbox.waiting and self._room != 0:
+            entries = self._inbox.first(self._room)
+            todo = [_Offers(entry, _offers_of(entry.text), entry.size()) for entry in entries]
+            for entry, refused in zip(entries, self._offer(todo, self._sync)):
+                self._inbox.leave(entry, refused)
+        self._inbox.retire()
 
-    def _with_room(self) -> List[_Entry]:
-        """The first entries with URLs to be offered, one at least."""
-        todo: List[_Entry] = []
-        room = self._waiting if self._room is None else self._room
-        for entry in self._entries:
-            if entry.text:
-                todo.append(entry)
-                room -= entry.count()
-                if room <= 0:
-                    break
-        return todo
-
-    def _offer(self, offers: List[_Offers], sync: bytes) -> List[List[bytes]]:
+    def _offer(self, todo: List[_Offers], sync: bytes) -> List[List[bytes]]:
         """Asks, and sees to each answer; for each owner the lines that found no room."""
-        if not offers:
+        if not todo:
             return []
-        count = sum(offer.count for offer in offers)
-        requests = b"".join(offer.requests for offer in offers) + sync
-        answers = self._frontier.ask(requests, count + bool(sync))
+        size = sum(offers.size for offers in todo)
+        requests = b"".join(offers.requests for offers in todo) + sync
+        answers = self._frontier.ask(requests, size + bool(sync))
         if sync and answers.pop() != b"synced":
             raise UnknownAnswer("the program does not sync its log")
-        self.counts.offers += count
         begin, refused = 0, []
-        for offer in offers:
-            end = begin + offer.count
-            refused.append(self._sort(offer, answers[begin:end]))
+        for offers in todo:
+            end = begin + offers.size
+            refused.append(self._sort(offers, answers[begin:end]))
             begin = end
         return refused
 
-    def _sort(self, offer: _Offers, answers: List[bytes]) -> List[bytes]:
+    def _sort(self, offers: _Offers, answers: List[bytes]) -> List[bytes]:
         """Sees to the answers of one owner; the lines that found no room."""
         refused: List[int] = []
         for place, answer in enumerate(answers):
@@ -496,91 +624,34 @@ class Part:
                 if queue not in self._pages:
                     self._some.add(queue)
             elif answer.startswith(b"elsewhere "):
-                self._put(answer, offer.owner)
+                self._put(answer, offers, place)
             elif answer == b"refused full":
                 refused.append(place)
-            elif answer in _NO_MATTER:
-                self.counts.too_long += answer == b"line too long"
-            elif not (answer == b"refused closed" and self._is_closed):
+            elif answer not in _NO_MATTER and not (answer == b"refused closed" and self._is_closed):
                 raise UnknownAnswer(answer.decode("utf-8", "replace"))
         if not refused:
             return []
         self._room = 0
-        lines = offer.requests.split(b"\n")
-        return [lines[place].partition(b" ")[2] for place in refused]
+        lines = offers.lines()
+        return [lines[place] for place in refused]
 
-    def _put(self, answer: bytes, owner: _Owner) -> None:
+    def _put(self, answer: bytes, offers: _Offers, place: int) -> None:
         """Keeps a URL of another part, until it is sent."""
         _, to, url = answer.split(b" ", 2)
-        if url not in self._recent:
-            self._owe(to, url, owner)
-
-    def _owe(self, to: bytes, line: bytes, owner: _Owner) -> None:
-        owner.owes += 1
-        self._outbox.setdefault(to, {}).setdefault(line, []).append(owner)
-
-    def _retire(self) -> None:
-        """Entries are done with in their order, once all their URLs were offered and sent on."""
-        while self._entries and not self._entries[0].text and not self._entries[0].owes:
-            if self._kept is not None:
-                self._removable.append(self._kept)
-            self._kept = self._entries.popleft().number
+        line = url if len(url) <= _LONGEST_URL else offers.lines()[place]
+        self._outbox.put(int(to), line, offers.owner)
 
     def _exchange(self) -> None:
         """XADD what is to be sent, XDEL what is done with, XREAD what came: one round trip."""
-        is_idle = not (self._pages or self._some or self._entries or self._outbox)
-        pipe = self._redis.pipeline(transaction=False)
-        sendings = self._sendings(pipe)
-        if self._removable:
-            pipe.execute_command("XDEL", self._streams[self._mine], *self._removable)
-        has_room = self._waiting < _WAITING
-        if has_room:
-            block = int(_IDLE * 1000) if is_idle else None
-            pipe.xread({self._streams[self._mine]: self._cursor}, count=_READ, block=block)
-        replies = pipe.execute(raise_on_error=False)
-        self._removable.clear()
-        self._sent(sendings, replies)
-        if has_room:
-            self._read(_reply(replies[-1]))
-        self._retire()
-        self.counts.rounds += 1
-
-    def _sendings(self, pipe: Any) -> List[Tuple[bytes, Dict[bytes, List[_Owner]]]]:
-        sendings = []
-        for to, lines in self._outbox.items():
-            for some in _slices(lines.items(), _ENTRY):
-                sendings.append((to, dict(some)))
-                text = b"\n".join(line for line, _ in some)
-                pipe.execute_command("XADD", self._streams[to], "*", "u", text)
-        return sendings
-
-    def _sent(
-        self, sendings: List[Tuple[bytes, Dict[bytes, List[_Owner]]]], replies: List[Any]
-    ) -> None:
-        """What was sent is owed no more. What a full Redis refused is sent again."""
-        self._outbox = {}
-        for (to, lines), reply in zip(sendings, replies):
-            if _is_out_of_memory(reply):
-                self._outbox.setdefault(to, {}).update(lines)
-                continue
-            _reply(reply)
-            self.counts.entries += 1
-            self.counts.sent += len(lines)
-            for line, owners in lines.items():
-                for owner in owners:
-                    owner.owes -= 1
-                if to != self._mine:
-                    self._recent.add(line)
-        if self._outbox:
-            time.sleep(_PAUSE)
-
-    def _read(self, streams: Any) -> None:
-        for _, entries in streams or ():
-            for number, fields in entries:
-                self._cursor = number
-                entry = _Entry(number, fields[b"u"])
-                self._entries.append(entry)
-                self._waiting += entry.count()
+        is_idle = not (self._pages or self._some or self._inbox or self._outbox)
+        pipe = self._broker.pipeline()
+        self._outbox.send(pipe, self._broker.streams)
+        is_read = self._inbox.ask(pipe, self._broker.mine, _IDLE if is_idle else 0)
+        replies = _replies_to(pipe)
+        self._outbox.receive(replies, self.counts)
+        if is_read:
+            self._inbox.read(replies[-1])
+        self._inbox.retire()
 
     def _take(self) -> List[Taken]:
         """Pages whose links are sent are done. Then all queues that may have a URL are asked."""
@@ -594,18 +665,20 @@ class Part:
         requests = b"".join([b"done %d\n" % queue for queue in over])
         requests += b"".join([b"next %d\n" % queue for queue in queues])
         answers = self._frontier.ask(requests, len(over) + len(queues))
-        if over:
-            self.counts.pages += len(over)
-            for answer in answers[:len(over)]:
-                if not answer.startswith(b"count "):
-                    raise UnknownAnswer(f"done: {answer.decode()}")
-            if self._room is not None:
-                self._room = max(1, self._most - int(answers[len(over) - 1][6:]))
+        self._count_done(answers[:len(over)])
         self._some = set()
         return [
             self._taken(queue, answer) for queue, answer in zip(queues, answers[len(over):])
             if answer.startswith(b"taken ")
         ]
+
+    def _count_done(self, answers: List[bytes]) -> None:
+        self.counts.pages += len(answers)
+        for answer in answers:
+            if not answer.startswith(b"count "):
+                raise UnknownAnswer(f"done: {answer.decode()}")
+        if answers and self._room is not None:
+            self._room = max(1, self._most - int(answers[-1][6:]))
 
     def _taken(self, queue: int, answer: bytes) -> Taken:
         self._pages[queue] = _Page()
@@ -619,81 +692,42 @@ class Part:
 
     def _is_quiet(self) -> bool:
         """Nothing is in hand, nothing waits and nothing is to be sent: the seeds alone are left."""
-        if self._pages or self._some or self._entries or self._outbox or self._again:
+        if self._pages or self._some or self._inbox or self._outbox:
             return False
         return self._next_of_first() in (b"pending 1", b"closed")
 
-    def _is_complete(self) -> bool:
-        """The last entry goes, too. Then, at the same moment, one look at all parts."""
-        mine = self._streams[self._mine]
-        over = self._removable + ([] if self._kept is None else [self._kept])
-        replies = self._transaction(
-            *([("XDEL", mine, *over)] if over else []),
-            *(("XLEN", stream) for stream in self._streams.values()),
-            ("SCARD", self._ready), ("EXISTS", self._complete),
-        )
-        *lengths, ready, complete = replies[1:] if over else replies
-        self._removable, self._kept = [], None
-        self.counts.looks += 1
-        if not complete and ready == len(self._streams) and not any(lengths):
-            self._tell_complete()
-            return True
-        return bool(complete)
-
-    def _tell_complete(self) -> None:
-        """It is so for good. An empty entry wakes each part."""
-        self._transaction(
-            ("SET", self._complete, "1"),
-            *(("XADD", stream, "*", "u", b"") for stream in self._streams.values()),
-        )
-
     def _end(self) -> None:
-        """The seeds end, and so the gate closes."""
+        """The crawl is complete, for all parts: the seeds end, and so the gate closes."""
         requests = b"endseeds\n" + b"".join(b"next %d\n" % queue for queue in self._queues)
         _, *answers = self._frontier.ask(requests, 1 + len(self._queues))
         if set(answers) != {b"closed"}:
             raise UnknownAnswer(f"the crawl is complete, but the frontier is not: {answers[:3]}")
         self._is_closed = True
 
-    def _transaction(self, *commands: Tuple[Any, ...]) -> List[Any]:
-        """All at one moment, once Redis has room for them."""
-        while True:
-            pipe = self._redis.pipeline(transaction=True)
-            for command in commands:
-                pipe.execute_command(*command)
-            try:
-                return list(pipe.execute())
-            except redis.ResponseError as error:
-                if not _is_out_of_memory(error):
-                    raise
-            time.sleep(_PAUSE)
-
 
 # ---- a part to its end
 
 
-def run(
-    start: Callable[[], Part], fetch: Callable[[int, str], Tuple[str, List[str]]]
-) -> None:
+def run(start: Callable[[], Part], fetch: Fetch) -> None:
     """Runs a part to the end of the crawl, with a thread for each fetch.
 
     start  makes the part, and again each time that it was cut off from Redis
     fetch  fetches the URL of a queue, and answers the base and the texts of its links
     """
-    found = time.monotonic()
+    last_found = time.monotonic()
     while True:
         try:
             with start() as part:
-                found = time.monotonic()
+                last_found = time.monotonic()
                 _crawl(part, fetch)
                 return
         except Cut:
-            if time.monotonic() - found > _GONE:
+            if time.monotonic() - last_found > _GONE:
                 raise
         time.sleep(_PAUSE)
 
 
-def _crawl(part: Part, fetch: Callable[[int, str], Tuple[str, List[str]]]) -> None:
+def _crawl(part: Part, fetch: Fetch) -> None:
     ended: SimpleQueue[Union[Fetched, BaseException]] = SimpleQueue()
 
     def work(taken: Taken) -> None:
@@ -736,7 +770,7 @@ def _ended(
 # ---- Redis
 
 
-def _connected(url: str) -> redis.Redis:
+def _connected(url: str) -> Any:
     """A connection that is made once: another one may find a Redis that has lost something."""
     made: List[bool] = []
 
@@ -746,18 +780,12 @@ def _connected(url: str) -> redis.Redis:
         made.append(True)
         connection.on_connect()
 
-    server = redis.Redis.from_url(
-        url, redis_connect_func=connect, socket_timeout=_PATIENCE, socket_keepalive=True
-    )
+    options: Any = {"redis_connect_func": connect, "socket_timeout": _PATIENCE}
+    server: Any = redis.Redis.from_url(url, socket_keepalive=True, **options)
     policy = server.info("memory").get("maxmemory_policy", "noeviction")
     if policy.startswith("allkeys"):
         raise UnsafeRedis(f"maxmemory-policy is {policy}, which would evict streams")
     return server
-
-
-def _run_of(server: redis.Redis) -> str:
-    """What names the life of this Redis, from one start to the next."""
-    return str(server.info("server")["run_id"])
 
 
 @contextlib.contextmanager
@@ -768,10 +796,13 @@ def _cuts_are_told() -> Iterator[None]:
         raise Cut(str(error)) from error
 
 
-def _reply(reply: Any) -> Any:
-    if isinstance(reply, Exception):
-        raise reply
-    return reply
+def _replies_to(pipe: Any) -> List[Any]:
+    """Replies to commands that are sent together; errors for those that a full Redis refused."""
+    replies: List[Any] = pipe.execute(raise_on_error=False)
+    for reply in replies:
+        if isinstance(reply, Exception) and not _is_out_of_memory(reply):
+            raise reply
+    return replies
 
 
 def _is_out_of_memory(reply: Any) -> bool:
@@ -781,12 +812,9 @@ def _is_out_of_memory(reply: Any) -> bool:
 # ---- lines
 
 
-def _slices(things: Iterable[Thing], size: int = _SLICE) -> Iterator[List[Thing]]:
+def _slices(things: Iterable[Thing], size: int) -> Iterator[List[Thing]]:
     rest = iter(things)
-    while True:
-        some = list(islice(rest, size))
-        if not some:
-            return
+    while some := list(islice(rest, size)):
         yield some
 
 
