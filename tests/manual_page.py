@@ -6,8 +6,8 @@ Usage: manual_page.py [PROGRAM]
 PROGRAM is the word, else what MERCATOR of the environment names, else the built program. For each
 command: its options with their values and defaults, and its other words, are those of the page
 `docs/mercator.1`; its options are those that bash and zsh offer, and where a value is a file they
-offer files. zsh is asked over a terminal, where it is installed. At last it prints
-`N passed, M failed`.
+offer files. zsh is asked over a terminal, where it is installed. The version is that of
+CHANGELOG.md everywhere. At last it prints `N passed, M failed`.
 """
 
 from __future__ import annotations
@@ -121,6 +121,12 @@ def synopsis_of(text: str) -> Dict[str, Set[str]]:
     return words
 
 
+def version_in(file: str, before: str) -> str:
+    """The version that a file names behind this text."""
+    found = re.search(rf"^{before}([0-9.]+)", (ROOT / file).read_text(), re.M)
+    return found[1] if found else ""
+
+
 # ---------------------------------------------------------------- bash and zsh
 
 
@@ -205,6 +211,10 @@ def compare_page(trial: Trial, helps: Dict[str, Said]) -> None:
         ours = said.get(command, Said(set(), set()))
         trial.equal(f"the page's options of {command}", ours.options, wanted.options)
         trial.equal(f"the page's words of {command}", ours.words, wanted.words)
+    version = version_in("CHANGELOG.md", "## ")
+    trial.equal("the page's version", version_in("docs/mercator.1", '.TH .* "mercator '), version)
+    clients = version_in("clients/python/make_wheel.py", 'NAME, VERSION = "mercator_clients", "')
+    trial.equal("the clients' version", clients, version)
     if shutil.which("groff"):
         words = ["groff", "-man", "-ww", "-z", str(PAGE)]
         warned = subprocess.run(words, capture_output=True, text=True, timeout=SECONDS)
