@@ -409,15 +409,15 @@ class _Inbox:
                 self.waiting += entry.size()
 
     def first(self, room: Optional[int]) -> List[_Entry]:
-        """The first entries with lines to be offered, one at least, as far as there is room."""
+        """The first entries with lines to be offered, as far as there is room, if any."""
         some: List[_Entry] = []
         room = self.waiting if room is None else room
         for entry in self._entries:
+            if room <= 0:
+                break
             if entry.text:
                 some.append(entry)
                 room -= entry.size()
-                if room <= 0:
-                    break
         return some
 
     def leave(self, entry: _Entry, lines: List[bytes]) -> None:
@@ -510,8 +510,7 @@ class Part:
         """
         with _cuts_are_told():
             taken, self._again = self._again, []
-            self._offer_links(fetched)
-            self._offer_entries()
+            self._offer_all(fetched)
             self._exchange()
             taken += self._take()
             if self._is_quiet() and self._broker.is_complete(self._inbox.empty()):
@@ -573,29 +572,29 @@ class Part:
 
     # ---- the steps of a round
 
-    def _offer_links(self, fetched: Iterable[Fetched]) -> None:
-        todo: List[_Offers] = []
-        for page in fetched:
-            owner = self._pages.get(page.queue)
-            if owner is None:
-                raise NothingTaken(f"queue {page.queue} has given no URL that is to be done")
-            owner.is_fetched = True
-            if page.texts:
-                requests = request_lines(link_word(page.base), page.texts)
-                todo.append(_Offers(owner, requests, len(page.texts)))
-        for offers, refused in zip(todo, self._offer(todo, b"")):
+    def _offer_all(self, fetched: Iterable[Fetched]) -> None:
+        """Offers links, and what came as far as there is room. Then entries may be done with."""
+        links = [offers for page in fetched for offers in self._links_of(page)]
+        entries = self._inbox.first(self._room)
+        came = [_Offers(entry, _offers_of(entry.text), entry.size()) for entry in entries]
+        refused = self._offer(links + came, self._sync if came else b"")
+        for offers, lines in zip(links, refused):
             # The part's own stream takes what its frontier has no room for.
-            for line in refused:
+            for line in lines:
                 self._outbox.put(self._part, line, offers.owner)
-
-    def _offer_entries(self) -> None:
-        """Offers what came, as far as there is room; and sees which entries are done with."""
-        if self._inbox.waiting and self._room != 0:
-            entries = self._inbox.first(self._room)
-            todo = [_Offers(entry, _offers_of(entry.text), entry.size()) for entry in entries]
-            for entry, refused in zip(entries, self._offer(todo, self._sync)):
-                self._inbox.leave(entry, refused)
+        for entry, lines in zip(entries, refused[len(links):]):
+            self._inbox.leave(entry, lines)
         self._inbox.retire()
+
+    def _links_of(self, page: Fetched) -> List[_Offers]:
+        owner = self._pages.get(page.queue)
+        if owner is None:
+            raise NothingTaken(f"queue {page.queue} has given no URL that is to be done")
+        owner.is_fetched = True
+        if not page.texts:
+            return []
+        requests = request_lines(link_word(page.base), page.texts)
+        return [_Offers(owner, requests, len(page.texts))]
 
     def _offer(self, todo: List[_Offers], sync: bytes) -> List[List[bytes]]:
         """Asks, and sees to each answer; for each owner the lines that found no room."""
