@@ -33,10 +33,10 @@ PAGE = ROOT / "docs/mercator.1"
 SECONDS = float(os.environ.get("SECONDS", "30"))
 
 # What a value is that names a file.
-FILES = ("FILE", "LIST")
-HELP_LINE = re.compile(r" +(?:-\w, | {4})--([a-z-]+)(?: <([A-Z]+)>)? {2,}(.*)")
+FILES = ("FILE", "LIST", "NEW")
+HELP_LINE = re.compile(r" +(?:-\w, | {4})--([a-z-]+)(?: <([A-Z/]+)>)? {2,}(.*)")
 HELP_DEFAULT = re.compile(r"\[default: (.*)\]")
-PAGE_OPTION = re.compile(r'\.BI? \\-\\-([a-z\\-]+)(?: " ([A-Z]+)")?')
+PAGE_OPTION = re.compile(r'\.BI? \\-\\-([a-z\\-]+)(?: " ([A-Z/]+)")?')
 PAGE_DEFAULT = re.compile(r"^The default is (.*)\.$", re.M)
 FILE = "some_file"
 
