@@ -87,7 +87,7 @@ def drawn_web(draw: random.Random, hosts: int, pages: int) -> Web:
 
 def spelled(draw: random.Random, page: str, url: str) -> str:
     host, path = url[7:].split("/", 1)
-    texts = [url, url, f"HTTP://{host.upper()}:80/x/../{path}#part", f"//{host}/./{path}"]
+    texts = [url, url, f"HTTP://{host.upper()}:80/x/../{path}#part", f"//{host}/./\r{path}"]
     if draw.randrange(8) == 0:
         # The last one is canonical with three times as many bytes: no request has room for it.
         texts = [f"http://{host}/gone/{draw.randrange(9)}", "mailto:x", "http://o.other/", "x y",

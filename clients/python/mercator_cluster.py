@@ -251,7 +251,7 @@ class _Offers(NamedTuple):
 
     def lines(self) -> List[bytes]:
         """The requests as they stand in an entry: without their first words."""
-        return [line.partition(b" ")[2] for line in self.requests.splitlines()]
+        return [line.partition(b" ")[2] for line in self.requests.split(b"\n")[:-1]]
 
 
 # ---- streams
