@@ -11,7 +11,6 @@ use Rattle.crawl_session.specs.Input.{ServesInput}
 use Rattle.crawl_session.specs.Logs.{Reruns}
 use Rattle.crawl_session.specs.Sessions.{answers, state_after}
 use Rattle.crawl_session.specs.Settings.{SessionView}
-use Rattle.crawl_session.specs.declared.part.Part.{Part}
 use Rattle.crawl_session.specs.declared.serving.ServeError.{ServeError}
 use Rattle.crawl_session.specs.declared.serving.ServeError.TheVariants as serving
 use Rattle.crawl_session.proofs.Compacted.{compacts_both, compacts_none}
