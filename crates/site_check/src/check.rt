@@ -80,10 +80,10 @@ impl Checked {
 ///
 /// # Errors
 /// Where a growth was refused.
-pub fn check_results<B: Bodies>(
+pub fn check_results<'f, B: Bodies>(
     alloc: Global,
     results: &[PageResult],
-    files: &SiteFiles<'_>,
+    files: &'f SiteFiles<'f>,
     bodies: &mut B,
     asked: Asked<'_>,
 ) -> Result<Checked, NoMemory>
@@ -120,10 +120,10 @@ pub fn check_results<B: Bodies>(
 
 /// The rows of the pages that are not there and of the parts that pages lack, with where links to them stand; and the texts of
 /// all such parts.
-fn broken_all<B: Bodies>(
+fn broken_all<'f, B: Bodies>(
     alloc: Global,
     pages: Pages<'_>,
-    files: &SiteFiles<'_>,
+    files: &'f SiteFiles<'f>,
     bodies: &mut B,
     asked: Asked<'_>,
     linked: &[Linked<'_>],

@@ -1,0 +1,127 @@
+//! The commands over a folder as the program runs them.
+ghost use Rattle.std.specs.Prelude.{◌≡◌, ◌≤◌, ◌⊎◌, true, false, IfOk};
+ghost use Rattle.mercator_site.specs.Ends.{GainsCheck, GainsPlan};
+
+use crate::asked::{CheckAsked, SitePlan, site_plan};
+use crate::fault::SiteFault;
+use crate::folder::{report_of_folder, web_of_folder};
+use crate::writing::{tell_fault, write_text};
+use mercator::command_line;
+use std::alloc::{AllocError, Global};
+use std::fs::Files;
+use std::io::Write;
+use std::sync::Wait;
+use std::thread::Threads;
+
+/// The status of a check that found something broken.
+pub const BROKEN: u8 = 4;
+
+/// Runs the program's words where they are those of a command over a folder, and answers its status; nothing where they are not,
+/// and then nothing is written. Statuses are 0 done, 1 a fault, 2 an incomplete crawl, 4 something is broken.
+pub fn run_site_words<R: Files + Threads + Wait + Sync, O: Write, E: Write>(
+    rt: &R,
+    alloc: Global,
+    words: &[String],
+    out: &mut O,
+    err: &mut E,
+) -> Option<u8> {
+    match plan_of(alloc, words) {
+        Ok(Some(plan)) => Some(run_site_plan(rt, alloc, &plan, out, err)),
+        Ok(None) => None,
+        Err(_) => None,
+    }
+}
+
+/// What the words ask of a folder; none where they ask for another command, or are no command line.
+fn plan_of(alloc: Global, words: &[String]) -> Result<Option<SitePlan>, AllocError> {
+    let is_ours = match words.first() {
+        Some(word) => word.as_str() == "site" || word.as_str() == "check",
+        None => false,
+    };
+    if !is_ours {
+        return Ok(None);
+    }
+    let mut named = Vec::new(alloc);
+    named.push("mercator")?;
+    for word in words {
+        named.push(word.as_str())?;
+    }
+    match command_line(alloc)?.try_get_matches_from(named.as_slice()) {
+        Ok(matches) => site_plan(alloc, &matches),
+        Err(_) => Ok(None),
+    }
+}
+
+/// Runs such a command and answers its status. What it tells is whole before any of it is written.
+pub fn run_site_plan<R: Files + Threads + Wait + Sync, O: Write, E: Write>(
+    rt: &R,
+    alloc: Global,
+    plan: &SitePlan,
+    out: &mut O,
+    err: &mut E,
+) -> u8
+    // Done: the output gained the saved web of a folder, or the report of a check that found nothing broken.
+    ensures done { result ≡ 0 → GainsPlan plan.now false (O.contents out.old) (O.contents out.new) }
+    // Something is broken: it gained the report that tells so.
+    ensures broken { result ≡ 4 → GainsPlan plan.now true (O.contents out.old) (O.contents out.new) }
+{
+    match run(rt, alloc, plan, out, err) {
+        Ok(is_broken) => if is_broken { BROKEN } else { 0 },
+        Err(fault) => {
+            tell_fault(alloc, err, told_name(plan, fault), fault);
+            status_of(fault)
+        }
+    }
+}
+
+/// The status of a fault, which is none of those of a command that is done.
+fn status_of(fault: SiteFault) -> u8
+    ensures { (result ≡ 1) ⊎ (result ≡ 2) }
+{
+    if fault.status() == 2 { 2 } else { 1 }
+}
+
+fn run<R: Files + Threads + Wait + Sync, O: Write, E: Write>(
+    rt: &R,
+    alloc: Global,
+    plan: &SitePlan,
+    out: &mut O,
+    err: &mut E,
+) -> Result<bool, SiteFault>
+    ensures { IfOk result (λ broken. GainsPlan plan.now broken (O.contents out.old) (O.contents out.new)) }
+{
+    match plan {
+        SitePlan::Site(asked) => {
+            let text = web_of_folder(rt, alloc, asked, err)?;
+            write_text(out, text.as_slice())?;
+            Ok(false)
+        }
+        SitePlan::Check(asked) => run_check(rt, alloc, asked, out, err),
+    }
+}
+
+fn run_check<R: Files + Threads + Wait + Sync, O: Write, E: Write>(
+    rt: &R,
+    alloc: Global,
+    asked: &CheckAsked,
+    out: &mut O,
+    err: &mut E,
+) -> Result<bool, SiteFault>
+    ensures { IfOk result (λ broken. GainsCheck asked.now broken (O.contents out.old) (O.contents out.new)) }
+{
+    let report = report_of_folder(rt, alloc, asked, err)?;
+    write_text(out, report.text.as_slice())?;
+    Ok(report.is_broken)
+}
+
+/// The name that a fault speaks of.
+fn told_name(plan: &SitePlan, fault: SiteFault) -> &str {
+    match (plan, fault) {
+        (SitePlan::Check(asked), SiteFault::CannotReadKnown) => match &asked.known {
+            Some(file) => file.as_str(),
+            None => "",
+        },
+        (SitePlan::Check(asked), _) => asked.site.folder.as_str(),
+        (SitePlan::Site(asked), _) => asked.folder.as_str(),
+    }
+}
