@@ -14,9 +14,9 @@ most_seen=950     # instructions of an offer that is seen
 most_slowing=1.9  # times slower among many than among few
 most_bytes=300    # of a URL that was offered once and taken
 
-cd "$(dirname "$0")/../crates/bench_calls"
+cd "$(dirname "$0")/../crates/library_calls"
 rt run -- urls 1 1 > /dev/null
-program=$PWD/out/bench_calls
+program=$PWD/out/library_calls
 scratch=$(mktemp -d)
 trap 'rm -r "$scratch"' EXIT
 status=0

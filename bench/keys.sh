@@ -11,9 +11,9 @@ urls=${1:-300000}
 links=${2:-500000}
 counted=2000 # under callgrind, which is slow
 
-cd "$(dirname "$0")/../crates/bench_calls"
+cd "$(dirname "$0")/../crates/library_calls"
 rt run -- texts 1 > /dev/null
-program=$PWD/out/bench_calls
+program=$PWD/out/library_calls
 scratch=$(mktemp -d)
 trap 'rm -r "$scratch"' EXIT
 

@@ -9,8 +9,9 @@
 - No sentence has more than LONGEST words, where code in backticks counts as one.
 - A document is no larger than LIMITS allow, and all together are at most TOTAL bytes.
 - No document tells when something was so: dates stand in FIGURES and CHANGELOG alone.
+- No entry of DECISIONS has more than ENTRY lines.
 
-`tests/cases.py` runs the commands that README, MANUAL and FORMATS show. The status is 1 where
+`tests/cases.py` runs the commands that README, MANUAL, FORMATS and GUIDE show. The status is 1 where
 anything is wrong.
 """
 
@@ -25,10 +26,12 @@ from typing import Iterator
 ROOT = Path(__file__).resolve().parent.parent
 TOTAL = 200_000
 LONGEST = 40
+ENTRY = 6
 LIMITS = (
     (re.compile(r"README\.md"), 7_000),
     (re.compile(r"crates/\w+/README\.md"), 6_000),
     (re.compile(r"docs/(THEOREMS|DECISIONS|PROOFS)\.md"), 20_000),
+    (re.compile(r"docs/GUIDE\.md"), 12_000),
 )
 HISTORY = ("bench/FIGURES.md", "CHANGELOG.md")
 DIARY = re.compile(r"\b(today|tonight|yesterday|until then|this morning|20\d\d-\d\d-\d\d|(?:November|December) 20\d\d)\b", re.I)
@@ -99,6 +102,13 @@ def faults_of_sentences(text: str) -> Iterator[tuple[int, str]]:
                 yield number, f"a sentence of {words} words, where {LONGEST} are the most"
 
 
+def faults_of_entries(text: str) -> Iterator[tuple[int, str]]:
+    for entry in re.finditer(r"^- .*\n(?:(?!- |#).+\n?)*", text, re.M):
+        lines = entry[0].rstrip("\n").count("\n") + 1
+        if lines > ENTRY:
+            yield text.count("\n", 0, entry.start()) + 1, f"an entry of {lines} lines, where {ENTRY} are the most"
+
+
 def faults_of_quotations(document: Path, text: str) -> Iterator[tuple[int, str]]:
     for quoted in QUOTED.finditer(text):
         path, code = quoted.groups()
@@ -148,6 +158,8 @@ def faults(paths: list[Path]) -> Iterator[str]:
         found = [(number, fault) for number, line in prose(text)
                  for fault in faults_of_line(document, name, line, words)]
         found += [*faults_of_sentences(text), *faults_of_quotations(document, text)]
+        if name == "docs/DECISIONS.md":
+            found += faults_of_entries(text)
         for number, fault in found:
             yield f"{name}:{number}: {fault}"
     if total > TOTAL:

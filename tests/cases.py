@@ -32,8 +32,8 @@ A document has the marks of Markdown: prose, inputs and commands.
   LF. An output's line that begins like one of these marks has a `\\` before.
 - A line that begins with `# `, and empty lines above it, belong to no answer.
 
-Without names it runs tests/cases/*.txt, README.md, docs/MANUAL.md and
-docs/FORMATS.md. It prints how each answer differs, at last `N passed,
+Without names it runs tests/cases/*.txt, README.md, and in docs MANUAL.md,
+FORMATS.md and GUIDE.md. It prints how each answer differs, at last `N passed,
 M failed`, and ends with status 1 where any failed or nothing ran.
 """
 
@@ -51,7 +51,7 @@ from typing import Iterator, NamedTuple
 
 ROOT = Path(__file__).resolve().parent.parent
 BUILT = ROOT / "crates/mercator_cli/out/mercator_cli"
-DOCUMENTS = ("README.md", "docs/MANUAL.md", "docs/FORMATS.md")
+DOCUMENTS = ("README.md", "docs/MANUAL.md", "docs/FORMATS.md", "docs/GUIDE.md")
 LINKED = ("crates", "examples", "tools")
 SHELL = ("timeout", "-k", "1", "60", "bash", "-o", "pipefail", "-c")
 BLOCK = re.compile(r"^```(\S+)(?: (\S+))?\n(.*?)^```$", re.M | re.S)

@@ -7,7 +7,7 @@
 #
 # With `tests` it does the same with each test of each crate whose tests were built (`rt test` in its folder leaves them in
 # `out/`), with growths more and more apart: a test must pass, or be stopped by an error or an assertion of its own, and neither
-# hang nor crash.
+# hang nor crash. So does it with the calls of a frontier that `library_calls` makes.
 #
 # Growths are calls of malloc, calloc, realloc and aligned_alloc, which a small library answers in the C library's place.
 # Wants `rt` (where the program is not built), a C compiler and Python 3.9.
@@ -216,6 +216,22 @@ def tests():
     return failed
 
 
+def calls():
+    """How many runs of the calls of a frontier end otherwise than they may: each ends by itself, with status 0 or 1."""
+    folder, refused, failed = "crates/library_calls", 0, 0
+    for growth in apart():
+        mark = f"{SCRATCH}/met.calls"
+        status, out, told, met = run(["calls"], f"{folder}/stdin", growth, mark, f"{folder}/out/library_calls")
+        if not met:
+            break
+        refused += 1
+        if status not in (0, 1) or told:
+            failed += 1
+            print(f"calls of a frontier: growth {growth}: status {status}: {told[:400]!r}")
+    print(f"{refused:6} growths refused: calls of a frontier", flush=True)
+    return failed
+
+
 def commands():
     failed = 0
     with ThreadPoolExecutor(AT_ONCE) as pool:
@@ -235,7 +251,7 @@ def commands():
 
 
 def main():
-    failed = tests() if WHAT == "tests" else commands()
+    failed = tests() + calls() if WHAT == "tests" else commands()
     print(f"{failed} runs ended otherwise" if failed else "all as wanted")
     sys.exit(1 if failed else 0)
 

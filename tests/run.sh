@@ -45,6 +45,7 @@ part() {
 part rt ci
 part tests/cases.py
 part tests/drawn.py
+part tests/frontier.py
 part tests/bell_model.py
 part tests/command-line.sh
 part tests/site_to_web.py

@@ -1,7 +1,8 @@
 -- Escaped text does not leave its place.
-use Rattle.std.proofs.Common.{◌≡◌, ℕ, ◌+◌, ◌==◌, Bool, true, false, ◌&&◌, ◌||◌, not, List, [], ◌∷◌, ◌++◌, codes, nat_lt, refl, arith, if◌then◌else◌}
+use Rattle.std.proofs.Common.{◌≡◌, ℕ, ◌+◌, ◌==◌, Bool, true, false, ◌&&◌, ◌||◌, not, List, [], ◌∷◌, ◌++◌, codes, nat_lt, refl, arith, le-ltb, if◌then◌else◌}
 use Rattle.std.proofs.lemmas.Bool.{ne_eqb}
-use Rattle.check_report.specs.Escape.{escaped, html_byte, is_inert, is_markup, is_reference, shown_byte}
+use Rattle.std.specs.List.{flat_map, list_all}
+use Rattle.check_report.specs.Escape.{data_byte, escaped, html_byte, is_in_line, is_in_property, is_inert, is_reference, is_shown, property_byte, shown_byte}
 use Rattle.check_report.specs.declared.escape.Escape.TheVariants as escape
 
 -- what holds of both answers
@@ -34,3 +35,42 @@ html_byte_inert b rest inert =
 pub html_inert : (text : List ℕ) → is_inert (escaped escape.Html text) ≡ true
 html_inert [] = refl
 html_inert (b ∷ bs) = html_byte_inert b (escaped escape.Html bs) (html_inert bs)
+
+-- ---- each byte by itself
+
+-- what holds of the bytes of each byte holds of all
+each_byte : (p : ℕ → Bool) (f : ℕ → List ℕ) → ((b : ℕ) (rest : List ℕ) → list_all p rest ≡ true → list_all p (f b ++ rest) ≡ true) → (text : List ℕ) → list_all p (flat_map f text) ≡ true
+each_byte p f step [] = refl
+each_byte p f step (b ∷ bs) = step b (flat_map f bs) (each_byte p f step bs)
+
+shown_byte_shown : (b : ℕ) (rest : List ℕ) → list_all is_shown rest ≡ true → list_all is_shown (shown_byte b ++ rest) ≡ true
+shown_byte_shown b rest shown =
+    let P : List ℕ → Type 0 = λ t. list_all is_shown (t ++ rest) ≡ true in
+    chosen (nat_lt b 32) (226 ∷ 144 ∷ (128 + b) ∷ []) _ P (λ i. (not (le-ltb (128 + b) 32 (omega arith) i) && not (ne_eqb (128 + b) 127 (λ e. omega arith) i)) && shown i)
+    (λ printable. chosen (b == 127) (226 ∷ 144 ∷ 161 ∷ []) (b ∷ []) P shown (λ no_delete. λ i. (not (printable i) && not (no_delete i)) && shown i))
+
+pub shown_shown : (text : List ℕ) → list_all is_shown (escaped escape.Shown text) ≡ true
+shown_shown = each_byte is_shown shown_byte shown_byte_shown
+
+data_byte_in_line : (b : ℕ) (rest : List ℕ) → list_all is_in_line rest ≡ true → list_all is_in_line (data_byte b ++ rest) ≡ true
+data_byte_in_line b rest inside =
+    let P : List ℕ → Type 0 = λ t. list_all is_in_line (t ++ rest) ≡ true in
+    chosen (b == 37) (codes "%25") _ P inside
+    (λ no_percent. chosen (b == 13) (codes "%0D") _ P inside
+    (λ no_return. chosen (b == 10) (codes "%0A") (b ∷ []) P inside (λ no_feed. λ i. (not (no_feed i) && not (no_return i)) && inside i)))
+
+pub data_in_line : (text : List ℕ) → list_all is_in_line (escaped escape.Data text) ≡ true
+data_in_line = each_byte is_in_line data_byte data_byte_in_line
+
+property_byte_inside : (b : ℕ) (rest : List ℕ) → list_all is_in_property rest ≡ true → list_all is_in_property (property_byte b ++ rest) ≡ true
+property_byte_inside b rest inside =
+    let P : List ℕ → Type 0 = λ t. list_all is_in_property (t ++ rest) ≡ true in
+    chosen (b == 58) (codes "%3A") _ P inside
+    (λ no_colon. chosen (b == 44) (codes "%2C") _ P inside
+    (λ no_comma. chosen (b == 37) (codes "%25") _ P inside
+    (λ no_percent. chosen (b == 13) (codes "%0D") _ P inside
+    (λ no_return. chosen (b == 10) (codes "%0A") (b ∷ []) P inside
+    (λ no_feed. λ i. ((not (no_feed i) && not (no_return i)) && (not (no_colon i) && not (no_comma i))) && inside i)))))
+
+pub property_inside : (text : List ℕ) → list_all is_in_property (escaped escape.Property text) ≡ true
+property_inside = each_byte is_in_property property_byte property_byte_inside

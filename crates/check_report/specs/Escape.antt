@@ -32,6 +32,18 @@ escaped how text = flat_map (escaped_byte how) text
 
 -- ---- what stays in its place
 
+-- neither a control byte nor delete
+abbrev pub is_shown : ℕ → Bool
+is_shown b = not (nat_lt b 32) && not (b == 127)
+
+-- neither LF nor CR
+abbrev pub is_in_line : ℕ → Bool
+is_in_line b = not (b == 10) && not (b == 13)
+
+-- nothing that ends a property
+abbrev pub is_in_property : ℕ → Bool
+is_in_property b = (not (b == 10) && not (b == 13)) && (not (b == 58) && not (b == 44))
+
 -- one of < > " '
 abbrev pub is_markup : ℕ → Bool
 is_markup b = (b == 60) || (b == 62) || (b == 34) || (b == 39)

@@ -3,3 +3,5 @@ pub mod Format
 pub mod Counts
 pub mod Adding
 pub mod Sets
+pub mod OneOrder
+pub mod PageLines

@@ -1,10 +1,15 @@
 -- Which pages of a web no result has.
 use Rattle.std.specs.Prelude.{ℕ, Bool, ◌&&◌, not, List, filter}
-use Rattle.std.specs.List.{list_any}
+use Rattle.std.specs.List.{list_any, filter_map}
 use Rattle.std.specs.Str.{bytes_eq}
 use Rattle.std.specs.BTreeSet.{BTreeSet, contains}
 use Rattle.hash_order.specs.HashOrder.{by_hash}
+use Rattle.crawl_web.specs.WebLines.{page_url}
 use Rattle.crawl_web.specs.declared.page.PageResult.{PageResult}
+
+-- the canonical URLs of the pages that a web with these lines has
+abbrev pub page_urls : List (List ℕ) → List (List ℕ)
+page_urls lines = filter_map page_url lines
 
 -- some result has the URL
 abbrev pub has_result : List PageResult → List ℕ → Bool

@@ -12,9 +12,11 @@ mod row;
 mod sources;
 mod tally;
 mod unseen;
+mod web_urls;
 
 pub use crawl_web::NoMemory;
 pub use printing::print;
 pub use report::{Report, Sources};
 pub use row::Row;
 pub use unseen::unreached;
+pub use web_urls::page_urls;

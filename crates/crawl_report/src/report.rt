@@ -4,7 +4,7 @@ use crawl_keys::CanonUrl;
 use crawl_web::PageResult;
 
 /// Which sources of missing URLs a report tells.
-#[derive(Clone, Copy)]
+#[derive(Clone, Copy, Debug)]
 pub enum Sources {
     None,
     /// How many there are, and the first of them.

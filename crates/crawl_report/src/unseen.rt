@@ -23,11 +23,14 @@ pub fn unreached<'r>(
     alloc: Global,
     filter: &Filter,
     results: &'r [PageResult],
-    urls: &[&'r CanonUrl],
+    urls: &'r [CanonUrl],
 ) -> Result<Vec<&'r CanonUrl>, NoMemory>
-    ensures same { IfOk result (λ found. IsPermutation (unreached_of (allows filter.now) results.now (pointed urls.now)) (pointed found.items)) }
+    ensures same { IfOk result (λ found. IsPermutation (unreached_of (allows filter.now) results.now urls.now) (pointed found.items)) }
     ensures sorted { IfOk result (λ found. IsSortedByKey (λ url. url) (slice_cmp nat_cmp) (pointed found.items)) }
 {
+    if urls.is_empty() {
+        return Ok(Vec::new(alloc));
+    }
     let seen = urls_of(alloc, results)?;
     let mut found = not_seen(alloc, filter, &seen, urls)?;
     found.sort_by(|a, b| a.cmp(b))?;
@@ -50,14 +53,14 @@ fn not_seen<'r>(
     alloc: Global,
     filter: &Filter,
     seen: &Urls<'r>,
-    urls: &[&'r CanonUrl],
+    urls: &'r [CanonUrl],
 ) -> Result<Vec<&'r CanonUrl>, NoMemory>
-    ensures { IfOk result (λ found. pointed found.items ≡ unseen_of (allows filter.now) seen.now (pointed urls.now)) }
+    ensures { IfOk result (λ found. pointed found.items ≡ unseen_of (allows filter.now) seen.now urls.now) }
 {
     let mut found = Vec::new(alloc);
     for url in urls {
         if filter.allows(url) && !seen.contains(&url.hashed()) {
-            found.push(*url)?;
+            found.push(url)?;
         }
     }
     Ok(found)

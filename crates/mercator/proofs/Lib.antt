@@ -1,5 +1,7 @@
 pub mod QueueCounts
+pub mod CrawlTexts
 pub mod PlanTexts
+pub mod PlainTexts
 pub mod RunResults
 pub mod Seeds
 pub mod SiteCrawls

@@ -1,13 +1,23 @@
 -- What a crawl tells; and plans that ask for one text are told one.
 use Rattle.std.proofs.Common.{◌≡◌, ℕ, Bool, true, false, not, ◌&&◌, List, [], ◌∷◌, ◌++◌, Option, Some, None, Result, Ok, Err, String, Vec, Global, IfOk, IfSome, ◌≤◌, length, map, string_bytes, refl, sym, ap, subst, ◌∙◌}
 use Rattle.std.specs.Bool.{if◌then◌else◌}
+use Rattle.std.specs.List.{flat_map}
+use Rattle.std.specs.List.Sorted.{IsPermutation}
+use Rattle.std.specs.Str.Lines.{lines}
 use Rattle.crawl_certificate.specs.Certificate.{result_urls}
+use Rattle.crawl_report.specs.Json.{printed_line}
+use Rattle.crawl_report.specs.Rows.{rows_with}
+use Rattle.crawl_report.specs.Unreached.{unreached_of}
+use Rattle.crawl_report.proofs.OneOrder.{one_order}
+use Rattle.crawl_web.specs.declared.page.PageResult.{PageResult}
 use Rattle.mercator.specs.Crawls.{AreCounts}
-use Rattle.crawl_keys.specs.HostFilter.{filter_of, is_good}
+use Rattle.crawl_keys.specs.HostFilter.{allows, filter_of, is_good}
 use Rattle.mercator.specs.Plans.{is_bad_suffix, is_input, known_bytes, known_seeds, lists_input, suffixes_of}
 use Rattle.mercator.specs.Limits.{most_input_bytes}
-use Rattle.mercator.specs.Told.{AskForOneText, FailsCrawl, Gains, IsTold, OfFile, OfFiles}
-use Rattle.mercator.specs.WebCrawl.{IsBegun, IsCrawlText, IsFound, IsUnbegun, told_text}
+use Rattle.mercator.specs.Told.{AskForOneReport, AskForOneText, FailsCrawl, Gains, IsTold, OfFile, OfFiles}
+use Rattle.mercator.specs.WebCrawl.{AreUnreached, IsBegun, IsCrawlText, IsFound, IsTextOf, IsUnbegun, asked_pages, printed_with}
+use Rattle.mercator.specs.declared.commands.planned.CrawlOptions.{CrawlOptions}
+use Rattle.mercator.specs.declared.commands.tell.WebFound.{WebFound}
 use Rattle.mercator.specs.declared.commands.fault.Fault.{Fault}
 use Rattle.mercator.specs.declared.commands.fault.Fault.TheVariants as wrong
 use Rattle.mercator.specs.declared.crawling.Crawled.{Crawled}
@@ -30,32 +40,49 @@ of_web P file listed bytes is none of =
     of_known (P bytes) (known_seeds listed (Some bytes)) [] (ap (λ l. known_seeds l (Some bytes)) none)
     (of_input (λ b. OfFile (known_seeds listed (Some bytes)) (P b)) file bytes is of)
 
-one_text : (workers others : ℕ) (queues sources : Bool) (bytes listed : List ℕ) (texts suffixes : List (List ℕ)) (text other : List ℕ) → (queues ≡ true → workers ≡ others)
-    → IsCrawlText workers queues sources bytes listed texts suffixes text → IsCrawlText others queues sources bytes listed texts suffixes other → text ≡ other
-one_text workers others false sources bytes listed texts suffixes text other many own its =
-    own.written ∙ ap (λ pages. told_text false sources pages []) (one_site_crawl bytes listed texts suffixes own.pages its.pages own.crawl its.crawl) ∙ sym its.written
-one_text workers others true sources bytes listed texts suffixes text other many own its =
-    let pages : own.pages ≡ its.pages = one_site_crawl bytes listed texts suffixes own.pages its.pages own.crawl its.crawl in
-    let counted : AreCounts others (result_urls its.pages) own.counts = subst (λ n. AreCounts n (result_urls its.pages) own.counts) (many refl) (subst (λ p. AreCounts workers (result_urls p) own.counts) pages own.counted) in
-    let counts : own.counts ≡ its.counts = one_count others (result_urls its.pages) own.counts its.counts counted its.counted in
-    own.written ∙ ap (λ p. told_text true sources p own.counts) pages ∙ ap (λ n. told_text true sources its.pages n) counts ∙ sym its.written
+-- of two crawls that find the same pages, and ask for unreached ones or not, these are one list
+one_unreached : (asked its : Bool) (bytes : List ℕ) (suffixes : List (List ℕ)) (pages others : List PageResult) (urls other : List (List ℕ)) → asked ≡ its → pages ≡ others → AreUnreached asked bytes suffixes pages urls → AreUnreached its bytes suffixes others other → urls ≡ other
+one_unreached asked its bytes suffixes pages others urls other same_asked same_pages own their =
+    let both : unreached_of (allows suffixes) pages (asked_pages asked (lines bytes)) ≡ unreached_of (allows suffixes) others (asked_pages its (lines bytes)) =
+    λ i. unreached_of (allows suffixes) (same_pages i) (asked_pages (same_asked i) (lines bytes)) in
+    one_order (unreached_of (allows suffixes) others (asked_pages its (lines bytes))) urls other (subst (λ us. IsPermutation us urls) both own.same) their.same own.ascends their.ascends
+
+-- what is printed of the same pages, counts and unreached pages with the same parts
+one_print : (queues : Bool) (options its : CrawlOptions) (pages others : List PageResult) (counts their : List ℕ) (urls other : List (List ℕ)) → AskForOneReport options its → pages ≡ others → (if queues then counts else []) ≡ (if queues then their else []) → urls ≡ other
+    → printed_with queues options pages counts urls ≡ printed_with queues its others their other
+one_print queues options its pages others counts their urls other ask same_pages same_counts same_urls =
+    λ i. flat_map (printed_line (ask.json i)) (rows_with (same_pages i) (same_counts i) (ask.sources i) (ask.moved i) (same_urls i))
+
+one_text : (workers others : ℕ) (queues : Bool) (options its : CrawlOptions) (bytes listed : List ℕ) (texts suffixes : List (List ℕ)) (text other : List ℕ) → (queues ≡ true → workers ≡ others) → AskForOneReport options its
+    → IsCrawlText workers queues options bytes listed texts suffixes text → IsCrawlText others queues its bytes listed texts suffixes other → text ≡ other
+one_text workers others queues options its bytes listed texts suffixes text other many ask own their =
+    let pages : own.pages ≡ their.pages = one_site_crawl bytes listed texts suffixes own.pages their.pages own.crawl their.crawl in
+    let urls : own.told.unreached ≡ their.told.unreached = one_unreached options.unreached its.unreached bytes suffixes own.pages their.pages own.told.unreached their.told.unreached ask.unreached pages own.told.unseen their.told.unseen in
+    own.told.written
+    ∙ one_print queues options its own.pages their.pages own.counts their.counts own.told.unreached their.told.unreached ask pages (one_counts queues workers others own.pages their.pages own.counts their.counts many pages own.counted their.counted) urls
+    ∙ sym their.told.written
+  where
+    one_counts : (queues : Bool) (workers others : ℕ) (pages those : List PageResult) (counts other : List ℕ) → (queues ≡ true → workers ≡ others) → pages ≡ those → AreCounts workers (result_urls pages) counts → AreCounts others (result_urls those) other
+        → (if queues then counts else []) ≡ (if queues then other else [])
+    one_counts false workers others pages those counts other many same own their = refl
+    one_counts true workers others pages those counts other many same own their =
+        one_count others (result_urls those) counts other (subst (λ n. AreCounts n (result_urls those) counts) (many refl) (subst (λ p. AreCounts workers (result_urls p) counts) same own)) their
 
 pub one_output : (plan other : Plan) (bytes before after its : List ℕ) → AskForOneText plan other → Gains plan (Some bytes) (Some before) (Some after) → Gains other (Some bytes) (Some before) (Some its) → after ≡ its
-one_output (asks.Crawl workers max queues sources within file listed seeds) (asks.Crawl others other_max other_queues other_sources other_within other_file other_listed other_seeds) bytes before after its ask own other =
-    let (own_input, other_input, own_none, other_none, seeded, filtered, sourced, queued, many) = ask in
+one_output (asks.Crawl workers max queues file seeds options) (asks.Crawl others other_max other_queues other_file other_seeds other_options) bytes before after its ask own other =
+    let (own_input, other_input, own_none, other_none, seeded, filtered, parts, queued, many) = ask in
     let texts = map string_bytes seeds.items in
-    let suffixes = suffixes_of within in
-    let first : IsCrawlText workers queues sources bytes [] texts suffixes own.text = (of_web (λ b l. IsBegun b l texts × IsCrawlText workers queues sources b l texts suffixes own.text) (string_bytes file) listed bytes own_input own_none own.told.1).1 in
-    let plain = (of_web (λ b l. IsBegun b l (map string_bytes other_seeds.items) × IsCrawlText others other_queues other_sources b l (map string_bytes other_seeds.items) (suffixes_of other_within) other.text) (string_bytes other_file) other_listed bytes other_input other_none other.told.1).1 in
-    let same_seeds = subst (λ t. IsCrawlText others other_queues other_sources bytes [] t (suffixes_of other_within) other.text) (sym seeded) plain in
-    let same_filter = subst (λ s. IsCrawlText others other_queues other_sources bytes [] texts s other.text) (sym filtered) same_seeds in
-    let same_sources = subst (λ s. IsCrawlText others other_queues s bytes [] texts suffixes other.text) (sym sourced) same_filter in
-    let second : IsCrawlText others queues sources bytes [] texts suffixes other.text = subst (λ q. IsCrawlText others q sources bytes [] texts suffixes other.text) (sym queued) same_sources in
-    own.gained ∙ ap (λ t. before ++ t) (one_text workers others queues sources bytes [] texts suffixes own.text other.text many first second) ∙ sym other.gained
-one_output (asks.Crawl workers max queues sources within file listed seeds) (asks.Key url others) bytes before after its ask own other = absurd ask
-one_output (asks.Crawl workers max queues sources within file listed seeds) (asks.Replay other_file) bytes before after its ask own other = absurd ask
-one_output (asks.Crawl workers max queues sources within file listed seeds) (asks.Serve others other_max other_within) bytes before after its ask own other = absurd ask
-one_output (asks.Crawl workers max queues sources within file listed seeds) (asks.ServeLog asked) bytes before after its ask own other = absurd ask
+    let suffixes = suffixes_of options.within in
+    let first : IsCrawlText workers queues options bytes [] texts suffixes own.text = (of_web (λ b l. IsBegun b l texts × IsCrawlText workers queues options b l texts suffixes own.text) (string_bytes file) options.listed bytes own_input own_none own.told.1).1 in
+    let plain = (of_web (λ b l. IsBegun b l (map string_bytes other_seeds.items) × IsCrawlText others other_queues other_options b l (map string_bytes other_seeds.items) (suffixes_of other_options.within) other.text) (string_bytes other_file) other_options.listed bytes other_input other_none other.told.1).1 in
+    let same_seeds = subst (λ t. IsCrawlText others other_queues other_options bytes [] t (suffixes_of other_options.within) other.text) (sym seeded) plain in
+    let same_filter = subst (λ s. IsCrawlText others other_queues other_options bytes [] texts s other.text) (sym filtered) same_seeds in
+    let second : IsCrawlText others queues other_options bytes [] texts suffixes other.text = subst (λ q. IsCrawlText others q other_options bytes [] texts suffixes other.text) (sym queued) same_filter in
+    own.gained ∙ ap (λ t. before ++ t) (one_text workers others queues options other_options bytes [] texts suffixes own.text other.text many parts first second) ∙ sym other.gained
+one_output (asks.Crawl workers max queues file seeds options) (asks.Key url others) bytes before after its ask own other = absurd ask
+one_output (asks.Crawl workers max queues file seeds options) (asks.Replay other_file) bytes before after its ask own other = absurd ask
+one_output (asks.Crawl workers max queues file seeds options) (asks.Serve others other_max other_within) bytes before after its ask own other = absurd ask
+one_output (asks.Crawl workers max queues file seeds options) (asks.ServeLog asked) bytes before after its ask own other = absurd ask
 one_output (asks.Serve workers max within) other_plan bytes before after its ask own other = absurd ask
 one_output (asks.ServeLog asked) other_plan bytes before after its ask own other = absurd ask
 one_output (asks.Key url workers) other_plan bytes before after its ask own other = absurd ask
@@ -74,11 +101,11 @@ filter_is (Some suffix) filter is = single (string_bytes suffix) (not (is_good (
 pub found_within : (workers : ℕ) (bytes listed : List ℕ) (texts filter suffixes : List (List ℕ)) (found : Crawled) → filter ≡ suffixes → IsFound workers bytes listed texts filter found → IsFound workers bytes listed texts suffixes found
 found_within workers bytes listed texts filter suffixes found is own = subst (λ s. IsFound workers bytes listed texts s found) is own
 
--- what is written of what was found is the text of that crawl
-crawl_text : (workers : ℕ) (queues sources : Bool) (file : List ℕ) (listed : Option (String Global)) (texts suffixes : List (List ℕ)) (input : Option (List ℕ)) (found : Crawled) (text : List ℕ) → text ≡ told_text queues sources found.result found.counts.items
-    → OfFiles file listed input (λ bytes list. IsBegun bytes list texts × IsFound workers bytes list texts suffixes found)
-    → OfFiles file listed input (λ bytes list. IsBegun bytes list texts × IsCrawlText workers queues sources bytes list texts suffixes text)
-crawl_text workers queues sources file listed texts suffixes input found text written of = record {
+-- what is written of what was found in these bytes, by this filter, is the text of that crawl
+crawl_text : (workers : ℕ) (queues : Bool) (options : CrawlOptions) (file : List ℕ) (listed : Option (String Global)) (texts filter suffixes : List (List ℕ)) (input : Option (List ℕ)) (web : List ℕ) (found : Crawled) (text : List ℕ) → filter ≡ suffixes → IsTextOf queues options web filter found.result found.counts.items text
+    → OfFiles file listed input (λ bytes list. (bytes ≡ web) × IsBegun bytes list texts × IsFound workers bytes list texts suffixes found)
+    → OfFiles file listed input (λ bytes list. IsBegun bytes list texts × IsCrawlText workers queues options bytes list texts suffixes text)
+crawl_text workers queues options file listed texts filter suffixes input web found text same told of = record {
   bytes = of.bytes;
   read = of.read;
   few = of.few;
@@ -87,28 +114,32 @@ crawl_text workers queues sources file listed texts suffixes input found text wr
     read = of.holds.read;
     few = of.holds.few;
     holds = (
-      of.holds.holds.0,
+      of.holds.holds.1,
       record {
         pages = found.result;
-        crawl = of.holds.holds.1.crawl;
+        crawl = of.holds.holds.2.crawl;
         counts = found.counts.items;
-        counted = of.holds.holds.1.counted;
-        written = written;
+        counted = of.holds.holds.2.counted;
+        told =
+            subst (λ b. IsTextOf queues options b suffixes found.result found.counts.items text) (sym of.holds.holds.0)
+            (subst (λ s. IsTextOf queues options web s found.result found.counts.items text) same told);
       },
     );
   };
 }
 
 -- so the text of what was found is the plan's, where there is one
-pub told_of : (workers max : ℕ) (queues sources : Bool) (within : Option (String Global)) (file : String Global) (listed : Option (String Global)) (seeds : Vec (String Global) Global) (input : Option (List ℕ)) (plan : Plan) (name : List ℕ) (given : List (String Global)) (found : Crawled) (result : Result (Vec ℕ Global) Fault)
-    → plan ≡ asks.Crawl workers max queues sources within file listed seeds → name ≡ string_bytes file → given ≡ seeds.items
-    → (is_bad_suffix within ≡ false) × OfFiles name listed input (λ bytes list. IsBegun bytes list (map string_bytes given) × IsFound workers bytes list (map string_bytes given) (suffixes_of within) found)
-    → IfOk result (λ text. text.items ≡ told_text queues sources found.result found.counts.items) → IfOk result (λ text. IsTold plan input text.items)
-told_of workers max queues sources within file listed seeds input plan name given found (Err fault) is named same crawl written = tt
-told_of workers max queues sources within file listed seeds input plan name given found (Ok text) is named same crawl written =
-    let of = crawl_text workers queues sources name listed (map string_bytes given) (suffixes_of within) input found text.items written crawl.1 in
-    let seeded = subst (λ ts. OfFiles name listed input (λ bytes list. IsBegun bytes list (map string_bytes ts) × IsCrawlText workers queues sources bytes list (map string_bytes ts) (suffixes_of within) text.items)) same of in
-    let filed = subst (λ f. OfFiles f listed input (λ bytes list. IsBegun bytes list (map string_bytes seeds.items) × IsCrawlText workers queues sources bytes list (map string_bytes seeds.items) (suffixes_of within) text.items)) named seeded in
+pub told_of : (workers max : ℕ) (queues : Bool) (file : String Global) (seeds : Vec (String Global) Global) (options : CrawlOptions) (input : Option (List ℕ)) (plan : Plan) (name : List ℕ) (given : List (String Global)) (found : WebFound) (result : Result (Vec ℕ Global) Fault)
+    → plan ≡ asks.Crawl workers max queues file seeds options → name ≡ string_bytes file → given ≡ seeds.items
+    → (is_bad_suffix options.within ≡ false) × (found.filter ≡ suffixes_of options.within)
+    × OfFiles name options.listed input (λ bytes list. (bytes ≡ found.bytes.items) × IsBegun bytes list (map string_bytes given) × IsFound workers bytes list (map string_bytes given) (suffixes_of options.within) found.crawled)
+    → IfOk result (λ text. IsTextOf queues options found.bytes.items found.filter found.crawled.result found.crawled.counts.items text.items) → IfOk result (λ text. IsTold plan input text.items)
+told_of workers max queues file seeds options input plan name given found (Err fault) is named same crawl written = tt
+told_of workers max queues file seeds options input plan name given found (Ok text) is named same crawl written =
+    let suffixes = suffixes_of options.within in
+    let of = crawl_text workers queues options name options.listed (map string_bytes given) found.filter suffixes input found.bytes.items found.crawled text.items crawl.1 written crawl.2 in
+    let seeded = subst (λ ts. OfFiles name options.listed input (λ bytes list. IsBegun bytes list (map string_bytes ts) × IsCrawlText workers queues options bytes list (map string_bytes ts) suffixes text.items)) same of in
+    let filed = subst (λ f. OfFiles f options.listed input (λ bytes list. IsBegun bytes list (map string_bytes seeds.items) × IsCrawlText workers queues options bytes list (map string_bytes seeds.items) suffixes text.items)) named seeded in
     subst (λ p. IsTold p input text.items) (sym is) (crawl.0, filed)
 
 -- by whether FILE and the file of seeds are the input

@@ -22,8 +22,8 @@ lists_input (Some file) = is_input (string_bytes file)
 
 -- a frontier can be made with its numbers; a crawl has a seed or a file of seeds, and not both of its files are the input
 abbrev pub IsWithinLimits : Plan → Type 0
-IsWithinLimits (asks.Crawl workers max queues sources within file listed seeds) =
-    AreLimits workers max × (IsSome listed ⊎ (1 ≤ length seeds.items)) × ((is_input (string_bytes file) && lists_input listed) ≡ false)
+IsWithinLimits (asks.Crawl workers max queues file seeds options) =
+    AreLimits workers max × (IsSome options.listed ⊎ (1 ≤ length seeds.items)) × ((is_input (string_bytes file) && lists_input options.listed) ≡ false)
 IsWithinLimits (asks.Key url workers) = (1 ≤ workers) × (workers ≤ worker_limit)
 IsWithinLimits (asks.Replay file) = Unit {0}
 IsWithinLimits (asks.Serve workers max within) = AreLimits workers max
@@ -45,16 +45,21 @@ known_seeds (Some file) input = known_bytes (string_bytes file) input
 
 -- the FILE of a plan; a key has none, and a session is of the input
 abbrev pub file_of : Plan → List ℕ
-file_of (asks.Crawl workers max queues sources within file listed seeds) = string_bytes file
+file_of (asks.Crawl workers max queues file seeds options) = string_bytes file
 file_of (asks.Key url workers) = []
 file_of (asks.Replay file) = string_bytes file
 file_of (asks.Serve workers max within) = codes "-"
 file_of (asks.ServeLog asked) = codes "-"
 
+-- the name of a file of seeds, where there is one, else FILE
+abbrev pub listed_or : Option (String Global) → List ℕ → List ℕ
+listed_or None file = file
+listed_or (Some listed) file = string_bytes listed
+
 -- the file that a fault of a plan speaks of: that of the seeds where this one cannot be read, the log where this one is at fault,
 -- else FILE
 abbrev pub told_file : Plan → Fault → List ℕ
-told_file (asks.Crawl workers max queues sources within file (Some listed) seeds) fault.CannotReadSeeds = string_bytes listed
+told_file (asks.Crawl workers max queues file seeds options) fault.CannotReadSeeds = listed_or options.listed (string_bytes file)
 told_file (asks.ServeLog asked) (fault.Log why) = string_bytes asked.file
 told_file plan fault = file_of plan
 
@@ -70,7 +75,7 @@ is_bad_suffix (Some suffix) = not (is_good (string_bytes suffix))
 
 -- the command reads the input: one of its files stands for it, or it is a session, and no bad suffix ends the command before
 abbrev pub reads_input : Plan → Bool
-reads_input (asks.Crawl workers max queues sources within file listed seeds) = not (is_bad_suffix within) && (is_input (string_bytes file) || lists_input listed)
+reads_input (asks.Crawl workers max queues file seeds options) = not (is_bad_suffix options.within) && (is_input (string_bytes file) || lists_input options.listed)
 reads_input (asks.Key url workers) = false
 reads_input (asks.Replay file) = is_input (string_bytes file)
 reads_input (asks.Serve workers max within) = not (is_bad_suffix within)

@@ -17,6 +17,7 @@ use Rattle.crawl_session.specs.Settings.{Settings}
 use Rattle.crawl_core.specs.State.{start}
 use Rattle.std.specs.Str.Lines.{lines}
 use Rattle.mercator.specs.WebCrawl.{IsBegun, IsCrawlText, IsUnbegun}
+use Rattle.mercator.specs.declared.commands.planned.CrawlOptions.{CrawlOptions}
 use Rattle.mercator.specs.declared.commands.planned.LogPlan.{LogPlan}
 use Rattle.mercator.specs.declared.commands.planned.Plan.{Plan}
 use Rattle.mercator.specs.declared.commands.planned.Plan.TheVariants as asks
@@ -57,9 +58,9 @@ pub record GoesOn (asked : LogPlan) (input : Option (List ℕ)) (text : List ℕ
 
 -- the text is the plan's
 abbrev pub IsTold : Plan → Option (List ℕ) → List ℕ → Type 0
-IsTold (asks.Crawl workers max queues sources within file listed seeds) input text =
-    (is_bad_suffix within ≡ false)
-    × OfFiles (string_bytes file) listed input (λ bytes list. IsBegun bytes list (map string_bytes seeds.items) × IsCrawlText workers queues sources bytes list (map string_bytes seeds.items) (suffixes_of within) text)
+IsTold (asks.Crawl workers max queues file seeds options) input text =
+    (is_bad_suffix options.within ≡ false)
+    × OfFiles (string_bytes file) options.listed input (λ bytes list. IsBegun bytes list (map string_bytes seeds.items) × IsCrawlText workers queues options bytes list (map string_bytes seeds.items) (suffixes_of options.within) text)
 IsTold (asks.Key url workers) input text = IsKeyLine (string_bytes url) workers text
 IsTold (asks.Replay file) input text = OfFile (known_bytes (string_bytes file) input) (λ bytes. IsReplay bytes text)
 IsTold (asks.Serve workers max within) input text = (is_bad_suffix within ≡ false) × IsAnswered workers max (suffixes_of within) input text
@@ -115,7 +116,7 @@ BreaksOff plan fault = ⊥
 
 -- the fault is one by which the plan's command fails before it writes
 abbrev pub Fails : Plan → Option (List ℕ) → Fault → Type 0
-Fails (asks.Crawl workers max queues sources within file listed seeds) input fault = FailsCrawl workers max within (string_bytes file) listed (map string_bytes seeds.items) input fault
+Fails (asks.Crawl workers max queues file seeds options) input fault = FailsCrawl workers max options.within (string_bytes file) options.listed (map string_bytes seeds.items) input fault
 Fails (asks.Key url workers) input fault = FailsKey (string_bytes url) fault
 Fails (asks.Replay file) input fault = FailsReplay (string_bytes file) input fault
 Fails (asks.Serve workers max within) input fault = FailsSession within fault
@@ -124,8 +125,8 @@ Fails (asks.ServeLog asked) input fault = FailsLog asked.within fault
 -- there is nothing that the command could tell: the FILE is known and no script; whatever bytes the files of a crawl have, by
 -- what is known of them, there is no web, a seed has no canonical URL, or there is no seed; a suffix is bad; or the URL has no canonical URL
 abbrev pub CannotTell : Plan → Option (List ℕ) → Type 0
-CannotTell (asks.Crawl workers max queues sources within file listed seeds) input =
-    (is_bad_suffix within ≡ true) ⊎ (OfFiles (string_bytes file) listed input (λ bytes list. IsBegun bytes list (map string_bytes seeds.items)) → ⊥)
+CannotTell (asks.Crawl workers max queues file seeds options) input =
+    (is_bad_suffix options.within ≡ true) ⊎ (OfFiles (string_bytes file) options.listed input (λ bytes list. IsBegun bytes list (map string_bytes seeds.items)) → ⊥)
 CannotTell (asks.Key url workers) input = IsErr (canonical (string_bytes url))
 CannotTell (asks.Replay file) input = IsSomeAnd (known_bytes (string_bytes file) input) (λ bytes. IsErr (script_of bytes))
 CannotTell (asks.Serve workers max within) input = is_bad_suffix within ≡ true
@@ -133,8 +134,8 @@ CannotTell (asks.ServeLog asked) input = is_bad_suffix asked.within ≡ true
 
 -- a crawl alone can be incomplete, and it is one of a saved web from seeds, one at least, that have canonical URLs
 abbrev pub MayLose : Plan → Option (List ℕ) → Type 0
-MayLose (asks.Crawl workers max queues sources within file listed seeds) input =
-    (is_bad_suffix within ≡ false) × OfFiles (string_bytes file) listed input (λ bytes list. IsBegun bytes list (map string_bytes seeds.items))
+MayLose (asks.Crawl workers max queues file seeds options) input =
+    (is_bad_suffix options.within ≡ false) × OfFiles (string_bytes file) options.listed input (λ bytes list. IsBegun bytes list (map string_bytes seeds.items))
 MayLose _ input = ⊥
 
 -- a writer that held the old bytes gained the plan's text, where it says what it holds
@@ -166,13 +167,20 @@ pub record EndsByFault (plan : Plan) (ended : ℕ) (input err_old err_new : Opti
   pub told : TellsFault plan err_old err_new (fault_line (told_file plan fault) fault)
   pub why : EndsBy plan input fault Unwritten
 
--- both plans crawl the input, from the same seeds of the command line within the same suffix, and tell the sources or not; with
--- the lines of subqueues, where there are as many
+-- both crawls tell the same parts, in the same form
+pub record AskForOneReport (options others : CrawlOptions) : Type 0 where
+  pub sources : options.sources ≡ others.sources
+  pub moved : options.moved ≡ others.moved
+  pub unreached : options.unreached ≡ others.unreached
+  pub json : options.json ≡ others.json
+
+-- both plans crawl the input, from the same seeds of the command line within the same suffix, and tell the same parts; with the
+-- lines of subqueues, where there are as many
 abbrev pub AskForOneText : Plan → Plan → Type 0
-AskForOneText (asks.Crawl workers max queues sources within file listed seeds) (asks.Crawl others other_max other_queues other_sources other_within other_file other_listed other_seeds) =
-    (is_input (string_bytes file) ≡ true) × (is_input (string_bytes other_file) ≡ true) × (listed ≡ None) × (other_listed ≡ None)
-    × (map string_bytes seeds.items ≡ map string_bytes other_seeds.items) × (suffixes_of within ≡ suffixes_of other_within)
-    × (sources ≡ other_sources) × (queues ≡ other_queues) × (queues ≡ true → workers ≡ others)
+AskForOneText (asks.Crawl workers max queues file seeds options) (asks.Crawl others other_max other_queues other_file other_seeds other_options) =
+    (is_input (string_bytes file) ≡ true) × (is_input (string_bytes other_file) ≡ true) × (options.listed ≡ None) × (other_options.listed ≡ None)
+    × (map string_bytes seeds.items ≡ map string_bytes other_seeds.items) × (suffixes_of options.within ≡ suffixes_of other_options.within)
+    × AskForOneReport options other_options × (queues ≡ other_queues) × (queues ≡ true → workers ≡ others)
 AskForOneText _ _ = ⊥
 
 -- what is wrong with words is told: the writer for faults gained a beginning of the text

@@ -1,7 +1,15 @@
 -- A crawl of a saved web, from its bytes to the report.
-use Rattle.std.specs.Prelude.{◌≡◌, ℕ, ◌+◌, Bool, if◌then◌else◌, List, [], ◌∷◌, ◌++◌, ◌≤◌, length, map, Ok, Err, IsOk}
+use Rattle.std.specs.Prelude.{◌≡◌, ℕ, ◌+◌, Bool, false, if◌then◌else◌, List, [], ◌∷◌, ◌++◌, ◌≤◌, length, map, Ok, Err, IsOk}
+use Rattle.std.specs.Cmp.Lexicographic.{slice_cmp}
+use Rattle.std.specs.List.{flat_map}
+use Rattle.std.specs.List.Sorted.{IsPermutation, IsSortedByKey}
+use Rattle.std.specs.Ordering.{nat_cmp}
 use Rattle.std.specs.Str.Lines.{lines}
 use Rattle.crawl_keys.specs.CanonicalText.{canonical}
+use Rattle.crawl_report.specs.Json.{printed_line}
+use Rattle.crawl_report.specs.Rows.{rows_with}
+use Rattle.crawl_report.specs.Unreached.{page_urls, unreached_of}
+use Rattle.crawl_report.specs.declared.report.Sources.TheVariants as told
 use Rattle.crawl_sources.specs.Seeds.{seeds_in}
 use Rattle.crawl_sources.specs.Sources.{sources}
 use Rattle.crawl_web.specs.SavedWeb.{page_of}
@@ -9,6 +17,7 @@ use Rattle.crawl_keys.specs.declared.error.KeyError.{KeyError}
 use Rattle.crawl_web.specs.WebFaults.{IsSound, IsWebFault}
 use Rattle.mercator.specs.declared.commands.fault.Fault.{Fault}
 use Rattle.mercator.specs.declared.commands.fault.Fault.TheVariants as wrong
+use Rattle.mercator.specs.declared.commands.planned.CrawlOptions.{CrawlOptions}
 use Rattle.crawl_certificate.specs.Certificate.{IsCrawl, result_urls}
 use Rattle.crawl_keys.specs.HostFilter.{allows}
 use Rattle.mercator.specs.Crawls.{AreCounts, ComesIn, CrawlFails}
@@ -105,15 +114,55 @@ pub record IsCrawlReport (bytes : List ℕ) (texts suffixes : List (List ℕ)) (
   pub crawl : IsSiteCrawl bytes [] texts suffixes pages
   pub written : text ≡ report pages
 
--- the text that is told of pages and counts: the report, then where they are wanted the lines that count its URLs by subqueue,
--- and then where they are wanted those that tell where its missing URLs are linked from
+-- ---- what is told of a crawl
+
+-- the URLs of the pages of a web with these lines, where they are asked for
+abbrev pub asked_pages : Bool → List (List ℕ) → List (List ℕ)
+asked_pages asked lines = if asked then page_urls lines else []
+
+-- these are the pages of the web that no result has, of hosts that the filter with these suffixes allows, in ascending order; none
+-- where they are not asked for
+pub record AreUnreached (asked : Bool) (bytes : List ℕ) (suffixes : List (List ℕ)) (pages : List PageResult) (urls : List (List ℕ)) : Type 0 where
+  pub same : IsPermutation (unreached_of (allows suffixes) pages (asked_pages asked (lines bytes))) urls
+  pub ascends : IsSortedByKey (λ url. url) (slice_cmp nat_cmp) urls
+
+-- the text that is told of pages, counts and unreached pages, with the parts that are asked for
+abbrev pub printed_with : Bool → CrawlOptions → List PageResult → List ℕ → List (List ℕ) → List ℕ
+printed_with with_queues options pages counts unreached =
+    flat_map (printed_line options.json) (rows_with pages (if with_queues then counts else []) options.sources options.moved unreached)
+
+-- the text is told of pages and counts of a crawl of these bytes
+pub record IsTextOf (with_queues : Bool) (options : CrawlOptions) (bytes : List ℕ) (suffixes : List (List ℕ)) (pages : List PageResult) (counts text : List ℕ) : Type 0 where
+  pub unreached : List (List ℕ)
+  pub unseen : AreUnreached options.unreached bytes suffixes pages unreached
+  pub written : text ≡ printed_with with_queues options pages counts unreached
+
+-- the text is that of such a crawl
+pub record IsCrawlText (workers : ℕ) (with_queues : Bool) (options : CrawlOptions) (bytes listed : List ℕ) (texts suffixes : List (List ℕ)) (text : List ℕ) : Type 0 where
+  pub pages : List PageResult
+  pub crawl : IsSiteCrawl bytes listed texts suffixes pages
+  pub counts : List ℕ
+  pub counted : AreCounts workers (result_urls pages) counts
+  pub told : IsTextOf with_queues options bytes suffixes pages counts text
+
+-- ---- the text of a crawl that asks for no more than subqueues and sources
+
+-- the report, then where they are wanted the lines that count its URLs by subqueue, and then where they are wanted those that tell
+-- where its missing URLs are linked from
 abbrev pub told_text : Bool → Bool → List PageResult → List ℕ → List ℕ
 told_text with_queues with_sources pages counts = report pages ++ (if with_queues then queue_lines counts else []) ++ (if with_sources then sources pages else [])
 
 -- the text is that of such a crawl
-pub record IsCrawlText (workers : ℕ) (with_queues with_sources : Bool) (bytes listed : List ℕ) (texts suffixes : List (List ℕ)) (text : List ℕ) : Type 0 where
+pub record IsPlainText (workers : ℕ) (with_queues with_sources : Bool) (bytes listed : List ℕ) (texts suffixes : List (List ℕ)) (text : List ℕ) : Type 0 where
   pub pages : List PageResult
   pub crawl : IsSiteCrawl bytes listed texts suffixes pages
   pub counts : List ℕ
   pub counted : AreCounts workers (result_urls pages) counts
   pub written : text ≡ told_text with_queues with_sources pages counts
+
+-- no more is asked for
+pub record IsPlain (with_sources : Bool) (options : CrawlOptions) : Type 0 where
+  pub sources : options.sources ≡ (if with_sources then told.First else told.None)
+  pub moved : options.moved ≡ false
+  pub unreached : options.unreached ≡ false
+  pub json : options.json ≡ false

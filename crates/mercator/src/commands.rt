@@ -11,6 +11,7 @@ ghost use Rattle.mercator.specs.declared.commands.words.PlanError.{PlanError};
 ghost use Rattle.mercator.specs.declared.commands.fault.Fault.TheVariants as wrong;
 
 mod command_line;
+mod crawl_text;
 mod fault;
 mod fault_text;
 mod input;
@@ -29,7 +30,7 @@ mod writing;
 pub use fault::Fault;
 pub use input::{INPUT_LIMIT, InputLimits, READ_LIMIT, Unread, read_input};
 pub use log_file::{LockFiles, LogFault};
-pub use planned::{LogPlan, Plan};
+pub use planned::{CrawlOptions, LogPlan, Plan};
 pub use queues::queue_text;
 use resuming::serve_log;
 use serving::serve_plan;

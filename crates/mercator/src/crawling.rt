@@ -10,6 +10,7 @@ mod certified;
 mod error;
 mod gather;
 mod named;
+mod settings;
 
 use crawl_certificate::CrawlResult;
 use crawl_frontier::Setup;
@@ -17,6 +18,7 @@ use crawl_keys::{CanonUrl, Filter};
 use crawl_web::{Fetch, SessionFetch, WithoutSession};
 pub use error::CrawlError;
 use named::crawl_named;
+pub use settings::CrawlSettings;
 use std::alloc::Global;
 use std::marker::Brand;
 use std::sync::Wait;
@@ -73,38 +75,32 @@ pub fn crawl<F: Fetch + Sync, R: Threads + Wait + Sync>(
     ensures judged { IfErr result (IsJudged (F.meaning fetcher.now) (allows filter.now) seeds.now) }
 {
     let source = WithoutSession { fetcher };
-    crawl_in(
-        rt,
-        alloc,
-        &source,
-        filter,
-        seeds,
+    let settings = CrawlSettings {
         workers,
         max_pending,
         mode,
-    )
+        filter,
+    };
+    crawl_with(rt, alloc, &source, &settings, seeds)
 }
 
 /// As [`crawl`], where each worker owns a session of the source.
 ///
 /// # Errors
 /// Those of [`crawl`].
-pub fn crawl_in<F: SessionFetch + Sync, R: Threads + Wait + Sync>(
+pub fn crawl_with<F: SessionFetch + Sync, R: Threads + Wait + Sync>(
     rt: &R,
     alloc: Global,
     fetcher: &F,
-    filter: &Filter,
+    settings: &CrawlSettings<'_>,
     seeds: &[CanonUrl],
-    workers: u32,
-    max_pending: u64,
-    mode: Mode,
 ) -> Result<Crawled, CrawlError>
-    ensures pages { IfOk result (λ crawled. IsCrawl (F.meaning fetcher.now) (allows filter.now) seeds.now crawled.result) }
-    ensures counts { IfOk result (λ crawled. AreCounts workers (result_urls crawled.result) crawled.counts.items) }
-    ensures numbers { MatchResult result (λ _. IsWorkers workers × IsMaximum max_pending) (λ error. CrawlFails workers max_pending error) }
-    ensures mode { IfErr result (ComesIn mode) }
-    ensures judged { IfErr result (IsJudged (F.meaning fetcher.now) (allows filter.now) seeds.now) }
+    ensures pages { IfOk result (λ crawled. IsCrawl (F.meaning fetcher.now) (allows settings.now.filter.now) seeds.now crawled.result) }
+    ensures counts { IfOk result (λ crawled. AreCounts settings.now.workers (result_urls crawled.result) crawled.counts.items) }
+    ensures numbers { MatchResult result (λ _. IsWorkers settings.now.workers × IsMaximum settings.now.max_pending) (λ error. CrawlFails settings.now.workers settings.now.max_pending error) }
+    ensures mode { IfErr result (ComesIn settings.now.mode) }
+    ensures judged { IfErr result (IsJudged (F.meaning fetcher.now) (allows settings.now.filter.now) seeds.now) }
 {
-    let setup = Setup::new(alloc, workers, max_pending)?;
-    crawl_named::<Brand, F, R>(rt, alloc, setup, filter, fetcher, seeds, mode)
+    let setup = Setup::new(alloc, settings.workers, settings.max_pending)?;
+    crawl_named::<Brand, F, R>(rt, alloc, setup, fetcher, settings, seeds)
 }

@@ -12,7 +12,8 @@ ghost use Rattle.crawl_web.specs.declared.page.PageResult.{PageResult};
 ghost use Rattle.crawl_workers.specs.Logs.{AllLogged};
 ghost use Rattle.mercator.specs.LosslessRuns.{Share, IsWithoutLoss};
 ghost use Rattle.mercator.specs.Told.{AskForOneText, Gains};
-ghost use Rattle.mercator.specs.WebCrawl.{IsSiteCrawl, IsCrawlReport};
+ghost use Rattle.mercator.specs.WebCrawl.{IsCrawlText, IsPlain, IsPlainText, IsSiteCrawl, IsCrawlReport};
+ghost use Rattle.mercator.specs.declared.commands.planned.CrawlOptions.{CrawlOptions};
 ghost use Rattle.mercator.specs.declared.commands.planned.Plan.{Plan};
 
 // The laws of scripts, which stand where scripts do.
@@ -23,12 +24,19 @@ pub use crawl_replay::laws::{hosts_keep_to_their_subqueues, lines_mean_what_the_
 /// `pages`: the pages of two crawls of the same bytes, from the same file of seeds and the same seeds, within the same
 /// suffixes, are equal. `reports`: so are the reports of two such crawls without a file of seeds. `outputs`: two plans crawl
 /// the same standard input from the same seeds of the command line within the same suffix, without a file of seeds, and ask
-/// for the same lines of sources and of subqueues; for the latter, with as many workers. Where each plan's text was appended
+/// for the same parts of a report; for lines of subqueues, with as many workers. Where each plan's text was appended
 /// to an output that held the same before, the outputs hold the same, whatever the workers and maximums were.
 pub fn same_bytes_for_any_workers()
     ensures pages { (bytes listed : List ℕ) (seeds suffixes : List (List ℕ)) (pages others : List PageResult) → IsSiteCrawl bytes listed seeds suffixes pages → IsSiteCrawl bytes listed seeds suffixes others → pages ≡ others }
     ensures reports { (bytes : List ℕ) (seeds suffixes : List (List ℕ)) (text other : List ℕ) → IsCrawlReport bytes seeds suffixes text → IsCrawlReport bytes seeds suffixes other → text ≡ other }
     ensures outputs { (plan other : Plan) (bytes before after its : List ℕ) → AskForOneText plan other → Gains plan (Some bytes) (Some before) (Some after) → Gains other (Some bytes) (Some before) (Some its) → after ≡ its }
+{}
+
+/// Where a crawl asks for no more than lines of subqueues and of sources, its text is the report of its pages, and behind it
+/// these lines.
+pub fn plain_crawls_tell_the_report()
+    ensures { (workers : ℕ) (with_queues with_sources : Bool) (options : CrawlOptions) (bytes listed : List ℕ) (seeds suffixes : List (List ℕ)) (text : List ℕ)
+        → IsPlain with_sources options → IsCrawlText workers with_queues options bytes listed seeds suffixes text → IsPlainText workers with_queues with_sources bytes listed seeds suffixes text }
 {}
 
 /// A run in which nothing is lost lacks nothing. Where all workers of a frontier began with nothing taken and lost nothing, the

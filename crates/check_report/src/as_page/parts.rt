@@ -44,17 +44,18 @@ section { margin-top: 2rem; }
 h2 { font-size: 1.25rem; margin: 0 0 .5rem; }
 pre, table, .rows { font: var(--mono); margin: 0; white-space: pre-wrap; overflow-wrap: anywhere; tab-size: 4; }
 pre { color: var(--mute); }
-pre b { color: var(--fg); }
+pre b { color: var(--fg); unicode-bidi: isolate; }
 table { width: 100%; border-collapse: collapse; table-layout: fixed; }
 th, td { text-align: start; vertical-align: top; padding: .45rem .5rem .45rem 0; border-top: 1px solid var(--line); font-weight: 400; unicode-bidi: isolate; }
 thead th { font: .8125rem/1.4 system-ui, sans-serif; color: var(--mute); border: 0; }
 .n { width: 5rem; text-align: end; padding-inline-end: 1rem; }
 tbody th { font-weight: 600; }
 td ul { list-style: none; margin: 0; padding: 0; }
+li, .aside { unicode-bidi: isolate; }
 .aside { color: var(--mute); font-weight: 400; }
 a, summary { color: var(--link); }
 summary { cursor: pointer; }
-@media (max-width: 40rem) { .n { width: 3rem; } }
+@media (max-width: 40rem) { .n { width: 3.5rem; padding-inline-end: .75rem; } }
 @media print { #tools, .skip, #more { display: none !important; } }
 </style>
 "#;

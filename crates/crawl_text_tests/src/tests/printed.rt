@@ -1,7 +1,7 @@
 //! Reports with each part, as text and as JSON.
 use crate::tests::results::result_at;
-use crawl_keys::{CanonUrl, Filter, canonical};
-use crawl_report::{Report, Sources, print, unreached};
+use crawl_keys::{CanonUrl, Filter};
+use crawl_report::{Report, Sources, page_urls, print, unreached};
 use crawl_web::PageResult;
 use std::alloc::Global;
 
@@ -90,9 +90,8 @@ fn is_printed(alloc: Global, row: &Row, results: &[PageResult], urls: &[&CanonUr
 fn printed_rows(alloc: Global) -> Option<usize> {
     let results = found(alloc);
     let every = Filter::new(alloc, &[]).ok()?;
-    let a = canonical(alloc, "http://a.test/b").ok()?;
-    let u = canonical(alloc, "http://u.test/").ok()?;
-    let urls = unreached(alloc, &every, &results, &[&u, &a]).ok()?;
+    let pages = page_urls(alloc, WEB.as_bytes()).ok()?;
+    let urls = unreached(alloc, &every, &results, &pages).ok()?;
     for (number, row) in ROWS.iter().enumerate() {
         if !is_printed(alloc, row, &results, &urls) {
             return Some(number);

@@ -1,6 +1,6 @@
-//! Scripts as values, their replies, and the messages of their faults.
+//! Scripts as values.
 use crawl_core::Event;
-use crawl_replay::{ScriptError, read_script, replay_text};
+use crawl_replay::read_script;
 use std::alloc::Global;
 
 const EACH_EVENT: &str =
@@ -56,46 +56,5 @@ fn is_said(event: &Event, row: &Said) -> bool {
         Event::Take { queue } => row.0 == "take" && *queue == row.2,
         Event::Done { queue } => row.0 == "done" && *queue == row.2,
         Event::Close => row.0 == "close",
-    }
-}
-
-const SCRIPT: &str =
-    "workers 2 max 9\nlook 2\nenter 2\nadmit 2 http://a.test/\nendseeds\ntake 1\ndone 1\nclose\nlook 2\nenter 2\n";
-
-const REPLIES: &str =
-    "word 1 open\nentered 2\naccepted 1 0\ncount 1\ntaken http://a.test/\ncount 0\nclosed\nword 0 closed\nrefused closed\n";
-
-#[test]
-fn closes_when_drained(rt: HostRuntime) {
-    assert!(rt; replies_so(rt.alloc()));
-}
-
-fn replies_so(alloc: Global) -> bool {
-    match replay_text(alloc, SCRIPT.as_bytes()) {
-        Ok(text) => text.as_slice() == REPLIES.as_bytes(),
-        Err(_) => false,
-    }
-}
-
-const MESSAGES: &[(ScriptError, &str)] = &[
-    (ScriptError::LineTooLong(3), "script: line 3: line too long"),
-    (ScriptError::NotText(1), "script: line 1: not UTF-8"),
-    (ScriptError::BadHeader, "script: bad header"),
-    (ScriptError::BadLine(3), "script: line 3: bad line"),
-    (ScriptError::BadUrl(3), "script: line 3: bad URL"),
-    (ScriptError::NoMemory, "out of memory"),
-];
-
-#[test]
-fn messages(rt: HostRuntime) {
-    for row in MESSAGES {
-        assert!(rt; is_message(rt.alloc(), row.0, row.1), "{}", row.1);
-    }
-}
-
-fn is_message(alloc: Global, fault: ScriptError, message: &str) -> bool {
-    match fault.to_string(alloc) {
-        Ok(text) => text.as_str() == message,
-        Err(_) => false,
     }
 }

@@ -58,6 +58,10 @@ fn crawl_command<'a>(alloc: Global) -> Result<Command<'a>, AllocError> {
         .arg(max_pending(alloc))?
         .arg(queues(alloc))?
         .arg(sources(alloc))?
+        .arg(all_sources(alloc))?
+        .arg(moved(alloc))?
+        .arg(unreached(alloc))?
+        .arg(json(alloc))?
         .arg(within(alloc))?
         .arg(listed(alloc))?
         .arg(file(alloc, "The saved web, or - for standard input"))?
@@ -125,6 +129,34 @@ fn sources<'a>(alloc: Global) -> Arg<'a> {
         .long("sources")
         .action(ArgAction::SetTrue)
         .help("Also writes, for each missing URL, how many pages link to it, and the first of them")
+}
+
+fn all_sources<'a>(alloc: Global) -> Arg<'a> {
+    Arg::new(alloc, "all-sources")
+        .long("all-sources")
+        .action(ArgAction::SetTrue)
+        .help("As --sources, and each of these pages")
+}
+
+fn moved<'a>(alloc: Global) -> Arg<'a> {
+    Arg::new(alloc, "moved")
+        .long("moved")
+        .action(ArgAction::SetTrue)
+        .help("Also writes where pages moved to; with --sources, also which pages link to these")
+}
+
+fn unreached<'a>(alloc: Global) -> Arg<'a> {
+    Arg::new(alloc, "unreached")
+        .long("unreached")
+        .action(ArgAction::SetTrue)
+        .help("Also writes the pages of FILE that were not reached, of hosts that are crawled")
+}
+
+fn json<'a>(alloc: Global) -> Arg<'a> {
+    Arg::new(alloc, "json")
+        .long("json")
+        .action(ArgAction::SetTrue)
+        .help("Writes the report as JSON, an object a line")
 }
 
 fn listed<'a>(alloc: Global) -> Arg<'a> {

@@ -1,8 +1,9 @@
 //! What a command line asks for.
 ghost use Rattle.std.specs.Prelude.{◌≡◌};
-ghost use Rattle.mercator.specs.Plans.{file_of, told_file};
+ghost use Rattle.mercator.specs.Plans.{file_of, listed_or, told_file};
 
 use crate::commands::fault::Fault;
+use crawl_report::Sources;
 
 /// What the words of a command line ask for. [`plan`](crate::plan) answers one whose numbers are within the limits, and
 /// a crawl with at least one seed or a file of seeds, and not both of its files the input.
@@ -16,16 +17,11 @@ pub enum Plan {
         max: u64,
         /// Whether the counts of the subqueues follow the report.
         queues: bool,
-        /// Whether the lines that tell where missing URLs are linked from stand at the end.
-        sources: bool,
-        /// The suffix of the hosts that are wanted, where not all are.
-        within: Option<String>,
         /// The saved web's name, or `-` for the input.
         file: String,
-        /// The name of a file of seeds, or `-` for the input, where there is one.
-        listed: Option<String>,
-        /// Where the crawl begins, behind the seeds of that file.
+        /// Where the crawl begins, behind the seeds of a file of seeds.
         seeds: Vec<String>,
+        options: CrawlOptions,
     },
     /// `key`: the URL's key line.
     Key {
@@ -50,6 +46,23 @@ pub enum Plan {
     },
     /// `serve --log`: the same, from where a log stands, which gains the requests.
     ServeLog(LogPlan),
+}
+
+/// What else a crawl is asked for.
+#[derive(Debug, Drop)]
+pub struct CrawlOptions {
+    /// The suffix of the hosts that are wanted, where not all are.
+    pub within: Option<String>,
+    /// The name of a file of seeds, or `-` for the input, where there is one.
+    pub listed: Option<String>,
+    /// Whether it tells where missing URLs are linked from, and by which pages.
+    pub sources: Sources,
+    /// Whether it tells where pages moved to; with sources, where these pages are linked from too.
+    pub moved: bool,
+    /// Whether it tells which pages of the web it did not reach, of hosts that are wanted.
+    pub unreached: bool,
+    /// Whether its report is in JSON, an object a line.
+    pub json: bool,
 }
 
 /// A session that has a log.
@@ -85,15 +98,21 @@ impl Plan {
         ensures { result.now ≡ told_file self.now fault }
     {
         match (self, fault) {
-            (
-                Plan::Crawl {
-                    listed: Some(listed),
-                    ..
-                },
-                Fault::CannotReadSeeds,
-            ) => listed.as_str(),
+            (Plan::Crawl { file, options, .. }, Fault::CannotReadSeeds) => {
+                listed_or(&options.listed, file.as_str())
+            }
             (Plan::ServeLog(asked), Fault::Log(_)) => asked.file.as_str(),
             _ => self.file(),
         }
+    }
+}
+
+/// The name of a file of seeds, where there is one, else FILE.
+fn listed_or<'a>(listed: &'a Option<String>, file: &'a str) -> &'a str
+    ensures { result.now ≡ listed_or listed.now file.now }
+{
+    match listed {
+        Some(listed) => listed.as_str(),
+        None => file,
     }
 }

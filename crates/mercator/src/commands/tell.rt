@@ -8,20 +8,18 @@ ghost use Rattle.mercator.specs.Limits.{most_input_bytes};
 ghost use Rattle.mercator.specs.Plans.{IsTelling, IsWithinLimits, is_input, is_bad_suffix, known_bytes, known_seeds, lists_input, reads_input, suffixes_of};
 ghost use Rattle.crawl_replay.specs.Replay.{IsReplay};
 ghost use Rattle.mercator.specs.Told.{IsTold, Fails, FailsReplay, FailsCrawl, FailsKey, OfFile, OfFiles};
-ghost use Rattle.mercator.specs.WebCrawl.{IsBegun, IsFound, told_text};
+ghost use Rattle.mercator.specs.WebCrawl.{IsBegun, IsFound, IsTextOf};
 ghost use Rattle.mercator.specs.declared.commands.fault.Fault.TheVariants as wrong;
 
+use crate::commands::crawl_text::crawl_text;
 use crate::commands::fault::Fault;
-use crate::commands::planned::Plan;
-use crate::commands::queues::queue_text;
+use crate::commands::planned::{CrawlOptions, Plan};
 use crate::commands::source::read_file;
 use crate::commands::web_crawl::crawl_with_web;
-use crate::crawling::{Crawled, Mode};
+use crate::crawling::{CrawlSettings, Crawled, Mode};
 use crate::key::key_line;
 use crawl_keys::{Filter, FilterError};
 use crawl_replay::replay_text;
-use crawl_sources::sources_text;
-use crawl_web::report_text;
 use std::alloc::Global;
 use std::fs::Files;
 use std::io::Read;
@@ -53,16 +51,12 @@ pub fn tell<R: Files + Threads + Wait + Sync, I: Read>(
             workers,
             max,
             queues,
-            sources,
-            within,
             file,
-            listed,
             seeds,
+            options,
         } => {
-            let found = crawl_files(
-                rt, alloc, *workers, *max, within, file, listed, seeds, input,
-            )?;
-            let text = text_of(alloc, &found, *queues, *sources);
+            let found = crawl_files(rt, alloc, *workers, *max, file, seeds, options, input)?;
+            let text = text_of(alloc, &found, *queues, options);
             // The process ends soon, and gives it back at once.
             forget(found);
             text
@@ -86,34 +80,49 @@ fn tell_replay<R: Files, I: Read>(
     Ok(replay_text(alloc, &bytes)?)
 }
 
+/// What a crawl of its files found, the web's bytes and the filter.
+#[derive(Drop)]
+struct WebFound {
+    filter: Filter,
+    bytes: Vec<u8>,
+    crawled: Crawled,
+}
+
 /// What a crawl of its files finds.
 fn crawl_files<R: Files + Threads + Wait + Sync, I: Read>(
     rt: &R,
     alloc: Global,
     workers: u32,
     max: u64,
-    within: &Option<String>,
     file: &str,
-    listed: &Option<String>,
     seeds: &[String],
+    options: &CrawlOptions,
     input: &mut I,
-) -> Result<Crawled, Fault>
-    requires one_input { (is_input file.now && lists_input listed.now) ≡ false }
-    ensures found { IfOk result (λ crawled. (is_bad_suffix within.now ≡ false) × OfFiles file.now listed.now (I.remaining input.old) (λ bytes list. IsBegun bytes list (map string_bytes seeds.now) × IsFound workers bytes list (map string_bytes seeds.now) (suffixes_of within.now) crawled)) }
-    ensures fault { IfErr result (FailsCrawl workers max within.now file.now listed.now (map string_bytes seeds.now) (I.remaining input.old)) }
-    ensures unfiltered { is_bad_suffix within.now ≡ true → input.new ≡ input.old }
-    ensures unread { (is_input file.now || lists_input listed.now) ≡ false → input.new ≡ input.old }
+) -> Result<WebFound, Fault>
+    requires one_input { (is_input file.now && lists_input options.now.listed) ≡ false }
+    ensures found { IfOk result (λ found. (is_bad_suffix options.now.within ≡ false) × (found.filter ≡ suffixes_of options.now.within)
+        × OfFiles file.now options.now.listed (I.remaining input.old) (λ bytes list. (bytes ≡ found.bytes.items) × IsBegun bytes list (map string_bytes seeds.now) × IsFound workers bytes list (map string_bytes seeds.now) (suffixes_of options.now.within) found.crawled)) }
+    ensures fault { IfErr result (FailsCrawl workers max options.now.within file.now options.now.listed (map string_bytes seeds.now) (I.remaining input.old)) }
+    ensures unfiltered { is_bad_suffix options.now.within ≡ true → input.new ≡ input.old }
+    ensures unread { (is_input file.now || lists_input options.now.listed) ≡ false → input.new ≡ input.old }
 {
-    let filter = filter_of(alloc, within)?;
+    let filter = filter_of(alloc, &options.within)?;
     let bytes = read_file(rt, alloc, file, input)?;
-    let list = read_list(rt, alloc, listed, input)?;
-    let mode = Mode::Threads;
-    let (web, found) = crawl_with_web(
-        rt, alloc, &bytes, &list, seeds, &filter, workers, max, mode,
-    )?;
+    let list = read_list(rt, alloc, &options.listed, input)?;
+    let settings = CrawlSettings {
+        workers,
+        max_pending: max,
+        mode: Mode::Threads,
+        filter: &filter,
+    };
+    let (web, crawled) = crawl_with_web(rt, alloc, &bytes, &list, seeds, &settings)?;
     // As the pages, by `tell`.
     forget(web);
-    Ok(found)
+    Ok(WebFound {
+        filter,
+        bytes,
+        crawled,
+    })
 }
 
 /// All bytes of the file of seeds; none where there is no such file.
@@ -147,19 +156,24 @@ pub fn filter_of(alloc: Global, within: &Option<String>) -> Result<Filter, Filte
     }
 }
 
-/// The text of what was found: the report, and where they are wanted the lines of its counts, and those of the sources of its
-/// missing URLs.
-fn text_of(alloc: Global, found: &Crawled, queues: bool, sources: bool) -> Result<Vec<u8>, Fault>
-    ensures text { IfOk result (λ text. text.items ≡ told_text queues sources found.now.result found.now.counts.items) }
+/// The text of what was found.
+fn text_of(
+    alloc: Global,
+    found: &WebFound,
+    queues: bool,
+    options: &CrawlOptions,
+) -> Result<Vec<u8>, Fault>
+    ensures text { IfOk result (λ text. IsTextOf queues options.now found.now.bytes.items found.now.filter found.now.crawled.result found.now.crawled.counts.items text.items) }
     ensures fault { IfErr result (λ fault. fault ≡ wrong.NoMemory) }
 {
-    let mut text = report_text(alloc, found.result.pages())?;
-    if queues {
-        text.extend_from_slice(&queue_text(alloc, &found.counts)?)?;
-    }
-    if sources {
-        text.extend_from_slice(&sources_text(alloc, found.result.pages())?)?;
-    }
+    let text = crawl_text(
+        alloc,
+        &found.bytes,
+        &found.filter,
+        &found.crawled,
+        queues,
+        options,
+    )?;
     Ok(text)
 }
 

@@ -12,7 +12,7 @@ ghost use Rattle.mercator.specs.Crawls.{AreCounts};
 ghost use Rattle.mercator.specs.WebCrawl.{AreAllSeeds, AreSeeds, ComesOf, IsBegun, IsFound, IsSiteCrawl, IsCrawlReport, IsRefused, IsSeedFault, IsUnbegun, IsUnread};
 
 use crate::commands::fault::Fault;
-use crate::crawling::{Crawled, Mode, crawl_in};
+use crate::crawling::{CrawlSettings, Crawled, Mode, crawl_with};
 use crawl_keys::{CanonUrl, Filter, canonical};
 use crawl_sources::read_seeds;
 use crawl_web::{SavedWeb, report_text};
@@ -95,7 +95,13 @@ pub fn crawl_saved_web<R: Threads + Wait + Sync>(
     ensures mode { IfErr result (ComesOf mode) }
 {
     let (web, urls) = read_site(alloc, bytes, listed, seeds)?;
-    let found = crawl_in(rt, alloc, &web, filter, &urls, workers, max_pending, mode)?;
+    let settings = CrawlSettings {
+        workers,
+        max_pending,
+        mode,
+        filter,
+    };
+    let found = crawl_with(rt, alloc, &web, &settings, &urls)?;
     Ok(found)
 }
 
@@ -109,20 +115,17 @@ pub(in crate::commands) fn crawl_with_web<'a, R: Threads + Wait + Sync>(
     bytes: &'a [u8],
     listed: &[u8],
     seeds: &[String],
-    filter: &Filter,
-    workers: u32,
-    max_pending: u64,
-    mode: Mode,
+    settings: &CrawlSettings<'_>,
 ) -> Result<(SavedWeb<'a>, Crawled), Fault>
-    ensures found { IfOk result (λ r. IsFound workers bytes.now listed.now (map string_bytes seeds.now) filter.now r.1) }
+    ensures found { IfOk result (λ r. IsFound settings.now.workers bytes.now listed.now (map string_bytes seeds.now) settings.now.filter.now r.1) }
     ensures begun { IfOk result (λ _. IsBegun bytes.now listed.now (map string_bytes seeds.now)) }
-    ensures refused { IfErr result (λ fault. IsUnbegun workers max_pending bytes.now listed.now (map string_bytes seeds.now) fault) }
+    ensures refused { IfErr result (λ fault. IsUnbegun settings.now.workers settings.now.max_pending bytes.now listed.now (map string_bytes seeds.now) fault) }
 {
     let (web, urls) = read_site(alloc, bytes, listed, seeds)?;
     if urls.is_empty() {
         return Err(Fault::NoSeed);
     }
-    let found = crawl_in(rt, alloc, &web, filter, &urls, workers, max_pending, mode)?;
+    let found = crawl_with(rt, alloc, &web, settings, &urls)?;
     Ok((web, found))
 }
 

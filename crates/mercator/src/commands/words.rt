@@ -5,10 +5,11 @@ ghost use Rattle.mercator.specs.Plans.{IsWithinLimits, IsShown, lists_input};
 ghost use Rattle.mercator.specs.declared.commands.words.PlanError.TheVariants as wrong;
 
 use crate::commands::command_line::{self, command_line};
-use crate::commands::planned::{LogPlan, Plan};
+use crate::commands::planned::{CrawlOptions, LogPlan, Plan};
 use clap::ArgMatches;
 use clap::error::ErrorKind;
 use crawl_limits::{PENDING_LIMIT, WORKER_LIMIT};
+use crawl_report::Sources;
 use std::alloc::{AllocError, AllocFailed, Global};
 
 /// Why words are no plan.
@@ -140,12 +141,39 @@ fn crawl_of(alloc: Global, found: &ArgMatches<'_>) -> Result<Plan, PlanError>
         workers,
         max,
         queues: found.get_flag("queues"),
-        sources: found.get_flag("sources"),
-        within: option_of(alloc, found, "within")?,
         file: String::from_str(alloc, file)?,
-        listed,
         seeds,
+        options: options_of(alloc, found, listed)?,
     })
+}
+
+/// What else a crawl is asked for, with this file of seeds.
+fn options_of(
+    alloc: Global,
+    found: &ArgMatches<'_>,
+    listed: Option<String>,
+) -> Result<CrawlOptions, AllocError>
+    ensures { IfOk result (λ options. options.listed ≡ listed) }
+{
+    Ok(CrawlOptions {
+        within: option_of(alloc, found, "within")?,
+        listed,
+        sources: sources_of(found),
+        moved: found.get_flag("moved"),
+        unreached: found.get_flag("unreached"),
+        json: found.get_flag("json"),
+    })
+}
+
+/// Which sources are told. All of them are told behind the first.
+fn sources_of(found: &ArgMatches<'_>) -> Sources {
+    if found.get_flag("all-sources") {
+        Sources::All
+    } else if found.get_flag("sources") {
+        Sources::First
+    } else {
+        Sources::None
+    }
 }
 
 fn key_of(alloc: Global, found: &ArgMatches<'_>) -> Result<Plan, PlanError>

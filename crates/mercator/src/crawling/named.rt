@@ -10,9 +10,9 @@ ghost use Rattle.mercator.specs.declared.crawling.Mode.TheVariants as modes;
 
 use crate::crawling::certified::certified;
 use crate::crawling::gather::{counts_of, gathered};
-use crate::crawling::{CrawlError, Crawled, Mode};
+use crate::crawling::{CrawlError, CrawlSettings, Crawled, Mode};
 use crawl_frontier::{Frontier, Name, OfferError, Seeder, Setup, Worker};
-use crawl_keys::{CanonUrl, Filter};
+use crawl_keys::CanonUrl;
 use crawl_web::SessionFetch;
 use crawl_workers::{RunError, WorkerEnd, run_threads_in, run_turns_in};
 use std::alloc::Global;
@@ -24,21 +24,22 @@ pub fn crawl_named<K: Name + Send + Sync, F: SessionFetch + Sync, R: Threads + W
     rt: &R,
     alloc: Global,
     setup: Setup,
-    filter: &Filter,
     fetcher: &F,
+    settings: &CrawlSettings<'_>,
     seeds: &[CanonUrl],
-    mode: Mode,
 ) -> Result<Crawled, CrawlError>
     requires gate { setup.gate ≡ K.gate }
     requires workers { setup.workers ≡ K.workers }
     requires queues { setup.queues ≡ K.queues }
-    requires filter { filter.now ≡ K.filter }
-    ensures pages { IfOk result (λ crawled. IsCrawl (F.meaning fetcher.now) (allows filter.now) seeds.now crawled.result) }
+    requires filter { settings.now.filter.now ≡ K.filter }
+    ensures pages { IfOk result (λ crawled. IsCrawl (F.meaning fetcher.now) (allows settings.now.filter.now) seeds.now crawled.result) }
     ensures counts { IfOk result (λ crawled. AreCounts setup.workers (result_urls crawled.result) crawled.counts.items) }
     ensures errors { IfErr result IsOfRun }
-    ensures mode { IfErr result (ComesIn mode) }
-    ensures judged { IfErr result (IsJudged (F.meaning fetcher.now) (allows filter.now) seeds.now) }
+    ensures mode { IfErr result (ComesIn settings.now.mode) }
+    ensures judged { IfErr result (IsJudged (F.meaning fetcher.now) (allows settings.now.filter.now) seeds.now) }
 {
+    let filter = settings.filter;
+    let mode = settings.mode;
     let (frontier, workers, mut seeder) = Frontier::<K>::new(alloc, setup, filter)?;
     // A seed that was refused may still come in by a link, and the certificate asks for it.
     let _refused = offer_seeds(rt, &frontier, &mut seeder, seeds);

@@ -1,42 +1,54 @@
 //! Words as `clap` reads them: options in every place, and the defaults, which no run tells.
 use crate::tests::runs::words;
-use mercator::{Plan, plan};
+use mercator::{CrawlOptions, Plan, plan};
 use std::alloc::{AllocError, Global};
 
-/// Words, and all of their plan: workers, maximum, queues, sources, suffix, FILE, file of seeds, seeds; or the log, and whether it is
-/// synced.
-const ROWS: [(&str, &str); 16] = [
+/// Words, and all of their plan: workers, maximum, queues, sources, suffix, FILE, file of seeds, seeds, and whether moved and unreached
+/// pages are told, and JSON; or the log, and whether it is synced.
+const ROWS: [(&str, &str); 19] = [
     (
         "crawl - x",
-        "crawl 4 1048576 false false None - None [\"x\"]",
+        "crawl 4 1048576 false None None - None [\"x\"] false false false",
     ),
     (
         "crawl w.web x y",
-        "crawl 4 1048576 false false None w.web None [\"x\", \"y\"]",
+        "crawl 4 1048576 false None None w.web None [\"x\", \"y\"] false false false",
     ),
     (
         "crawl --workers 2 --max-pending 7 --queues --within b.test --seeds l - x y",
-        "crawl 2 7 true false Some(\"b.test\") - Some(\"l\") [\"x\", \"y\"]",
+        "crawl 2 7 true None Some(\"b.test\") - Some(\"l\") [\"x\", \"y\"] false false false",
     ),
     (
         "crawl - --workers=2 x --queues y --max-pending=7 --seeds=l --within=b.test",
-        "crawl 2 7 true false Some(\"b.test\") - Some(\"l\") [\"x\", \"y\"]",
+        "crawl 2 7 true None Some(\"b.test\") - Some(\"l\") [\"x\", \"y\"] false false false",
     ),
     (
         "crawl --workers +2 - --max-pending 007 --sources x",
-        "crawl 2 7 false true None - None [\"x\"]",
+        "crawl 2 7 false First None - None [\"x\"] false false false",
     ),
     (
         "crawl --workers 512 --max-pending 1099511627776 - x",
-        "crawl 512 1099511627776 false false None - None [\"x\"]",
+        "crawl 512 1099511627776 false None None - None [\"x\"] false false false",
     ),
     (
         "crawl --workers 1 --max-pending 1 --seeds - w.web",
-        "crawl 1 1 false false None w.web Some(\"-\") []",
+        "crawl 1 1 false None None w.web Some(\"-\") [] false false false",
     ),
     (
         "crawl -- - --workers 2",
-        "crawl 4 1048576 false false None - None [\"--workers\", \"2\"]",
+        "crawl 4 1048576 false None None - None [\"--workers\", \"2\"] false false false",
+    ),
+    (
+        "crawl --sources --all-sources --json - x",
+        "crawl 4 1048576 false All None - None [\"x\"] false false true",
+    ),
+    (
+        "crawl --all-sources --moved - x",
+        "crawl 4 1048576 false All None - None [\"x\"] true false false",
+    ),
+    (
+        "crawl - x --unreached",
+        "crawl 4 1048576 false None None - None [\"x\"] false true false",
     ),
     ("key x", "key x 4"),
     ("key --workers=512 x", "key x 512"),
@@ -64,14 +76,13 @@ fn plan_line(alloc: Global, plan: &Plan) -> Result<String, AllocError> {
             workers,
             max,
             queues,
-            sources,
-            within,
             file,
-            listed,
             seeds,
-        } => format!(in alloc;
-            "crawl {workers} {max} {queues} {sources} {within:?} {file} {listed:?} {seeds:?}"
-        ),
+            options,
+        } => {
+            let front = format!(in alloc; "crawl {workers} {max} {queues}")?;
+            crawl_line(alloc, front.as_str(), file, seeds, options)
+        }
         Plan::Key { url, workers } => format!(in alloc; "key {url} {workers}"),
         Plan::Replay { file } => format!(in alloc; "replay {file}"),
         Plan::Serve {
@@ -85,6 +96,21 @@ fn plan_line(alloc: Global, plan: &Plan) -> Result<String, AllocError> {
             format!(in alloc; "serve {workers} {max} {within:?} {file} {sync}")
         }
     }
+}
+
+/// That of a crawl, whose plan begins so.
+fn crawl_line(
+    alloc: Global,
+    front: &str,
+    file: &str,
+    seeds: &[String],
+    options: &CrawlOptions,
+) -> Result<String, AllocError> {
+    let (within, listed, sources) = (&options.within, &options.listed, options.sources);
+    let (moved, unreached, json) = (options.moved, options.unreached, options.json);
+    format!(in alloc;
+        "{front} {sources:?} {within:?} {file} {listed:?} {seeds:?} {moved} {unreached} {json}"
+    )
 }
 
 /// Whether the words have this plan.

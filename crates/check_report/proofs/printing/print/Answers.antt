@@ -1,4 +1,4 @@
-use Rattle.std.proofs.Common.{◌≡◌, List, [], ◌∷◌, ◌++◌, length, ap, ◌∙◌}
+use Rattle.std.proofs.Common.{[], ◌∷◌, ◌++◌, length, ap, ◌∙◌}
 use Rattle.std.specs.List.{flat_map}
 use Rattle.check_report.specs.Printing.{bytes_of}
 use Rattle.check_report.specs.Rows.{Line, broken_part, last, name_part, redirect_part, rows_of, total, worst_part}

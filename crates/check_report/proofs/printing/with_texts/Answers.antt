@@ -1,5 +1,5 @@
-use Rattle.std.proofs.Common.{◌≡◌, ℕ, List, [], ◌∷◌, map, String, Global, string_bytes, ap}
-use Rattle.check_report.specs.Rows.{Line, name}
+use Rattle.std.proofs.Common.{ℕ, List, [], ◌∷◌, map, String, Global, string_bytes, ap}
+use Rattle.check_report.specs.Rows.{name}
 use Rattle.check_report.proofs.Adding.{adds_none, adds_same, row_more, rows_all}
 use Rattle.check_report.proofs.printing.with_texts.Goals as goal
 

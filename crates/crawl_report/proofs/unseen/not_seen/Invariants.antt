@@ -5,4 +5,4 @@ use Rattle.crawl_report.specs.Unreached.{unseen_of}
 use Rattle.crawl_report.proofs.unseen.not_seen.Given as goal
 
 abbrev pub invariant-loop-url : goal.invariant-loop-url
-invariant-loop-url l = pointed l.found.items ≡ unseen_of (allows l.filter) l.seen (pointed (take l.url-index l.urls))
+invariant-loop-url l = pointed l.found.items ≡ unseen_of (allows l.filter) l.seen (take l.url-index l.urls)

@@ -12,7 +12,7 @@ use Rattle.crawl_report.proofs.unseen.unreached.Goals as goal
 pub returns-clause-same : goal.returns-clause-same
 returns-clause-same c =
     subst (λ us. IsPermutation us (pointed c.sort_by.new.self.items))
-    (c.in_ok-found.ensures ∙ unseen_unreached (allows c.args.filter.now) c.args.results.now c.in_ok-seen.seen c.in_ok-seen.ensures (pointed c.args.urls.now))
+    (c.in_ok-found.ensures ∙ unseen_unreached (allows c.args.filter.now) c.args.results.now c.in_ok-seen.seen c.in_ok-seen.ensures c.args.urls.now)
     (IsPermutation-map (λ (u : Bor (List ℕ)). u.now) c.in_ok-found.found.items c.sort_by.new.self.items c.sort_by.ensures.permutation)
 
 pub returns-clause-sorted : goal.returns-clause-sorted

@@ -13,7 +13,7 @@ pub returns-clause-pages : goal.returns-clause-pages
 returns-clause-pages g c =
     let meaning = g.F.SessionFetch.meaning c.args.fetcher.now in
     let found = c.in_ok-closed.ensures meaning (all_pages g.K.Name.workers (allows g.K.Name.filter) meaning _ _ c.in_ok-ends.ensures.ran) in
-    whole_crawl meaning (allows c.args.filter.now) c.args.seeds.now (entries_of c.in_ok-account.account) _ _ (no_fault_from _ c.in_ok-result.ensures.fault) found c.in_ok-result.ensures.same c.in_ok-result.ensures.ascends
+    whole_crawl meaning (allows c.args.settings.now.filter.now) c.args.seeds.now (entries_of c.in_ok-account.account) _ _ (no_fault_from _ c.in_ok-result.ensures.fault) found c.in_ok-result.ensures.same c.in_ok-result.ensures.ascends
 
 pub returns-clause-counts : goal.returns-clause-counts
 returns-clause-counts g c =
@@ -26,4 +26,4 @@ returns-in_err-result-clause-judged g c =
     let means = c.in_ok-closed.ensures meaning (all_pages g.K.Name.workers (allows g.K.Name.filter) meaning _ _ c.in_ok-ends.ensures.ran) in
     let r = c.from_residual-in_err-result in
     let p = err_from_is_err_and r.result r.ensures.1 in
-    rw (p.1, p.2) (judged meaning (allows c.args.filter.now) c.args.seeds.now (entries_of c.in_ok-account.account) _ c.in_err-result.field-0.0 means c.in_err-result.ensures.fault)
+    rw (p.1, p.2) (judged meaning (allows c.args.settings.now.filter.now) c.args.seeds.now (entries_of c.in_ok-account.account) _ c.in_err-result.field-0.0 means c.in_err-result.ensures.fault)

@@ -1,0 +1,277 @@
+//! What is printed, in each form. The expected bytes are written by hand.
+use check_report::{
+    Broken, FileCount, Findings, Kind, Place, Redirect, Totals, print_annotations, print_json,
+    print_page, print_text,
+};
+use std::alloc::Global;
+
+/// A target, what is missing, a page with its name, and the places of its links.
+type Target = (
+    &'static str,
+    Kind,
+    &'static str,
+    &'static [(&'static str, u64, u64)],
+);
+
+const TARGETS: &[Target] = &[
+    (
+        "down.html",
+        Kind::NoPage,
+        "lib/down.html",
+        &[
+            ("a.html", 41, 12),
+            ("b.html", 3, 1),
+            ("b.html", 4, 1),
+            ("c.html", 5, 6),
+        ],
+    ),
+    (
+        "a<b>&\"'.html#x\n",
+        Kind::NoAnchor,
+        "",
+        &[("d,e:f%\r.html", 1, 2)],
+    ),
+    ("start.html", Kind::NoPage, "", &[]),
+];
+
+const TOTALS: Totals = Totals {
+    pages: 4,
+    links: 20,
+    broken_links: 5,
+    broken_urls: 2,
+    broken_anchors: 1,
+    moved: 2,
+};
+
+/// For people, three places of each target, without colour.
+const TEXT: &str = "pages 4, links 20, redirects 2, unreached 1
+broken links 5, missing pages 2, missing anchors 1
+
+a.html:41:12: down.html: no such page (same name: lib/down.html)
+b.html:3:1: down.html: no such page (same name: lib/down.html)
+b.html:4:1: down.html: no such page (same name: lib/down.html)
+  and 1 more
+d,e:f%␍.html:1:2: a<b>&\"'.html#x␊: no such anchor
+start.html: no such page
+
+files with most broken links:
+  2 b.html
+
+redirects to mend:
+  guide -> guide/ (linked from 7)
+  old.html -> - (linked from 1)
+
+pages that no link leads to:
+  x␉.html
+
+ignored, but not found:
+  http://a.test/
+";
+
+const JSON: &str =
+    "{\"kind\":\"total\",\"base\":\"http://s.test\",\"pages\":4,\"links\":20,\"redirects\":2,\"unreached\":1,\"broken\":5,\"missing_pages\":2,\"missing_anchors\":1}
+{\"kind\":\"broken\",\"target\":\"down.html\",\"missing\":\"page\",\"pages\":3,\"same_name\":\"lib/down.html\"}
+{\"kind\":\"place\",\"target\":\"down.html\",\"missing\":\"page\",\"file\":\"a.html\",\"line\":41,\"column\":12}
+{\"kind\":\"place\",\"target\":\"down.html\",\"missing\":\"page\",\"file\":\"b.html\",\"line\":3,\"column\":1}
+{\"kind\":\"place\",\"target\":\"down.html\",\"missing\":\"page\",\"file\":\"b.html\",\"line\":4,\"column\":1}
+{\"kind\":\"place\",\"target\":\"down.html\",\"missing\":\"page\",\"file\":\"c.html\",\"line\":5,\"column\":6}
+{\"kind\":\"broken\",\"target\":\"a<b>&\\\"'.html#x\\n\",\"missing\":\"anchor\",\"pages\":3,\"same_name\":null}
+{\"kind\":\"place\",\"target\":\"a<b>&\\\"'.html#x\\n\",\"missing\":\"anchor\",\"file\":\"d,e:f%\\r.html\",\"line\":1,\"column\":2}
+{\"kind\":\"broken\",\"target\":\"start.html\",\"missing\":\"page\",\"pages\":3,\"same_name\":null}
+{\"kind\":\"worst\",\"file\":\"b.html\",\"links\":2}
+{\"kind\":\"redirect\",\"page\":\"guide\",\"to\":\"guide/\",\"pages\":7}
+{\"kind\":\"redirect\",\"page\":\"old.html\",\"to\":null,\"pages\":1}
+{\"kind\":\"unreached\",\"name\":\"x\\t.html\"}
+{\"kind\":\"unused\",\"name\":\"http://a.test/\"}
+";
+
+const ANNOTATIONS: &str =
+    "::error file=a.html,line=41,col=12::down.html: no such page (same name: lib/down.html)
+::error file=b.html,line=3,col=1::down.html: no such page (same name: lib/down.html)
+::error file=b.html,line=4,col=1::down.html: no such page (same name: lib/down.html)
+::error file=c.html,line=5,col=6::down.html: no such page (same name: lib/down.html)
+::error file=d%2Ce%3Af%25%0D.html,line=1,col=2::a<b>&\"'.html#x%0A: no such anchor
+::error::start.html: no such page
+";
+
+/// The page behind the fixed parts.
+const PAGE: &str = "</form>
+<section id=broken aria-labelledby=h-broken>
+<h2 id=h-broken>Broken links</h2>
+<pre class=plain>
+<b>down.html</b>\tno such page (same name: lib/down.html)
+\ta.html:41:12
+\tb.html:3:1
+\tb.html:4:1
+\tc.html:5:6
+<b>a&lt;b&gt;&amp;&#34;&#39;.html#x␊</b>\tno such anchor
+\td,e:f%␍.html:1:2
+<b>start.html</b>\tno such page
+</pre>
+</section>
+<section id=worst aria-labelledby=h-worst>
+<h2 id=h-worst>Files with most broken links</h2>
+<pre>
+b.html\t2
+</pre>
+</section>
+<section id=redirects aria-labelledby=h-redirects>
+<h2 id=h-redirects>Redirects to mend</h2>
+<pre>
+guide\tto guide/\tlinked from 7
+old.html\tto -\tlinked from 1
+</pre>
+</section>
+<section id=unreached aria-labelledby=h-unreached>
+<h2 id=h-unreached>Pages that no link leads to</h2>
+<pre>
+x␉.html
+</pre>
+</section>
+<section id=unused aria-labelledby=h-unused>
+<h2 id=h-unused>Ignored, but not found</h2>
+<pre>
+http://a.test/
+</pre>
+</section>
+</main>
+<footer id=end></footer>
+</body>
+</html>
+";
+
+/// Without a row, and with colour: the totals alone.
+const NOTHING: &str = "pages 4, links 20, redirects 2, unreached 0
+\x1b[31mbroken links 5\x1b[0m, missing pages 2, missing anchors 1
+";
+
+fn text(alloc: Global, text: &str) -> Option<String> {
+    String::from_str(alloc, text).ok()
+}
+
+fn text_unless_empty(alloc: Global, name: &str) -> Option<Option<String>> {
+    if name.is_empty() {
+        return Some(None);
+    }
+    Some(Some(text(alloc, name)?))
+}
+
+fn places(alloc: Global, rows: &[(&str, u64, u64)]) -> Option<Vec<Place>> {
+    let mut places = Vec::new(alloc);
+    for (file, line, column) in rows {
+        let file = text(alloc, file)?;
+        places
+            .push(Place {
+                file,
+                line: *line,
+                column: *column,
+            })
+            .ok()?;
+    }
+    Some(places)
+}
+
+fn target(alloc: Global, row: &Target) -> Option<Broken> {
+    let target = text(alloc, row.0)?;
+    let same_name = text_unless_empty(alloc, row.2)?;
+    let places = places(alloc, row.3)?;
+    Some(Broken {
+        target,
+        kind: row.1,
+        pages: 3,
+        places,
+        same_name,
+    })
+}
+
+fn targets(alloc: Global) -> Option<Vec<Broken>> {
+    let mut targets = Vec::new(alloc);
+    for row in TARGETS {
+        targets.push(target(alloc, row)?).ok()?;
+    }
+    Some(targets)
+}
+
+fn redirect(alloc: Global, page: &str, target: &str, pages: u64) -> Option<Redirect> {
+    let page = text(alloc, page)?;
+    let target = text_unless_empty(alloc, target)?;
+    Some(Redirect {
+        page,
+        target,
+        pages,
+    })
+}
+
+fn count(alloc: Global, file: &str, links: u64) -> Option<FileCount> {
+    let file = text(alloc, file)?;
+    Some(FileCount { file, links })
+}
+
+/// The number of the first form that is not printed as expected, or how many there are.
+fn forms(alloc: Global, findings: &Findings<'_>) -> Option<usize> {
+    if print_text(alloc, findings, false, false).ok()?.as_slice() != TEXT.as_bytes() {
+        return Some(0);
+    }
+    if print_json(alloc, findings).ok()?.as_slice() != JSON.as_bytes() {
+        return Some(1);
+    }
+    if print_annotations(alloc, findings).ok()?.as_slice() != ANNOTATIONS.as_bytes() {
+        return Some(2);
+    }
+    if !print_page(alloc, findings)
+        .ok()?
+        .as_slice()
+        .ends_with(PAGE.as_bytes())
+    {
+        return Some(3);
+    }
+    Some(4)
+}
+
+fn printed(alloc: Global) -> Option<usize> {
+    let broken = targets(alloc)?;
+    let worst = [count(alloc, "b.html", 2)?];
+    let redirects = [
+        redirect(alloc, "guide", "guide/", 7)?,
+        redirect(alloc, "old.html", "", 1)?,
+    ];
+    let unreached = [text(alloc, "x\t.html")?];
+    let unused = [text(alloc, "http://a.test/")?];
+    forms(
+        alloc,
+        &Findings {
+            base: "http://s.test",
+            totals: TOTALS,
+            broken: broken.as_slice(),
+            worst: &worst,
+            redirects: &redirects,
+            unreached: &unreached,
+            unused_ignores: &unused,
+        },
+    )
+}
+
+fn nothing(alloc: Global) -> Option<bool> {
+    let findings = Findings {
+        base: "",
+        totals: TOTALS,
+        broken: &[],
+        worst: &[],
+        redirects: &[],
+        unreached: &[],
+        unused_ignores: &[],
+    };
+    let text = print_text(alloc, &findings, false, true).ok()?;
+    Some(text.as_slice() == NOTHING.as_bytes())
+}
+
+#[test]
+fn prints_each_form(rt: HostRuntime) {
+    let forms = printed(rt.alloc());
+    assert!(rt; forms == Some(4), "{forms:?}");
+}
+
+#[test]
+fn prints_totals_alone(rt: HostRuntime) {
+    assert!(rt; nothing(rt.alloc()) == Some(true));
+}

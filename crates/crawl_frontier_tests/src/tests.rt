@@ -1,5 +1,0 @@
-mod admission;
-mod crawler;
-mod parts;
-mod rows;
-mod threads;

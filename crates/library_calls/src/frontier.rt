@@ -1,0 +1,126 @@
+//! The pieces of work of the frontier.
+ghost use Rattle.std.specs.Prelude.{◌≡◌};
+
+use crate::threads::{offer, take};
+use crate::urls::canonical_of;
+use crawl_frontier::{Frontier, Name, Seeder, Setup, Worker};
+use crawl_keys::{CanonUrl, Filter};
+use std::alloc::Global;
+use std::marker::Brand;
+use std::sync::Wait;
+use std::thread::Threads;
+
+// How many hosts the URLs are spread over.
+const HOSTS: u32 = 1000;
+
+// How often each URL is offered again.
+const REPEATS: u32 = 5;
+
+// More than are ever pending.
+const MAX_PENDING: u64 = 1 << 40;
+
+/// How often the work of this name offers each URL, if there is such work.
+pub fn rounds(name: &str) -> Option<u32> {
+    match name {
+        "urls" => Some(0),
+        "new" => Some(1),
+        "seen" | "taken" => Some(1 + REPEATS),
+        _ => None,
+    }
+}
+
+/// Does the work. Answers how many offers were accepted and how many seen, and how many URLs were taken.
+pub fn done<R: Threads + Wait + Sync>(
+    rt: &R,
+    alloc: Global,
+    count: u32,
+    threads: u32,
+    rounds: u32,
+    takes: bool,
+) -> Option<(u64, u64, u64)> {
+    let urls = urls(alloc, count)?;
+    if rounds == 0 {
+        return Some((0, 0, 0));
+    }
+    over(rt, alloc, threads, urls.as_slice(), rounds, takes)
+}
+
+/// URLs of 56 bytes.
+fn urls(alloc: Global, count: u32) -> Option<Vec<CanonUrl>> {
+    let mut urls = Vec::with_capacity(alloc, count as usize).ok()?;
+    for number in 0..count {
+        urls.push(url(alloc, number)?).ok()?;
+    }
+    Some(urls)
+}
+
+fn url(alloc: Global, number: u32) -> Option<CanonUrl> {
+    let (host, part) = (number % HOSTS, number % 7);
+    canonical_of(
+        alloc,
+        format!(in alloc; "http://host-{host:04}.example.test/part-{part}/page-{number:07}.html"),
+    )
+}
+
+// Over a frontier of its own.
+fn over<R: Threads + Wait + Sync>(
+    rt: &R,
+    alloc: Global,
+    threads: u32,
+    urls: &[CanonUrl],
+    rounds: u32,
+    takes: bool,
+) -> Option<(u64, u64, u64)> {
+    let filter = Filter::new(alloc, &[]).ok()?;
+    let setup = Setup::new(alloc, threads, MAX_PENDING).ok()?;
+    run::<Brand, R>(rt, alloc, setup, &filter, urls, rounds, takes)
+}
+
+fn run<K: Name + Send + Sync, R: Threads + Wait + Sync>(
+    rt: &R,
+    alloc: Global,
+    setup: Setup,
+    filter: &Filter,
+    urls: &[CanonUrl],
+    rounds: u32,
+    takes: bool,
+) -> Option<(u64, u64, u64)>
+    requires gate { setup.gate ≡ K.gate }
+    requires workers { setup.workers ≡ K.workers }
+    requires queues { setup.queues ≡ K.queues }
+    requires filter { filter.now ≡ K.filter }
+{
+    let (frontier, workers, seeder) = Frontier::<K>::new(alloc, setup, filter).ok()?;
+    run_on(rt, alloc, &frontier, workers, seeder, urls, rounds, takes)
+}
+
+fn run_on<K: Name + Send + Sync, R: Threads + Wait + Sync>(
+    rt: &R,
+    alloc: Global,
+    frontier: &Frontier<K>,
+    workers: Vec<Worker<K>>,
+    mut seeder: Seeder<K>,
+    urls: &[CanonUrl],
+    rounds: u32,
+    takes: bool,
+) -> Option<(u64, u64, u64)> {
+    let offered = offer(rt, alloc, frontier, &mut seeder, urls, rounds);
+    let taken = end(rt, frontier, workers, seeder, takes);
+    let (accepted, seen) = offered?;
+    Some((accepted, seen, taken?))
+}
+
+// Ends the seeding and takes all URLs, where that is asked for.
+fn end<K: Name + Send + Sync, R: Threads + Wait + Sync>(
+    rt: &R,
+    frontier: &Frontier<K>,
+    workers: Vec<Worker<K>>,
+    seeder: Seeder<K>,
+    takes: bool,
+) -> Option<u64> {
+    if !takes {
+        return Some(0);
+    }
+    let _sender = seeder.end(frontier);
+    take(rt, frontier, workers)
+}

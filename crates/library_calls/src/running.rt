@@ -1,0 +1,251 @@
+//! Hands in threads of their own: workers that offer the links of what they take, beside senders that offer the same pages.
+use crate::hands::{Hand, Part, go_on, offer};
+use crate::notes::{Notes, Said};
+use crate::urls::canonical_of;
+use crawl_frontier::{Frontier, Name, Turn, Worker};
+use crawl_keys::CanonUrl;
+use std::alloc::Global;
+use std::sync::Wait;
+use std::sync::atomic::{AtomicU64, Ordering};
+use std::thread::{self, Threads, yield_now};
+use std::time::Duration;
+
+// How many hosts the pages are spread over.
+const HOSTS: usize = 50;
+
+// Page n leads to the pages 2n + 1 to 2n + 4, so that two pages lead to nearly each.
+const LINKS: usize = 4;
+
+// More threads than a run has hands.
+const THREADS: usize = 8;
+
+// In seconds, far more than a test is given: whoever rests and is not woken holds the run up.
+const HOUR: u64 = 3_600;
+
+/// How many pages there are, the first of which are seeds; how many of them a sender offers, one by one: once, or again and
+/// again until it is told that the gate is closed, and then once more; and after how many turns in a row that find nothing a
+/// worker gives up, where 0 is never: then it rests after each.
+#[derive(Clone, Copy)]
+pub struct Plan {
+    pub pages: usize,
+    pub seeds: usize,
+    pub sent: usize,
+    pub until_closed: bool,
+    pub idle_turns: u64,
+}
+
+// What all threads of a run have.
+#[derive(Drop)]
+struct Run<'a> {
+    plan: Plan,
+    urls: &'a [CanonUrl],
+    // How many workers were told that the gate is closed.
+    closed: AtomicU64,
+}
+
+fn page(alloc: Global, number: usize) -> Option<CanonUrl> {
+    let host = number % HOSTS;
+    canonical_of(alloc, format!(in alloc; "http://h{host}.test/{number}"))
+}
+
+fn pages(alloc: Global, count: usize) -> Vec<CanonUrl> {
+    let mut urls = Vec::new(alloc);
+    for number in 0..count {
+        if let Some(url) = page(alloc, number) {
+            let _ = urls.push(url);
+        }
+    }
+    urls
+}
+
+// The greatest number where the URL is no page's.
+fn number_of(url: &CanonUrl) -> usize {
+    match url.as_str().rsplit_once('/') {
+        Some((_, digits)) => digits.parse::<usize>().unwrap_or(usize::MAX),
+        None => usize::MAX,
+    }
+}
+
+fn links(urls: &[CanonUrl], number: usize) -> &[CanonUrl] {
+    let first = number.saturating_mul(2).saturating_add(1);
+    let end = first.saturating_add(LINKS).min(urls.len());
+    urls.get(first..end).unwrap_or(&[])
+}
+
+fn offer_each<K: Name, R: Wait>(
+    rt: &R,
+    frontier: &Frontier<K>,
+    closed: &AtomicU64,
+    part: &mut Part<K>,
+    notes: &mut Notes,
+    urls: &[CanonUrl],
+) {
+    for url in urls {
+        let known = notes.closed | (closed.load(Ordering::SeqCst) > 0);
+        let said = offer(rt, frontier, part, url);
+        notes.push(number_of(url), said, known);
+    }
+}
+
+// The page that the worker has in hand, by its number.
+fn page_in_hand<K: Name>(part: &Part<K>) -> usize {
+    match part {
+        Part::Worker(Turn::Busy(worker)) => number_of(worker.url()),
+        _ => usize::MAX,
+    }
+}
+
+// Offers the links of the page in hand, and is done with it, or leaves. Answers whether the worker stays.
+fn work_on_page<K: Name, R: Wait>(
+    rt: &R,
+    frontier: &Frontier<K>,
+    run: &Run<'_>,
+    part: &mut Part<K>,
+    notes: &mut Notes,
+) -> bool {
+    let page = page_in_hand(part);
+    notes.push(page, Said::word("took"), false);
+    offer_each(
+        rt,
+        frontier,
+        &run.closed,
+        part,
+        notes,
+        links(run.urls, page),
+    );
+    notes.idle = 0;
+    notes.taken = notes.taken.saturating_add(1);
+    let leaves = notes.taken == notes.leaves_at;
+    if !leaves | !notes.leaves_busy {
+        go_on(rt, frontier, part);
+        notes.push(page, Said::word("done"), false);
+    }
+    if leaves {
+        *part = Part::Gone;
+    }
+    !leaves
+}
+
+// Rests, or counts the turn. Of turns in a row that find nothing the first is noted. Answers whether the worker stays.
+fn pause<K: Name, R: Wait>(
+    rt: &R,
+    frontier: &Frontier<K>,
+    plan: Plan,
+    worker: &Worker<K>,
+    notes: &mut Notes,
+) -> bool {
+    if notes.idle == 0 {
+        notes.push(usize::MAX, Said::word("idle"), false);
+    }
+    notes.idle = notes.idle.saturating_add(1);
+    if plan.idle_turns == 0 {
+        worker.rest_for(rt, frontier, Duration::from_secs(HOUR));
+        return true;
+    }
+    yield_now();
+    notes.idle < plan.idle_turns
+}
+
+// A turn of a worker. Answers whether there may be more.
+fn turn<K: Name, R: Wait>(
+    rt: &R,
+    frontier: &Frontier<K>,
+    run: &Run<'_>,
+    part: &mut Part<K>,
+    notes: &mut Notes,
+) -> bool {
+    go_on(rt, frontier, part);
+    match part {
+        Part::Worker(Turn::Busy(_)) => work_on_page(rt, frontier, run, part, notes),
+        Part::Worker(Turn::Idle(worker, _)) => pause(rt, frontier, run.plan, worker, notes),
+        _ => {
+            run.closed.fetch_add(1, Ordering::SeqCst);
+            notes.push(usize::MAX, Said::word("closed"), false);
+            false
+        }
+    }
+}
+
+fn work<K: Name, R: Wait>(
+    rt: &R,
+    frontier: &Frontier<K>,
+    run: &Run<'_>,
+    part: &mut Part<K>,
+    notes: &mut Notes,
+) {
+    for _ in rt.forever() {
+        if !turn(rt, frontier, run, part, notes) {
+            return;
+        }
+    }
+    unreachable!()
+}
+
+fn send<K: Name, R: Wait>(
+    rt: &R,
+    frontier: &Frontier<K>,
+    run: &Run<'_>,
+    part: &mut Part<K>,
+    notes: &mut Notes,
+) {
+    let sent = run.urls.get(..run.plan.sent).unwrap_or(&[]);
+    for _ in rt.forever() {
+        let last = notes.closed | !run.plan.until_closed;
+        offer_each(rt, frontier, &run.closed, part, notes, sent);
+        if last {
+            return;
+        }
+        yield_now();
+    }
+    unreachable!()
+}
+
+// Lets the others go on until they probably rest.
+fn wait_a_while() {
+    for _ in 0..100u32 {
+        yield_now();
+    }
+}
+
+// What the seeder does before it is a sender.
+fn seed<K: Name, R: Wait>(
+    rt: &R,
+    frontier: &Frontier<K>,
+    run: &Run<'_>,
+    part: &mut Part<K>,
+    notes: &mut Notes,
+) {
+    let seeds = run.urls.get(..run.plan.seeds).unwrap_or(&[]);
+    wait_a_while();
+    offer_each(rt, frontier, &run.closed, part, notes, seeds);
+    wait_a_while();
+    go_on(rt, frontier, part);
+}
+
+// What the hand does in its thread.
+fn act<K: Name, R: Wait>(rt: &R, frontier: &Frontier<K>, run: &Run<'_>, hand: &mut Hand<K>) {
+    let Hand { part, notes } = hand;
+    match part {
+        Part::Worker(_) => return work(rt, frontier, run, part, notes),
+        Part::Seeder(_) => seed(rt, frontier, run, part, notes),
+        _ => {}
+    }
+    send(rt, frontier, run, part, notes);
+}
+
+/// Runs each hand in a thread of its own until it ends.
+pub fn run_all<K: Name + Send + Sync, R: Threads + Wait + Sync>(
+    rt: &R,
+    alloc: Global,
+    frontier: &Frontier<K>,
+    hands: &mut [Hand<K>],
+    plan: Plan,
+) {
+    let urls = pages(alloc, plan.pages);
+    let run = Run {
+        plan,
+        urls: &urls,
+        closed: AtomicU64::new(0),
+    };
+    thread::for_each_mut(rt, hands, THREADS, &|_, hand| act(rt, frontier, &run, hand));
+}

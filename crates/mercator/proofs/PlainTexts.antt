@@ -1,0 +1,57 @@
+-- What a crawl tells that asks for no more than subqueues and sources.
+use Rattle.std.proofs.Common.{◌≡◌, ℕ, ◌+◌, ◌<◌, Bool, false, List, [], ◌∷◌, length, map, get_or, refl, sym, ap, subst, ◌∙◌, arith, if◌then◌else◌}
+use Rattle.std.proofs.lemmas.List.{get_or-map, length-map}
+use Rattle.std.proofs.lemmas.List.Sorted.{length_permutation}
+use Rattle.std.specs.Cmp.Lexicographic.{slice_cmp, nat_list_cmp_total}
+use Rattle.std.specs.List.{flat_map}
+use Rattle.std.specs.List.Sorted.{IsPermutation, IsSortedByKey}
+use Rattle.std.specs.Ordering.{is_lt, nat_cmp, ordering_reverse}
+use Rattle.std.specs.Str.Lines.{lines}
+use Rattle.std.specs.declared.cmp.Ordering.TheVariants.{Less}
+use Rattle.crawl_certificate.specs.Certificate.{IsAscending, result_urls}
+use Rattle.crawl_keys.specs.HostFilter.{allows}
+use Rattle.crawl_report.proofs.Format.{text_same}
+use Rattle.crawl_report.specs.Json.{printed_line}
+use Rattle.crawl_report.specs.Rows.{rows_with}
+use Rattle.crawl_report.specs.Today.{text_with}
+use Rattle.crawl_report.specs.Unreached.{unreached_of}
+use Rattle.crawl_web.specs.declared.page.PageResult.{PageResult}
+use Rattle.mercator.specs.WebCrawl.{AreUnreached, IsCrawlText, IsPlain, IsPlainText, asked_pages, printed_with}
+use Rattle.mercator.specs.declared.commands.planned.CrawlOptions.{CrawlOptions}
+
+-- results that ascend are in order
+in_order : (pages : List PageResult) → IsAscending (result_urls pages) → IsSortedByKey (λ r. r.url) (slice_cmp nat_cmp) pages
+in_order pages ascends k d low below =
+    let url : PageResult → List ℕ = λ r. r.url in
+    let within : k + 1 < length (result_urls pages) = subst (λ n. k + 1 < n) (sym (length-map pages url)) below in
+    let first : get_or (result_urls pages) k d.url ≡ (get_or pages k d).url = get_or-map url pages k d d.url (omega (arith, below)) in
+    let second : get_or (result_urls pages) (k + 1) d.url ≡ (get_or pages (k + 1) d).url = get_or-map url pages (k + 1) d d.url below in
+    let less : slice_cmp nat_cmp (get_or pages k d).url (get_or pages (k + 1) d).url ≡ Less =
+    (λ i. slice_cmp nat_cmp (sym first i) (sym second i)) ∙ ascends k (k + 1) d.url (omega arith) within in
+    ap is_lt (nat_list_cmp_total.antisymm (get_or pages (k + 1) d).url (get_or pages k d).url ∙ ap ordering_reverse less)
+
+none_left : (urls : List (List ℕ)) → length urls ≡ 0 → urls ≡ []
+none_left [] none = refl
+none_left (url ∷ urls) none = absurd (omega (arith, none))
+
+-- no unreached pages where none are asked for
+none_asked : (asked : Bool) (bytes : List ℕ) (suffixes : List (List ℕ)) (pages : List PageResult) (urls : List (List ℕ)) → asked ≡ false → AreUnreached asked bytes suffixes pages urls → urls ≡ []
+none_asked asked bytes suffixes pages urls none unseen =
+    none_left urls (length_permutation [] urls (subst (λ a. IsPermutation (unreached_of (allows suffixes) pages (asked_pages a (lines bytes))) urls) none unseen.same))
+
+plain_print : (with_queues with_sources : Bool) (options : CrawlOptions) (pages : List PageResult) (counts : List ℕ) (urls : List (List ℕ)) → IsPlain with_sources options → urls ≡ [] → printed_with with_queues options pages counts urls ≡ text_with with_queues with_sources pages counts
+plain_print with_queues with_sources options pages counts urls plain none =
+    λ i. flat_map (printed_line (plain.json i)) (rows_with pages (if with_queues then counts else []) (plain.sources i) (plain.moved i) (none i))
+
+pub plain_text : (workers : ℕ) (with_queues with_sources : Bool) (options : CrawlOptions) (bytes listed : List ℕ) (seeds suffixes : List (List ℕ)) (text : List ℕ) → IsPlain with_sources options → IsCrawlText workers with_queues options bytes listed seeds suffixes text
+    → IsPlainText workers with_queues with_sources bytes listed seeds suffixes text
+plain_text workers with_queues with_sources options bytes listed seeds suffixes text plain own = record {
+  pages = own.pages;
+  crawl = own.crawl;
+  counts = own.counts;
+  counted = own.counted;
+  written =
+      own.told.written
+      ∙ plain_print with_queues with_sources options own.pages own.counts own.told.unreached plain (none_asked options.unreached bytes suffixes own.pages own.told.unreached plain.unreached own.told.unseen)
+      ∙ text_same with_queues with_sources own.pages own.counts (in_order own.pages own.crawl.found.ascends);
+}

@@ -1,0 +1,2 @@
+mod Directive
+mod Searched

@@ -1,0 +1,99 @@
+//! The part that a fragment indicates.
+ghost use Rattle.std.specs.Prelude.{◌≡◌, IfOk};
+ghost use Rattle.page_anchors.specs.Indicated.{before_directive, begins_directive, decoded_has, has_decoded, has_fragment, has_part, ids_in, is_indicated, is_letter, is_top, DoAscend};
+
+use crate::search::has_id;
+use percent_encoding::{AsciiSet, CONTROLS, ascii_set, percent_decode, percent_encode};
+use std::alloc::{AllocError, Global};
+
+/// A growth was refused.
+pub type NoMemory = AllocError;
+
+/// What a URL's parser escapes in a fragment, besides bytes past ASCII.
+pub const IN_FRAGMENT: AsciiSet = ascii_set!(
+    CONTROLS.add(b' ').add(b'"').add(b'<').add(b'>').add(b'`')
+);
+
+/// Whether a document with these ids, which ascend, has the part that the text behind a `#` indicates: the top for no text and
+/// for `top`, else an id that is the fragment as a URL has it, or else what its escapes stand for. From `:~:` on nothing counts.
+///
+/// # Errors
+/// Out of memory alone.
+pub fn is_indicated(alloc: Global, ids: &[Vec<u8>], text: &[u8]) -> Result<bool, NoMemory>
+    ensures { DoAscend ids.now → IfOk result (λ found. found ≡ is_indicated (ids_in ids.now) text.now) }
+{
+    let front = before_directive(text);
+    if front.is_empty() {
+        return Ok(true);
+    }
+    has_part(alloc, ids, front)
+}
+
+/// What stands before a fragment directive.
+fn before_directive(text: &[u8]) -> &[u8]
+    ensures { result.now ≡ before_directive text.now }
+{
+    for index in 0..text.len() {
+        if begins_directive(&text[index..]) {
+            return &text[..index];
+        }
+    }
+    text
+}
+
+fn begins_directive(text: &[u8]) -> bool
+    ensures { result ≡ begins_directive text.now }
+{
+    text.starts_with(b":~:")
+}
+
+/// Whether an id is the text as a URL has it, or what its escapes stand for, or that is `top`.
+fn has_part(alloc: Global, ids: &[Vec<u8>], text: &[u8]) -> Result<bool, NoMemory>
+    ensures { DoAscend ids.now → IfOk result (λ found. found ≡ has_part (ids_in ids.now) text.now) }
+{
+    let fragment = percent_encode(text, IN_FRAGMENT).into_cow(alloc)?;
+    has_fragment(alloc, ids, fragment.as_str().as_bytes())
+}
+
+fn has_fragment(alloc: Global, ids: &[Vec<u8>], fragment: &[u8]) -> Result<bool, NoMemory>
+    ensures { DoAscend ids.now → IfOk result (λ found. found ≡ has_fragment (ids_in ids.now) fragment.now) }
+{
+    if has_id(ids, fragment) {
+        return Ok(true);
+    }
+    decoded_has(alloc, ids, fragment)
+}
+
+fn decoded_has(alloc: Global, ids: &[Vec<u8>], fragment: &[u8]) -> Result<bool, NoMemory>
+    ensures { DoAscend ids.now → IfOk result (λ found. found ≡ decoded_has (ids_in ids.now) fragment.now) }
+{
+    let decoded = percent_decode(fragment).decode_utf8_lossy(alloc)?;
+    let found = has_decoded(ids, decoded.as_str().as_bytes());
+    Ok(found)
+}
+
+fn has_decoded(ids: &[Vec<u8>], text: &[u8]) -> bool
+    ensures { DoAscend ids.now → result ≡ has_decoded (ids_in ids.now) text.now }
+{
+    if has_id(ids, text) {
+        return true;
+    }
+    is_top(text)
+}
+
+fn is_top(text: &[u8]) -> bool
+    ensures { result ≡ is_top text.now }
+{
+    if text.len() != 3 {
+        return false;
+    }
+    is_letter(text[0], b'T', b't')
+        && is_letter(text[1], b'O', b'o')
+        && is_letter(text[2], b'P', b'p')
+}
+
+fn is_letter(byte: u8, upper: u8, lower: u8) -> bool
+    ensures { result ≡ is_letter byte upper lower }
+{
+    byte == upper || byte == lower
+}

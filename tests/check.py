@@ -1,0 +1,248 @@
+#!/usr/bin/env python3
+"""Compares what `mercator check --json` tells of folders with a reckoning of its own: check.py [OPTION..] [FOLDER ..].
+
+The reckoning (tests/checking/) has its own tokenizer, server, search and anchors, after the standards. Compared are small
+folders worked by hand, the shipped site, each FOLDER and drawn folders of nasty documents. Without a FOLDER those of site.py
+that are installed are taken. With --tags the reckoning's tags are compared with those of
+html5lib (Debian's python3-html5lib). PROGRAM in the environment is the program, else crates/mercator_cli's is taken. Without
+one, or with --reckoning, the worked folders are reckoned alone.
+"""
+
+from __future__ import annotations
+
+import argparse
+import json
+import os
+import subprocess
+import sys
+import tempfile
+from collections import Counter
+from pathlib import Path
+from random import Random
+from typing import List, Optional, Tuple
+
+import drawn
+from checking import drawing, loading
+from checking.reckoning import Asked, Reckoning, Row
+from checking.tags import start_tags
+from checking.worked import WORKED, Worked
+
+BASE = "http://docs.test/"
+BUILT = loading.ROOT / "crates/mercator_cli/out/mercator_cli"
+TOLD = 5  # so many differences are told
+
+
+def program() -> Optional[str]:
+    """The program, where there is one."""
+    given = os.environ.get("PROGRAM")
+    return given or (str(BUILT) if BUILT.exists() else None)
+
+
+def words_of(asked: Asked, folder: str, scratch: str) -> List[str]:
+    """The words of the command that asks for this."""
+    words = ["check", "--json"]
+    words += [] if asked.anchors else ["--no-anchors"]
+    words += ["--external"] if asked.external else []
+    words += ["--unreached"] if asked.unreached else []
+    words += ["--exact"] if asked.exact else []
+    if asked.ignores:
+        entries = Path(scratch, "ignores")
+        entries.write_text("# known\n\n" + "\n".join(asked.ignores) + "\n", "utf-8")
+        words += ["--ignore", str(entries)]
+    return [*words, folder, asked.base, *asked.seeds]
+
+
+def told_by(call: str, asked: Asked, folder: str) -> List[Row]:
+    """The rows that the program prints, whose status is 4 where there are broken links, and else 0."""
+    with tempfile.TemporaryDirectory() as scratch:
+        done = subprocess.run([call, *words_of(asked, folder, scratch)], capture_output=True, check=False)
+    rows = [json.loads(line) for line in done.stdout.splitlines()]
+    status = 4 if any(row["kind"] == "broken" for row in rows) else 0
+    if done.returncode != status or not rows:
+        return [{"kind": "status", "given": done.returncode, "wanted": status, "told": done.stderr.decode(errors="replace")}]
+    for row in rows:
+        row.pop("base", None)
+    return rows
+
+
+def difference(given: List[Row], wanted: List[Row]) -> Optional[str]:
+    """The first row that the program prints otherwise."""
+    for one, other in zip(given, wanted):
+        if one != other:
+            return f"\n  given  {json.dumps(one)}\n  wanted {json.dumps(other)}"
+    if len(given) != len(wanted):
+        more = [*given, *wanted][min(len(given), len(wanted))] if len(given) > len(wanted) else wanted[len(given)]
+        return f"{len(given)} rows given, {len(wanted)} wanted; the first more is {json.dumps(more)}"
+    return None
+
+
+class Series:
+    """Counts what passed and failed, and tells the first that failed."""
+
+    def __init__(self, name: str) -> None:
+        self.name, self.passed, self.failed, self.left = name, 0, 0, 0
+
+    def add(self, what: str, fault: Optional[str]) -> None:
+        """Counts one."""
+        if fault is None:
+            self.passed += 1
+            return
+        self.failed += 1
+        if self.failed <= TOLD:
+            print(f"{self.name}, {what}: {fault}")
+
+    def end(self) -> int:
+        """Tells the counts; how many failed."""
+        left = f", {self.left} left out" if self.left else ""
+        print(f"{self.name}: {self.passed} passed, {self.failed} failed{left}")
+        return self.failed
+
+
+def told(rows: List[Row]) -> List[str]:
+    """What is broken, as the worked folders tell it."""
+    found = [f"{row['target']} {row['file']}:{row['line']}:{row['column']}" for row in rows if row["kind"] == "place"]
+    placed = {row["target"] for row in rows if row["kind"] == "place"}
+    return sorted(found + [row["target"] for row in rows if row["kind"] == "broken" and row["target"] not in placed])
+
+
+def filled(worked: Worked, top: Path) -> str:
+    """A folder with the files."""
+    for name, text in worked.files.items():
+        (top / name).parent.mkdir(parents=True, exist_ok=True)
+        (top / name).write_text(text, "utf-8", newline="")
+    return str(top)
+
+
+def compare_worked(call: Optional[str]) -> int:
+    """Compares the worked folders with the reckoning, and with the program where there is one."""
+    series = Series("worked folders")
+    for worked in WORKED:
+        with tempfile.TemporaryDirectory() as scratch:
+            folder = filled(worked, Path(scratch))
+            asked = Asked(BASE, front=BASE)
+            rows = Reckoning(folder, asked).rows()
+            wanted = sorted(worked.broken)
+            series.add(worked.name, None if told(rows) == wanted else f"reckoned {told(rows)}, wanted {wanted}")
+            if call:
+                series.add(worked.name, difference(told_by(call, Asked(BASE), folder), Reckoning(folder, Asked(BASE)).rows()))
+    return series.end()
+
+
+def compare_folder(series: Series, call: str, folder: str, asked: Asked) -> Counter[str]:
+    """Compares a folder; how many rows of each kind it has."""
+    try:
+        wanted = Reckoning(folder, asked).rows()
+    except drawn.NotPlain:
+        series.left += 1
+        return Counter()
+    series.add(f"{folder} {asked}", difference(told_by(call, asked, folder), wanted))
+    return Counter(row["kind"] + row.get("missing", "") for row in wanted)
+
+
+def drawn_question(draw: Random) -> Asked:
+    """What is asked of a drawn folder."""
+    seeds = draw.choice([(), (), (BASE + "a.html",), (BASE + "sub/", BASE + "gone.html")])
+    ignores = draw.choice([(), (), (BASE + "gone",), (BASE + "a", "x", BASE + "sub/#")])
+    return Asked(
+        BASE, seeds, ignores=ignores, anchors=draw.random() < 0.8, external=draw.random() < 0.2, unreached=draw.random() < 0.5
+    )
+
+
+def compare_drawn(call: str, count: int, seed: int) -> int:
+    """Compares drawn folders."""
+    series, draw = Series("drawn folders"), Random(seed)
+    kinds: Counter[str] = Counter()
+    for number in range(count):
+        with tempfile.TemporaryDirectory() as above:
+            folder = Path(above, f"site{number}")
+            folder.mkdir()
+            drawing.draw_folder(draw, folder)
+            kinds += compare_folder(series, call, str(folder), drawn_question(draw))
+    print("rows of drawn folders:", dict(kinds))
+    return series.end()
+
+
+def compare_changed(call: str, count: int, seed: int) -> int:
+    """Compares folders of the shipped site in which each document is changed at one place."""
+    series, draw = Series("changed folders"), Random(seed)
+    kinds: Counter[str] = Counter()
+    for number in range(count):
+        with tempfile.TemporaryDirectory() as above:
+            folder = Path(above, f"site{number}")
+            drawing.change_folder(draw, loading.ROOT / "examples/site", folder)
+            kinds += compare_folder(series, call, str(folder), Asked(BASE, unreached=True))
+    print("rows of changed folders:", dict(kinds))
+    return series.end()
+
+
+def compare_large(call: str, count: int) -> int:
+    """Compares a folder of many pages."""
+    series = Series("large folders")
+    with tempfile.TemporaryDirectory() as folder:
+        drawing.fill_large(Path(folder), count)
+        print("rows of a large folder:", dict(compare_folder(series, call, folder, Asked(BASE))))
+    return series.end()
+
+
+def compare_folders(call: str, folders: List[str]) -> int:
+    """Compares folders as they stand."""
+    series = Series("folders")
+    for folder in folders:
+        kinds = compare_folder(series, call, folder, Asked(BASE, unreached=True))
+        print(f"{folder}: {dict(kinds)}")
+    return series.end()
+
+
+def compare_tags(count: int, seed: int) -> int:
+    """Compares the tags of drawn documents with those of html5lib."""
+    links = loading.script("html_links", "tests/html_links.py")
+    from html5lib import _tokenizer  # type: ignore[import-untyped]
+    from html5lib.constants import tokenTypes  # type: ignore[import-untyped]
+
+    states = {"title": "rcdata", "textarea": "rcdata", "script": "scriptData", "plaintext": "plaintext"}
+    states.update({name: "rawtext" for name in ("style", "xmp", "iframe", "noembed", "noframes")})
+
+    def theirs(text: str) -> List[Tuple[str, dict]]:
+        tokens = _tokenizer.HTMLTokenizer(text)
+        found = []
+        for token in tokens:
+            if token["type"] == tokenTypes["StartTag"]:
+                found.append((token["name"], dict(token["data"])))
+                if token["name"] in states:
+                    tokens.state = getattr(tokens, states[token["name"]] + "State")
+        return found
+
+    series, draw = Series("tags of documents"), Random(seed)
+    for number in range(count):
+        text = links.drawn_document(draw, number % 2)
+        ours = [(tag.name, {one.name: one.value for one in reversed(tag.attributes)}) for tag in start_tags(text)]
+        series.add(repr(text), None if ours == theirs(text) else f"reckoned {ours}, wanted {theirs(text)}")
+    return series.end()
+
+
+def main() -> int:
+    """Compares all."""
+    words = argparse.ArgumentParser(description=__doc__, formatter_class=argparse.RawDescriptionHelpFormatter)
+    words.add_argument("folders", nargs="*", metavar="FOLDER")
+    words.add_argument("--drawn", type=int, default=1000, metavar="COUNT")
+    words.add_argument("--changed", type=int, default=100, metavar="COUNT")
+    words.add_argument("--large", type=int, default=0, metavar="PAGES", help="a folder of so many pages too")
+    words.add_argument("--seed", type=int, default=1)
+    words.add_argument("--tags", type=int, default=0, metavar="COUNT", help="documents whose tags are compared with html5lib's")
+    words.add_argument("--reckoning", action="store_true", help="without the program")
+    given = words.parse_args()
+    call = None if given.reckoning else program()
+    failed = compare_worked(call)
+    if call:
+        shipped = str(loading.ROOT / "examples/site")
+        folders = given.folders or [folder for folder in drawing.SITE.DOCUMENTS if os.path.isdir(folder)]
+        failed += compare_folders(call, [shipped, *folders])
+        failed += compare_drawn(call, given.drawn, given.seed) + compare_changed(call, given.changed, given.seed)
+        failed += compare_large(call, given.large) if given.large else 0
+    if given.tags:
+        failed += compare_tags(given.tags, given.seed)
+    return 1 if failed else 0
+
+
+if __name__ == "__main__":
+    sys.exit(main())

@@ -1,0 +1,138 @@
+"""The links and ids of a document, each link with the line and column where its value begins."""
+
+from __future__ import annotations
+
+import re
+from bisect import bisect_right
+from typing import Any, Dict, FrozenSet, List, NamedTuple, Optional, Tuple
+from urllib.parse import quote
+
+from checking import loading
+from checking.tags import SPACE, Attribute, Tag, start_tags
+
+TOOL: Any = loading.script("site_to_web", "tools/site_to_web.py")
+REFRESH = re.compile(r"[\t\n\f\r ]*[0-9.]+(?=[;,\t\n\f\r ])[\t\n\f\r ]*[;,]?[\t\n\f\r ]*(.*)", re.DOTALL)
+MARKS = ((b"\xef\xbb\xbf", "utf-8"), (b"\xff\xfe", "utf-16-le"), (b"\xfe\xff", "utf-16-be"))
+# Names of windows-1252, as Python has them and as the Encoding Standard does
+WINDOWS = {"cp1252", "windows-1252", "1252"}
+UTF_8 = {"utf-8", "utf_8", "u8"}
+
+
+class Link(NamedTuple):
+    text: str
+    at: int
+
+
+class Document(NamedTuple):
+    links: Tuple[Link, ...]
+    base: Optional[str]
+    ids: FrozenSet[str]
+    lines: "Lines"
+    charset: str
+
+
+class Lines:
+    """Where the lines of a text begin."""
+
+    def __init__(self, text: str) -> None:
+        self.begins = [0] + [found.end() for found in re.finditer("\n", text)]
+
+    def place(self, at: int) -> Tuple[int, int]:
+        """The line and the character in it, both from 1."""
+        line = bisect_right(self.begins, at)
+        return line, at - self.begins[line - 1] + 1
+
+
+def character(byte: int) -> str:
+    """The character of a byte in windows-1252, as the Encoding Standard has it."""
+    try:
+        return bytes([byte]).decode("cp1252")
+    except UnicodeError:
+        return chr(byte)
+
+
+BYTES = {character(byte): bytes([byte]) for byte in range(256)}
+
+
+def text_of(body: bytes) -> Tuple[str, str]:
+    """A document's text and its encoding: by its mark, its head, UTF-8, or windows-1252 for any other."""
+    for mark, name in MARKS:
+        if body.startswith(mark):
+            return body[len(mark):].decode(name, "replace"), "utf-8"
+    for name in filter(None, TOOL.charset_names(body, None)):
+        if name in UTF_8:
+            return body.decode("utf-8", "replace"), "utf-8"
+        if name in WINDOWS:
+            return "".join(map(character, body)), "windows-1252"
+    try:
+        return body.decode("utf-8"), "utf-8"
+    except UnicodeError:
+        return "".join(map(character, body)), "windows-1252"
+
+
+def with_query_in(text: str, charset: str) -> str:
+    """The link with the letters of its query percent-encoded in windows-1252, where the document has that."""
+    front, hash_mark, fragment = text.partition("#")
+    path, mark, query = front.partition("?")
+    if charset == "utf-8" or front.isascii() or not TOOL.is_web(TOOL.scheme_of(text)):
+        return text
+    letters = (c if c.isascii() else quote(BYTES.get(c, f"&#{ord(c)};".encode())) for c in query)
+    return path + mark + "".join(letters) + hash_mark + fragment
+
+
+def firsts(tag: Tag) -> Dict[str, Attribute]:
+    """The first attribute of each name."""
+    found: Dict[str, Attribute] = {}
+    for attribute in tag.attributes:
+        found.setdefault(attribute.name, attribute)
+    return found
+
+
+def words_of(text: str) -> List[str]:
+    """The words of a list, in lower case."""
+    return [word.lower() for word in re.split(f"[{SPACE}]+", text) if word]
+
+
+def target_of(text: str) -> List[str]:
+    """The target of a refresh, by the Standard's steps."""
+    time = REFRESH.match(text)
+    target = re.sub(r"\A[uU][rR][lL][\t\n\f\r ]*=[\t\n\f\r ]*", "", time[1]) if time else ""
+    if target[:1] in ("'", '"'):
+        target = target[1:].split(target[0])[0]
+    return [target] if target else []
+
+
+def texts_of(tag: str, found: Dict[str, Attribute]) -> List[Link]:
+    """The links of a start tag."""
+    if tag == "meta":
+        content = found.get("content")
+        if content is None or found.get("http-equiv", content).value.lower() != "refresh" or "http-equiv" not in found:
+            return []
+        return [Link(text, content.at) for text in target_of(content.value)]
+    if tag == "link" and TOOL.HOST_HINTS & set(words_of(found["rel"].value if "rel" in found else "")):
+        return []
+    links = []
+    for name in TOOL.LINKS.get(tag, ()):
+        if name in found:
+            value = found[name]
+            texts = TOOL.candidates(value.value) if name.endswith("srcset") else [value.value]
+            links += [Link(text, value.at) for text in texts]
+    return links
+
+
+def document_of(body: bytes) -> Document:
+    """What a document has."""
+    text, charset = text_of(body)
+    links: List[Link] = []
+    ids = set()
+    base = None
+    for tag in start_tags(text):
+        found = firsts(tag)
+        if tag.name == "base" and base is None and "href" in found:
+            base = found["href"].value
+        links += texts_of(tag.name, found)
+        if "id" in found:
+            ids.add(found["id"].value)
+        if tag.name == "a" and "name" in found:
+            ids.add(found["name"].value)
+    return Document(tuple(links), base, frozenset(ids), Lines(text), charset)

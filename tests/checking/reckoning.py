@@ -1,0 +1,328 @@
+"""What is broken in a folder, reckoned by a plain static server and a search from the seeds.
+
+The URLs are read by drawn.py, which raises NotPlain where it takes tables that it has not.
+"""
+
+from __future__ import annotations
+
+import os
+import re
+from collections import Counter
+from functools import lru_cache
+from typing import AbstractSet, Any, Dict, Iterator, List, NamedTuple, Optional, Sequence, Set, Tuple, Union
+from urllib.parse import quote, unquote_to_bytes
+
+import drawn
+from checking.documents import TOOL, Document, document_of, with_query_in
+
+Row = Dict[str, Any]
+FRAGMENT = "\"<>`"  # what a fragment percent-encodes beside controls, spaces and what is beyond ASCII
+MOST_FILES = 10  # that are told to have most broken links
+LINE_LIMIT = 4096  # bytes of a line of a saved web
+
+
+class Found(NamedTuple):
+    name: bytes  # of the file, below the folder
+
+
+class Moved(NamedTuple):
+    url: str
+
+
+Answer = Union[Found, Moved, None]
+
+
+class Place(NamedTuple):
+    file: str
+    line: int
+    column: int
+
+
+class Lead(NamedTuple):
+    """Where a link of a page leads."""
+
+    url: str
+    fragment: Optional[str]
+    place: Place
+
+
+class Asked(NamedTuple):
+    """What a check is asked for."""
+
+    base: str
+    seeds: Tuple[str, ...] = ()
+    front: str = ""  # what is left out at the front of a URL
+    ignores: Tuple[str, ...] = ()
+    anchors: bool = True
+    external: bool = False
+    unreached: bool = False
+    exact: bool = False
+
+
+def url_of(text: str, base: drawn.Url) -> Optional[str]:
+    """The URL of a link without its fragment, where it is http or https."""
+    text = TOOL.cleaned(text).partition("#")[0]
+    if not text:
+        return str(base)
+    # All pages of a folder have one answer to such a text
+    return resolved(text, base if text[0] == "?" else base._replace(path=(*base.path[:-1], ""), query=""))
+
+
+@lru_cache(maxsize=1 << 18)
+def resolved(text: str, base: drawn.Url) -> Optional[str]:
+    """The URL of a text without a fragment."""
+    if not TOOL.is_web(TOOL.scheme_of(text)):
+        return None
+    path, mark, query = text.partition("?")
+    # The newer text of the Standard has this letter as an escape, which drawn.py leaves open
+    url = drawn.url_or_none(path.replace("^", "%5E") + mark + query, base)
+    return None if url is None else str(url)
+
+
+def is_short(word: str, text: str) -> bool:
+    """Whether the line of a saved web with this word and text is short enough."""
+    return len(f"{word} {text}".encode("utf-8", "replace")) <= LINE_LIMIT
+
+
+def fragment_of(text: str) -> Optional[str]:
+    """What stands behind the `#` of a link, where it has one."""
+    _, mark, fragment = TOOL.cleaned(text).partition("#")
+    return fragment if mark else None
+
+
+def is_there(text: str, ids: AbstractSet[str]) -> bool:
+    """Whether a document with these ids has the part that is indicated by what stands behind a `#`."""
+    fragment = drawn.encoded(text, FRAGMENT).partition(":~:")[0]
+    read = unquote_to_bytes(fragment).decode("utf-8", "replace")
+    return not fragment or fragment in ids or read in ids or read.lower() == "top"
+
+
+def last_of(url: str) -> str:
+    """The last part of a URL's path."""
+    return re.split("[?]", url)[0].rpartition("/")[2]
+
+
+def in_bytes(row: Tuple[Tuple[str, str], object]) -> Tuple[bytes, bytes]:
+    """The key of an order by the bytes of a page and a fragment."""
+    return row[0][0].encode(), row[0][1].encode("utf-8", "replace")
+
+
+class Silent:
+    """Hears what the converter's walk tells."""
+
+    def tell(self, what: str, where: str) -> None:
+        """Tells nothing."""
+
+
+class Site:
+    """The pages of a folder, as a plain static server answers them."""
+
+    def __init__(self, folder: str, asked: Asked) -> None:
+        self.folder = os.fsencode(folder)
+        self.base = drawn.url_of(asked.base)
+        self.exact = asked.exact
+        self.names: Set[bytes] = set(filter(TOOL.is_utf8, TOOL.entries_below(self.folder, Silent())))
+        self.documents: Dict[bytes, Optional[Document]] = {}
+
+    def own(self, name: bytes) -> str:
+        """The URL of a file, or of a folder with its slash, as a server spells it."""
+        return str(self.base) + quote(name, safe=TOOL.IN_NAME + "/")
+
+    def pages(self) -> List[Tuple[str, bytes]]:
+        """The pages of files, in order: each file, and each folder with an index."""
+        found = [(self.own(name), name) for name in self.names if not name.endswith(b"/")]
+        found += [(self.own(name[:-10]), name) for _, name in found if os.path.basename(name) == b"index.html"]
+        return sorted(found)
+
+    def answer(self, url: str) -> Answer:
+        """What a server answers at a URL."""
+        asked = drawn.url_of(url)
+        front = self.base.path[:-1]
+        if asked._replace(path=(), query="") != self.base._replace(path=(), query=""):
+            return None
+        if asked.path[:len(front)] != front:
+            return None
+        parts = [unquote_to_bytes(part) for part in asked.path[len(front):]]
+        name = b"/".join(parts)
+        if any(b"/" in part for part in parts) or (self.exact and url != self.own(name)) or not is_short("page", url):
+            return None
+        if name == b"" or name.endswith(b"/"):
+            name += b"index.html"
+            return Found(name) if name in self.names else None
+        if name + b"/" in self.names:
+            return Moved(self.own(name + b"/") + asked.query)
+        return Found(name) if name in self.names else None
+
+    def document(self, name: bytes) -> Optional[Document]:
+        """The document that a file is, if it is one."""
+        if name not in self.documents:
+            kind, packed = TOOL.kind_of(name)
+            with open(os.path.join(self.folder, name), "rb") as file:
+                body = file.read()
+            is_one = not packed and TOOL.is_document(kind, body)
+            self.documents[name] = document_of(body) if is_one else None
+        return self.documents[name]
+
+
+class Reckoning:
+    """A search from the seeds, and what it finds broken."""
+
+    def __init__(self, folder: str, asked: Asked) -> None:
+        self.asked, self.site = asked, Site(folder, asked)
+        self.answers: Dict[str, Answer] = {}
+        self.leads: Dict[str, List[Lead]] = {}
+        self.skipped = 0
+        waiting = [str(drawn.url_of(seed)) for seed in (asked.base, *asked.seeds)]
+        while waiting:
+            url = waiting.pop()
+            if url not in self.answers and self.is_within(url):
+                self.answers[url] = self.site.answer(url)
+                waiting += self.followed(url)
+
+    def is_within(self, url: str) -> bool:
+        """Whether the crawl takes a URL."""
+        host = drawn.url_of(url).host
+        return self.asked.external or host == self.site.base.host or host.endswith("." + self.site.base.host)
+
+    def followed(self, url: str) -> Set[str]:
+        """The URLs that a page leads to."""
+        answer = self.answers[url]
+        if isinstance(answer, Moved):
+            return {answer.url}
+        if answer is None:
+            return set()
+        document = self.site.document(answer.name)
+        self.leads[url] = [] if document is None else list(self.leads_of(document, url, os.fsdecode(answer.name)))
+        return {lead.url for lead in self.leads[url]}
+
+    def leads_of(self, document: Document, url: str, name: str) -> Iterator[Lead]:
+        """Where the links of a page lead."""
+        page = base = drawn.url_of(url)
+        front = ""  # what is put before a link without a scheme
+        if document.base is not None:
+            try:
+                base = drawn.url_of(document.base, page)
+            except drawn.NotUrl:
+                pass
+            except drawn.NotHttp:
+                scheme = TOOL.scheme_of(TOOL.cleaned(document.base))
+                front = "" if scheme in ("data", "javascript") else f"{scheme}:"
+        for link in document.links:
+            text = with_query_in(TOOL.cleaned(link.text), document.charset)
+            target = url_of(text if TOOL.scheme_of(text) else front + text, base)
+            if target is None:
+                self.skipped += TOOL.scheme_of(front + text) not in (None, "http", "https") or is_short("link", text)
+            elif is_short("link", target if document.base is not None else text.partition("#")[0]):
+                yield Lead(target, fragment_of(link.text), Place(name, *document.lines.place(link.at)))
+
+    def rows(self) -> List[Row]:
+        """The rows that the program prints as JSON."""
+        linked = self.linked()
+        broken = [*self.missing_pages(linked), *(self.missing_anchors() if self.asked.anchors else ())]
+        places = [row for row in broken if row["kind"] == "place"]
+        redirects = [
+            {"kind": "redirect", "page": self.told(url), "to": self.told(answer.url), "pages": len(linked[url])}
+            for url, answer in sorted(self.answers.items()) if isinstance(answer, Moved) and linked.get(url)
+        ]
+        files = sorted(Counter(row["file"] for row in places).items(), key=lambda row: (-row[1], row[0].encode()))
+        unreached = list(self.unreached()) if self.asked.unreached else []
+        total = {
+            "kind": "total", "pages": len(self.leads), "redirects": len(redirects), "unreached": len(unreached),
+            "links": self.skipped + sum(map(len, self.leads.values())), "broken": len(places),
+            "missing_pages": sum(row["kind"] == "broken" and row["missing"] == "page" for row in broken),
+            "missing_anchors": sum(row["kind"] == "broken" and row["missing"] == "anchor" for row in broken),
+        }
+        worst = [{"kind": "worst", "file": file, "links": count} for file, count in files[:MOST_FILES]]
+        names = [{"kind": "unreached", "name": name} for name in unreached]
+        return [total, *broken, *worst, *redirects, *names, *self.unused()]
+
+    def linked(self) -> Dict[str, Set[str]]:
+        """The pages that link to each URL. A page that has moved links to where it moved."""
+        linked: Dict[str, Set[str]] = {}
+        for page, leads in self.leads.items():
+            for lead in leads:
+                linked.setdefault(lead.url, set()).add(page)
+        for page, answer in self.answers.items():
+            if isinstance(answer, Moved):
+                linked.setdefault(answer.url, set()).add(page)
+        return linked
+
+    def told(self, url: str) -> str:
+        """A URL as it is printed."""
+        return (url[len(self.asked.front):] or "./") if url.startswith(self.asked.front) else url
+
+    def is_ignored(self, target: str) -> bool:
+        """Whether a target is known to be broken."""
+        return any(target.startswith(entry) for entry in self.asked.ignores)
+
+    def missing_pages(self, linked: Dict[str, Set[str]]) -> Iterator[Row]:
+        """The rows of pages that are not there, with the places of links to them and to pages that moved to them."""
+        names = self.names()
+        ends = {url: answer.url for url, answer in self.answers.items() if isinstance(answer, Moved)}
+        places: Dict[str, Set[Place]] = {}
+        for leads in self.leads.values():
+            for lead in leads:
+                places.setdefault(ends.get(lead.url, lead.url), set()).add(lead.place)
+        for url in sorted(url for url, answer in self.answers.items() if answer is None):
+            if not self.is_ignored(self.told(url)):
+                pages = linked.get(url, ())
+                yield from self.broken_rows(self.told(url), "page", len(pages), places.get(url, ()), names.get(last_of(url)))
+
+    def broken_rows(
+        self, target: str, missing: str, pages: int, places: "Set[Place] | Tuple[()]", same_name: Optional[str]
+    ) -> Iterator[Row]:
+        """The row of a target that is not there, as it is told, and those of the links to it."""
+        told = {"target": target, "missing": missing}
+        same = None if same_name is None else self.told(same_name)
+        yield {"kind": "broken", **told, "pages": pages, "same_name": same}
+        for place in sorted(places, key=lambda place: (place.file.encode(), place.line, place.column)):
+            yield {"kind": "place", **told, **place._asdict()}
+
+    def missing_anchors(self) -> Iterator[Row]:
+        """The rows of anchors that are not there, of pages that are."""
+        for (url, fragment), (pages, places) in sorted(self.anchors_missing().items(), key=in_bytes):
+            target = f"{self.told(url)}#{fragment}"
+            if not self.is_ignored(target):
+                yield from self.broken_rows(target, "anchor", len(pages), places, None)
+
+    def anchors_missing(self) -> Dict[Tuple[str, str], Tuple[Set[str], Set[Place]]]:
+        """By page and fragment what is not there, which pages link to it, and where."""
+        missing: Dict[Tuple[str, str], Tuple[Set[str], Set[Place]]] = {}
+        for page, leads in self.leads.items():
+            for lead in leads:
+                answer = self.answers.get(lead.url)
+                url = answer.url if isinstance(answer, Moved) else lead.url
+                if lead.fragment is not None and not self.has_anchor(url, lead.fragment):
+                    pages, places = missing.setdefault((url, lead.fragment), (set(), set()))
+                    pages.add(page)
+                    places.add(lead.place)
+        return missing
+
+    def has_anchor(self, url: str, fragment: str) -> bool:
+        """Whether a page has an anchor, or no page tells."""
+        answer = self.answers.get(url)
+        document = self.site.document(answer.name) if isinstance(answer, Found) else None
+        return document is None or is_there(fragment, document.ids)
+
+    def names(self) -> Dict[str, str]:
+        """The pages whose file name no other page of the site has, by that name."""
+        pages = [url for url, _ in self.site.pages() if last_of(url)]
+        counts = Counter(map(last_of, pages))
+        return {last_of(url): url for url in pages if counts[last_of(url)] == 1}
+
+    def unreached(self) -> Iterator[str]:
+        """The files of which no page was reached, each by its first page."""
+        reached = {answer.name for answer in self.answers.values() if isinstance(answer, Found)}
+        for url, name in self.site.pages():
+            if name not in reached:
+                reached.add(name)
+                yield self.told(url)
+
+    def unused(self) -> Iterator[Row]:
+        """The entries of what is known to be broken that nothing matched."""
+        texts = [self.told(url) for url, answer in self.answers.items() if answer is None]
+        if self.asked.anchors:
+            texts += [f"{self.told(url)}#{fragment}" for url, fragment in self.anchors_missing()]
+        for entry in self.asked.ignores:
+            if not any(text.startswith(entry) for text in texts):
+                yield {"kind": "unused", "name": entry}

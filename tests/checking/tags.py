@@ -1,0 +1,175 @@
+"""The start tags of an HTML document by the HTML Standard's tokenizer, each value with the place where it begins."""
+
+from __future__ import annotations
+
+import html.entities
+import re
+from typing import Iterator, NamedTuple, Tuple
+
+SPACE = "\t\n\f\r "
+NAME = re.compile(r"[^\t\n\f\r />]*")
+BETWEEN = re.compile(r"[\t\n\f\r /]*")
+SPACES = re.compile(r"[\t\n\f\r ]*")
+ATTRIBUTE_NAME = re.compile(r"[^\t\n\f\r />][^\t\n\f\r />=]*")
+UNQUOTED = re.compile(r"[^\t\n\f\r >]*")
+PLAIN_END = re.compile(r"/[A-Za-z][^\t\n\f\r />]*>")
+LETTERS = frozenset("abcdefghijklmnopqrstuvwxyzABCDEFGHIJKLMNOPQRSTUVWXYZ")
+COMMENT_END = re.compile(r"-?>|[\s\S]*?--!?>")
+SCRIPT_MARK = re.compile(r"<!--|-->|<(/?)script(?=[\t\n\f\r />])", re.I)
+RAW = ("title", "textarea", "style", "xmp", "iframe", "noembed", "noframes")
+REFERENCE = re.compile(r"&(?:#([0-9]+);?|#[xX]([0-9A-Fa-f]+);?|([0-9A-Za-z]+;?))")
+NAMED = html.entities.html5
+LONGEST_NAME = max(map(len, NAMED))
+# The code points that a reference by number stands for in place of itself
+C1 = dict(zip(range(0x80, 0xA0), (
+    0x20AC, 0x81, 0x201A, 0x192, 0x201E, 0x2026, 0x2020, 0x2021, 0x2C6, 0x2030, 0x160, 0x2039, 0x152, 0x8D, 0x17D, 0x8F,
+    0x90, 0x2018, 0x2019, 0x201C, 0x201D, 0x2022, 0x2013, 0x2014, 0x2DC, 0x2122, 0x161, 0x203A, 0x153, 0x9D, 0x17E, 0x178,
+)))
+
+
+class Attribute(NamedTuple):
+    name: str
+    value: str  # with its references read
+    at: int  # where the value begins
+
+
+class Tag(NamedTuple):
+    name: str
+    attributes: Tuple[Attribute, ...]
+
+
+def lower(text: str) -> str:
+    """The text with the letters of ASCII in lower case, and U+FFFD for NUL."""
+    if text.isalpha() and text.isascii():
+        return text.lower()
+    return re.sub("[A-Z]+", lambda run: run[0].lower(), text).replace("\0", "\ufffd")
+
+
+def number_read(number: int) -> str:
+    """What a reference with this number stands for."""
+    if number == 0 or number > 0x10FFFF or 0xD800 <= number < 0xE000:
+        return "\ufffd"
+    return chr(C1.get(number, number))
+
+
+def name_read(text: str, behind: str) -> str:
+    """What `&` and a run of letters and digits stand for in a value, before what stands behind the run."""
+    for end in range(min(len(text), LONGEST_NAME), 0, -1):
+        if text[:end] in NAMED:
+            more = text[end:] + behind
+            if text[end - 1] != ";" and re.match("[=0-9A-Za-z]", more):
+                break
+            return NAMED[text[:end]] + text[end:]
+    return "&" + text
+
+
+def decoded(value: str) -> str:
+    """A value with its references read."""
+    value = value.replace("\r\n", "\n").replace("\r", "\n").replace("\0", "\ufffd")
+
+    def one(found: "re.Match[str]") -> str:
+        if found[1]:
+            return number_read(int(found[1]))
+        if found[2]:
+            return number_read(int(found[2], 16))
+        return name_read(found[3], value[found.end():found.end() + 1])
+
+    return REFERENCE.sub(one, value) if "&" in value else value
+
+
+def attributes_from(text: str, at: int) -> Tuple[Tuple[Attribute, ...], int]:
+    """The attributes of a tag from behind its name, and where the tag ends: behind the text where it is cut off."""
+    found = []
+    cut = len(text) + 1
+    while True:
+        at = BETWEEN.match(text, at).end()  # type: ignore[union-attr]
+        if at >= len(text):
+            return (), cut
+        if text[at] == ">":
+            return tuple(found), at + 1
+        name = ATTRIBUTE_NAME.match(text, at)
+        assert name is not None
+        end = SPACES.match(text, name.end()).end()  # type: ignore[union-attr]
+        if text[end:end + 1] != "=":
+            found.append(Attribute(lower(name[0]), "", name.end()))
+            at = name.end()
+            continue
+        begin = SPACES.match(text, end + 1).end()  # type: ignore[union-attr]
+        quote = text[begin:begin + 1]
+        if quote in ("'", '"'):
+            begin += 1
+            at = text.find(quote, begin) + 1 or cut
+            value = text[begin:at - 1]
+        else:
+            at = UNQUOTED.match(text, begin).end()  # type: ignore[union-attr]
+            value = text[begin:at]
+        found.append(Attribute(lower(name[0]), decoded(value), begin))
+
+
+def script_end(text: str, at: int) -> int:
+    """Where the end tag of a script begins, by its escaped states; behind the text where none does."""
+    escaped = doubly = False
+    while True:
+        mark = SCRIPT_MARK.search(text, at)
+        if mark is None:
+            return len(text) + 1
+        at = mark.end()
+        if mark[0] == "<!--":
+            # Its dashes may be those of an end, too
+            at = mark.end() - 2
+            escaped = True
+        elif mark[0] == "-->":
+            escaped = doubly = False
+        elif not escaped:
+            if mark[1]:
+                return mark.start()
+        elif not doubly and mark[1]:
+            return mark.start()
+        elif doubly == bool(mark[1]):
+            doubly = not mark[1]
+
+
+def content_end(name: str, text: str, at: int) -> int:
+    """Where markup goes on behind a start tag with this name."""
+    if name == "plaintext":
+        return len(text) + 1
+    if name == "script":
+        return script_end(text, at)
+    if name in RAW:
+        end = re.compile(rf"</{name}(?=[\t\n\f\r />])", re.I).search(text, at)
+        return end.start() if end else len(text) + 1
+    return at
+
+
+def start_tags(text: str) -> Iterator[Tag]:
+    """The start tags of a document, in order."""
+    at = 0
+    while True:
+        at = text.find("<", at) + 1
+        if not at:
+            return
+        begins = text[at:at + 1]
+        if begins == "/":
+            plain = PLAIN_END.match(text, at)
+            if plain:
+                at = plain.end()
+                continue
+        if text.startswith("!--", at):
+            end = COMMENT_END.match(text, at + 3)
+            if end is None:
+                return
+            at = end.end()
+        elif begins in LETTERS or text[at + 1:at + 2] in LETTERS and begins == "/":
+            name = NAME.match(text, at + (begins == "/"))
+            assert name is not None
+            found, at = attributes_from(text, name.end())
+            if at <= len(text) and begins != "/":
+                yield Tag(lower(name[0]), found)
+                at = content_end(lower(name[0]), text, at)
+            if at > len(text):
+                return
+        elif begins in ("!", "?") or begins == "/" and at + 1 < len(text):
+            # A comment without dashes, or a DOCTYPE; `</>` is nothing
+            at = text.find(">", at) + 1
+            if not at:
+                return

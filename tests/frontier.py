@@ -1,0 +1,504 @@
+#!/usr/bin/env python3
+"""Runs the frontier for threads by `library_calls`, and compares what its calls answer with the machine.
+
+- drawn calls: workers, the seeder and a sender call in turns that are drawn. Each answer has to be the machine's, which
+  `mercator replay` gives to the events of the call. Hops, numbers and the account have a reckoning of their own here.
+- steps of threads: four workers, each in a thread of its own. Their steps have to make one list of events that the
+  machine answers alike, and with one step changed there must be no such list.
+- threads that end: workers and senders in threads offer the same pages until the gate is closed. Each page is accepted
+  once, and whoever calls after a worker was told that the gate is closed is told so.
+- threads that leave: workers are dropped with work in hand, so the gate never closes, and there is no account.
+
+The draws are the same each time for one SEED. CALLS of the environment stands for the built `library_calls`, PROGRAM for
+the built `mercator`. It tells what differs, at last `N passed, M failed`, and ends with status 1 where any failed.
+"""
+
+from __future__ import annotations
+
+import argparse
+import os
+import shlex
+import subprocess
+import sys
+from collections import Counter
+from pathlib import Path
+from random import Random
+from typing import Iterator, NamedTuple, Optional, Sequence
+
+ROOT = Path(__file__).resolve().parent.parent
+CALLS = shlex.split(os.environ.get("CALLS", str(ROOT / "crates/library_calls/out/library_calls")))
+PROGRAM = os.environ.get("PROGRAM", str(ROOT / "crates/mercator_cli/out/mercator_cli"))
+SECONDS = 60  # the time limit of a run: whoever rests and is not woken is ended by it
+HOSTS = 50  # the pages' hosts, as in crates/library_calls/src/running.rt
+LINKS = 4
+PAGES = 8_000
+ROOM = 1_000_000
+
+
+class Differs(Exception):
+    """What a run showed otherwise."""
+
+
+def expect(holds: bool, text: str) -> None:
+    if not holds:
+        raise Differs(text)
+
+
+def answers(blocks: Sequence[list[str]]) -> list[list[str]]:
+    """What the calls of each block answer, and behind them how the frontier ends."""
+    text = "\n\n".join("\n".join(block) for block in blocks) + "\n"
+    ran = subprocess.run([*CALLS, "calls"], input=text, capture_output=True, text=True, timeout=2 * SECONDS)
+    told = [block.splitlines() for block in ran.stdout.split("\n\n")][: len(blocks)]
+    expect(len(told) == len(blocks), f"{len(told)} of {len(blocks)} blocks answered, status {ran.returncode}")
+    return told
+
+
+def replies(workers: int, room: int, events: list[str]) -> list[str]:
+    """What the machine replies to each event."""
+    script = "\n".join([f"workers {workers} max {room}", *events]) + "\n"
+    ran = subprocess.run([PROGRAM, "replay", "-"], input=script, capture_output=True, text=True, timeout=SECONDS)
+    told = ran.stdout.splitlines()
+    expect(ran.returncode == 0 and len(told) == len(events), f"replay: status {ran.returncode}: {ran.stderr.strip()}")
+    return told
+
+
+def agree(workers: int, room: int, events: list[tuple[str, str]]) -> None:
+    """Whether the machine replies to each event as the calls did; `*` stands for any number."""
+    for (event, wanted), reply in zip(events, replies(workers, room, [event for event, _ in events])):
+        fits = len(wanted.split()) == len(reply.split()) and all(
+            want in ("*", word) for want, word in zip(wanted.split(), reply.split())
+        )
+        expect(fits, f"{event}: the machine says {reply!r}, the frontier {wanted!r}")
+
+
+# ---------------------------------------------------------------- drawn calls
+
+
+class Row(NamedTuple):
+    name: str
+    workers: int
+    room: int
+    suffixes: tuple[str, ...]
+    sender: int
+    calls: int
+    gets_full: bool
+
+
+ROWS = (
+    Row("three workers", 3, 5, (), 7, 6_000, True),
+    Row("64 workers", 64, 1_000, (), 77, 12_000, False),
+    Row("a filter before the machine", 3, 5, ("test", "example"), 7, 6_000, True),
+    Row("one worker, room for one URL", 1, 2, (), 3, 2_000, True),
+    Row("512 workers", 512, 1_000, (), 1_000, 6_000, False),
+)
+
+
+def drawn_urls(count: int) -> list[str]:
+    """Pages of 30 hosts, a third of them each under `test`, `example` and `invalid`."""
+    return [f"http://h{n % 30}.{('test', 'example', 'invalid')[n % 30 % 3]}/{n}" for n in range(count)]
+
+
+def drawn_calls(row: Row, draw: Random, urls: list[str]) -> Iterator[str]:
+    """The calls: drawn ones, the end of the seeds, turns until all are closed, and a last offer of the sender."""
+    seeder, sender = row.workers, row.workers + 1
+    yield f"another {seeder} {row.sender}"
+    for _ in range(row.calls):
+        kind = draw.randrange(8)
+        place = seeder if kind == 0 else sender if kind == 1 else draw.randrange(row.workers)
+        if kind < 5:
+            yield f"offer {place} {draw.choice(urls)}"
+        else:
+            yield f"next {place}"
+    yield f"next {seeder}"
+    for _ in range(2 * len(urls) // min(row.workers, 30) * 3 + 3):
+        for place in range(row.workers):
+            yield f"next {place}"
+    yield f"offer {sender} {urls[0]}"
+
+
+class Hand:
+    """What a hand is known to do: `idle`, `busy`, `closed`, `seeds` or `sends`."""
+
+    def __init__(self, kind: str, sender: int) -> None:
+        self.kind, self.sender, self.hops, self.numbers = kind, sender, 0, Counter()
+
+
+class Reckoning:
+    """The events of calls and what the machine has to reply; hops, numbers and lists by a reckoning of its own."""
+
+    def __init__(self, row: Row) -> None:
+        self.row = row
+        self.hands = [Hand("idle", place) for place in range(row.workers)]
+        self.hands += [Hand("seeds", row.workers), Hand("sends", row.sender)]
+        self.events: list[tuple[str, str]] = []
+        self.tally: Counter[str] = Counter()
+        self.hops: dict[str, int] = {}
+        self.lists: dict[int, list[str]] = {queue: [] for queue in range(row.workers)}
+
+    def allows(self, url: str) -> bool:
+        host = url.split("/")[2]
+        return not self.row.suffixes or any(host == it or host.endswith("." + it) for it in self.row.suffixes)
+
+    def offer(self, hand: Hand, url: str, answer: str) -> None:
+        can = hand.kind in ("busy", "seeds", "sends")
+        word, first, second = answer.split()
+        expect((word == "none") != can, f"offer by one that is {hand.kind}: {answer}")
+        if not can:
+            return
+        expect((word == "filtered") != self.allows(url), f"offer {url}: {answer}")
+        self.tally[word] += 1
+        if word == "filtered":
+            return
+        self.events += [(f"look {hand.sender}", "word * open" if word != "closed" else "word * closed")]
+        if word in ("full", "closed"):
+            self.events += [(f"enter {hand.sender}", f"refused {word}")]
+            return
+        self.events += [(f"enter {hand.sender}", "entered *")]
+        said = f"accepted {first} {second}" if word == "accepted" else word
+        self.events += [(f"admit {hand.sender} {url}", said)]
+        if word == "seen":
+            self.events += [(f"back {hand.sender}", "count *")]
+        if word == "accepted":
+            queue = int(first)
+            expect(int(second) == hand.numbers[queue], f"offer {url}: number {second}, not {hand.numbers[queue]}")
+            hand.numbers[queue] += 1
+            hops = hand.hops + 1 if hand.kind == "busy" else 0
+            self.hops[url] = hops
+            self.lists[queue].append(f"entry {queue} {hand.sender} {second} {hops} {url}")
+
+    def turn(self, place: int, hand: Hand, answer: str) -> None:
+        word, _, rest = answer.partition(" ")
+        wanted = {"idle": ("taken", "idle", "closed"), "busy": ("done",), "closed": ("closed",),
+                  "seeds": ("ended",), "sends": ("ended",)}[hand.kind]
+        expect(word in wanted, f"next by one that is {hand.kind}: {answer}")
+        if hand.kind in ("closed", "sends"):
+            return
+        self.tally[word] += 1
+        if word == "taken":
+            hops, _, url = rest.partition(" ")
+            expect(int(hops) == self.hops.get(url, -1), f"{answer}: {self.hops.get(url)} hops")
+            self.events += [(f"take {place}", f"taken {url}")]
+            hand.kind, hand.hops = "busy", int(hops)
+        elif word == "done":
+            self.events += [(f"done {place}", "count *")]
+            hand.kind = "idle"
+        elif word == "ended":
+            self.events += [("endseeds", "count *")]
+            hand.kind = "sends"
+        else:
+            self.events += [(f"take {place}", "empty"), ("close", f"pending {rest}" if word == "idle" else "closed")]
+            hand.kind = "idle" if word == "idle" else "closed"
+
+    def met(self) -> None:
+        """Each answer that the row is to get came, and no other; each worker was told once that the gate is closed."""
+        tally, row = self.tally, self.row
+        some = all(tally[word] > 0 for word in ("accepted", "seen", "idle")) and tally["taken"] == tally["accepted"]
+        expect(some, f"answers: {dict(tally)}")
+        expect((tally["full"] > 0) == row.gets_full, f"full {tally['full']} times")
+        expect((tally["filtered"] > 0) == bool(row.suffixes), f"filtered {tally['filtered']} times")
+        late = all(hand.kind == "closed" for hand in self.hands[: row.workers])
+        expect(late and tally["closed"] >= row.workers + 1, f"closed {tally['closed']} times")
+
+
+def check_row(row: Row, draw: Random) -> None:
+    urls = drawn_urls(300)
+    calls = list(drawn_calls(row, draw, urls))
+    told = answers([[" ".join(["frontier", str(row.workers), str(row.room), *row.suffixes]), *calls]])[0]
+    known = Reckoning(row)
+    expect(told[0] == "made", f"another sender: {told[0]}")
+    for call, answer in zip(calls[1:], told[1:]):
+        verb, place, *url = call.split()
+        hand = known.hands[int(place)]
+        if verb == "offer":
+            known.offer(hand, url[0], answer)
+        else:
+            known.turn(int(place), hand, answer)
+    known.met()
+    end = told[len(calls):]
+    lists = [entry for queue in range(row.workers) for entry in known.lists[queue]]
+    expect(end == ["account 0 0", *lists], f"the end: {end[:3]} .., {len(end)} lines, not {len(lists) + 1}")
+    agree(row.workers, row.room, known.events)
+
+
+# ---------------------------------------------------------------- threads
+
+
+def page(number: int) -> str:
+    return f"http://h{number % HOSTS}.test/{number}"
+
+
+class Note(NamedTuple):
+    place: int
+    word: str
+    page: int
+    first: int
+    second: int
+    late: bool
+
+
+def notes_of(told: list[str]) -> list[Note]:
+    """The notes of a run's threads, among other answers."""
+    notes = []
+    for line in told:
+        words = line.split()
+        if len(words) == 6 and words[0].isdigit():
+            place, word, number, first, second, late = words
+            notes.append(Note(int(place), word, int(number), int(first), int(second), late == "true"))
+    return notes
+
+
+def entries_of(told: list[str]) -> list[list[str]]:
+    return [line.split()[1:] for line in told if line.startswith("entry ")]
+
+
+class Plan(NamedTuple):
+    name: str
+    workers: int
+    room: int
+    pages: int
+    sent: int
+    until_closed: bool
+    rounds: int
+
+
+PLANS = (
+    Plan("one page, offered until the end", 2, ROOM, 1, 1, True, 30),
+    Plan("one page, which the workers end alone", 2, ROOM, 1, 0, False, 30),
+    Plan("forty pages, offered once", 2, ROOM, 40, 40, False, 20),
+    Plan("all pages, offered until the end", 2, ROOM, PAGES, PAGES, True, 1),
+    Plan("all pages, found by links", 4, ROOM, PAGES, 1, False, 1),
+    Plan("a gate that is often full", 2, 8, PAGES, PAGES, True, 1),
+)
+
+
+def ending(plan: Plan) -> list[str]:
+    hands = plan.workers + 2
+    return [
+        f"frontier {plan.workers} {plan.room}",
+        f"another {plan.workers} 77",
+        f"run {plan.pages} 1 {plan.sent} {int(plan.until_closed)} 0",
+        *(f"offer {place} {page(0)}" for place in range(hands)),
+    ]
+
+
+def check_ends(plan: Plan) -> None:
+    for told in answers([ending(plan)] * plan.rounds):
+        check_end(plan, told)
+
+
+def check_end(plan: Plan, told: list[str]) -> None:
+    notes, entries = notes_of(told), entries_of(told)
+    expect(not any(note.late for note in notes), "not told `closed` after closing")
+    last = told[1 + len(notes):1 + len(notes) + plan.workers + 2]
+    expect(last == ["none 0 0"] * plan.workers + ["closed 0 0"] * 2, f"offers after closing: {last}")
+    expect("account 0 0" in told, f"the end: {told[-1]}")
+    urls = [entry[4] for entry in entries]
+    expect(len(set(urls)) == len(urls), "a page twice")
+    accepted = sorted(page(note.page) for note in notes if note.word == "accepted")
+    expect(accepted == sorted(urls), "not the pages that were accepted")
+    taken = sorted(page(note.page) for note in notes if note.word == "took")
+    expect(taken == sorted(urls), "not the pages that were taken")
+    refused = [note.word for note in notes if note.word not in ("accepted", "seen", "took", "done", "idle", "closed")]
+    if plan.room > PAGES:
+        expect(sorted(urls) == sorted(page(n) for n in range(plan.pages)), "not all pages")
+        expect(not refused, f"refused: {refused[:3]}")
+    else:
+        expect(set(refused) == {"full"}, f"refused: {set(refused)}")
+    closed = Counter(note.place for note in notes if note.word == "closed" and note.page >= plan.pages)
+    expect(closed == Counter(range(plan.workers)), f"told `closed`: {closed}")
+
+
+# When each of four workers leaves: at this URL of those that it takes, with it in hand or behind it; 0: never.
+LEAVING = (
+    ((1, 1), (0, 0), (0, 0), (0, 0)),
+    ((0, 0), (0, 0), (0, 0), (1_000, 1)),
+    ((1, 1), (2, 1), (3, 1), (4, 1)),
+    ((1, 0), (0, 0), (0, 0), (0, 0)),
+    ((0, 0), (1, 0), (100, 1), (500, 0)),
+    ((1, 0), (10, 0), (100, 0), (1_000, 0)),
+)
+
+
+def leaving(row: Sequence[tuple[int, int]]) -> list[str]:
+    """The pages are seeded before the workers begin, so that each has some; one gives up after 1,000 idle turns."""
+    return [
+        f"frontier 4 {ROOM}",
+        "another 4 77",
+        *(f"offer 4 {page(n)}" for n in range(50)),
+        "next 4",
+        *(f"leaves {place} {at} {busy}" for place, (at, busy) in enumerate(row)),
+        f"run {PAGES} 0 0 0 1000",
+    ]
+
+
+def check_left(row: Sequence[tuple[int, int]]) -> None:
+    told = answers([leaving(row)])[0]
+    notes = notes_of(told)
+    expect(told[-1] == "missing 0 0", f"the end: {told[-1]}")
+    expect(not any(note.word == "closed" for note in notes), "closed, with work left")
+    took = Counter(note.place for note in notes if note.word == "took")
+    for place, (at, busy) in enumerate(row):
+        done = sum(note.word == "done" for note in notes if note.place == place)
+        left = took[place] - (busy if took[place] == at else 0)
+        expect((not at or took[place] <= at) and done == left, f"worker {place}: {took[place]} taken, {done} done")
+
+
+# ---------------------------------------------------------------- steps of threads
+
+
+def joined(traces: list[list[Note]], order: dict[int, int], waited: dict[int, int], queues: dict[int, int]
+           ) -> Optional[list[tuple[int, Note]]]:
+    """One list of the workers' steps, if there is one.
+
+    What orders them is what calls answer: each worker's steps stand as it made them; an accepted page stands at the
+    place that the account gives it in its subqueue; a page is taken, or seen, after it was accepted; a turn that found
+    nothing stands before the next page that its subqueue accepts; and since the gate was open in each such turn, the end
+    of a fetch is last of all, of a worker that found nothing after it. Each says of two steps which comes first, so
+    taking any step that may come next finds an order if there is one.
+    """
+    held = next((place for place, trace in enumerate(traces) if trace and trace[-1].word == "done"), None)
+    until = [len(trace) - (place == held) for place, trace in enumerate(traces)]
+    at = [0] * len(traces)
+    accepted, idle = Counter({queues.get(0, 0): 1}), Counter()
+    steps: list[tuple[int, Note]] = []
+
+    def may_come(place: int, note: Note) -> bool:
+        queue = queues.get(note.page, -1)
+        if note.word == "took":
+            return queue == place and order[note.page] < accepted[place]
+        if note.word == "accepted":
+            return queue >= 0 and order[note.page] == accepted[queue] and waited.get(note.page, 0) <= idle[queue]
+        if note.word == "seen":
+            return queue >= 0 and order[note.page] < accepted[queue]
+        return True
+
+    moved = True
+    while moved:
+        moved = False
+        for place, trace in enumerate(traces):
+            while at[place] < until[place] and may_come(place, trace[at[place]]):
+                note = trace[at[place]]
+                accepted[queues.get(note.page, -1)] += note.word == "accepted"
+                idle[place] += note.word == "idle"
+                steps.append((place, note))
+                at[place] += 1
+                moved = True
+    if held is not None and at == until:
+        steps.append((held, traces[held][-1]))
+        at[held] += 1
+    return steps if at == [len(trace) for trace in traces] else None
+
+
+def events_of(workers: int, steps: list[tuple[int, Note]], seed: int) -> list[tuple[str, str]]:
+    """The machine's events, and its replies; how many units are out is not compared, nor words that were met."""
+
+    def offer(sender: int, number: int, said: str) -> list[tuple[str, str]]:
+        events = [(f"look {sender}", "word * open"), (f"enter {sender}", "entered *")]
+        events += [(f"admit {sender} {page(number)}", said)]
+        return events + ([(f"back {sender}", "count *")] if said == "seen" else [])
+
+    events = offer(workers, 0, f"accepted {seed} 0") + [("endseeds", "count *")]
+    for place, note in steps:
+        if note.word == "took":
+            events += [(f"take {place}", f"taken {page(note.page)}")]
+        elif note.word == "accepted":
+            events += offer(place, note.page, f"accepted {note.first} {note.second}")
+        elif note.word == "seen":
+            events += offer(place, note.page, "seen")
+        elif note.word == "done":
+            events += [(f"done {place}", "count *")]
+        else:
+            events += [(f"take {place}", "empty"), ("close", "pending *")]
+    for place in range(workers):
+        events += [(f"take {place}", "empty"), ("close", "closed")]
+    return events
+
+
+def other_than(note: Note) -> Note:
+    """Another step than the one that was made."""
+    if note.word == "took":
+        return note._replace(page=note.page + 1)
+    if note.word == "accepted":
+        return note._replace(second=note.second + 1)
+    if note.word == "seen":
+        return note._replace(word="accepted", first=0, second=2**63)
+    return note._replace(word="idle" if note.word == "done" else "done")
+
+
+def check_steps(pages: int, workers: int) -> None:
+    told = answers([steps_in_threads(pages, workers)])[0]
+    notes, entries = notes_of(told), entries_of(told)
+    traces = [[note for note in notes if note.place == place and note.word != "closed"] for place in range(workers)]
+    order: dict[int, int] = {}
+    queues: dict[int, int] = {}
+    lengths: Counter[int] = Counter()
+    for queue, _, _, _, url in entries:
+        number = int(url.rsplit("/")[-1])
+        order[number], queues[number] = lengths[int(queue)], int(queue)
+        lengths[int(queue)] += 1
+
+    def replays(traces: list[list[Note]]) -> int:
+        """How many steps were joined into one list that the machine answers alike."""
+        waited: dict[int, int] = {}
+        for trace in traces:
+            turns = 0
+            for note in trace:
+                turns += note.word == "idle"
+                if note.word == "took":
+                    waited[note.page] = turns
+        steps = joined(traces, order, waited, queues)
+        expect(steps is not None, "the steps of the threads make no one list")
+        agree(workers, ROOM, events_of(workers, steps or [], queues[0]))
+        return len(steps or [])
+
+    idle = sum(note.word == "idle" for note in notes)
+    links = sum(max(0, min(2 * n + 1 + LINKS, pages) - (2 * n + 1)) for n in range(pages))
+    expect(replays(traces) == 2 * pages + links + idle, "not each page taken, its links offered, and done once")
+    longest = max(traces, key=len)
+    for at in range(8):
+        changed = [[*trace[:at], other_than(trace[at]), *trace[at + 1:]] if trace is longest else trace for trace in traces]
+        try:
+            replays(changed)
+        except Differs:
+            continue
+        raise Differs(f"step {at} may be another one")
+
+
+def steps_in_threads(pages: int, workers: int) -> list[str]:
+    return [f"frontier {workers} {ROOM}", f"offer {workers} {page(0)}", f"next {workers}", f"run {pages} 0 0 0 0"]
+
+
+# ---------------------------------------------------------------- all
+
+
+def main() -> None:
+    parser = argparse.ArgumentParser(description=__doc__.split("\n")[0])
+    parser.add_argument("--count", type=int, default=2, help="how often each row of calls is drawn (2)")
+    parser.add_argument("--seed", default="1", help="what the draws begin with (1)")
+    given = parser.parse_args()
+    passed, failed = 0, 0
+
+    def judge(name: str, check: object, *words: object) -> None:
+        nonlocal passed, failed
+        try:
+            check(*words)  # type: ignore[operator]
+            passed += 1
+        except (Differs, subprocess.TimeoutExpired, IndexError, KeyError, ValueError) as fault:
+            failed += 1
+            print(f"{name}: {type(fault).__name__}: {fault}")
+
+    for number in range(given.count):
+        for row in ROWS:
+            judge(f"{row.name}, draw {number}", check_row, row, Random(f"{given.seed} {number} {row.name}"))
+    for plan in PLANS:
+        judge(plan.name, check_ends, plan)
+    for number, row in enumerate(LEAVING):
+        judge(f"leaving {number}", check_left, row)
+    for _ in range(given.count):
+        judge("steps of four threads", check_steps, 2_000, 4)
+    print(f"{passed} passed, {failed} failed")
+    sys.exit(failed > 0)
+
+
+if __name__ == "__main__":
+    main()
