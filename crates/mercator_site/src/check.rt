@@ -1,5 +1,6 @@
 //! A check of a site, from its files to the report.
-ghost use Rattle.std.specs.Prelude.{◌≡◌, ◌∷◌, [], IfOk, map, string_bytes};
+ghost use Rattle.std.specs.Prelude.{◌≡◌, ◌∷◌, [], IfOk, map, string_bytes, Ok};
+ghost use Rattle.crawl_keys.specs.CanonicalText.{canonical};
 ghost use Rattle.mercator_site.specs.Checks.{IsCheck, IsSiteCheck, IsTopCrawl};
 
 use crate::asked::CheckForm;
@@ -78,7 +79,7 @@ pub fn report_of_site<R: Threads + Wait + Sync, B: Bodies>(
     bodies: &mut B,
     settings: CheckSettings<'_>,
 ) -> Result<CheckReport, SiteFault>
-    ensures { IfOk result (λ report. IsCheck web.now.bytes.items settings.entry.form settings.entry.all settings.entry.front.now (map string_bytes settings.entry.ignores.now) report.is_broken report.text.items) }
+    ensures { IfOk result (λ report. IsCheck (string_bytes files.now.site.top) web.now.bytes.items settings.entry.form settings.entry.all settings.entry.front.now (map string_bytes settings.entry.ignores.now) report.is_broken report.text.items) }
 {
     let found = crawl_site(
         rt,
@@ -110,7 +111,7 @@ fn crawl_site<R: Threads + Wait + Sync>(
     top: &str,
     workers: u32,
 ) -> Result<Crawled, SiteFault>
-    ensures { IfOk result (λ found. IsTopCrawl web.now found.result) }
+    ensures { IfOk result (λ found. IsTopCrawl top.now web.now found.result) }
 {
     let host = host_of(alloc, top)?;
     let filter = host_filter(alloc, host.host_key())?;
@@ -130,7 +131,9 @@ fn crawl_site<R: Threads + Wait + Sync>(
     Ok(found)
 }
 
-fn host_of(alloc: Global, top: &str) -> Result<CanonUrl, SiteFault> {
+fn host_of(alloc: Global, top: &str) -> Result<CanonUrl, SiteFault>
+    ensures { IfOk result (λ url. canonical top.now ≡ Ok url) }
+{
     match canonical(alloc, top) {
         Ok(url) => Ok(url),
         Err(KeyError::NoMemory) => Err(SiteFault::NoMemory),

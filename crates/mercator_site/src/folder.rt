@@ -9,7 +9,7 @@ use crate::check::{CheckReport, CheckSettings, report_of_site};
 use crate::fault::SiteFault;
 use crate::writing::tell_notes;
 use saved_site::{
-    FolderNames, Note, Rules, SiteFiles, SiteNames, Web, folder_names, folder_web, folder_web_of,
+    FolderNames, Rules, SiteFiles, SiteNames, Web, folder_names, folder_web, folder_web_of,
 };
 use site_check::read_ignores;
 use std::alloc::{AllocError, Global};
@@ -76,7 +76,8 @@ pub fn report_of_folder<R: Files + Threads + Wait + Sync, E: Write>(
         base: asked.site.base.as_str(),
         rules: &rules,
     };
-    report_of_names(rt, alloc, asked, input, notes, known.as_slice(), err)
+    tell_notes(alloc, err, notes.as_slice())?;
+    report_of_names(rt, alloc, asked, input, known.as_slice(), err)
 }
 
 fn report_of_names<R: Files + Threads + Wait + Sync, E: Write>(
@@ -84,14 +85,13 @@ fn report_of_names<R: Files + Threads + Wait + Sync, E: Write>(
     alloc: Global,
     asked: &CheckAsked,
     input: SiteNames<'_>,
-    told: Vec<Note>,
     known: &[String],
     err: &mut E,
 ) -> Result<CheckReport, SiteFault>
     ensures { IfOk result (λ report. (front : List ℕ) × (entries : List (List ℕ)) × IsSiteCheck asked.now.form asked.now.all front entries report.is_broken report.text.items) }
 {
     let folder = asked.site.folder.as_str();
-    let web = folder_web_of(rt, alloc, folder, input, told)?;
+    let web = folder_web_of(rt, alloc, folder, input, Vec::new(alloc))?;
     tell_notes(alloc, err, web.notes.as_slice())?;
     let files = SiteFiles::new(alloc, input)?;
     let mut bodies = OnDisk { rt, alloc, folder };

@@ -5,8 +5,9 @@ ghost use Rattle.mercator_site.specs.Ends.{GainsCheck, GainsPlan};
 use crate::asked::{CheckAsked, SitePlan, site_plan};
 use crate::fault::SiteFault;
 use crate::folder::{report_of_folder, web_of_folder};
+use crate::words::folder_command;
 use crate::writing::{tell_fault, write_text};
-use mercator::command_line;
+use mercator::BAD_COMMAND_LINE;
 use std::alloc::{AllocError, Global};
 use std::fs::Files;
 use std::io::Write;
@@ -16,8 +17,22 @@ use std::thread::Threads;
 /// The status of a check that found something broken.
 pub const BROKEN: u8 = 4;
 
+/// What the help of the whole program says of these commands.
+pub const FOLDER_COMMANDS: &str = "\nOver a folder of HTML pages:\n  check   Tells which links are broken, and where they stand\n  site    Writes the folder's saved web\n";
+
+/// What words ask for.
+#[derive(Drop)]
+enum Asked {
+    /// A command over a folder.
+    Plan(SitePlan),
+    /// Such a command's help, with status 0, or what is wrong with its words, with status 3.
+    Shown(String, u8),
+    /// Another command.
+    Other,
+}
+
 /// Runs the program's words where they are those of a command over a folder, and answers its status; nothing where they are not,
-/// and then nothing is written. Statuses are 0 done, 1 a fault, 2 an incomplete crawl, 4 something is broken.
+/// and then nothing is written. Statuses are 0 done, 1 a fault, 2 an incomplete crawl, 3 a bad command line, 4 something is broken.
 pub fn run_site_words<R: Files + Threads + Wait + Sync, O: Write, E: Write>(
     rt: &R,
     alloc: Global,
@@ -25,31 +40,60 @@ pub fn run_site_words<R: Files + Threads + Wait + Sync, O: Write, E: Write>(
     out: &mut O,
     err: &mut E,
 ) -> Option<u8> {
-    match plan_of(alloc, words) {
-        Ok(Some(plan)) => Some(run_site_plan(rt, alloc, &plan, out, err)),
-        Ok(None) => None,
-        Err(_) => None,
+    match asked_of(alloc, words) {
+        Ok(Asked::Plan(plan)) => Some(run_site_plan(rt, alloc, &plan, out, err)),
+        Ok(Asked::Shown(text, status)) => Some(show(text.as_bytes(), status, out, err)),
+        Ok(Asked::Other) => None,
+        Err(_) => {
+            tell_fault(alloc, err, "", SiteFault::NoMemory);
+            Some(1)
+        }
     }
 }
 
-/// What the words ask of a folder; none where they ask for another command, or are no command line.
-fn plan_of(alloc: Global, words: &[String]) -> Result<Option<SitePlan>, AllocError> {
+/// Writes help to the output, and what is wrong with words to the writer for faults.
+fn show<O: Write, E: Write>(text: &[u8], status: u8, out: &mut O, err: &mut E) -> u8 {
+    if status != 0 {
+        let _ = err.write_all(text);
+        return status;
+    }
+    match write_text(out, text) {
+        Ok(()) => 0,
+        Err(fault) => fault.status(),
+    }
+}
+
+/// What the words ask for.
+fn asked_of(alloc: Global, words: &[String]) -> Result<Asked, AllocError> {
     let is_ours = match words.first() {
         Some(word) => word.as_str() == "site" || word.as_str() == "check",
         None => false,
     };
     if !is_ours {
-        return Ok(None);
+        return Ok(Asked::Other);
     }
     let mut named = Vec::new(alloc);
     named.push("mercator")?;
     for word in words {
         named.push(word.as_str())?;
     }
-    match command_line(alloc)?.try_get_matches_from(named.as_slice()) {
-        Ok(matches) => site_plan(alloc, &matches),
-        Err(_) => Ok(None),
+    match folder_command(alloc)?.try_get_matches_from(named.as_slice()) {
+        Ok(matches) => match site_plan(alloc, &matches)? {
+            Some(plan) => Ok(Asked::Plan(plan)),
+            None => Ok(Asked::Other),
+        },
+        Err(error) => shown(alloc, &error),
     }
+}
+
+/// What is shown for this answer of `clap`.
+fn shown(alloc: Global, error: &clap::Error) -> Result<Asked, AllocError> {
+    let status = if error.use_stderr() {
+        BAD_COMMAND_LINE
+    } else {
+        0
+    };
+    Ok(Asked::Shown(format!(in alloc; "{error}")?, status))
 }
 
 /// Runs such a command and answers its status. What it tells is whole before any of it is written.

@@ -3,11 +3,11 @@ ghost use Rattle.std.specs.Prelude.{◌≡◌, [], IfOk, OnOk};
 ghost use Rattle.site_check.specs.Told.{rows_in};
 
 use crate::ignored::is_ignored;
-use crate::indicated::is_indicated;
 use crate::located::Located;
 use crate::shown::shown;
 use check_report::{Broken, Kind};
 use crawl_web::{NoMemory, Page, PageResult};
+use page_anchors::is_indicated;
 use saved_site::{Anchors, PageAnchors};
 use std::alloc::Global;
 use std::collections::BTreeMap;
