@@ -146,6 +146,27 @@ class Host:
             self.asked = time.monotonic()
 
 
+class Visit(NamedTuple):
+    """What came of a URL: its links as they stand on the page, and the base that they have."""
+
+    status: str
+    base: str
+    texts: List[str]
+
+
+def visited(url: str, hosts: Dict[str, Host], words: argparse.Namespace) -> Visit:
+    """Fetches the URL, where its host allows; `hosts` are those that this fetcher knows."""
+    site = "{0.scheme}://{0.netloc}".format(urlsplit(url))
+    if site not in hosts:
+        hosts[site] = Host(site, words.agent, words.delay)
+    reply = Reply("robots")
+    if hosts[site].allows(url):
+        reply = hosts[site].fetch(url, words.largest)
+    links = Links(url, reply.text if reply.kind in PAGES else "")
+    texts = links.texts if reply.leads_to is None else [reply.leads_to]
+    return Visit(reply.status, links.base, texts)
+
+
 class Crawl:
     """What the fetchers share."""
 
@@ -184,17 +205,10 @@ class Crawl:
 
     def visit(self, url: str, hosts: Dict[str, Host]) -> None:
         """Fetches the URL, offers its links, and tells of it."""
-        site = "{0.scheme}://{0.netloc}".format(urlsplit(url))
-        if site not in hosts:
-            hosts[site] = Host(site, self.words.agent, self.words.delay)
-        reply = Reply("robots")
-        if hosts[site].allows(url):
-            reply = hosts[site].fetch(url, self.words.largest)
-        links = Links(url, reply.text if reply.kind in PAGES else "")
-        texts = links.texts if reply.leads_to is None else [reply.leads_to]
-        offers = self.frontier.links(links.base, texts)
+        status, base, texts = visited(url, hosts, self.words)
+        offers = self.frontier.links(base, texts)
         with self.lock:
-            print(reply.status, sum(map(bool, offers)), url, flush=True)
+            print(status, sum(map(bool, offers)), url, flush=True)
             if Refusal.FULL in offers:
                 print(f"crawl_http: no room for all links of {url}", file=sys.stderr)
 

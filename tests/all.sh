@@ -36,6 +36,10 @@ part tests/refused-growths.sh tests
 part tests/drawn.py --count 100000
 part tests/plain_texts.py
 part tests/serve.py
+part tests/cluster_model.py
+part tests/cluster.sh
+part tests/manual_page.py
+part tests/install.sh
 part tests/mutants.sh -j 2
 echo "$passed passed, $failed failed"
 [ "$failed" -eq 0 ]

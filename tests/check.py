@@ -42,14 +42,13 @@ def words_of(asked: Asked, folder: str, scratch: str) -> List[str]:
     """The words of the command that asks for this."""
     words = ["check", "--json"]
     words += [] if asked.anchors else ["--no-anchors"]
-    words += ["--external"] if asked.external else []
     words += ["--unreached"] if asked.unreached else []
     words += ["--exact"] if asked.exact else []
     if asked.ignores:
         entries = Path(scratch, "ignores")
         entries.write_text("# known\n\n" + "\n".join(asked.ignores) + "\n", "utf-8")
         words += ["--ignore", str(entries)]
-    return [*words, folder, asked.base, *asked.seeds]
+    return [*words, folder, asked.base]
 
 
 def told_by(call: str, asked: Asked, folder: str) -> List[Row]:
@@ -141,11 +140,9 @@ def compare_folder(series: Series, call: str, folder: str, asked: Asked) -> Coun
 
 def drawn_question(draw: Random) -> Asked:
     """What is asked of a drawn folder."""
-    seeds = draw.choice([(), (), (BASE + "a.html",), (BASE + "sub/", BASE + "gone.html")])
     ignores = draw.choice([(), (), (BASE + "gone",), (BASE + "a", "x", BASE + "sub/#")])
-    return Asked(
-        BASE, seeds, ignores=ignores, anchors=draw.random() < 0.8, external=draw.random() < 0.2, unreached=draw.random() < 0.5
-    )
+    anchors, unreached, exact = draw.random() < 0.8, draw.random() < 0.5, draw.random() < 0.2
+    return Asked(BASE, ignores=ignores, anchors=anchors, unreached=unreached, exact=exact)
 
 
 def compare_drawn(call: str, count: int, seed: int) -> int:

@@ -31,10 +31,10 @@ from serving import clients, crawlers, crawls, logs, sessions
 from serving.trial import Differs, Skipped, Trial
 
 PARTS: Tuple[Callable[[Trial], None], ...] = (
-    sessions.transcript, sessions.drawn_sessions, sessions.all_at_once, sessions.byte_by_byte,
+    sessions.transcript, sessions.drawn_sessions, sessions.drawn_parts, sessions.all_at_once, sessions.byte_by_byte,
     sessions.stopped_between, sessions.dying_client, sessions.closed_output, sessions.memory,
     sessions.long_line,
-    logs.killed_sessions, logs.refused_logs, logs.full_disk, logs.compacted_logs,
+    logs.killed_sessions, logs.refused_logs, logs.full_disk, logs.compacted_logs, logs.logs_of_parts,
     clients.client_values, clients.client_ends, clients.interrupted_call,
     clients.client_small_pipes, clients.log_in_use,
     crawls.crawls, crawls.killed_crawls,

@@ -51,7 +51,7 @@ class Documents:
             value = draw.choice(IDS).replace(quote, "")
             return f"<{draw.choice(['p', 'p', 'h1', 'a'])} {draw.choice(['id', 'id', 'name', 'ID'])}={quote}{value}{quote}>"
         name = draw.choice(["", "", *SITE.FOLDERS]) + draw.choice(["", *SITE.NAMES]) if draw.random() < 0.8 else ""
-        link = name.replace(quote, "") + draw.choice(["", "", "#"]) + draw.choice(FRAGMENTS).replace(quote, "")
+        link = name.replace(quote, "") + draw.choice(["", "", "#", "#", " #"]) + draw.choice(FRAGMENTS).replace(quote, "")
         return draw.choice(["", "", " ", "\n"]) + f"<a href={quote}{link}{quote}>"
 
 

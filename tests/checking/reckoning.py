@@ -1,4 +1,4 @@
-"""What is broken in a folder, reckoned by a plain static server and a search from the seeds.
+"""What is broken in a folder, reckoned by a plain static server and a search from its top.
 
 The URLs are read by drawn.py, which raises NotPlain where it takes tables that it has not.
 """
@@ -9,7 +9,7 @@ import os
 import re
 from collections import Counter
 from functools import lru_cache
-from typing import AbstractSet, Any, Dict, Iterator, List, NamedTuple, Optional, Sequence, Set, Tuple, Union
+from typing import AbstractSet, Any, Dict, Iterator, List, NamedTuple, Optional, Set, Tuple, Union
 from urllib.parse import quote, unquote_to_bytes
 
 import drawn
@@ -50,20 +50,21 @@ class Asked(NamedTuple):
     """What a check is asked for."""
 
     base: str
-    seeds: Tuple[str, ...] = ()
     front: str = ""  # what is left out at the front of a URL
     ignores: Tuple[str, ...] = ()
     anchors: bool = True
-    external: bool = False
     unreached: bool = False
     exact: bool = False
 
 
 def url_of(text: str, base: drawn.Url) -> Optional[str]:
     """The URL of a link without its fragment, where it is http or https."""
-    text = TOOL.cleaned(text).partition("#")[0]
+    text, mark, _ = TOOL.cleaned(text).partition("#")
     if not text:
         return str(base)
+    if mark:
+        # What stands before a fragment is no end of the text, where spaces would be cut off
+        text = re.sub(r"[\0-\x20]+\Z", lambda run: quote(run[0]), text)
     # All pages of a folder have one answer to such a text
     return resolved(text, base if text[0] == "?" else base._replace(path=(*base.path[:-1], ""), query=""))
 
@@ -165,14 +166,14 @@ class Site:
 
 
 class Reckoning:
-    """A search from the seeds, and what it finds broken."""
+    """A search from the top of a folder, and what it finds broken."""
 
     def __init__(self, folder: str, asked: Asked) -> None:
         self.asked, self.site = asked, Site(folder, asked)
         self.answers: Dict[str, Answer] = {}
         self.leads: Dict[str, List[Lead]] = {}
         self.skipped = 0
-        waiting = [str(drawn.url_of(seed)) for seed in (asked.base, *asked.seeds)]
+        waiting = [str(self.site.base)]
         while waiting:
             url = waiting.pop()
             if url not in self.answers and self.is_within(url):
@@ -182,7 +183,7 @@ class Reckoning:
     def is_within(self, url: str) -> bool:
         """Whether the crawl takes a URL."""
         host = drawn.url_of(url).host
-        return self.asked.external or host == self.site.base.host or host.endswith("." + self.site.base.host)
+        return host == self.site.base.host or host.endswith("." + self.site.base.host)
 
     def followed(self, url: str) -> Set[str]:
         """The URLs that a page leads to."""

@@ -29,6 +29,7 @@ WORKED = [
     Worked("an escaped script", {"index.html": "<script><!--<script></script><a href=x>--></script><a href=y>"}, ["y index.html:1:60"]),
     Worked("a reference is read", {"index.html": "<a href='x&amp;y&copy=1'>"}, ["x&y&copy=1 index.html:1:10"]),
     Worked("a tag that the end cuts off is none", {"index.html": "<a href=x><a href='y"}, ["x index.html:1:9"]),
+    Worked("a space before a fragment", {"index.html": "<a href=' x #y '>"}, ["x%20 index.html:1:10"]),
     Worked("a folder without an index", {"index.html": "<a href=f>", "f/a.html": ""}, ["f/ index.html:1:9"]),
     Worked("a folder with one", {"index.html": "<a href=f>", "f/index.html": "<a href=a>"}, ["f/a f/index.html:1:9"]),
     Worked("a base", {"index.html": "<base href=f/><a href=a.html><a href=b.html>", "f/a.html": ""}, ["f/b.html index.html:1:38"]),

@@ -3,17 +3,18 @@
 from __future__ import annotations
 
 import os
+import re
 import subprocess
 import threading
 import time
 from pathlib import Path
 from random import Random
-from typing import List, Sequence, Tuple
+from typing import Iterable, List, Sequence, Tuple
 
 import drawn
 from mercator_frontier import Frontier, FrontierEnded, Refusal
 from serving.reckoning import drawn_session
-from serving.sessions import compare, random_pieces
+from serving.sessions import PARTS, compare, random_pieces
 from serving.trial import SECONDS, Differs, Serve, Skipped, Trial, expect
 
 SETTINGS: Tuple[Tuple[str, ...], ...] = (
@@ -38,7 +39,7 @@ def killed_sessions(trial: Trial) -> None:
     """
     trial.want_log()
     kills = torn = 0
-    for number, words in enumerate(SETTINGS):
+    for number, words in enumerate((*SETTINGS, *PARTS[:2 * trial.has_part])):
         draw = trial.draw(f"killed session {number}")
         data, wanted = drawn_session(draw, trial.lines, words, trial.has_link)
         lines = lines_of(data)
@@ -175,7 +176,7 @@ def compacted_logs(trial: Trial) -> None:
     trial.want_log()
     if not trial.has_compact:
         raise Skipped("the program has no --compact")
-    for number, words in enumerate(SETTINGS):
+    for number, words in enumerate((*SETTINGS, *PARTS[:3 * trial.has_part])):
         draw = trial.draw(f"compacted {number}")
         data, wanted = drawn_session(draw, trial.lines, words, trial.has_link)
         lines = lines_of(data)
@@ -195,3 +196,43 @@ def compacted_logs(trial: Trial) -> None:
             told = done.stderr.decode()
             expect(done.returncode == 0 and not done.stdout, f"status {done.returncode}: {told}")
             expect(log.stat().st_size < before.stat().st_size, "it is no shorter")
+            heads = [file.read_bytes().partition(b"\n") for file in (before, log)]
+            expect(heads[0][0] == heads[1][0], "its first line is another")
+            told_again = elsewhere(Serve(trial.program, words).exchange(iter([heads[1][2]])).decode().split("\n"))
+            expect(told_again == elsewhere(wanted[:end]), "what is told elsewhere is not kept once")
+            refuses(trial, (*words, "--log", str(before), "--compact", str(log)), log)
+
+
+def elsewhere(answers: Iterable[str]) -> List[str]:
+    """What was told elsewhere, each once."""
+    return list(dict.fromkeys(answer for answer in answers if answer.startswith("elsewhere ")))
+
+
+def logs_of_parts(trial: Trial) -> None:
+    """A log is of one part, and has its identity for good, also where its first line was torn."""
+    trial.want_log()
+    trial.want_part()
+    log = trial.folder / "part.log"
+    words = ("--part", "1/2", "--workers", "2", "--log", str(log))
+    named = identity(trial, words)
+    expect(re.fullmatch("identity [0-9a-f]{32}", named) is not None, f"the identity {named!r}")
+    head = f"part 1 of 2 {named} workers 2 max 1048576\n".encode()
+    expect(log.read_bytes() == head + b"identity\nsync\n", f"its first line: {log.read_bytes()!r}")
+    expect(identity(trial, words) == named, "another identity")
+    for others in (("--part", "0/2"), ("--part", "1/3"), ()):
+        refuses(trial, (*others, *words[2:]), log)
+    for length in (0, 5, 20, 21, 30, len(head) - 1):
+        log.write_bytes(head[:length])
+        told = identity(trial, words)
+        expect(told[:max(9, length - 12)] == named[:max(9, length - 12)], f"torn behind {length} bytes: {told!r}")
+        expect(length < 53 or told == named, f"torn behind {length} bytes: {told!r}")
+    log.write_bytes(head.replace(named[9:11].encode(), b"xy"))
+    refuses(trial, words, log)
+
+
+def identity(trial: Trial, words: Sequence[str]) -> str:
+    session = Serve(trial.program, words)
+    told = session.ask(b"identity")
+    expect(session.ask(b"sync") == "synced", "no sync")
+    expect(session.end()[0] == 0, "its end")
+    return told

@@ -14,8 +14,12 @@ LINE_LIMIT = 4096
 class Reckoning:
     """What a session answers, by the table of requests."""
 
-    def __init__(self, workers: int, most: int, suffix: Optional[str] = None) -> None:
-        self.machine = drawn.Machine(drawn.Script(workers, most, []))
+    def __init__(
+        self, workers: int, most: int, suffix: Optional[str] = None, part: Optional[Tuple[int, int]] = None
+    ) -> None:
+        self.part, parts = part or (0, 1)
+        self.is_part, self.workers = part is not None, workers
+        self.machine = drawn.Machine(drawn.Script(workers * parts, most, []))
         self.suffix = suffix
 
     def answer(self, line: bytes) -> str:
@@ -31,6 +35,8 @@ class Reckoning:
         if word == "link" and " " in rest:
             base, _, rest = rest.partition(" ")
             return self.offer(rest, base)
+        if text == "sync" and self.is_part:
+            return "synced"
         if text == "endseeds":
             return self.machine.reply("endseeds", 0, None)
         if word in ("next", "done", "again") and re.fullmatch("[0-9]{1,20}", rest) and int(rest) < 2**32:
@@ -39,6 +45,8 @@ class Reckoning:
 
     def of_queue(self, word: str, queue: int) -> str:
         machine = self.machine
+        if self.is_part and queue // self.workers != self.part:
+            return "refused nosuch"
         if word == "done":
             return machine.reply("done", queue, None)
         if word == "next":
@@ -59,6 +67,9 @@ class Reckoning:
             return "not http or https"
         if self.suffix is not None and not f".{url.host}".endswith(f".{self.suffix}"):
             return "filtered"
+        part = drawn.queue_of(url, len(self.machine.accepted)) // self.workers
+        if part != self.part:
+            return f"elsewhere {part} {url}"
         self.machine.reply("look", 0, None)
         reply = self.machine.reply("enter", 0, None)
         if not reply.startswith("entered"):
@@ -74,12 +85,13 @@ ODD_LINES = (
     b"done +1", b"next 4294967296", b"next 4294967295", b"again", b"again x", b"endseeds ", b"end", b"link", b"look 0",
     b"link http://a.test/", b"enter 0", b"close", b"offer \xff", b"\xc3", b"offer http://\xe2\x82", b"\r", b"next 0\r",
     b"done 00000000000000000000", b"done 000000000000000000000", b"offer ", b"link  x", b"link  http://a.test/",
+    b"sync", b"sync ", b"sync 0", b"identity x", b"synced",
 )
 
 
-def drawn_line(draw: Random, workers: int, has_link: bool, hosts: Sequence[drawn.Target]) -> bytes:
+def drawn_line(draw: Random, first: int, workers: int, has_link: bool, hosts: Sequence[drawn.Target]) -> bytes:
     kind = draw.randrange(100)
-    queue = draw.choice((*range(min(workers, 4)), *range(min(workers, 4)), workers - 1, workers))
+    queue = first + draw.choice((*range(min(workers, 4)), *range(min(workers, 4)), workers - 1, workers, -min(first, 1)))
     if kind < 40:
         return f"offer {drawn.spelled(draw, draw.choice(hosts))}".encode()
     if kind < 43:
@@ -101,16 +113,23 @@ def drawn_line(draw: Random, workers: int, has_link: bool, hosts: Sequence[drawn
     return b"next 0"
 
 
+def part_of(text: str) -> Tuple[int, int]:
+    number, _, parts = text.partition("/")
+    return int(number), int(parts)
+
+
 def drawn_session(draw: Random, count: int, words: Sequence[str], has_link: bool) -> Tuple[bytes, List[str]]:
     """Lines with their ends, and what they are answered."""
     settings = dict(zip(words[::2], words[1::2]))
     workers = int(settings.get("--workers", "4"))
-    reckoning = Reckoning(workers, int(settings.get("--max-pending", "1048576")), settings.get("--within"))
+    part = part_of(settings["--part"]) if "--part" in settings else None
+    reckoning = Reckoning(workers, int(settings.get("--max-pending", "1048576")), settings.get("--within"), part)
+    first = part[0] * workers if part else 0
     hosts = [target for _ in range(12) for target in drawn.drawn_targets(draw, 20)]
     data: List[bytes] = []
     answers: List[str] = []
     while len(answers) < count:
-        line = drawn_line(draw, workers, has_link, hosts) if len(answers) != count // 2 else b"endseeds"
+        line = drawn_line(draw, first, workers, has_link, hosts) if len(answers) != count // 2 else b"endseeds"
         end = draw.choice((b"\n", b"\n", b"\n", b"\r\n"))
         try:
             answers.append(reckoning.answer(line[:-1] if end == b"\n" and line.endswith(b"\r") else line))

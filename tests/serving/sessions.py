@@ -22,6 +22,11 @@ SETTINGS: Tuple[Tuple[str, ...], ...] = (
     ("--workers", "3", "--max-pending", "60", "--within", "a.test"), ("--workers", "512", "--within", "test"),
     ("--workers", "7", "--max-pending", "25"),
 )
+PARTS: Tuple[Tuple[str, ...], ...] = (
+    ("--part", "0/2", "--workers", "2", "--max-pending", "9"), ("--part", "1/2", "--workers", "2"),
+    ("--part", "2/3", "--workers", "1", "--within", "a.test"), ("--part", "0/1", "--workers", "3"),
+    ("--part", "1/8", "--workers", "64", "--within", "test"),
+)
 ANSWERS = {
     "accepted", "seen", "filtered", "not a URL", "not http or https", "taken", "pending", "closed", "count", "refused busy",
     "refused closed", "refused full", "refused nothing", "refused nosuch", "bad line", "line too long", "not UTF-8",
@@ -45,6 +50,39 @@ def random_pieces(draw: Random, data: bytes) -> Iterator[bytes]:
         if draw.randrange(50) == 0:
             time.sleep(0.001)
         begin += size
+
+
+def drawn_parts(trial: Trial) -> None:
+    """Sessions of parts; and each part has what the others tell elsewhere."""
+    trial.want_part()
+    for number, words in enumerate(PARTS):
+        draw = trial.draw(f"part {number}")
+        data, wanted = drawn_session(draw, trial.lines // 4, words, trial.has_link)
+        session = Serve(trial.program, words)
+        compare(data, wanted, session.exchange(random_pieces(draw, data)))
+        expect(session.end() == (0, ""), "its end is not that of an input that ended")
+    one_owner(trial, parts=3)
+    for text in ("2/2", "0/0", "1", "1/", "/2", "a/2", "-1/2", "0/257", "0/4294967297", "1/2/3", ""):
+        done = subprocess.run(
+            [trial.program, "serve", "--workers", "2", "--part", text], stdin=subprocess.DEVNULL,
+            capture_output=True, timeout=SECONDS, check=False,
+        )
+        expect((done.returncode, done.stdout) == (3, b""), f"--part {text!r}: status {done.returncode}")
+
+
+def one_owner(trial: Trial, parts: int) -> None:
+    """A URL is accepted by one part, which all others name."""
+    sessions = [Serve(trial.program, ("--part", f"{part}/{parts}", "--workers", "2")) for part in range(parts)]
+    for number in range(200):
+        line = f"offer http://h{number % 90}.test/{number}#x".encode()
+        told = [session.ask(line) for session in sessions]
+        owners = [part for part, answer in enumerate(told) if answer.startswith("accepted ")]
+        expect(len(owners) == 1, f"{line!r}: {told}")
+        elsewhere = f"elsewhere {owners[0]} http://h{number % 90}.test/{number}"
+        expect(all(answer == elsewhere for part, answer in enumerate(told) if part != owners[0]), f"{line!r}: {told}")
+    for session in sessions:
+        expect(session.ask(b"identity") == "identity none", "a part without a log")
+        expect(session.end() == (0, ""), "its end")
 
 
 def drawn_sessions(trial: Trial) -> None:

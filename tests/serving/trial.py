@@ -138,8 +138,8 @@ class Trial:
         said = subprocess.run(
             [self.program, "serve", "--help"], capture_output=True, check=False, stdin=subprocess.DEVNULL
         )
-        self.has_log, self.has_sync, self.has_compact = (
-            word in said.stdout for word in (b"--log", b"--sync", b"--compact")
+        self.has_log, self.has_sync, self.has_compact, self.has_part = (
+            word in said.stdout for word in (b"--log", b"--sync", b"--compact", b"--part")
         )
         session = Serve(self.program)
         self.has_link = session.ask(b"again 0") != "bad line"
@@ -152,6 +152,10 @@ class Trial:
     def want_log(self) -> None:
         if not self.has_log:
             raise Skipped("the program has no --log")
+
+    def want_part(self) -> None:
+        if not self.has_part:
+            raise Skipped("the program has no --part")
 
     def want_link(self) -> None:
         if not self.has_link:

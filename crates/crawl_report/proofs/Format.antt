@@ -6,7 +6,7 @@ use Rattle.std.specs.Cmp.Lexicographic.{slice_cmp}
 use Rattle.std.specs.List.{enumerate_from, flat_map}
 use Rattle.std.specs.List.Sorted.{IsSortedByKey}
 use Rattle.std.specs.Ordering.{nat_cmp}
-use Rattle.crawl_web.specs.ReportText.{is_missing, report, result_line, results_by_url, total_line}
+use Rattle.crawl_web.specs.ReportText.{is_missing, result_line, results_by_url, total_line}
 use Rattle.crawl_web.specs.declared.page.Page.{Page}
 use Rattle.crawl_web.specs.declared.page.Page.TheVariants.{Found, Moved, Missing}
 use Rattle.crawl_web.specs.declared.page.PageResult.{PageResult}

@@ -1,5 +1,5 @@
 -- What `decimal` writes is a number of JSON, of up to 128 bits.
-use Rattle.std.proofs.Common.{◌≡◌, ℕ, zero, suc, ◌+◌, ◌^◌, ◌<◌, ◌≤◌, false, cond, ◌==◌, List, [], ◌∷◌, ◌++◌, ◌%◌, length, drop, get_or, Some, option_and_then, decimal, refl, ap, ◌∙◌, arith, length-append}
+use Rattle.std.proofs.Common.{◌≡◌, ℕ, zero, suc, ◌+◌, ◌^◌, ◌<◌, ◌≤◌, false, cond, ◌==◌, List, [], ◌∷◌, ◌%◌, length, drop, get_or, Some, option_and_then, decimal, refl, ap, ◌∙◌, arith, length-append}
 use Rattle.std.proofs.lemmas.Bool.{ne_eqb, le-leb, and_from}
 use Rattle.std.proofs.lemmas.List.{drop_all}
 use lib.ListN.{get_or-append}

@@ -1,5 +1,5 @@
 -- Which line of a web is a page.
-use Rattle.std.proofs.Common.{◌≡◌, ℕ, true, false, List, Some, None, codes, ap, ◌∙◌, inl, inr, if◌then◌else◌}
+use Rattle.std.proofs.Common.{◌≡◌, ℕ, List, Some, None, codes, ap, ◌∙◌, inl, inr, if◌then◌else◌}
 use Rattle.std.proofs.lemmas.Bool.{cases_Bool}
 use Rattle.std.proofs.lemmas.Str.{IsUtf8-from_is_utf8}
 use Rattle.std.specs.Result.{result_ok}

@@ -1,5 +1,5 @@
 -- A URL is accepted into the subqueue that its host key is assigned to.
-use Rattle.std.proofs.Common.{◌≡◌, ℕ, zero, suc, ◌<◌, ◌≤◌, arith, Bool, true, false, not, if◌then◌else◌, List, [], ◌∷◌, nat_eq, codes, slice_get, Option, Some, None, ok_or, Result, Ok, Err, IfOk, refl, sym, ap, ◌∙◌, true≢false, eqb-true}
+use Rattle.std.proofs.Common.{◌≡◌, ℕ, zero, suc, ◌<◌, ◌≤◌, arith, Bool, true, false, not, if◌then◌else◌, List, [], ◌∷◌, nat_eq, codes, slice_get, Option, Some, None, ok_or, Result, Ok, Err, IfOk, refl, sym, subst, ◌∙◌, true≢false, eqb-true}
 use Rattle.std.specs.Option.{option_map}
 use Rattle.std.specs.List.{cons_option}
 use Rattle.std.specs.Str.{bytes_eq}
@@ -28,9 +28,11 @@ use Rattle.crawl_session.specs.declared.request.RequestError.{RequestError}
 use Rattle.crawl_session.specs.declared.request.RequestError.TheVariants as wrong
 use Rattle.crawl_session.specs.Clients.{asked, accepts, accepted_of}
 use Rattle.crawl_session.specs.Exchanges.{Exchange, client, ends, exchange, is_entered, is_seen}
+use Rattle.crawl_session.specs.Parts.{request_for}
 use Rattle.crawl_session.specs.Requests.{request_of, request_in, request_from, link_of, linked, offered}
 use Rattle.crawl_session.specs.Sessions.{answered, line_exchange}
 use Rattle.crawl_session.specs.Settings.{Settings}
+use Rattle.crawl_session.proofs.Placed.{OffersWhere, for_keeps}
 use Rattle.crawl_session.proofs.Sees.{is_other, entry_tells}
 
 -- ---- what a request names
@@ -161,27 +163,39 @@ accepts_offer : (queue named : ℕ) (url other : List ℕ) (answer : Answer) →
 accepts_offer queue named url other (Told (told.Accepted there number)) names is = accepted_there queue named there url other names is
 accepts_offer queue named url other _ names is = absurd (cc (is))
 
-accepted_here : (workers queue : ℕ) (state : State) (url : List ℕ) (r : Result Request RequestError) → AssignsUrl workers r → accepts queue r (answered state r).answer ≡ Some url → queue ≡ subqueue_of url workers
-unfolding AssignsUrl
-accepted_here workers queue state url (Ok (Offer u named)) assigned is =
+accepted_here : (P : ℕ → List ℕ → Type 0) (queue : ℕ) (state : State) (url : List ℕ) (r : Result Request RequestError) → IfOk r (OffersWhere P) → accepts queue r (answered state r).answer ≡ Some url → P queue url
+accepted_here P queue state url (Ok (Offer u named)) holds is =
     let found = accepts_offer queue named u url (exchange state (Offer u named)).answer (names_offer state u named) is in
-    found.0 ∙ assigned ∙ ap (λ v. subqueue_of v workers) found.1
-accepted_here workers queue state url (Ok (Next named)) assigned is = absurd (cc (is))
-accepted_here workers queue state url (Ok (Again named)) assigned is = absurd (cc (is))
-accepted_here workers queue state url (Ok (Done named)) assigned is = absurd (cc (is))
-accepted_here workers queue state url (Ok EndSeeds) assigned is = absurd (cc (is))
-accepted_here workers queue state url (Err why) assigned is = absurd (cc (is))
+    subst (λ q. P q url) (sym found.0) (subst (P named) found.1 holds)
+accepted_here P queue state url (Ok (Next named)) holds is = absurd (cc (is))
+accepted_here P queue state url (Ok (Again named)) holds is = absurd (cc (is))
+accepted_here P queue state url (Ok (Done named)) holds is = absurd (cc (is))
+accepted_here P queue state url (Ok EndSeeds) holds is = absurd (cc (is))
+accepted_here P queue state url (Err why) holds is = absurd (cc (is))
+
+-- what holds of each offer's URL and queue, holds of what was accepted
+pub accepted_where : (P : ℕ → List ℕ → Type 0) (settings : Settings) → ((line : List ℕ) → IfOk (request_for settings line) (OffersWhere P)) → (state : State) (lines : List (List ℕ)) (queue k : ℕ) (url : List ℕ)
+    → slice_get (accepted_of queue (asked settings state lines)) k ≡ Some url → P queue url
+accepted_where P settings each state [] queue k url at = absurd (cc)
+accepted_where P settings each state (line ∷ more) queue k url at =
+    let r = request_for settings line in
+    by_first (accepts queue r (answered state r).answer) refl k (accepted_where P settings each (line_exchange settings state line).state more queue) at
+  where
+    by_first : (o : Option (List ℕ)) → accepts queue (request_for settings line) (answered state (request_for settings line)).answer ≡ o → (k : ℕ)
+        → ((k : ℕ) (url : List ℕ) → slice_get (accepted_of queue (asked settings (line_exchange settings state line).state more)) k ≡ Some url → P queue url)
+        → slice_get (cons_option o (accepted_of queue (asked settings (line_exchange settings state line).state more))) k ≡ Some url → P queue url
+    by_first None e k later at = later k url at
+    by_first (Some z) e zero later at = accepted_here P queue state url (request_for settings line) (each line) (e ∙ at)
+    by_first (Some z) e (suc k) later at = later k url at
+
+-- what a line asks names its URL's subqueue
+pub assigns_for : (settings : Settings) (line : List ℕ) → IfOk (request_for settings line) (IsAssigned settings.workers)
+assigns_for settings line = for_keeps (IsAssigned settings.workers) settings line (assigns_of settings.workers settings.suffixes line)
+
+offers_assigned : (workers : ℕ) (r : Result Request RequestError) → IfOk r (IsAssigned workers) → IfOk r (OffersWhere (λ queue url. queue ≡ subqueue_of url workers))
+offers_assigned workers (Ok (Offer url queue)) assigned = assigned
+offers_assigned workers (Ok _) assigned = tt
+offers_assigned workers (Err why) assigned = tt
 
 pub accepted_as_assigned : (settings : Settings) (state : State) (lines : List (List ℕ)) (queue k : ℕ) (url : List ℕ) → slice_get (accepted_of queue (asked settings state lines)) k ≡ Some url → queue ≡ subqueue_of url settings.workers
-accepted_as_assigned settings state [] queue k url at = absurd (cc)
-accepted_as_assigned settings state (line ∷ more) queue k url at =
-    let r = request_of settings.workers settings.suffixes line in
-    by_first (accepts queue r (answered state r).answer) refl k (accepted_as_assigned settings (line_exchange settings state line).state more queue) at
-  where
-    by_first : (o : Option (List ℕ)) → accepts queue (request_of settings.workers settings.suffixes line) (answered state (request_of settings.workers settings.suffixes line)).answer ≡ o → (k : ℕ)
-        → ((k : ℕ) (url : List ℕ) → slice_get (accepted_of queue (asked settings (line_exchange settings state line).state more)) k ≡ Some url → queue ≡ subqueue_of url settings.workers)
-        → slice_get (cons_option o (accepted_of queue (asked settings (line_exchange settings state line).state more))) k ≡ Some url → queue ≡ subqueue_of url settings.workers
-    by_first None e k later at = later k url at
-    by_first (Some z) e zero later at =
-        accepted_here settings.workers queue state url (request_of settings.workers settings.suffixes line) (assigns_in settings.workers settings.suffixes (text_of 1 line)) (e ∙ at)
-    by_first (Some z) e (suc k) later at = later k url at
+accepted_as_assigned settings = accepted_where (λ queue url. queue ≡ subqueue_of url settings.workers) settings (λ line. offers_assigned settings.workers (request_for settings line) (assigns_for settings line))

@@ -22,7 +22,7 @@ use Rattle.crawl_session.specs.declared.request.Request.TheVariants.{Offer, Next
 use Rattle.crawl_session.specs.declared.request.RequestError.{RequestError}
 use Rattle.crawl_session.specs.Clients.{asked, accepted_of, taken_of, AllDone}
 use Rattle.crawl_session.specs.Exchanges.{Exchange, client, ends, exchange, is_entered, is_seen, is_empty, told_again}
-use Rattle.crawl_session.specs.Requests.{request_of}
+use Rattle.crawl_session.specs.Parts.{request_for}
 use Rattle.crawl_session.specs.Sessions.{answered, line_exchange, history_of, state_after}
 use Rattle.crawl_session.specs.Settings.{Settings}
 use Rattle.crawl_session.proofs.Lines.{history_of-append}
@@ -89,7 +89,7 @@ pub session_closes : (settings : Settings) (state : State) (front : List (List �
 session_closes settings state front line closed =
     let mid = state_after settings state front in
     let here = line_exchange settings mid line in
-    let last = closes_later (history_of settings state front) here.history (answered_closes mid (request_of settings.workers settings.suffixes line) closed) in
+    let last = closes_later (history_of settings state front) here.history (answered_closes mid (request_for settings line) closed) in
     subst Closes (sym (history_of-append settings state front (line ∷ []) ∙ ap (λ l. history_of settings state front ++ l) (append-nil here.history))) last
 
 -- ---- all is done

@@ -1,5 +1,5 @@
 -- The text of the lines that are needed has these lines.
-use Rattle.std.proofs.Common.{◌≡◌, ℕ, ◌+◌, ◌-◌, ◌==◌, Bool, true, false, if◌then◌else◌, List, [], ◌∷◌, ◌++◌, length, take, slice_index, refl, sym, ap, subst, ◌∙◌, arith, append_assoc, length-append}
+use Rattle.std.proofs.Common.{◌≡◌, ℕ, ◌-◌, ◌==◌, Bool, true, false, if◌then◌else◌, List, [], ◌∷◌, ◌++◌, length, take, slice_index, refl, sym, ap, subst, ◌∙◌, arith, append_assoc, length-append}
 use Rattle.std.specs.List.{All, slice_split, onto_first}
 use Rattle.std.specs.Str.Lines.{lines, lines_of_parts, strip_carriage_return}
 use Rattle.std.proofs.lemmas.List.Elements.{All-nil, All-cons, All-head, All-tail, All-take}
@@ -8,7 +8,7 @@ use Rattle.std.proofs.Math.Seq.{get_or-append_seam, take-append_seam}
 use Rattle.crawl_core.specs.State.{State}
 use Rattle.crawl_session.specs.Compacting.{Had, having, is_needed, needed, log_line, log_text}
 use Rattle.crawl_session.specs.Input.{IsUnfinished}
-use Rattle.crawl_session.specs.Requests.{request_of}
+use Rattle.crawl_session.specs.Parts.{request_for}
 use Rattle.crawl_session.specs.Sessions.{line_exchange}
 use Rattle.crawl_session.specs.Settings.{Settings}
 use Rattle.crawl_session.proofs.Cuts.{IsOther, is_lf, line_before}
@@ -57,7 +57,7 @@ unfolding AllWhole
 needed_whole settings had state [] all = all
 needed_whole settings had state (line ∷ more) all =
     let done = line_exchange settings state line in
-    by_need (is_needed had (request_of settings.workers settings.suffixes line) done.answer) _ (needed_whole settings (having had done.answer) done.state more (All-tail IsUnfinished line more all))
+    by_need (is_needed had (request_for settings line) done.answer) _ (needed_whole settings (having had done.answer) done.state more (All-tail IsUnfinished line more all))
   where
     by_need : (b : Bool) (rest : List (List ℕ)) → AllWhole rest → AllWhole (if b then line ∷ rest else rest)
     by_need true rest whole = All-cons IsUnfinished line rest (All-head IsUnfinished line more all) whole

@@ -6,7 +6,7 @@ use Rattle.std.proofs.lemmas.Grind.{flat_map-append}
 use Rattle.crawl_core.specs.Shows.{Shows}
 use Rattle.crawl_core.specs.State.{State}
 use Rattle.crawl_session.specs.Compacting.{Had, having, is_needed, needed, had_after, log_line, log_text, Gives, Compacts}
-use Rattle.crawl_session.specs.Requests.{request_of}
+use Rattle.crawl_session.specs.Parts.{request_for}
 use Rattle.crawl_session.specs.Sessions.{line_exchange, state_after}
 use Rattle.crawl_session.specs.Settings.{Settings, SessionView}
 use Rattle.crawl_session.proofs.Lines.{state_after-append}
@@ -21,7 +21,7 @@ pub needed-append : (settings : Settings) (had : Had) (state : State) (front bac
 needed-append settings had state [] back = refl
 needed-append settings had state (line ∷ more) back =
     let done = line_exchange settings state line in
-    by_need (is_needed had (request_of settings.workers settings.suffixes line) done.answer) _ _ _ (needed-append settings (having had done.answer) done.state more back)
+    by_need (is_needed had (request_for settings line) done.answer) _ _ _ (needed-append settings (having had done.answer) done.state more back)
   where
     by_need : (b : Bool) (all front rest : List (List ℕ)) → all ≡ front ++ rest → (if b then line ∷ all else all) ≡ (if b then line ∷ front else front) ++ rest
     by_need true all front rest same = ap (λ l. line ∷ l) same
@@ -61,7 +61,7 @@ compacts_more had old front text next mid line is last new so_far one = record {
       let between = state_after old.settings state front in
       let P : Settings → Had → Type 0 = λ s h.
       let done = line_exchange s between line in
-      (is ≡ is_needed h (request_of s.workers s.suffixes line) done.answer) × ((last ≡ having h done.answer) × Shows new.core done.state) in
+      (is ≡ is_needed h (request_for s line) done.answer) × ((last ≡ having h done.answer) × Shows new.core done.state) in
       let by_settings : P old.settings next = subst (λ s. P s next) so_far.settings (one.comes between came.1.1) in
       let gave : P old.settings (had_after old.settings had state front) = subst (P old.settings) came.1.0 by_settings in
       let Q : State → Type 0 = λ s. Shows new.core s in (
@@ -72,6 +72,32 @@ compacts_more had old front text next mid line is last new so_far one = record {
         (
           gave.1.0 ∙ sym (had_after-append old.settings had state front (line ∷ [])),
           subst Q (sym (state_after-append old.settings state front (line ∷ []))) gave.1.1,
+        ),
+      );
+}
+
+pub compacts_none : (had : Had) (old : SessionView) → Compacts had old [] [] had old
+compacts_none had old = record { settings = refl; comes = λ state shown. (refl, (refl, shown)) }
+
+-- lines, and more of them
+pub compacts_both : (had : Had) (old : SessionView) (front : List (List ℕ)) (text : List ℕ) (next : Had) (mid : SessionView) (back : List (List ℕ)) (more : List ℕ) (last : Had) (new : SessionView)
+    → Compacts had old front text next mid → Compacts next mid back more last new → Compacts had old (front ++ back) (text ++ more) last new
+compacts_both had old front text next mid back more last new one two = record {
+  settings = two.settings ∙ one.settings;
+  comes = λ state shown.
+      let came = one.comes state shown in
+      let between = state_after old.settings state front in
+      let P : Settings → Had → Type 0 = λ s h. (more ≡ log_text (needed s h between back)) × ((last ≡ had_after s h between back) × Shows new.core (state_after s between back)) in
+      let by_settings : P old.settings next = subst (λ s. P s next) one.settings (two.comes between came.1.1) in
+      let gave : P old.settings (had_after old.settings had state front) = subst (P old.settings) came.1.0 by_settings in
+      let Q : State → Type 0 = λ s. Shows new.core s in (
+        ap (λ t. t ++ more) came.0
+            ∙ ap (λ t. log_text (needed old.settings had state front) ++ t) gave.0
+            ∙ sym (flat_map-append log_line (needed old.settings had state front) _)
+            ∙ ap log_text (sym (needed-append old.settings had state front back)),
+        (
+          gave.1.0 ∙ sym (had_after-append old.settings had state front back),
+          subst Q (sym (state_after-append old.settings state front back)) gave.1.1,
         ),
       );
 }

@@ -12,7 +12,7 @@ use Rattle.crawl_core.specs.declared.reply.Reply.{Reply}
 use Rattle.crawl_core.specs.declared.reply.Reply.TheVariants as told
 use Rattle.crawl_core.specs.declared.reply.Refusal.TheVariants as why
 use Rattle.crawl_core.specs.declared.word.Word.{Word}
-use Rattle.crawl_core.specs.GateSide.{GateSide, GateTurn, back, close, end_seeds, enter, enter_with, gave_back, grant, holds, remembers, same_word, shown_word, turned_away, units_out}
+use Rattle.crawl_core.specs.GateSide.{GateSide, GateTurn, close, end_seeds, enter, enter_with, gave_back, grant, holds, remembers, same_word, shown_word, turned_away, units_out}
 use Rattle.crawl_core.specs.Messages.{Message, has_url}
 use Rattle.crawl_core.specs.Run.{Run}
 use Rattle.crawl_core.specs.State.{State, start, unfinished_in}
@@ -26,16 +26,16 @@ use Rattle.crawl_session.specs.declared.request.Request.TheVariants.{Offer, Next
 use Rattle.crawl_session.specs.declared.request.RequestError.{RequestError}
 use Rattle.crawl_session.specs.Compacting.{Had, had_none, having, says_closed, changes, asks_again, is_needed, needed, log_text}
 use Rattle.crawl_session.specs.Exchanges.{Exchange, client, after, ends, admitting, entering, exchange, is_entered, is_seen, is_empty}
-use Rattle.crawl_session.specs.Requests.{request_of}
+use Rattle.crawl_session.specs.Parts.{request_for}
 use Rattle.crawl_session.specs.Serving.{with_words}
 use Rattle.crawl_session.specs.Sessions.{answered, answers, line_exchange, state_after}
 use Rattle.crawl_session.specs.Settings.{Settings}
-use Rattle.crawl_session.proofs.Assigned.{IsAssigned, as_asked, assigns_of, assigned_below}
+use Rattle.crawl_session.proofs.Assigned.{IsAssigned, as_asked, assigns_for, assigned_below}
 use Rattle.crawl_session.proofs.Closings.{answered_closes}
 use Rattle.crawl_session.proofs.CompactText.{needed_stands}
 use Rattle.crawl_session.proofs.Rests.{AtRest, Entry, entry_is, gate_told, line_fits, looked_word, starts_at_rest, tries, turn_told}
 use Rattle.crawl_session.proofs.Runs.{answered_runs}
-use Rattle.crawl_session.proofs.Steps.{looked, returned_gate}
+use Rattle.crawl_session.proofs.Steps.{returned_gate}
 use Rattle.crawl_session.proofs.Words.{Words, answered_alike, words_forgotten}
 
 -- the same state, but for the words
@@ -238,8 +238,8 @@ needed_state : (settings : Settings) (had : Had) (state : State) (words : Words)
     → Same (state_after settings state lines) (state_after settings (with_words state words) (needed settings had state lines))
 needed_state settings had state words [] some rest known = (words, refl)
 needed_state settings had state words (line ∷ more) some rest known =
-    let r = request_of settings.workers settings.suffixes line in
-    let assigned = assigns_of settings.workers settings.suffixes line in
+    let r = request_for settings line in
+    let assigned = assigns_for settings line in
     let done = answered state r in
     let next = having had done.answer in
     let back = needed settings next done.state more in
@@ -248,7 +248,7 @@ needed_state settings had state words (line ∷ more) some rest known =
     λ words. needed_state settings next done.state words more some at_rest (knows had state r rest.sound known) in
     by_need (is_needed had r done.answer) refl rest_of
   where
-    by_need : (b : Bool) → is_needed had (request_of settings.workers settings.suffixes line) (line_exchange settings state line).answer ≡ b
+    by_need : (b : Bool) → is_needed had (request_for settings line) (line_exchange settings state line).answer ≡ b
         → ((words : Words) → Same (state_after settings (line_exchange settings state line).state more) (state_after settings (with_words (line_exchange settings state line).state words) (needed settings (having had (line_exchange settings state line).answer) (line_exchange settings state line).state more)))
         → Same (state_after settings (line_exchange settings state line).state more)
         (state_after settings (with_words state words)
@@ -257,14 +257,14 @@ needed_state settings had state words (line ∷ more) some rest known =
     by_need true is rest_of =
         let done = line_exchange settings state line in
         let back = needed settings (having had done.answer) done.state more in
-        let alike = answered_alike state words (request_of settings.workers settings.suffixes line) in
+        let alike = answered_alike state words (request_for settings line) in
         let P : State → Type 0 = λ s. Same (state_after settings done.state more) (state_after settings s back) in
         subst P (sym alike.state) (rest_of alike.words)
     by_need false is rest_of =
-        let r = request_of settings.workers settings.suffixes line in
+        let r = request_for settings line in
         let done = line_exchange settings state line in
         let back = needed settings (having had done.answer) done.state more in
-        let same = line_stays had settings.workers state r (assigns_of settings.workers settings.suffixes line) some rest known is in
+        let same = line_stays had settings.workers state r (assigns_for settings line) some rest known is in
         let P : State → Type 0 = λ s. Same (state_after settings done.state more) (state_after settings (with_words s words) back) in
         subst P same.1 (rest_of words)
 

@@ -1,6 +1,8 @@
 -- Lines of bytes that are cut in two, and of bytes behind an unfinished line that was cut short.
-use Rattle.std.proofs.Common.{◌≡◌, ◌⊎◌, ℕ, zero, suc, ◌+◌, ◌-◌, ◌<◌, ◌==◌, inl, inr, Bool, true, false, if◌then◌else◌, List, [], ◌∷◌, ◌++◌, length, take, map, nat_lt, slice_index, Result, Err, refl, sym, ap, subst, ◌∙◌, arith, append_assoc, eqb-true, ltb-true, ltb-false, lt-ltb, ne_eqb}
+use Rattle.std.proofs.Common.{◌≡◌, ◌⊎◌, ℕ, zero, suc, ◌+◌, ◌-◌, ◌<◌, ◌==◌, inl, inr, Bool, true, false, if◌then◌else◌, List, [], ◌∷◌, ◌++◌, length, take, map, nat_lt, slice_index, codes, Option, Some, None, Result, Err, refl, sym, ap, subst, ◌∙◌, arith, append_assoc, eqb-true, ltb-true, ltb-false, lt-ltb, ne_eqb}
 use Rattle.std.specs.List.{slice_split, onto_first}
+use Rattle.std.specs.Str.{bytes_eq}
+use Rattle.std.proofs.lemmas.Slice.Eq.{bytes_eq-Decides}
 use Rattle.std.specs.Str.Lines.{lines, lines_of_parts, strip_carriage_return}
 use Rattle.std.proofs.lemmas.List.{length-append, length-take-le, take_all}
 use Rattle.std.proofs.lemmas.List.Elements.{All-nil, All-cons, All-append, All-take}
@@ -8,9 +10,11 @@ use Rattle.std.proofs.lemmas.List.Splits.{slice_split-cons_yes, slice_split-cons
 use Rattle.crawl_limits.specs.Limits.{line_limit}
 use Rattle.crawl_session.specs.declared.request.Request.{Request}
 use Rattle.crawl_session.specs.declared.request.RequestError.{RequestError}
-use Rattle.crawl_session.specs.declared.request.RequestError.TheVariants.{LineTooLong}
+use Rattle.crawl_session.specs.declared.request.RequestError.TheVariants.{LineTooLong, Sync, Identity}
 use Rattle.crawl_session.specs.Input.{held_limit, IsUnfinished, AreWhole}
+use Rattle.crawl_session.specs.Parts.{asked_of, request_for}
 use Rattle.crawl_session.specs.Requests.{request_of}
+use Rattle.crawl_session.specs.declared.part.Part.{Part}
 use Rattle.crawl_session.specs.Settings.{Settings}
 
 abbrev pub is_lf : ℕ → Bool
@@ -102,13 +106,31 @@ first_end (x ∷ xs) = by_byte (x == 10) refl (first_end xs)
 
 -- what each line asks
 abbrev pub requests : Settings → List (List ℕ) → List (Result Request RequestError)
-requests settings ls = map (request_of settings.workers settings.suffixes) ls
+requests settings ls = map (request_for settings) ls
 
-too_long : (settings : Settings) (line : List ℕ) → line_limit < length line → request_of settings.workers settings.suffixes line ≡ Err LineTooLong
-too_long settings line long = rw (lt-ltb line_limit (length line) long) refl
+-- a longer line is another word
+another : (line word : List ℕ) → length word < length line → bytes_eq line word ≡ false
+another line word longer = by_test (bytes_eq line word) refl
+  where
+    by_test : (b : Bool) → bytes_eq line word ≡ b → b ≡ false
+    by_test true is = absurd (omega (arith, longer, ap length ((bytes_eq-Decides line word).0 is)))
+    by_test false is = refl
+
+asks_too_long : (workers : ℕ) (suffixes : List (List ℕ)) (line : List ℕ) → line_limit < length line → request_of workers suffixes line ≡ Err LineTooLong
+asks_too_long workers suffixes line long = rw (lt-ltb line_limit (length line) long) refl
+
+refused_so : (part : Option Part) (line : List ℕ) → line_limit < length line → asked_of part line (Err LineTooLong) ≡ Err LineTooLong
+refused_so None line long = refl
+refused_so (Some part) line long =
+    ap (λ b. if b then Err Sync else if bytes_eq line (codes "identity") then Err (Identity part.identity) else Err LineTooLong) (another line (codes "sync") (omega (arith, long)))
+    ∙ ap (λ b. if b then Err (Identity part.identity) else Err LineTooLong) (another line (codes "identity") (omega (arith, long)))
+
+too_long : (settings : Settings) (line : List ℕ) → line_limit < length line → request_for settings line ≡ Err LineTooLong
+too_long settings line long =
+    ap (asked_of settings.part line) (asks_too_long settings.workers settings.suffixes line long) ∙ refused_so settings.part line long
 
 -- two lines that are too long
-both_long : (settings : Settings) (line other : List ℕ) → line_limit < length line → line_limit < length other → request_of settings.workers settings.suffixes line ≡ request_of settings.workers settings.suffixes other
+both_long : (settings : Settings) (line other : List ℕ) → line_limit < length line → line_limit < length other → request_for settings line ≡ request_for settings other
 both_long settings line other first second = too_long settings line first ∙ sym (too_long settings other second)
 
 stripped_long : (line : List ℕ) → line_limit + 1 < length line → line_limit < length (strip_carriage_return line)
@@ -142,7 +164,7 @@ pub front_asks : (settings : Settings) (tail front : List ℕ) → IsUnfinished 
 front_asks settings tail front unfinished = by_cut (cut_or_whole tail)
   where
     asks : (beginning : List ℕ) → IsUnfinished beginning → (end : FirstEnd (front ++ 10 ∷ [])) → requests settings (lines (beginning ++ (front ++ 10 ∷ [])))
-        ≡ request_of settings.workers settings.suffixes (strip_carriage_return (beginning ++ end.line)) ∷ requests settings (lines end.more)
+        ≡ request_for settings (strip_carriage_return (beginning ++ end.line)) ∷ requests settings (lines end.more)
     asks beginning is end =
         ap (λ l. requests settings (lines (beginning ++ l))) end.split
         ∙ ap (λ l. requests settings (lines l)) (sym (append_assoc beginning end.line (10 ∷ end.more)))

@@ -3,11 +3,15 @@ pub mod CompactText
 pub mod Compacted
 pub mod Compactions
 pub mod Cuts
+pub mod Elsewheres
 pub mod Ends
 pub mod Lines
+pub mod LogStarts
 pub mod Logs
 pub mod Onces
 pub mod Assigned
+pub mod PartLaws
+pub mod Placed
 pub mod Rests
 pub mod Runs
 pub mod Sees

@@ -85,7 +85,7 @@ pub record Reads (line : List ℕ) (so_far : List (List ℕ)) (rest : List ℕ) 
 pub reads_none : (line : List ℕ) → Reads line [] line
 reads_none line = record { written = refl; follows = λ workers max suffixes good is. (suffixes, refl, (good, is)) }
 
-front_of : (suffix : List ℕ) (more : List (List ℕ)) (rest : List ℕ) → within_text (suffix ∷ more) ++ rest ≡ codes "within " ++ (suffix ++ (codes " " ++ (within_text more ++ rest)))
+pub front_of : (suffix : List ℕ) (more : List (List ℕ)) (rest : List ℕ) → within_text (suffix ∷ more) ++ rest ≡ codes "within " ++ (suffix ++ (codes " " ++ (within_text more ++ rest)))
 front_of suffix more rest =
     append_assoc (codes "within " ++ suffix ++ codes " ") (within_text more) rest
     ∙ append_assoc (codes "within " ++ suffix) (codes " ") (within_text more ++ rest)
@@ -142,7 +142,7 @@ reads_more line so_far rest suffix more reads next = record {
 }
 
 -- the numbers that were printed are read
-number_printed : (bits n : ℕ) → n < 2 ^ 64 → n < 2 ^ bits → IsNumber bits n (decimal n)
+pub number_printed : (bits n : ℕ) → n < 2 ^ 64 → n < 2 ^ bits → IsNumber bits n (decimal n)
 number_printed bits n wide fits =
     let numeral = decimal_is_IsNumeral n wide in record {
       digits = λ k d inside. subst (λ b. (48 ≤ b) × (b ≤ 57)) (sym (any_other (decimal n) k d inside)) (digit_at (decimal n) k numeral.0.1 inside);

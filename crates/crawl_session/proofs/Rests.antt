@@ -30,11 +30,11 @@ use Rattle.crawl_session.specs.declared.request.Request.TheVariants.{Offer, Next
 use Rattle.crawl_session.specs.declared.request.RequestError.{RequestError}
 use Rattle.crawl_session.specs.Clients.{Asked, asked}
 use Rattle.crawl_session.specs.Exchanges.{Exchange, client, after, ends, admitting, entering, exchange, is_entered, is_seen, is_empty, told_again}
-use Rattle.crawl_session.specs.Requests.{request_of}
+use Rattle.crawl_session.specs.Parts.{request_for}
 use Rattle.crawl_session.specs.Sessions.{answered}
 use Rattle.crawl_session.specs.Settings.{Settings}
 use Rattle.crawl_session.specs.Tables.{can_be_told, CanBeAnswered}
-use Rattle.crawl_session.proofs.Assigned.{IsAssigned, as_asked, assigns_of, assigned_below}
+use Rattle.crawl_session.proofs.Assigned.{IsAssigned, as_asked, assigns_for, assigned_below}
 
 -- a state of a session between two requests
 pub record AtRest (workers : ℕ) (state : State) : Type 0 where
@@ -242,8 +242,8 @@ Fit x = CanBeAnswered x.request x.answer
 lines_fit : (settings : Settings) (state : State) (lines : List (List ℕ)) → 1 ≤ settings.workers → AtRest settings.workers state → All Fit (asked settings state lines)
 lines_fit settings state [] some rest = All-nil Fit
 lines_fit settings state (line ∷ more) some rest =
-    let r = request_of settings.workers settings.suffixes line in
-    let here = line_fits settings.workers state r (assigns_of settings.workers settings.suffixes line) some rest in
+    let r = request_for settings line in
+    let here = line_fits settings.workers state r (assigns_for settings line) some rest in
     All-cons Fit (record { request = r; answer = (answered state r).answer }) (asked settings (answered state r).state more) here.1 (lines_fit settings (answered state r).state more some here.0)
 
 pub starts_at_rest : (workers max : ℕ) → AtRest workers (start workers max)

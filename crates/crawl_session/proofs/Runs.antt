@@ -12,7 +12,7 @@ use Rattle.crawl_session.specs.declared.request.Request.{Request}
 use Rattle.crawl_session.specs.declared.request.Request.TheVariants.{Offer, Next, Again, Done, EndSeeds}
 use Rattle.crawl_session.specs.declared.request.RequestError.{RequestError}
 use Rattle.crawl_session.specs.Exchanges.{Exchange, client, after, ends, admitting, entering, exchange, is_entered, is_seen, is_empty}
-use Rattle.crawl_session.specs.Requests.{request_of}
+use Rattle.crawl_session.specs.Parts.{request_for}
 use Rattle.crawl_session.specs.Sessions.{answered, line_exchange, history_of, state_after}
 use Rattle.crawl_session.specs.Settings.{Settings}
 
@@ -63,7 +63,7 @@ session_runs settings state [] = refl
 session_runs settings state (line ∷ more) =
     let here = line_exchange settings state line in
     run_join state here.history here.state (history_of settings here.state more) (state_after settings here.state more)
-    (answered_runs state (request_of settings.workers settings.suffixes line)) (session_runs settings here.state more)
+    (answered_runs state (request_for settings line)) (session_runs settings here.state more)
 
 -- ---- as events and replies
 

@@ -22,7 +22,7 @@ use Rattle.crawl_session.specs.declared.request.Request.TheVariants.{Offer, Next
 use Rattle.crawl_session.specs.declared.request.RequestError.{RequestError}
 use Rattle.crawl_session.specs.Clients.{Asked, asked, accepts, takes, finishes, accepted_of, taken_of, done_of}
 use Rattle.crawl_session.specs.Exchanges.{Exchange, client, after, ends, exchange, is_entered, is_seen, is_empty, told_again}
-use Rattle.crawl_session.specs.Requests.{request_of}
+use Rattle.crawl_session.specs.Parts.{request_for}
 use Rattle.crawl_session.specs.Sessions.{answered, line_exchange, history_of}
 use Rattle.crawl_session.specs.Settings.{Settings}
 
@@ -163,8 +163,8 @@ put_first : {A : Type 0} (o : Option A) (xs : List A) → cons_option o [] ++ xs
 put_first None xs = refl
 put_first (Some x) xs = refl
 
-line_agrees : (queue : ℕ) (settings : Settings) (state : State) (line : List ℕ) → Agree queue (request_of settings.workers settings.suffixes line) (line_exchange settings state line)
-line_agrees queue settings state line = answered_agrees queue state (request_of settings.workers settings.suffixes line)
+line_agrees : (queue : ℕ) (settings : Settings) (state : State) (line : List ℕ) → Agree queue (request_for settings line) (line_exchange settings state line)
+line_agrees queue settings state line = answered_agrees queue state (request_for settings line)
 
 pub sees_accepted : (settings : Settings) (state : State) (lines : List (List ℕ)) (queue : ℕ) → accepted_urls queue (history_of settings state lines) ≡ accepted_of queue (asked settings state lines)
 sees_accepted settings state [] queue = refl
@@ -174,8 +174,8 @@ sees_accepted settings state (line ∷ more) queue =
     ap (map (λ (m : Message). m.url)) (filter_map-append (λ (x : Event × Reply). accepted_by queue x.0 x.1) here.history rest)
     ∙ map-append (λ (m : Message). m.url) (accepted_in queue here.history) (accepted_in queue rest)
     ∙ ap (λ l. l ++ accepted_urls queue rest) (line_agrees queue settings state line).accepted
-    ∙ put_first (accepts queue (request_of settings.workers settings.suffixes line) here.answer) (accepted_urls queue rest)
-    ∙ ap (cons_option (accepts queue (request_of settings.workers settings.suffixes line) here.answer)) (sees_accepted settings here.state more queue)
+    ∙ put_first (accepts queue (request_for settings line) here.answer) (accepted_urls queue rest)
+    ∙ ap (cons_option (accepts queue (request_for settings line) here.answer)) (sees_accepted settings here.state more queue)
 
 pub sees_taken : (settings : Settings) (state : State) (lines : List (List ℕ)) (queue : ℕ) → taken_urls queue (history_of settings state lines) ≡ taken_of queue (asked settings state lines)
 sees_taken settings state [] queue = refl
@@ -184,8 +184,8 @@ sees_taken settings state (line ∷ more) queue =
     let rest = history_of settings here.state more in
     filter_map-append (λ (x : Event × Reply). taken_by queue x.0 x.1) here.history rest
     ∙ ap (λ l. l ++ taken_urls queue rest) (line_agrees queue settings state line).taken
-    ∙ put_first (takes queue (request_of settings.workers settings.suffixes line) here.answer) (taken_urls queue rest)
-    ∙ ap (cons_option (takes queue (request_of settings.workers settings.suffixes line) here.answer)) (sees_taken settings here.state more queue)
+    ∙ put_first (takes queue (request_for settings line) here.answer) (taken_urls queue rest)
+    ∙ ap (cons_option (takes queue (request_for settings line) here.answer)) (sees_taken settings here.state more queue)
 
 pub sees_done : (settings : Settings) (state : State) (lines : List (List ℕ)) (queue : ℕ) → done_in queue (history_of settings state lines) ≡ done_of queue (asked settings state lines)
 sees_done settings state [] queue = refl
@@ -194,5 +194,5 @@ sees_done settings state (line ∷ more) queue =
     let rest = history_of settings here.state more in
     sum_by-append (λ (x : Event × Reply). cond (done_by queue x.0 x.1) 1 0) here.history rest
     ∙ ap (λ n. n + done_in queue rest) (line_agrees queue settings state line).done
-    ∙ ap {B = ℕ} (λ n. cond (finishes queue (request_of settings.workers settings.suffixes line) here.answer) 1 0 + n) (sees_done settings here.state more queue)
-    ∙ sym (sum_by-cons (λ (x : Asked). cond (finishes queue x.request x.answer) 1 0) (record { request = request_of settings.workers settings.suffixes line; answer = here.answer }) (asked settings here.state more))
+    ∙ ap {B = ℕ} (λ n. cond (finishes queue (request_for settings line) here.answer) 1 0 + n) (sees_done settings here.state more queue)
+    ∙ sym (sum_by-cons (λ (x : Asked). cond (finishes queue x.request x.answer) 1 0) (record { request = request_for settings line; answer = here.answer }) (asked settings here.state more))

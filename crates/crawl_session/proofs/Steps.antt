@@ -27,7 +27,7 @@ use Rattle.crawl_session.specs.declared.answer.Answer.{Answer}
 use Rattle.crawl_session.specs.declared.answer.Answer.TheVariants.{Told}
 use Rattle.crawl_session.specs.declared.request.Request.{Request}
 use Rattle.crawl_session.specs.Exchanges.{Exchange, client, is_entered, exchange, after, ends}
-use Rattle.crawl_session.specs.Requests.{request_of}
+use Rattle.crawl_session.specs.Parts.{request_for}
 use Rattle.crawl_session.specs.Sessions.{answered}
 use Rattle.crawl_session.specs.Settings.{Settings}
 use Rattle.crawl_session.specs.Serving.{Comes, Leads, GoesBack, GivenUp, GivesUp, Serves, returned}
@@ -181,7 +181,7 @@ gives_up_looking old reply mid (Err e) new makes more = looked_back old reply mi
 -- ---- a line
 
 -- a line that asks something
-pub serves_request : (settings : Settings) (old : Kept) (line : List ℕ) (request : Request) (reply : Reply) (new : Kept) → request_of settings.workers settings.suffixes line ≡ Ok request
+pub serves_request : (settings : Settings) (old : Kept) (line : List ℕ) (request : Request) (reply : Reply) (new : Kept) → request_for settings line ≡ Ok request
     → Comes (λ state. exchange state request) old (Told reply) new → Serves (record { settings = settings; core = old }) line (Told reply) (record { settings = settings; core = new })
 serves_request settings old line request reply new asks comes = record {
   settings = refl;

@@ -20,7 +20,7 @@ use Rattle.crawl_session.specs.declared.request.Request.{Request}
 use Rattle.crawl_session.specs.declared.request.Request.TheVariants.{Offer, Next, Again, Done, EndSeeds}
 use Rattle.crawl_session.specs.declared.request.RequestError.{RequestError}
 use Rattle.crawl_session.specs.Exchanges.{Exchange, client, after, ends, admitting, entering, exchange, is_entered, is_seen, is_empty}
-use Rattle.crawl_session.specs.Requests.{request_of}
+use Rattle.crawl_session.specs.Parts.{request_for}
 use Rattle.crawl_session.specs.Serving.{with_words}
 use Rattle.crawl_session.specs.Sessions.{answered, answers, line_exchange}
 use Rattle.crawl_session.specs.Settings.{Settings}
@@ -185,6 +185,6 @@ words_forgotten settings state words [] = refl
 words_forgotten settings state words (line ∷ more) =
     let other = line_exchange settings (with_words state words) line in
     let own = line_exchange settings state line in
-    let here = answered_alike state words (request_of settings.workers settings.suffixes line) in
+    let here = answered_alike state words (request_for settings line) in
     ap (λ a. a ∷ answers settings other.state more) here.answer
     ∙ ap (λ l. own.answer ∷ l) (ap (λ (s : State). answers settings s more) here.state ∙ words_forgotten settings own.state here.words more)

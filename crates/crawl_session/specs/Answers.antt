@@ -1,5 +1,6 @@
 -- The text of an answer.
 use Rattle.std.specs.Prelude.{ℕ, List, [], ◌∷◌, ◌++◌, codes}
+use Rattle.std.specs.Fmt.{decimal}
 use Rattle.std.specs.List.{flat_map}
 use Rattle.crawl_replay.specs.Replies.{reply_text}
 use Rattle.crawl_session.specs.declared.answer.Answer.{Answer}
@@ -7,7 +8,7 @@ use Rattle.crawl_session.specs.declared.answer.Answer.TheVariants.{Told, Unasked
 use Rattle.crawl_session.specs.declared.request.RequestError.{RequestError}
 use Rattle.crawl_session.specs.declared.request.RequestError.TheVariants as wrong
 
--- why a line asks nothing
+-- why a line asks nothing of the frontier
 abbrev pub error_text : RequestError → List ℕ
 error_text wrong.LineTooLong = codes "line too long"
 error_text wrong.NotText = codes "not UTF-8"
@@ -15,6 +16,10 @@ error_text wrong.BadLine = codes "bad line"
 error_text wrong.NotUrl = codes "not a URL"
 error_text wrong.NotHttp = codes "not http or https"
 error_text wrong.Filtered = codes "filtered"
+error_text (wrong.Elsewhere part url) = codes "elsewhere " ++ decimal part ++ codes " " ++ url
+error_text wrong.OtherQueue = codes "refused nosuch"
+error_text wrong.Sync = codes "synced"
+error_text (wrong.Identity text) = codes "identity " ++ text
 error_text wrong.NoMemory = codes "out of memory"
 
 -- a reply has the text that a replay gives it

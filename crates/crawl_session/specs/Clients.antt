@@ -1,15 +1,17 @@
 -- What the client of a session is told of URLs, by its requests and their answers alone.
-use Rattle.std.specs.Prelude.{◌≡◌, ℕ, Bool, false, List, [], ◌∷◌, length, nat_eq, slice_get, if◌then◌else◌, Option, Some, None, Result, Ok}
+use Rattle.std.specs.Prelude.{◌≡◌, ℕ, Bool, false, List, [], ◌∷◌, ◌++◌, length, nat_eq, slice_get, if◌then◌else◌, Option, Some, None, Result, Ok}
 use Rattle.std.specs.List.{count_by, filter_map}
 use Rattle.crawl_core.specs.declared.reply.Reply.TheVariants as told
+use Rattle.crawl_core.specs.Kept.{has_text}
 use Rattle.crawl_core.specs.State.{State}
 use Rattle.crawl_keys.specs.Assignment.{subqueue_of}
 use Rattle.crawl_session.specs.declared.answer.Answer.{Answer}
-use Rattle.crawl_session.specs.declared.answer.Answer.TheVariants.{Told}
+use Rattle.crawl_session.specs.declared.answer.Answer.TheVariants.{Told, Unasked}
 use Rattle.crawl_session.specs.declared.request.Request.{Request}
 use Rattle.crawl_session.specs.declared.request.Request.TheVariants.{Offer, Next, Done}
 use Rattle.crawl_session.specs.declared.request.RequestError.{RequestError}
-use Rattle.crawl_session.specs.Requests.{request_of}
+use Rattle.crawl_session.specs.declared.request.RequestError.TheVariants as wrong
+use Rattle.crawl_session.specs.Parts.{request_for}
 use Rattle.crawl_session.specs.Sessions.{line_exchange}
 use Rattle.crawl_session.specs.Settings.{Settings}
 
@@ -22,7 +24,7 @@ pub record Asked : Type 0 where
 abbrev pub asked : Settings → State → List (List ℕ) → List Asked
 asked settings state [] = []
 asked settings state (line ∷ more) =
-    record { request = request_of settings.workers settings.suffixes line; answer = (line_exchange settings state line).answer } ∷ asked settings (line_exchange settings state line).state more
+    record { request = request_for settings line; answer = (line_exchange settings state line).answer } ∷ asked settings (line_exchange settings state line).state more
 
 -- the URL that was offered and accepted into the subqueue
 abbrev pub accepts : ℕ → Result Request RequestError → Answer → Option (List ℕ)
@@ -49,6 +51,20 @@ taken_of queue asked = filter_map (λ x. takes queue x.request x.answer) asked
 
 abbrev pub done_of : ℕ → List Asked → ℕ
 done_of queue asked = count_by (λ x. finishes queue x.request x.answer) asked
+
+-- the URL that another part has
+abbrev pub told_elsewhere : Answer → Option (List ℕ)
+told_elsewhere (Unasked (wrong.Elsewhere part url)) = Some url
+told_elsewhere _ = None
+
+-- the URLs that the client was told are other parts', in order
+abbrev pub elsewhere_of : List Asked → List (List ℕ)
+elsewhere_of asked = filter_map (λ x. told_elsewhere x.answer) asked
+
+-- the texts but for those that came before, here or among these others
+abbrev pub first_of_each : List (List ℕ) → List (List ℕ) → List (List ℕ)
+first_of_each others [] = []
+first_of_each others (text ∷ more) = if has_text others text then first_of_each others more else text ∷ first_of_each (others ++ text ∷ []) more
 
 -- in each subqueue the URLs taken are the first of those accepted, in order; none was accepted twice; and each was accepted into
 -- the subqueue that its host key is assigned to among so many

@@ -1,34 +1,47 @@
--- The lines of a log that a frontier needs to come to the same state, but for the words that senders remember.
+-- The lines of a log that a frontier needs to come to the same state, but for the words that senders remember, and to tell the
+-- same URLs elsewhere.
 use Rattle.std.specs.Prelude.{◌≡◌, ℕ, ◌-◌, Bool, true, false, not, ◌&&◌, ◌||◌, List, [], ◌∷◌, ◌++◌, ◌==◌, length, slice_index, if◌then◌else◌, Result, Ok}
 use Rattle.std.specs.List.{flat_map}
 use Rattle.crawl_core.specs.declared.reply.Reply.{Reply}
 use Rattle.crawl_core.specs.declared.reply.Reply.TheVariants as told
+use Rattle.crawl_core.specs.Kept.{has_text}
 use Rattle.crawl_core.specs.Shows.{Shows}
 use Rattle.crawl_core.specs.State.{State}
 use Rattle.crawl_session.specs.declared.answer.Answer.{Answer}
-use Rattle.crawl_session.specs.declared.answer.Answer.TheVariants.{Told}
+use Rattle.crawl_session.specs.declared.answer.Answer.TheVariants.{Told, Unasked}
 use Rattle.crawl_session.specs.declared.request.Request.{Request}
 use Rattle.crawl_session.specs.declared.request.Request.TheVariants.{Again}
 use Rattle.crawl_session.specs.declared.request.RequestError.{RequestError}
+use Rattle.crawl_session.specs.declared.request.RequestError.TheVariants as wrong
 use Rattle.crawl_session.specs.Exchanges.{exchange}
-use Rattle.crawl_session.specs.Requests.{request_of}
+use Rattle.crawl_session.specs.Parts.{request_for}
 use Rattle.crawl_session.specs.Sessions.{line_exchange, state_after}
 use Rattle.crawl_session.specs.Settings.{Settings, SessionView}
 
--- what is known of the answers to earlier lines: whether one was `closed`
+-- what is known of the answers to earlier lines: whether one was `closed`, and the URLs that were told elsewhere, each once
 pub record Had : Type 0 where
   pub closed : Bool
+  pub elsewhere : List (List ℕ)
 
 abbrev pub had_none : Had
-had_none = record { closed = false }
+had_none = record { closed = false; elsewhere = [] }
 
 abbrev pub says_closed : Answer → Bool
 says_closed (Told told.Closed) = true
 says_closed _ = false
 
--- and with this answer more
+-- the texts, and this one where it is new
+abbrev pub with_text : List (List ℕ) → List ℕ → List (List ℕ)
+with_text texts text = if has_text texts text then texts else texts ++ text ∷ []
+
+-- and a URL that is told elsewhere
+abbrev pub with_told : List (List ℕ) → Answer → List (List ℕ)
+with_told texts (Unasked (wrong.Elsewhere part url)) = with_text texts url
+with_told texts _ = texts
+
+-- what is known with this answer more
 abbrev pub having : Had → Answer → Had
-having had answer = record { closed = says_closed answer || had.closed }
+having had answer = record { closed = says_closed answer || had.closed; elsewhere = with_told had.elsewhere answer }
 
 -- a URL was accepted or taken, a unit was given back, or the gate was closed, which it is once
 abbrev pub changes : Had → Reply → Bool
@@ -43,9 +56,10 @@ abbrev pub asks_again : Request → Bool
 asks_again (Again queue) = true
 asks_again _ = false
 
--- whether a line is needed that asks this, and was answered so
+-- whether a line is needed that asks this, and was answered so: of those that are told elsewhere, the first with its URL
 abbrev pub is_needed : Had → Result Request RequestError → Answer → Bool
 is_needed had (Ok request) (Told reply) = not (asks_again request) && changes had reply
+is_needed had _ (Unasked (wrong.Elsewhere part url)) = not (has_text had.elsewhere url)
 is_needed had _ _ = false
 
 -- the lines that are needed, from this state on
@@ -54,7 +68,7 @@ needed settings had state [] = []
 needed settings had state (line ∷ more) =
     let done = line_exchange settings state line in
     let rest = needed settings (having had done.answer) done.state more in
-    if is_needed had (request_of settings.workers settings.suffixes line) done.answer then line ∷ rest else rest
+    if is_needed had (request_for settings line) done.answer then line ∷ rest else rest
 
 abbrev pub had_after : Settings → Had → State → List (List ℕ) → Had
 had_after settings had state [] = had
@@ -77,7 +91,7 @@ pub record Gives (had : Had) (old : SessionView) (line : List ℕ) (is : Bool) (
   pub settings : new.settings ≡ old.settings
   pub comes : (state : State) → Shows old.core state →
       let done = line_exchange old.settings state line in
-      (is ≡ is_needed had (request_of old.settings.workers old.settings.suffixes line) done.answer) × ((next ≡ having had done.answer) × Shows new.core done.state)
+      (is ≡ is_needed had (request_for old.settings line) done.answer) × ((next ≡ having had done.answer) × Shows new.core done.state)
 
 -- the same of what a line asks
 pub record GivesRequest (had : Had) (old : SessionView) (request : Request) (is : Bool) (next : Had) (new : SessionView) : Type 0 where

@@ -3,7 +3,9 @@ pub mod Clients
 pub mod Compacting
 pub mod Exchanges
 pub mod Input
+pub mod LogStarts
 pub mod Logs
+pub mod Parts
 pub mod Requests
 pub mod Settings
 pub mod Sessions

@@ -10,7 +10,7 @@ use Rattle.crawl_session.specs.declared.request.RequestError.{RequestError}
 use Rattle.std.specs.Str.Lines.{lines}
 use Rattle.crawl_session.specs.Answers.{answer_lines}
 use Rattle.crawl_session.specs.Exchanges.{Exchange, exchange}
-use Rattle.crawl_session.specs.Requests.{request_of}
+use Rattle.crawl_session.specs.Parts.{request_for}
 use Rattle.crawl_session.specs.Settings.{Settings}
 
 -- a line that asks nothing stands for no event
@@ -20,7 +20,7 @@ answered state (Err why) = record { history = []; answer = Unasked why; state = 
 
 -- what comes of a line
 abbrev pub line_exchange : Settings → State → List ℕ → Exchange
-line_exchange settings state line = answered state (request_of settings.workers settings.suffixes line)
+line_exchange settings state line = answered state (request_for settings line)
 
 -- the answers to lines, from this state on
 abbrev pub answers : Settings → State → List (List ℕ) → List Answer

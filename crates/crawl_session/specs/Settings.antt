@@ -1,19 +1,26 @@
 -- What a session is made with, and what it keeps.
-use Rattle.std.specs.Prelude.{ℕ, ◌≤◌, List}
+use Rattle.std.specs.Prelude.{ℕ, ◌≤◌, List, Option, None, IfSome}
 use Rattle.crawl_core.specs.Kept.{Kept}
 use Rattle.crawl_limits.specs.Limits.{worker_limit}
+use Rattle.crawl_session.specs.declared.part.Part.{Part}
 
--- how many workers it has, and the suffixes of its filter
+-- how many queues there are, in all parts of the crawl; the suffixes of its filter; and which part it is, if it is one
 pub record Settings : Type 0 where
   pub workers : ℕ
   pub suffixes : List (List ℕ)
+  pub part : Option Part
 
--- and what its machine keeps
+-- of a frontier that is no part
+abbrev pub alone : ℕ → List (List ℕ) → Settings
+alone workers suffixes = record { workers = workers; suffixes = suffixes; part = None }
+
+-- settings, and what its machine keeps
 pub record SessionView : Type 0 where
   pub settings : Settings
   pub core : Kept
 
--- URLs can be assigned to its subqueues
+-- URLs can be assigned to its subqueues, and these to parts
 pub record IsSession (settings : Settings) : Type 0 where
   pub some_worker : 1 ≤ settings.workers
   pub few_workers : settings.workers ≤ worker_limit
+  pub some_queue : IfSome settings.part (λ part. 1 ≤ part.queues)

@@ -1,5 +1,5 @@
 //! What a line is answered, and its text.
-ghost use Rattle.std.specs.Prelude.{◌≡◌, Some};
+ghost use Rattle.std.specs.Prelude.{Some};
 ghost use Rattle.crawl_session.specs.Answers as spec;
 
 use crate::request::RequestError;
@@ -25,21 +25,27 @@ impl fmt::Display for Answer {
                 let text = ReplyText(reply);
                 write!(f, "{text}")
             }
-            Answer::Unasked(why) => f.write_str(error_text(*why)),
+            Answer::Unasked(why) => write!(f, "{why}"),
         }
     }
 }
 
-fn error_text(why: RequestError) -> &'static str
-    ensures { result.now ≡ spec.error_text why }
-{
-    match why {
-        RequestError::LineTooLong => "line too long",
-        RequestError::NotText => "not UTF-8",
-        RequestError::BadLine => "bad line",
-        RequestError::NotUrl => "not a URL",
-        RequestError::NotHttp => "not http or https",
-        RequestError::Filtered => "filtered",
-        RequestError::NoMemory => "out of memory",
+impl fmt::Display for RequestError {
+    ghost output = { λ why. Some (spec.error_text why) };
+
+    fn fmt<W: fmt::Write>(&self, f: &mut fmt::Formatter<W>) -> fmt::Result {
+        match self {
+            RequestError::LineTooLong => f.write_str("line too long"),
+            RequestError::NotText => f.write_str("not UTF-8"),
+            RequestError::BadLine => f.write_str("bad line"),
+            RequestError::NotUrl => f.write_str("not a URL"),
+            RequestError::NotHttp => f.write_str("not http or https"),
+            RequestError::Filtered => f.write_str("filtered"),
+            RequestError::Elsewhere { part, url } => write!(f, "elsewhere {part} {url}"),
+            RequestError::OtherQueue => f.write_str("refused nosuch"),
+            RequestError::Sync => f.write_str("synced"),
+            RequestError::Identity(text) => write!(f, "identity {text}"),
+            RequestError::NoMemory => f.write_str("out of memory"),
+        }
     }
 }

@@ -1,4 +1,4 @@
-//! The shortest log of a session: the lines that changed it.
+//! The shortest log of a session: the lines that changed it, and those that were told elsewhere.
 ghost use Rattle.std.specs.Prelude.{◌≡◌, ℕ, List, IfOk};
 ghost use Rattle.std.specs.Io.KnownBytes.{Appends};
 ghost use Rattle.std.specs.Str.Lines.{lines};
@@ -9,6 +9,7 @@ ghost use Rattle.crawl_session.specs.declared.answer.Answer.TheVariants.{Told};
 use crate::request::{Request, RequestError};
 use crate::serving::ServeError;
 use crate::session::Session;
+use crate::texts::Texts;
 use crawl_core::{NoMemory, Reply};
 use crawl_web::first_line;
 use std::alloc::{AllocError, Global};
@@ -20,6 +21,8 @@ use std::marker::Model;
 pub struct Compactor {
     /// An earlier line was answered `closed`.
     closed: bool,
+    /// The URLs that were told elsewhere.
+    elsewhere: Texts,
 }
 
 impl Model for Compactor {
@@ -27,15 +30,18 @@ impl Model for Compactor {
 
     ghost Value = { Had };
 
-    ghost view = { λ c. record { closed = c.closed } };
+    ghost view = { λ c. record { closed = c.closed; elsewhere = c.elsewhere } };
 }
 
 impl Compactor {
     /// One that has had no lines.
-    pub fn new(_alloc: Global) -> Compactor
+    pub fn new(alloc: Global) -> Compactor
         ensures { result ≡ spec.had_none }
     {
-        Compactor { closed: false }
+        Compactor {
+            closed: false,
+            elsewhere: Texts::new(alloc),
+        }
     }
 
     /// Gives the session these lines of a log, and appends those that are needed, each with its line end.
@@ -68,6 +74,7 @@ impl Compactor {
         match session.request(line) {
             Ok(request) => self.needs_request(session, request),
             Err(RequestError::NoMemory) => Err(AllocError),
+            Err(RequestError::Elsewhere { url, .. }) => self.elsewhere.insert(url),
             Err(_) => Ok(false),
         }
     }

@@ -1,19 +1,29 @@
 //! Laws of sessions: what holds of any lines and their answers. None does anything when it is called.
-ghost use Rattle.std.specs.Prelude.{◌≡◌, ◌≤◌, ℕ, List, [], ◌∷◌, ◌++◌, length};
-ghost use Rattle.std.specs.List.{All};
+ghost use Rattle.std.specs.Prelude.{◌≡◌, ◌≢◌, ◌≤◌, ℕ, List, [], ◌∷◌, ◌++◌, length, slice_get, ◌<◌, ◌^◌, true, not, Option, Some, None, IfSome, Ok};
+ghost use Rattle.std.specs.List.{All, list_all};
 ghost use Rattle.std.specs.Str.Lines.{lines};
 ghost use Rattle.crawl_core.specs.History.{accepted_urls, taken_urls, done_in};
 ghost use Rattle.crawl_core.specs.Run.{Run};
 ghost use Rattle.crawl_core.specs.State.{State, start};
 ghost use Rattle.crawl_core.specs.declared.reply.Reply.TheVariants as told;
 ghost use Rattle.crawl_core.specs.declared.word.Word.{Word};
-ghost use Rattle.crawl_session.specs.Clients.{AllDone, EachOnceInOrder, accepted_of, asked, done_of, taken_of};
+ghost use Rattle.crawl_session.specs.Clients.{AllDone, EachOnceInOrder, accepted_of, asked, done_of, elsewhere_of, first_of_each, taken_of};
 ghost use Rattle.crawl_session.specs.Compacting.{had_none, log_text, needed};
+ghost use Rattle.crawl_keys.specs.Assignment.{subqueue_of};
+ghost use Rattle.crawl_session.specs.Exchanges.{exchange};
+ghost use Rattle.crawl_session.specs.Parts.{part_with};
+ghost use Rattle.crawl_session.specs.Requests.{request_of};
+ghost use Rattle.crawl_session.specs.LogStarts.{read_start, start_text};
+ghost use Rattle.crawl_session.specs.Logs.{settings_line};
 ghost use Rattle.crawl_session.specs.Serving.{with_words};
-ghost use Rattle.crawl_session.specs.Sessions.{answers, history_of, line_exchange, state_after};
+ghost use Rattle.crawl_web.specs.Parts.{is_space};
+ghost use Rattle.crawl_session.specs.Sessions.{answered, answers, history_of, line_exchange, state_after};
 ghost use Rattle.crawl_session.specs.Settings.{Settings};
 ghost use Rattle.crawl_session.specs.Tables.{CanBeAnswered};
-ghost use Rattle.crawl_session.specs.declared.answer.Answer.TheVariants.{Told};
+ghost use Rattle.crawl_session.specs.declared.answer.Answer.TheVariants.{Told, Unasked};
+ghost use Rattle.crawl_session.specs.declared.part.Part.{Part};
+ghost use Rattle.crawl_session.specs.declared.request.Request.TheVariants.{Offer};
+ghost use Rattle.crawl_session.specs.declared.request.RequestError.TheVariants as wrong;
 
 /// The events of a session are a run of the machine, from whatever state it begins in. So the laws of `crawl_core` hold of them.
 pub fn sessions_are_runs()
@@ -33,6 +43,12 @@ pub fn sessions_go_on()
 pub fn a_compacted_log_goes_on()
     ensures { (settings : Settings) (max : ℕ) (bytes : List ℕ) (more : List (List ℕ)) → 1 ≤ settings.workers → answers settings (state_after settings (start settings.workers max) (lines (log_text (needed settings had_none (start settings.workers max) (lines bytes))))) more
         ≡ answers settings (state_after settings (start settings.workers max) (lines bytes)) more }
+{}
+
+/// A compacted log tells elsewhere what the whole one does, each URL once, in the order in which each came first. So what was to be
+/// sent to other parts can be sent again.
+pub fn a_compacted_log_tells_elsewhere()
+    ensures { (settings : Settings) (max : ℕ) (bytes : List ℕ) → elsewhere_of (asked settings (start settings.workers max) (lines (log_text (needed settings had_none (start settings.workers max) (lines bytes))))) ≡ first_of_each [] (elsewhere_of (asked settings (start settings.workers max) (lines bytes))) }
 {}
 
 /// No answer depends on the words that senders remember from before. So after out of memory each line is answered as if the line
@@ -65,4 +81,34 @@ pub fn closed_means_done()
     ensures done { (settings : Settings) (max : ℕ) (front : List (List ℕ)) (line : List ℕ) → (line_exchange settings (state_after settings (start settings.workers max) front) line).answer ≡ Told told.Closed → AllDone (asked settings (start settings.workers max) (front ++ line ∷ [])) }
     ensures for_good { (settings : Settings) (max : ℕ) (front : List (List ℕ)) (line : List ℕ) (back : List (List ℕ)) (queue : ℕ) → (line_exchange settings (state_after settings (start settings.workers max) front) line).answer ≡ Told told.Closed
         → (accepted_of queue (asked settings (state_after settings (start settings.workers max) (front ++ line ∷ [])) back) ≡ []) × (taken_of queue (asked settings (state_after settings (start settings.workers max) (front ++ line ∷ [])) back) ≡ []) }
+{}
+
+/// A frontier that is no part answers each line by what it asks, as if there were no parts.
+pub fn a_frontier_alone_has_no_parts()
+    ensures { (settings : Settings) (state : State) (line : List ℕ) → settings.part ≡ None → line_exchange settings state line ≡ answered state (request_of settings.workers settings.suffixes line) }
+{}
+
+/// A part accepts what belongs to its own queues alone: each URL in the queue that its host key is assigned to among all.
+pub fn a_part_accepts_its_own()
+    ensures { (settings : Settings) (part : Part) (state : State) (lines : List (List ℕ)) (queue k : ℕ) (url : List ℕ) → settings.part ≡ Some part → slice_get (accepted_of queue (asked settings state lines)) k ≡ Some url → (queue ≡ subqueue_of url settings.workers) × (part_with part queue ≡ part.number) }
+{}
+
+/// No two parts of a crawl accept one URL. So it is accepted by one of them at most, and once.
+pub fn parts_share_no_url()
+    ensures { (first second : Settings) (own other : Part) (old older : State) (lines others : List (List ℕ)) (queue there k l : ℕ) (url : List ℕ) → first.part ≡ Some own → second.part ≡ Some other → first.workers ≡ second.workers → own.queues ≡ other.queues
+        → slice_get (accepted_of queue (asked first old lines)) k ≡ Some url → slice_get (accepted_of there (asked second older others)) l ≡ Some url → (queue ≡ there) × (own.number ≡ other.number) }
+{}
+
+/// Elsewhere exactly where its queue is another part's: a URL that is offered then does nothing, and is told with that part's
+/// number. Any other is answered as without a part.
+pub fn others_are_told_elsewhere()
+    ensures other { (settings : Settings) (part : Part) (state : State) (line url : List ℕ) (queue : ℕ) → settings.part ≡ Some part → request_of settings.workers settings.suffixes line ≡ Ok (Offer url queue) → part_with part queue ≢ part.number
+        → line_exchange settings state line ≡ record { history = []; answer = Unasked (wrong.Elsewhere (part_with part queue) url); state = state } }
+    ensures own { (settings : Settings) (part : Part) (state : State) (line url : List ℕ) (queue : ℕ) → settings.part ≡ Some part → request_of settings.workers settings.suffixes line ≡ Ok (Offer url queue) → part_with part queue ≡ part.number
+        → line_exchange settings state line ≡ exchange state (Offer url queue) }
+{}
+
+/// What a log's first line says of its part and its identity is read as it was written, whatever settings stand behind it.
+pub fn log_starts_come_back()
+    ensures { (part : Option (ℕ × ℕ)) (identity : Option (List ℕ)) (workers max : ℕ) (suffixes : List (List ℕ)) → IfSome part (λ p. (p.0 < 2 ^ 32) × (p.1 < 2 ^ 32)) → IfSome identity (λ text. list_all (λ b. not (is_space b)) text ≡ true) → read_start (start_text part identity ++ settings_line workers max suffixes) ≡ (part, (identity, settings_line workers max suffixes)) }
 {}

@@ -7,13 +7,18 @@ mod exchange;
 /// What holds of sessions.
 pub mod laws;
 mod log;
+mod log_start;
+mod part;
 mod request;
 mod serving;
 mod session;
+mod texts;
 
 pub use answer::Answer;
 pub use compact::Compactor;
 pub use log::{read_settings, rerun, settings_line, whole_len};
+pub use log_start::{read_start, start_text};
+pub use part::Part;
 pub use request::{Request, RequestError};
 pub use serving::{ServeError, serve};
 pub use session::Session;

@@ -28,8 +28,8 @@ pub enum Request {
     EndSeeds,
 }
 
-/// Why a line asks nothing of the frontier, in the order of the checks.
-#[derive(Clone, Copy, Debug, PartialEq, Eq)]
+/// Why a line asks nothing of the frontier.
+#[derive(Debug, PartialEq, Eq, Drop)]
 pub enum RequestError {
     /// The line has more than [`LINE_LIMIT`](crawl_web::LINE_LIMIT) bytes.
     LineTooLong,
@@ -43,6 +43,14 @@ pub enum RequestError {
     NotHttp,
     /// The filter does not allow the URL that is offered.
     Filtered,
+    /// The URL that is offered belongs to another part of the crawl, which has this number.
+    Elsewhere { part: u32, url: Text },
+    /// The queue is another part's.
+    OtherQueue,
+    /// `sync`: all lines before it are to be on the disk.
+    Sync,
+    /// `identity`: that of the session's log, which is this.
+    Identity(Text),
     /// A growth was refused. This may stand in place of any other answer.
     NoMemory,
 }

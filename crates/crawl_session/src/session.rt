@@ -1,11 +1,13 @@
 //! A frontier that is asked by one client, line by line.
-ghost use Rattle.std.specs.Prelude.{◌≡◌, ◌<◌, ◌≤◌, ◌⊎◌, ◌↔◌, Err, IfOk, OnOk, OnErr};
+ghost use Rattle.std.specs.Prelude.{◌≡◌, ◌*◌, ◌<◌, ◌≤◌, ◌⊎◌, ◌↔◌, None, Some, Err, IfOk, OnOk, OnErr};
+ghost use Rattle.std.specs.Str.{bytes_eq};
 ghost use Rattle.crawl_limits.specs.Limits.{AreLimits, worker_limit, pending_limit};
 ghost use Rattle.crawl_core.specs.Shows.{Shows};
 ghost use Rattle.crawl_core.specs.State.{start};
 ghost use Rattle.crawl_core.specs.declared.error.CoreError.{CoreError};
 ghost use Rattle.crawl_keys.specs.Outcome.{Gives};
 ghost use Rattle.crawl_session.specs.Exchanges as spec;
+ghost use Rattle.crawl_session.specs.Parts.{asked_by, placed_if, request_for};
 ghost use Rattle.crawl_session.specs.Requests.{request_of};
 ghost use Rattle.crawl_session.specs.Serving.{Comes, GivesUp, Serves};
 ghost use Rattle.crawl_session.specs.declared.answer.Answer.{Answer};
@@ -13,19 +15,22 @@ ghost use Rattle.crawl_session.specs.declared.request.RequestError.TheVariants a
 
 use crate::answer::Answer;
 use crate::exchange::exchange;
+use crate::part::{Part, placed};
 use crate::request::{Request, RequestError, request_of};
 use crawl_core::{Core, CoreError, NoMemory, Reply};
 use crawl_keys::Filter;
 use std::alloc::{AllocError, Global};
 use std::marker::Model;
 
-/// A frontier, and the filter of the URLs that are offered to it.
+/// A frontier, the filter of the URLs that are offered to it, and which part of a crawl it is.
 #[derive(Drop)]
 pub struct Session {
     alloc: Global,
     core: Core,
+    /// The queues of all parts.
     workers: u32,
     filter: Filter,
+    part: Option<Part>,
 }
 
 // Contracts see its settings and what its machine keeps.
@@ -34,9 +39,9 @@ impl Model for Session {
 
     ghost Value = { SessionView };
 
-    ghost view = { λ s. record { settings = record { workers = s.workers; suffixes = s.filter }; core = s.core } };
+    ghost view = { λ s. record { settings = record { workers = s.workers; suffixes = s.filter; part = s.part }; core = s.core } };
 
-    ghost invariant = { λ s. IsSession (record { workers = s.workers; suffixes = s.filter }) };
+    ghost invariant = { λ s. IsSession (record { workers = s.workers; suffixes = s.filter; part = s.part }) };
 }
 
 impl Session {
@@ -53,6 +58,7 @@ impl Session {
         ensures start { IfOk result (λ session. Shows session.core (start workers max_pending)) }
         ensures workers { IfOk result (λ session. session.settings.workers ≡ workers) }
         ensures suffixes { IfOk result (λ session. session.settings.suffixes ≡ filter) }
+        ensures part { IfOk result (λ session. session.settings.part ≡ None) }
         ensures limits { OnOk result (AreLimits workers max_pending) }
         ensures bad_workers { (result ≡ Err CoreError.BadWorkers) ↔ ((workers < 1) ⊎ (worker_limit < workers)) }
         ensures bad_max { (result ≡ Err CoreError.BadMax) ↔ ((1 ≤ workers) × (workers ≤ worker_limit) × ((max_pending < 1) ⊎ (pending_limit < max_pending))) }
@@ -63,6 +69,45 @@ impl Session {
                 core,
                 workers,
                 filter,
+                part: None,
+            }),
+            Err(why) => Err(why),
+        }
+    }
+
+    /// A new frontier for one part of a crawl that has so many parts: the queues of all are numbered together, and this one has
+    /// its own of them.
+    ///
+    /// # Errors
+    /// `BadWorkers` where there is no such part, or the parts have no queue or more than the limit together; those of `new`.
+    pub fn of_part(
+        alloc: Global,
+        part: Part,
+        parts: u32,
+        max_pending: u64,
+        filter: Filter,
+    ) -> Result<Session, CoreError>
+        ensures start { IfOk result (λ session. Shows session.core (start (part.queues * parts) max_pending)) }
+        ensures workers { IfOk result (λ session. session.settings.workers ≡ part.queues * parts) }
+        ensures suffixes { IfOk result (λ session. session.settings.suffixes ≡ filter) }
+        ensures part { IfOk result (λ session. session.settings.part ≡ Some part) }
+        ensures limits { OnOk result ((part.number < parts) × AreLimits (part.queues * parts) max_pending) }
+        ensures bad_workers { (result ≡ Err CoreError.BadWorkers) ↔ ((part.queues < 1) ⊎ ((parts ≤ part.number) ⊎ (worker_limit < part.queues * parts))) }
+        ensures bad_max { (result ≡ Err CoreError.BadMax) ↔ ((1 ≤ part.queues) × (part.number < parts) × (part.queues * parts ≤ worker_limit) × ((max_pending < 1) ⊎ (pending_limit < max_pending))) }
+    {
+        if part.queues < 1 || parts <= part.number {
+            return Err(CoreError::BadWorkers);
+        }
+        let Some(workers) = part.queues.checked_mul(parts) else {
+            return Err(CoreError::BadWorkers);
+        };
+        match Core::new(alloc, workers, max_pending) {
+            Ok(core) => Ok(Session {
+                alloc,
+                core,
+                workers,
+                filter,
+                part: Some(part),
             }),
             Err(why) => Err(why),
         }
@@ -70,9 +115,37 @@ impl Session {
 
     /// What the line asks.
     pub(crate) fn request(&self, line: &[u8]) -> Result<Request, RequestError>
-        ensures { Gives wrong.NoMemory (λ request. request) result (request_of self.now.settings.workers self.now.settings.suffixes line.now) }
+        ensures { Gives wrong.NoMemory (λ request. request) result (request_for self.now.settings line.now) }
     {
-        request_of(self.alloc, self.workers, &self.filter, line)
+        match &self.part {
+            None => request_of(self.alloc, self.workers, &self.filter, line),
+            Some(part) => self.request_by(part, line),
+        }
+    }
+
+    /// What the line asks of a part.
+    fn request_by(&self, part: &Part, line: &[u8]) -> Result<Request, RequestError>
+        requires { 1 ≤ part.now.queues }
+        ensures { Gives wrong.NoMemory (λ request. request) result (asked_by part.now line.now (request_of self.now.settings.workers self.now.settings.suffixes line.now)) }
+    {
+        if is_word(line, "sync") {
+            return Err(RequestError::Sync);
+        }
+        if is_word(line, "identity") {
+            return told_identity(part);
+        }
+        self.request_of_part(part, line)
+    }
+
+    /// What the line asks of a part, but for the words that only parts know.
+    fn request_of_part(&self, part: &Part, line: &[u8]) -> Result<Request, RequestError>
+        requires { 1 ≤ part.now.queues }
+        ensures { Gives wrong.NoMemory (λ request. request) result (placed_if part.now (request_of self.now.settings.workers self.now.settings.suffixes line.now)) }
+    {
+        match request_of(self.alloc, self.workers, &self.filter, line) {
+            Ok(request) => placed(part, request),
+            Err(why) => Err(why),
+        }
     }
 
     /// The reply to what a line asks.
@@ -95,10 +168,26 @@ impl Session {
         ensures same { self.new.settings ≡ self.old.settings }
         ensures err { OnErr result (GivesUp self.old.core self.new.core) }
     {
-        match request_of(self.alloc, self.workers, &self.filter, line) {
-            Ok(request) => Ok(Answer::Told(exchange(&mut self.core, request)?)),
+        match self.request(line) {
+            Ok(request) => Ok(Answer::Told(self.perform(request)?)),
             Err(RequestError::NoMemory) => Err(AllocError),
             Err(why) => Ok(Answer::Unasked(why)),
         }
     }
+}
+
+/// What `identity` asks: nothing but to be told it.
+fn told_identity(part: &Part) -> Result<Request, RequestError>
+    ensures { Gives wrong.NoMemory (λ request. request) result (Err (wrong.Identity part.now.identity)) }
+{
+    match part.identity.clone() {
+        Ok(identity) => Err(RequestError::Identity(identity)),
+        Err(_) => Err(RequestError::NoMemory),
+    }
+}
+
+fn is_word(line: &[u8], word: &str) -> bool
+    ensures { result ≡ bytes_eq line.now word.now }
+{
+    line == word.as_bytes()
 }

@@ -1,10 +1,12 @@
 //! Sessions: drawn ones against a second reckoning, and a table of lines at their edges.
 mod reckoning;
 
+use crawl_core::Text;
 use crawl_keys::{Filter, FilterError};
 use crawl_replay::Header;
 use crawl_session::{
-    Compactor, ServeError, Session, read_settings, rerun, serve, settings_line, whole_len,
+    Compactor, Part, ServeError, Session, read_settings, read_start, rerun, serve, settings_line,
+    start_text, whole_len,
 };
 use reckoning::{MAX, Reckoning};
 use std::alloc::{AllocError, Global};
@@ -63,7 +65,10 @@ fn is(told: Option<(Vec<u8>, bool)>, wanted: &[u8], broke: bool) -> bool {
 }
 
 /// How many lines a drawn session has.
-const LINES: u64 = 4_000;
+const LINES: u64 = 1_600;
+
+/// Behind how many of them the seeds end.
+const SEED_LINES: u64 = 1_400;
 
 /// The requests that are drawn, and their answers by the reckoning.
 fn drawn(alloc: Global) -> Result<(String, String), AllocError> {
@@ -75,12 +80,12 @@ fn drawn(alloc: Global) -> Result<(String, String), AllocError> {
         seed = seed
             .wrapping_mul(6_364_136_223_846_793_005)
             .wrapping_add(1_442_695_040_888_963_407);
-        let kind = if number == 3_600 {
+        let kind = if number == SEED_LINES {
             15
         } else {
             (seed >> 40) % 15
         };
-        reckoning.ask(kind, (seed >> 50) % 700, &mut requests, &mut wanted)?;
+        reckoning.ask(kind, (seed >> 50) % 100, &mut requests, &mut wanted)?;
     }
     Ok((requests, wanted))
 }
@@ -124,7 +129,7 @@ fn a_log_brings_a_session_back(rt: HostRuntime) -> Result<(), Fail> {
     let alloc = rt.alloc();
     let (requests, wanted) = drawn(alloc)?;
     let log = requests.as_bytes();
-    for cut in [0, 1, 5_000, 40_001, log.len()] {
+    for cut in [0, 1, 5_000, 20_001, log.len()] {
         let whole = whole_len(&log[..cut.min(log.len())]);
         let mut session = session(alloc)?;
         rerun(&mut session, &log[..whole.min(log.len())])?;
@@ -163,7 +168,7 @@ fn a_drawn_log_is_compacted(rt: HostRuntime) -> Result<(), Fail> {
     let mut session = session(alloc)?;
     let mut compactor = Compactor::new(alloc);
     let mut kept = Vec::new(alloc);
-    let half = whole_len(&log[..log.len().min(20_000)]);
+    let half = whole_len(&log[..log.len().min(12_000)]);
     for piece in [&log[..half], &log[half..]] {
         let ended = compactor.compact(&mut session, piece, &mut kept);
         assert!(rt; ended == Ok(()));
@@ -198,6 +203,175 @@ fn compacts_lines_at_their_edges(rt: HostRuntime) -> Result<(), Fail> {
         assert!(rt; ended == Ok(()) && kept.as_slice() == wanted, "{log:?}");
     }
     Ok(())
+}
+
+/// Part of this number, of two queues, of a crawl that has so many parts.
+fn part_of(alloc: Global, number: u32, parts: u32) -> Result<Session, FilterError> {
+    let filter = Filter::new(alloc, &["test"])?;
+    let part = Part {
+        number,
+        queues: 2,
+        identity: Text::from_str(alloc, "3f-a")?,
+    };
+    match Session::of_part(alloc, part, parts, MAX, filter) {
+        Ok(session) => Ok(session),
+        Err(_) => Err(FilterError::NoMemory),
+    }
+}
+
+/// Whether the part answers the input so.
+fn part_answers(alloc: Global, number: u32, parts: u32, input: &str, wanted: &str) -> bool {
+    let Ok(mut session) = part_of(alloc, number, parts) else {
+        return false;
+    };
+    let mut out = Vec::new(alloc);
+    let ended = serve(alloc, &mut session, &mut input.as_bytes(), &mut out);
+    ended == Ok(()) && out.as_slice() == wanted.as_bytes()
+}
+
+const OFFERS: &str = "offer http://h0.test/\n\
+    offer http://h1.test/\n\
+    offer http://h2.test/\n\
+    offer http://h3.test/\n\
+    offer http://h4.test/\n\
+    offer http://h5.test/\n\
+    offer http://h6.test/\n\
+    offer http://h7.test/\n\
+    offer http://h8.test/\n";
+
+/// What each of three parts answers to these offers, by hashes of the hosts reckoned elsewhere.
+const OWNERS: [(u32, &str); 3] = [
+    (
+        0,
+        "elsewhere 2 http://h0.test/\n\
+         elsewhere 2 http://h1.test/\n\
+         accepted 0 0\n\
+         accepted 1 0\n\
+         elsewhere 1 http://h4.test/\n\
+         elsewhere 1 http://h5.test/\n\
+         elsewhere 2 http://h6.test/\n\
+         elsewhere 2 http://h7.test/\n\
+         accepted 0 1\n",
+    ),
+    (
+        1,
+        "elsewhere 2 http://h0.test/\n\
+         elsewhere 2 http://h1.test/\n\
+         elsewhere 0 http://h2.test/\n\
+         elsewhere 0 http://h3.test/\n\
+         accepted 2 0\n\
+         accepted 3 0\n\
+         elsewhere 2 http://h6.test/\n\
+         elsewhere 2 http://h7.test/\n\
+         elsewhere 0 http://h8.test/\n",
+    ),
+    (
+        2,
+        "accepted 4 0\n\
+         accepted 5 0\n\
+         elsewhere 0 http://h2.test/\n\
+         elsewhere 0 http://h3.test/\n\
+         elsewhere 1 http://h4.test/\n\
+         elsewhere 1 http://h5.test/\n\
+         accepted 4 1\n\
+         accepted 5 1\n\
+         elsewhere 0 http://h8.test/\n",
+    ),
+];
+
+#[test]
+fn parts_have_each_url_once(rt: HostRuntime) {
+    for (number, wanted) in OWNERS {
+        assert!(rt;
+            part_answers(rt.alloc(), number, 3, OFFERS, wanted),
+            "part {number}"
+        );
+    }
+}
+
+#[test]
+fn a_part_has_its_own_queues(rt: HostRuntime) {
+    let input =
+        "next 1\nnext 2\nagain 3\nagain 0\ndone 4\ndone 1\noffer http://a.other/\nsync 1\nsync\nidentity\n";
+    let wanted =
+        "refused nosuch\npending 1\nrefused nothing\nrefused nosuch\nrefused nosuch\nrefused nosuch\nfiltered\nbad line\nsynced\nidentity 3f-a\n";
+    assert!(rt; part_answers(rt.alloc(), 1, 2, input, wanted));
+    let told = answers(rt.alloc(), b"sync\nidentity\n", 3, false);
+    assert!(rt; is(told, b"bad line\nbad line\n", false));
+}
+
+#[test]
+fn a_part_is_below_their_number_and_has_few_queues(rt: HostRuntime) {
+    for (parts, is_one) in [
+        (0, false),
+        (1, false),
+        (2, true),
+        (256, true),
+        (257, false),
+        (2_147_483_648, false),
+    ] {
+        assert!(rt;
+            part_of(rt.alloc(), 1, parts).is_ok() == is_one,
+            "{parts} parts"
+        );
+    }
+}
+
+/// What stands before the settings, in one line.
+fn start_line(alloc: Global, line: &str) -> Result<String, AllocError> {
+    let (part, identity, rest) = read_start(line);
+    format!(in alloc; "{part:?} {identity:?} {rest}")
+}
+
+#[test]
+fn a_log_names_its_part(rt: HostRuntime) -> Result<(), Fail> {
+    let alloc = rt.alloc();
+    let text = start_text(alloc, Some((1, 4)), Some("3f-a"))?;
+    assert_eq!(rt; text.as_str(), "part 1 of 4 identity 3f-a ");
+    for (line, wanted) in [
+        (
+            "part 1 of 4 identity x workers 2 max 9",
+            "Some((1, 4)) Some(\"x\") workers 2 max 9",
+        ),
+        (
+            "within a.test workers 2 max 9",
+            "None None within a.test workers 2 max 9",
+        ),
+        (
+            "identity x workers 2 max 9",
+            "None Some(\"x\") workers 2 max 9",
+        ),
+        ("part 1 workers 2 max 9", "None None part 1 workers 2 max 9"),
+    ] {
+        let told = start_line(alloc, line)?;
+        assert_eq!(rt; told.as_str(), wanted);
+    }
+    Ok(())
+}
+
+/// The log of a part that was given these lines twice.
+fn compacted(alloc: Global, number: u32, log: &str) -> Option<Vec<u8>> {
+    let mut session = part_of(alloc, number, 2).ok()?;
+    let mut compactor = Compactor::new(alloc);
+    let mut kept = Vec::new(alloc);
+    for _time in 0..2 {
+        compactor
+            .compact(&mut session, log.as_bytes(), &mut kept)
+            .ok()?;
+    }
+    Some(kept)
+}
+
+/// What a part accepts, and what it tells elsewhere, each stays once.
+#[test]
+fn a_compacted_log_keeps_what_is_told_elsewhere_once(rt: HostRuntime) {
+    let log =
+        "offer http://h0.test/\noffer http://h1.test/#x\nlink http://h0.test/ //H1.test\nsync\nidentity\n";
+    let kept = "offer http://h0.test/\noffer http://h1.test/#x\n";
+    for number in 0..2u32 {
+        let told = compacted(rt.alloc(), number, log);
+        assert!(rt; told.is_some_and(|text| text.as_slice() == kept.as_bytes()));
+    }
 }
 
 #[test]

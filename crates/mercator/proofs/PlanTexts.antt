@@ -81,9 +81,11 @@ one_output (asks.Crawl workers max queues file seeds options) (asks.Crawl others
     own.gained ∙ ap (λ t. before ++ t) (one_text workers others queues options other_options bytes [] texts suffixes own.text other.text many parts first second) ∙ sym other.gained
 one_output (asks.Crawl workers max queues file seeds options) (asks.Key url others) bytes before after its ask own other = absurd ask
 one_output (asks.Crawl workers max queues file seeds options) (asks.Replay other_file) bytes before after its ask own other = absurd ask
-one_output (asks.Crawl workers max queues file seeds options) (asks.Serve others other_max other_within) bytes before after its ask own other = absurd ask
+one_output (asks.Crawl workers max queues file seeds options) (asks.Serve asked) bytes before after its ask own other = absurd ask
+one_output (asks.Crawl workers max queues file seeds options) (asks.Compact log new) bytes before after its ask own other = absurd ask
 one_output (asks.Crawl workers max queues file seeds options) (asks.ServeLog asked) bytes before after its ask own other = absurd ask
-one_output (asks.Serve workers max within) other_plan bytes before after its ask own other = absurd ask
+one_output (asks.Compact log new) other_plan bytes before after its ask own other = absurd ask
+one_output (asks.Serve asked) other_plan bytes before after its ask own other = absurd ask
 one_output (asks.ServeLog asked) other_plan bytes before after its ask own other = absurd ask
 one_output (asks.Key url workers) other_plan bytes before after its ask own other = absurd ask
 one_output (asks.Replay file) other_plan bytes before after its ask own other = absurd ask

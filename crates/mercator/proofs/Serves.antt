@@ -1,44 +1,55 @@
 -- What a session tells, by its plan.
-use Rattle.std.proofs.Common.{◌≡◌, ◌⊎◌, inl, inr, ℕ, List, [], false, IfSome, Option, String, Global, refl, sym, subst, ◌∙◌}
+use Rattle.std.proofs.Common.{◌≡◌, ◌⊎◌, inl, inr, ℕ, List, [], ◌++◌, false, IfSome, Result, Ok, Err, IfErr, Option, String, Global, refl, sym, subst, ◌∙◌}
+use Rattle.std.specs.Io.KnownBytes.{Appends}
+use Rattle.std.proofs.KnownBytes.{Appends-nil, Appends-trans}
 use Rattle.std.specs.Str.Lines.{lines}
 use Rattle.crawl_core.specs.Shows.{Shows}
 use Rattle.crawl_core.specs.State.{start}
 use Rattle.crawl_session.specs.Answers.{answer_lines}
+use Rattle.crawl_session.specs.Compacting.{Had, had_none}
 use Rattle.crawl_session.specs.Input.{ServesInput}
 use Rattle.crawl_session.specs.Logs.{Reruns}
 use Rattle.crawl_session.specs.Sessions.{answers, state_after}
 use Rattle.crawl_session.specs.Settings.{SessionView}
 use Rattle.crawl_session.specs.declared.serving.ServeError.{ServeError}
 use Rattle.crawl_session.specs.declared.serving.ServeError.TheVariants as serving
+use Rattle.crawl_session.proofs.Compacted.{compacts_both, compacts_none}
+use Rattle.mercator.specs.Compaction.{Compacted, IsCompacted}
 use Rattle.mercator.specs.Ending.{Begins}
 use Rattle.mercator.specs.Faults.{of_session, status_of_fault}
 use Rattle.mercator.specs.LogFile.{IsLogFault}
-use Rattle.mercator.specs.Plans.{IsTelling, IsWithinLimits, has_log, is_bad_suffix, suffixes_of}
-use Rattle.mercator.specs.Told.{EndsBy, Gains, IsDoneWithNote, MayNote, TellsFault, settings_of}
+use Rattle.mercator.specs.Plans.{IsTelling, IsWithinLimits, has_log, is_bad_suffix, queues_of, suffixes_of}
+use Rattle.mercator.specs.Told.{EndsBy, Fails, FailsLog, Gains, IsDoneWithNote, MayNote, TellsFault, no_identity, part_of, settings_of}
 use Rattle.mercator.specs.declared.commands.fault.Fault.{Fault}
 use Rattle.mercator.specs.declared.commands.fault.Fault.TheVariants as wrong
 use Rattle.mercator.specs.declared.commands.log_file.LogFault.TheVariants as unlogged
 use Rattle.mercator.specs.declared.commands.planned.LogPlan.{LogPlan}
 use Rattle.mercator.specs.declared.commands.planned.Plan.{Plan}
+use Rattle.mercator.specs.declared.commands.planned.SessionPlan.{SessionPlan}
 use Rattle.mercator.specs.declared.commands.planned.Plan.TheVariants as asks
 
+-- a session that was made for a plan has its settings
+pub made_for : (session : SessionView) (asked : SessionPlan) (identity : List ℕ) (filter : List (List ℕ)) → session.settings.workers ≡ queues_of asked → session.settings.suffixes ≡ filter → session.settings.part ≡ part_of asked.workers identity asked.part → filter ≡ suffixes_of asked.within
+    → session.settings ≡ settings_of asked identity
+made_for session asked identity filter many filtered placed good = λ i. record { workers = many i; suffixes = (filtered ∙ good) i; part = placed i }
+
 -- a session that was served to the end of its input
-pub gains_answers : (session : SessionView) (workers max : ℕ) (within : Option (String Global)) (filter : List (List ℕ)) (input out_old out_new : Option (List ℕ)) (new : SessionView) → Shows session.core (start workers max) → session.settings.workers ≡ workers
-    → session.settings.suffixes ≡ filter → (is_bad_suffix within ≡ false) × (filter ≡ suffixes_of within) → ServesInput session input out_old out_new new → Gains (asks.Serve workers max within) input out_old out_new
-gains_answers session workers max within filter input out_old out_new new shown many filtered good served =
-    let is : session.settings ≡ record { workers = workers; suffixes = suffixes_of within } = λ i. record { workers = many i; suffixes = (filtered ∙ good.1) i } in
-    let told : served.text ≡ answer_lines (answers session.settings (start workers max) (lines served.bytes)) = (served.serves.comes (start workers max) shown).0 in
+pub gains_answers : (session : SessionView) (asked : SessionPlan) (input out_old out_new : Option (List ℕ)) (new : SessionView) → Shows session.core (start (queues_of asked) asked.max) → session.settings ≡ settings_of asked no_identity
+    → is_bad_suffix asked.within ≡ false → ServesInput session input out_old out_new new → Gains (asks.Serve asked) input out_old out_new
+gains_answers session asked input out_old out_new new shown is good served =
+    let begun = start (queues_of asked) asked.max in
+    let told : served.text ≡ answer_lines (answers session.settings begun (lines served.bytes)) = (served.serves.comes begun shown).0 in
     record {
       text = served.text;
-      told = (good.0, record { bytes = served.bytes; read = served.read; answered = subst (λ s. served.text ≡ answer_lines (answers s (start workers max) (lines served.bytes))) is told });
+      told = (good, record { bytes = served.bytes; read = served.read; answered = subst (λ s. served.text ≡ answer_lines (answers s begun (lines served.bytes))) is told });
       gained = served.written;
     }
 
 -- one that broke off
-pub breaks_off : (workers max : ℕ) (within : Option (String Global)) (input : Option (List ℕ)) (why : ServeError) (Unwritten : Type 0) → is_bad_suffix within ≡ false → EndsBy (asks.Serve workers max within) input (of_session why) Unwritten
-breaks_off workers max within input serving.CannotRead Unwritten good = inr (inr good)
-breaks_off workers max within input serving.CannotWrite Unwritten good = inr (inr good)
-breaks_off workers max within input serving.NoMemory Unwritten good = inr (inr good)
+pub breaks_off : (asked : SessionPlan) (input : Option (List ℕ)) (why : ServeError) (Unwritten : Type 0) → is_bad_suffix asked.within ≡ false → EndsBy (asks.Serve asked) input (of_session why) Unwritten
+breaks_off asked input serving.CannotRead Unwritten good = inr (inr good)
+breaks_off asked input serving.CannotWrite Unwritten good = inr (inr good)
+breaks_off asked input serving.NoMemory Unwritten good = inr (inr good)
 
 -- what a session was given of a log: the requests in these bytes, or none
 pub reruns_served : (old : SessionView) (input out_old out_new : Option (List ℕ)) (new : SessionView) → ServesInput old input out_old out_new new → (bytes : List ℕ) × Reruns old (lines bytes) new
@@ -48,31 +59,31 @@ pub reruns_none : (session : SessionView) → (bytes : List ℕ) × Reruns sessi
 reruns_none session = ([], record { settings = refl; comes = λ state shown. shown })
 
 -- a session that went on from a log, and was served to the end of its input
-pub gains_on : (session : SessionView) (asked : LogPlan) (filter : List (List ℕ)) (resumed : SessionView) (input given out_old out_new : Option (List ℕ)) (new : SessionView) → Shows session.core (start asked.workers asked.max) → session.settings.workers ≡ asked.workers
-    → session.settings.suffixes ≡ filter → (is_bad_suffix asked.within ≡ false) × (filter ≡ suffixes_of asked.within) → (bytes : List ℕ) × Reruns session (lines bytes) resumed → given ≡ input → ServesInput resumed given out_old out_new new
-    → Gains (asks.ServeLog asked) input out_old out_new
-gains_on session asked filter resumed input given out_old out_new new shown many filtered good log same served =
-    let is : session.settings ≡ settings_of asked = λ i. record { workers = many i; suffixes = (filtered ∙ good.1) i } in
-    let behind : Shows resumed.core (state_after session.settings (start asked.workers asked.max) (lines log.0)) = log.1.comes (start asked.workers asked.max) shown in
-    let told : served.text ≡ answer_lines (answers resumed.settings (state_after session.settings (start asked.workers asked.max) (lines log.0)) (lines served.bytes)) =
-    (served.serves.comes (state_after session.settings (start asked.workers asked.max) (lines log.0)) behind).0 in
-    let own = subst (λ s. served.text ≡ answer_lines (answers s (state_after session.settings (start asked.workers asked.max) (lines log.0)) (lines served.bytes))) log.1.settings told in
+pub gains_on : (session : SessionView) (asked : LogPlan) (identity : List ℕ) (resumed : SessionView) (input given out_old out_new : Option (List ℕ)) (new : SessionView) → Shows session.core (start (queues_of asked.session) asked.session.max) → session.settings ≡ settings_of asked.session identity
+    → is_bad_suffix asked.session.within ≡ false → (bytes : List ℕ) × Reruns session (lines bytes) resumed → given ≡ input → ServesInput resumed given out_old out_new new → Gains (asks.ServeLog asked) input out_old out_new
+gains_on session asked identity resumed input given out_old out_new new shown is good log same served =
+    let begun = start (queues_of asked.session) asked.session.max in
+    let behind : Shows resumed.core (state_after session.settings begun (lines log.0)) = log.1.comes begun shown in
+    let told : served.text ≡ answer_lines (answers resumed.settings (state_after session.settings begun (lines log.0)) (lines served.bytes)) =
+    (served.serves.comes (state_after session.settings begun (lines log.0)) behind).0 in
+    let own = subst (λ s. served.text ≡ answer_lines (answers s (state_after session.settings begun (lines log.0)) (lines served.bytes))) log.1.settings told in
     record {
       text = served.text;
       told = (
-        good.0,
+        good,
         record {
+          identity = identity;
           log = log.0;
           bytes = served.bytes;
           read = subst (λ i. IfSome i (λ known. served.bytes ≡ known)) same served.read;
-          answered = subst (λ s. served.text ≡ answer_lines (answers s (state_after s (start asked.workers asked.max) (lines log.0)) (lines served.bytes))) is own;
+          answered = subst (λ s. served.text ≡ answer_lines (answers s (state_after s begun (lines log.0)) (lines served.bytes))) is own;
         },
       );
       gained = served.written;
     }
 
 -- one that broke off
-pub breaks_off_log : (asked : LogPlan) (input : Option (List ℕ)) (why : ServeError) (fault : Fault) (Unwritten : Type 0) → is_bad_suffix asked.within ≡ false → (fault ≡ of_session why) ⊎ (fault ≡ wrong.Log unlogged.CannotWrite)
+pub breaks_off_log : (asked : LogPlan) (input : Option (List ℕ)) (why : ServeError) (fault : Fault) (Unwritten : Type 0) → is_bad_suffix asked.session.within ≡ false → (fault ≡ of_session why) ⊎ (fault ≡ wrong.Log unlogged.CannotWrite)
     → EndsBy (asks.ServeLog asked) input fault Unwritten
 breaks_off_log asked input serving.CannotRead fault Unwritten good (inl is) = subst (λ f. EndsBy (asks.ServeLog asked) input f Unwritten) (sym is) (inr (inr good))
 breaks_off_log asked input serving.CannotWrite fault Unwritten good (inl is) = subst (λ f. EndsBy (asks.ServeLog asked) input f Unwritten) (sym is) (inr (inr good))
@@ -80,20 +91,23 @@ breaks_off_log asked input serving.NoMemory fault Unwritten good (inl is) = subs
 breaks_off_log asked input why fault Unwritten good (inr is) = subst (λ f. EndsBy (asks.ServeLog asked) input f Unwritten) (sym is) (inr (inr good))
 
 -- one that did not begin
-pub fails_log : (asked : LogPlan) (input : Option (List ℕ)) (fault : Fault) (Unwritten : Type 0) → is_bad_suffix asked.within ≡ false → IsLogFault fault → Unwritten → EndsBy (asks.ServeLog asked) input fault Unwritten
-fails_log asked input wrong.NoMemory Unwritten good is none = inl (tt, none)
-fails_log asked input (wrong.Log why) Unwritten good is none = inl (good, none)
-fails_log asked input wrong.CannotRead Unwritten good is none = absurd is
-fails_log asked input wrong.CannotReadSeeds Unwritten good is none = absurd is
-fails_log asked input (wrong.Script fault) Unwritten good is none = absurd is
-fails_log asked input (wrong.Web fault) Unwritten good is none = absurd is
-fails_log asked input (wrong.Seeds fault) Unwritten good is none = absurd is
-fails_log asked input wrong.NoSeed Unwritten good is none = absurd is
-fails_log asked input (wrong.Seed place refusal) Unwritten good is none = absurd is
-fails_log asked input (wrong.Url refusal) Unwritten good is none = absurd is
-fails_log asked input (wrong.Crawl error) Unwritten good is none = absurd is
-fails_log asked input wrong.BadSuffix Unwritten good is none = absurd is
-fails_log asked input wrong.CannotWrite Unwritten good is none = absurd is
+pub log_fails : (within : Option (String Global)) (fault : Fault) → is_bad_suffix within ≡ false → IsLogFault fault → FailsLog within fault
+log_fails within wrong.NoMemory good is = tt
+log_fails within (wrong.Log why) good is = good
+log_fails within wrong.CannotRead good is = absurd is
+log_fails within wrong.CannotReadSeeds good is = absurd is
+log_fails within (wrong.Script fault) good is = absurd is
+log_fails within (wrong.Web fault) good is = absurd is
+log_fails within (wrong.Seeds fault) good is = absurd is
+log_fails within wrong.NoSeed good is = absurd is
+log_fails within (wrong.Seed place refusal) good is = absurd is
+log_fails within (wrong.Url refusal) good is = absurd is
+log_fails within (wrong.Crawl error) good is = absurd is
+log_fails within wrong.BadSuffix good is = absurd is
+log_fails within wrong.CannotWrite good is = absurd is
+
+pub fails_log : (asked : LogPlan) (input : Option (List ℕ)) (fault : Fault) (Unwritten : Type 0) → is_bad_suffix asked.session.within ≡ false → IsLogFault fault → Unwritten → EndsBy (asks.ServeLog asked) input fault Unwritten
+fails_log asked input fault Unwritten good is none = inl (log_fails asked.session.within fault good is, none)
 
 -- what is the log's fault has status 1
 pub plain_log : (fault : Fault) → IsLogFault fault → status_of_fault fault ≡ 1
@@ -112,18 +126,20 @@ plain_log wrong.BadSuffix is = absurd is
 plain_log wrong.CannotWrite is = absurd is
 
 -- a plan that is no session tells a text, and notes nothing
-pub is_telling : (plan : Plan) → ((workers max : ℕ) (within : Option (String Global)) → plan ≡ asks.Serve workers max within → ⊥) → ((asked : LogPlan) → plan ≡ asks.ServeLog asked → ⊥) → IsTelling plan
-is_telling (asks.Crawl workers max queues file seeds options) other logged = tt
-is_telling (asks.Key url workers) other logged = tt
-is_telling (asks.Replay file) other logged = tt
-is_telling (asks.Serve workers max within) other logged = other workers max within refl
-is_telling (asks.ServeLog asked) other logged = logged asked refl
+pub is_telling : (plan : Plan) → ((asked : SessionPlan) → plan ≡ asks.Serve asked → ⊥) → ((asked : LogPlan) → plan ≡ asks.ServeLog asked → ⊥) → ((log : LogPlan) (new : String Global) → plan ≡ asks.Compact log new → ⊥) → IsTelling plan
+is_telling (asks.Crawl workers max queues file seeds options) other logged compacts = tt
+is_telling (asks.Key url workers) other logged compacts = tt
+is_telling (asks.Replay file) other logged compacts = tt
+is_telling (asks.Serve asked) other logged compacts = other asked refl
+is_telling (asks.ServeLog asked) other logged compacts = logged asked refl
+is_telling (asks.Compact log new) other logged compacts = compacts log new refl
 
 pub notes_nothing : (plan : Plan) (old new : Option (List ℕ)) → ((asked : LogPlan) → plan ≡ asks.ServeLog asked → ⊥) → MayNote plan old new
 notes_nothing (asks.Crawl workers max queues file seeds options) old new plain = tt
 notes_nothing (asks.Key url workers) old new plain = tt
 notes_nothing (asks.Replay file) old new plain = tt
-notes_nothing (asks.Serve workers max within) old new plain = tt
+notes_nothing (asks.Serve asked) old new plain = tt
+notes_nothing (asks.Compact log file) old new plain = tt
 notes_nothing (asks.ServeLog asked) old new plain = absurd (plain asked refl)
 
 -- a fault's line is told, behind what a session with a log may have told
@@ -131,7 +147,8 @@ pub tells_fault : (plan : Plan) (old middle new : Option (List ℕ)) (line : Lis
 tells_fault (asks.Crawl workers max queues file seeds options) old middle new line silent noted told = subst (λ o. Begins o new line) (silent refl) told
 tells_fault (asks.Key url workers) old middle new line silent noted told = subst (λ o. Begins o new line) (silent refl) told
 tells_fault (asks.Replay file) old middle new line silent noted told = subst (λ o. Begins o new line) (silent refl) told
-tells_fault (asks.Serve workers max within) old middle new line silent noted told = subst (λ o. Begins o new line) (silent refl) told
+tells_fault (asks.Compact log file) old middle new line silent noted told = subst (λ o. Begins o new line) (silent refl) told
+tells_fault (asks.Serve asked) old middle new line silent noted told = subst (λ o. Begins o new line) (silent refl) told
 tells_fault (asks.ServeLog asked) old middle new line silent noted told = (middle, noted, told)
 
 -- words are done that are a plan's
@@ -140,5 +157,48 @@ pub done_words : {E : Type 0} (plan : Plan) (contents : E → Option (List ℕ))
 done_words (asks.Crawl workers max queues file seeds options) contents input out_old out_new old new limits gains silent noted = inl (silent refl)
 done_words (asks.Key url workers) contents input out_old out_new old new limits gains silent noted = inl (silent refl)
 done_words (asks.Replay file) contents input out_old out_new old new limits gains silent noted = inl (silent refl)
-done_words (asks.Serve workers max within) contents input out_old out_new old new limits gains silent noted = inl (silent refl)
+done_words (asks.Compact log file) contents input out_old out_new old new limits gains silent noted = inl (silent refl)
+done_words (asks.Serve asked) contents input out_old out_new old new limits gains silent noted = inl (silent refl)
 done_words (asks.ServeLog asked) contents input out_old out_new old new limits gains silent noted = inr (asks.ServeLog asked, limits, record { logged = refl; gains = gains; noted = noted })
+
+-- a compaction that is done tells nothing, and one that is not fails as its log does
+pub gains_nothing : (log : LogPlan) (new : String Global) (input out : Option (List ℕ)) → is_bad_suffix log.session.within ≡ false → Gains (asks.Compact log new) input out out
+gains_nothing log new input out good = record { text = []; told = (good, refl); gained = Appends-nil out }
+
+-- what a compaction did, and more of it
+pub compacted_more : (had : Had) (old : SessionView) (next : Had) (mid : SessionView) (last : Had) (new : SessionView) (out_old out_mid out_new : Option (List ℕ)) → Compacted had old next mid out_old out_mid → Compacted next mid last new out_mid out_new → Compacted had old last new out_old out_new
+compacted_more had old next mid last new out_old out_mid out_new one two = record {
+  requests = one.requests ++ two.requests;
+  text = one.text ++ two.text;
+  gained = Appends-trans out_old out_mid out_new one.text two.text one.gained two.gained;
+  compacts = compacts_both had old one.requests one.text next mid two.requests two.text last new one.compacts two.compacts;
+}
+
+pub compacted_none : (had : Had) (session : SessionView) (out : Option (List ℕ)) → Compacted had session had session out out
+compacted_none had session out = record { requests = []; text = []; gained = Appends-nil out; compacts = compacts_none had session }
+
+-- a log that was compacted behind its first line, to its end
+pub is_compacted : (session : SessionView) (next : Had) (new : SessionView) (out_old out_new : Option (List ℕ)) → Compacted had_none session next new out_old out_new → IsCompacted session [] out_old out_new
+is_compacted session next new out_old out_new all = record {
+  requests = all.requests;
+  text = all.text;
+  gained = all.gained;
+  shortest = λ state shown. (all.compacts.comes state shown).0;
+}
+
+pub behind_first : (session : SessionView) (first : List ℕ) (out_old out_mid out_new : Option (List ℕ)) → Appends out_old out_mid first → IsCompacted session [] out_mid out_new → IsCompacted session first out_old out_new
+behind_first session first out_old out_mid out_new written all = record {
+  requests = all.requests;
+  text = all.text;
+  gained = Appends-trans out_old out_mid out_new first all.text written all.gained;
+  shortest = all.shortest;
+}
+
+pub fails_compacting : (log : LogPlan) (file : String Global) (r : Result (Unit {0}) Fault) → is_bad_suffix log.session.within ≡ false → IfErr r IsLogFault → IfErr r (λ fault. (input : Option (List ℕ)) → Fails (asks.Compact log file) input fault)
+fails_compacting log file (Ok done) good is = tt
+fails_compacting log file (Err fault) good is = λ input. log_fails log.session.within fault good is
+
+pub ends_compacting : (plan : Plan) (log : LogPlan) (file : String Global) (r : Result (Unit {0}) Fault) (input : Option (List ℕ)) (Unwritten : Type 0) → plan ≡ asks.Compact log file → IfErr r (λ fault. (input : Option (List ℕ)) → Fails (asks.Compact log file) input fault) → Unwritten
+    → IfErr r (λ fault. EndsBy plan input fault Unwritten)
+ends_compacting plan log file (Ok done) input Unwritten is fails none = tt
+ends_compacting plan log file (Err fault) input Unwritten is fails none = subst (λ p. EndsBy p input fault Unwritten) (sym is) (inl (fails input, none))

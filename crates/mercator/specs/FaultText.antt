@@ -73,6 +73,8 @@ log_text unlogged.InUse = codes "in use"
 log_text unlogged.CannotRead = codes "cannot read"
 log_text unlogged.OtherSettings = codes "other settings"
 log_text unlogged.CannotWrite = codes "cannot write"
+log_text unlogged.CannotMakeNew = codes "cannot make the new log"
+log_text unlogged.CannotWriteNew = codes "cannot write the new log"
 
 -- the text of a fault that speaks of this file
 abbrev pub fault_text : List ℕ → Fault → List ℕ

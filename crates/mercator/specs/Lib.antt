@@ -1,3 +1,4 @@
+pub mod Compaction
 pub mod Crawls
 pub mod Ending
 pub mod FaultText

@@ -1,5 +1,8 @@
 -- What a log gains.
-use Rattle.std.specs.Prelude.{ℕ, ◌-◌, List, [], ◌∷◌, ◌++◌, ◌==◌, if◌then◌else◌, drop, length, min, position, slice_range, take, unwrap_or}
+use Rattle.std.specs.Prelude.{ℕ, ◌-◌, Bool, ◌&&◌, ◌||◌, List, [], ◌∷◌, ◌++◌, ◌==◌, codes, if◌then◌else◌, drop, length, min, nat_lt, position, slice_range, take, unwrap_or}
+use Rattle.std.specs.List.{list_any}
+use Rattle.std.specs.Str.{bytes_eq}
+use Rattle.std.specs.Str.Lines.{lines}
 use Rattle.crawl_session.specs.Input.{held_limit}
 use Rattle.mercator.specs.declared.commands.fault.Fault.{Fault}
 use Rattle.mercator.specs.declared.commands.fault.Fault.TheVariants as wrong
@@ -20,6 +23,18 @@ line_len bytes = unwrap_or (position (λ b. b == 10) bytes) (length bytes)
 -- what a log has of bytes that follow so many of an unfinished line: all, but for those of that line past the limit
 abbrev pub noted : ℕ → List ℕ → List ℕ
 noted unfinished bytes = take (min (line_len bytes) (held_limit - unfinished)) bytes ++ drop (line_len bytes) bytes
+
+-- a line of these is `sync`
+abbrev pub has_sync : List (List ℕ) → Bool
+has_sync ls = list_any (λ line. bytes_eq line (codes "sync")) ls
+
+-- so many bytes can be a beginning of `sync` and a CR
+abbrev pub may_be_sync : ℕ → Bool
+may_be_sync unfinished = nat_lt 0 unfinished && nat_lt unfinished 6
+
+-- a line that ends in these bytes, which follow so many of an unfinished line, may be `sync`
+abbrev pub may_sync : ℕ → List ℕ → Bool
+may_sync unfinished bytes = may_be_sync unfinished || has_sync (lines bytes)
 
 -- the fault is the log's, or want of memory
 abbrev pub IsLogFault : Fault → Type 0

@@ -1,5 +1,5 @@
 -- What a command line asks for.
-use Rattle.std.specs.Prelude.{ℕ, ◌≤◌, ◌≡◌, ◌⊎◌, ◌&&◌, ◌||◌, Bool, true, false, not, List, [], ◌∷◌, codes, length, if◌then◌else◌, Option, Some, None, IsSome, String, string_bytes}
+use Rattle.std.specs.Prelude.{ℕ, ◌<◌, ◌≤◌, ◌*◌, ◌≡◌, ◌⊎◌, ◌&&◌, ◌||◌, Bool, true, false, not, List, [], ◌∷◌, codes, length, if◌then◌else◌, Option, Some, None, IsSome, String, string_bytes}
 use Rattle.std.specs.declared.alloc.Global.{Global}
 use Rattle.std.specs.Str.{bytes_eq}
 use Rattle.crawl_limits.specs.Limits.{worker_limit, AreLimits}
@@ -7,6 +7,7 @@ use Rattle.crawl_keys.specs.HostFilter.{is_good}
 use Rattle.mercator.specs.declared.commands.fault.Fault.{Fault}
 use Rattle.mercator.specs.declared.commands.fault.Fault.TheVariants as fault
 use Rattle.mercator.specs.declared.commands.planned.Plan.{Plan}
+use Rattle.mercator.specs.declared.commands.planned.SessionPlan.{SessionPlan}
 use Rattle.mercator.specs.declared.commands.planned.Plan.TheVariants as asks
 use Rattle.mercator.specs.declared.commands.words.PlanError.{PlanError}
 use Rattle.mercator.specs.declared.commands.words.PlanError.TheVariants as wrong
@@ -20,14 +21,32 @@ abbrev pub lists_input : Option (String Global) → Bool
 lists_input None = false
 lists_input (Some file) = is_input (string_bytes file)
 
+-- how many queues all parts have, of which each has so many
+abbrev pub all_queues : ℕ → Option (ℕ × ℕ) → ℕ
+all_queues workers None = workers
+all_queues workers (Some p) = workers * p.1
+
+abbrev pub queues_of : SessionPlan → ℕ
+queues_of asked = all_queues asked.workers asked.part
+
+-- the part is one of its crawl
+abbrev pub IsPartOf : Option (ℕ × ℕ) → Type 0
+IsPartOf None = Unit {0}
+IsPartOf (Some p) = p.0 < p.1
+
+-- a frontier can be made with the numbers of a session
+abbrev pub IsSessionPlan : SessionPlan → Type 0
+IsSessionPlan asked = (1 ≤ asked.workers) × (AreLimits (queues_of asked) asked.max × IsPartOf asked.part)
+
 -- a frontier can be made with its numbers; a crawl has a seed or a file of seeds, and not both of its files are the input
 abbrev pub IsWithinLimits : Plan → Type 0
 IsWithinLimits (asks.Crawl workers max queues file seeds options) =
     AreLimits workers max × (IsSome options.listed ⊎ (1 ≤ length seeds.items)) × ((is_input (string_bytes file) && lists_input options.listed) ≡ false)
 IsWithinLimits (asks.Key url workers) = (1 ≤ workers) × (workers ≤ worker_limit)
 IsWithinLimits (asks.Replay file) = Unit {0}
-IsWithinLimits (asks.Serve workers max within) = AreLimits workers max
-IsWithinLimits (asks.ServeLog asked) = AreLimits asked.workers asked.max
+IsWithinLimits (asks.Serve asked) = IsSessionPlan asked
+IsWithinLimits (asks.ServeLog asked) = IsSessionPlan asked.session
+IsWithinLimits (asks.Compact log new) = IsSessionPlan log.session
 
 -- a text is shown with the status of help or with that of a bad command line
 abbrev pub IsShown : PlanError → Type 0
@@ -43,13 +62,14 @@ abbrev pub known_seeds : Option (String Global) → Option (List ℕ) → Option
 known_seeds None input = Some []
 known_seeds (Some file) input = known_bytes (string_bytes file) input
 
--- the FILE of a plan; a key has none, and a session is of the input
+-- the FILE of a plan; a key and a compaction have none, and a session is of the input
 abbrev pub file_of : Plan → List ℕ
 file_of (asks.Crawl workers max queues file seeds options) = string_bytes file
 file_of (asks.Key url workers) = []
 file_of (asks.Replay file) = string_bytes file
-file_of (asks.Serve workers max within) = codes "-"
+file_of (asks.Serve asked) = codes "-"
 file_of (asks.ServeLog asked) = codes "-"
+file_of (asks.Compact log new) = []
 
 -- the name of a file of seeds, where there is one, else FILE
 abbrev pub listed_or : Option (String Global) → List ℕ → List ℕ
@@ -61,6 +81,7 @@ listed_or (Some listed) file = string_bytes listed
 abbrev pub told_file : Plan → Fault → List ℕ
 told_file (asks.Crawl workers max queues file seeds options) fault.CannotReadSeeds = listed_or options.listed (string_bytes file)
 told_file (asks.ServeLog asked) (fault.Log why) = string_bytes asked.file
+told_file (asks.Compact log new) (fault.Log why) = string_bytes log.file
 told_file plan fault = file_of plan
 
 -- the suffixes of the filter of a crawl
@@ -78,13 +99,15 @@ abbrev pub reads_input : Plan → Bool
 reads_input (asks.Crawl workers max queues file seeds options) = not (is_bad_suffix options.within) && (is_input (string_bytes file) || lists_input options.listed)
 reads_input (asks.Key url workers) = false
 reads_input (asks.Replay file) = is_input (string_bytes file)
-reads_input (asks.Serve workers max within) = not (is_bad_suffix within)
-reads_input (asks.ServeLog asked) = not (is_bad_suffix asked.within)
+reads_input (asks.Serve asked) = not (is_bad_suffix asked.within)
+reads_input (asks.ServeLog asked) = not (is_bad_suffix asked.session.within)
+reads_input (asks.Compact log new) = false
 
--- the command tells a text that is whole before it is written; a session answers as it reads
+-- the command tells a text that is whole before it is written; a session answers as it reads, and a compaction has no text
 abbrev pub IsTelling : Plan → Type 0
-IsTelling (asks.Serve workers max within) = ⊥
+IsTelling (asks.Serve asked) = ⊥
 IsTelling (asks.ServeLog asked) = ⊥
+IsTelling (asks.Compact log new) = ⊥
 IsTelling plan = Unit {0}
 
 -- the session has a log

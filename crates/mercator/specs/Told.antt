@@ -1,5 +1,5 @@
 -- What each command tells, and why it fails, by the bytes of its FILE.
-use Rattle.std.specs.Prelude.{◌≡◌, ◌⊎◌, ℕ, ◌≤◌, true, false, List, [], length, map, Option, None, Err, IfSome, IsSome, IsSomeAnd, IsErr, String, string_bytes}
+use Rattle.std.specs.Prelude.{◌≡◌, ◌⊎◌, ℕ, ◌≤◌, true, false, List, [], codes, length, map, Option, Some, None, Err, IfSome, IsSome, IsSomeAnd, IsErr, String, string_bytes}
 use Rattle.std.specs.Io.KnownBytes.{Appends}
 use Rattle.std.specs.declared.alloc.Global.{Global}
 use Rattle.crawl_keys.specs.CanonicalText.{canonical}
@@ -8,18 +8,19 @@ use Rattle.mercator.specs.FaultText.{fault_line, torn_line}
 use Rattle.mercator.specs.Faults.{status_of_fault}
 use Rattle.mercator.specs.KeyLine.{IsKeyLine}
 use Rattle.mercator.specs.Limits.{most_input_bytes}
-use Rattle.mercator.specs.Plans.{has_log, is_bad_suffix, is_input, known_bytes, known_seeds, suffixes_of, told_file}
+use Rattle.mercator.specs.Plans.{has_log, is_bad_suffix, is_input, known_bytes, known_seeds, queues_of, suffixes_of, told_file}
 use Rattle.crawl_replay.specs.Replay.{IsReplay}
 use Rattle.crawl_replay.specs.Script.{script_of}
 use Rattle.crawl_session.specs.Answers.{answer_lines}
 use Rattle.crawl_session.specs.Sessions.{answers, session_text, state_after}
 use Rattle.crawl_session.specs.Settings.{Settings}
+use Rattle.crawl_session.specs.declared.part.Part.{Part}
 use Rattle.crawl_core.specs.State.{start}
 use Rattle.std.specs.Str.Lines.{lines}
 use Rattle.mercator.specs.WebCrawl.{IsBegun, IsCrawlText, IsUnbegun}
 use Rattle.mercator.specs.declared.commands.planned.CrawlOptions.{CrawlOptions}
-use Rattle.mercator.specs.declared.commands.planned.LogPlan.{LogPlan}
 use Rattle.mercator.specs.declared.commands.planned.Plan.{Plan}
+use Rattle.mercator.specs.declared.commands.planned.SessionPlan.{SessionPlan}
 use Rattle.mercator.specs.declared.commands.planned.Plan.TheVariants as asks
 use Rattle.mercator.specs.declared.commands.words.PlanError.{PlanError}
 use Rattle.mercator.specs.declared.commands.words.PlanError.TheVariants as unplanned
@@ -38,23 +39,33 @@ pub record OfFile (known : Option (List ℕ)) (P : List ℕ → Type 0) : Type 0
 abbrev pub OfFiles : List ℕ → Option (String Global) → Option (List ℕ) → (List ℕ → List ℕ → Type 0) → Type 0
 OfFiles file listed input P = OfFile (known_bytes file input) (λ bytes. OfFile (known_seeds listed input) (λ seeds. P bytes seeds))
 
+-- the part of so many queues whose log has this identity
+abbrev pub part_of : ℕ → List ℕ → Option (ℕ × ℕ) → Option Part
+part_of queues identity None = None
+part_of queues identity (Some p) = Some (record { number = p.0; queues = queues; identity = identity })
+
+abbrev pub settings_of : SessionPlan → List ℕ → Settings
+settings_of asked identity = record { workers = queues_of asked; suffixes = suffixes_of asked.within; part = part_of asked.workers identity asked.part }
+
+-- of a part without a log
+abbrev pub no_identity : List ℕ
+no_identity = codes "none"
+
 -- the text has the answers of a session to the lines of an input: of these bytes, which are all that the input has where that is
 -- known
-pub record IsAnswered (workers max : ℕ) (suffixes : List (List ℕ)) (input : Option (List ℕ)) (text : List ℕ) : Type 0 where
+pub record IsAnswered (asked : SessionPlan) (input : Option (List ℕ)) (text : List ℕ) : Type 0 where
   pub bytes : List ℕ
   pub read : IfSome input (λ known. bytes ≡ known)
-  pub answered : text ≡ session_text (record { workers = workers; suffixes = suffixes }) max bytes
+  pub answered : text ≡ session_text (settings_of asked no_identity) asked.max bytes
 
-abbrev pub settings_of : LogPlan → Settings
-settings_of asked = record { workers = asked.workers; suffixes = suffixes_of asked.within }
-
--- the text has the answers of a session that goes on from a log. Whatever requests the log had, behind its first line: the text
--- has the answers, from the state after these, to the lines of an input
-pub record GoesOn (asked : LogPlan) (input : Option (List ℕ)) (text : List ℕ) : Type 0 where
+-- the text has the answers of a session that goes on from a log. Whatever requests the log had, behind its first line, and
+-- whatever identity there: the text has the answers, from the state after these, to the lines of an input
+pub record GoesOn (asked : SessionPlan) (input : Option (List ℕ)) (text : List ℕ) : Type 0 where
+  pub identity : List ℕ
   pub log : List ℕ
   pub bytes : List ℕ
   pub read : IfSome input (λ known. bytes ≡ known)
-  pub answered : text ≡ answer_lines (answers (settings_of asked) (state_after (settings_of asked) (start asked.workers asked.max) (lines log)) (lines bytes))
+  pub answered : text ≡ answer_lines (answers (settings_of asked identity) (state_after (settings_of asked identity) (start (queues_of asked) asked.max) (lines log)) (lines bytes))
 
 -- the text is the plan's
 abbrev pub IsTold : Plan → Option (List ℕ) → List ℕ → Type 0
@@ -63,8 +74,9 @@ IsTold (asks.Crawl workers max queues file seeds options) input text =
     × OfFiles (string_bytes file) options.listed input (λ bytes list. IsBegun bytes list (map string_bytes seeds.items) × IsCrawlText workers queues options bytes list (map string_bytes seeds.items) (suffixes_of options.within) text)
 IsTold (asks.Key url workers) input text = IsKeyLine (string_bytes url) workers text
 IsTold (asks.Replay file) input text = OfFile (known_bytes (string_bytes file) input) (λ bytes. IsReplay bytes text)
-IsTold (asks.Serve workers max within) input text = (is_bad_suffix within ≡ false) × IsAnswered workers max (suffixes_of within) input text
-IsTold (asks.ServeLog asked) input text = (is_bad_suffix asked.within ≡ false) × GoesOn asked input text
+IsTold (asks.Serve asked) input text = (is_bad_suffix asked.within ≡ false) × IsAnswered asked input text
+IsTold (asks.ServeLog asked) input text = (is_bad_suffix asked.session.within ≡ false) × GoesOn asked.session input text
+IsTold (asks.Compact log new) input text = (is_bad_suffix log.session.within ≡ false) × (text ≡ [])
 
 -- why a replay fails: the FILE cannot be read, or is no script, by this fault; or want of memory
 abbrev pub FailsReplay : List ℕ → Option (List ℕ) → Fault → Type 0
@@ -95,7 +107,7 @@ FailsSession within wrong.BadSuffix = is_bad_suffix within ≡ true
 FailsSession within wrong.NoMemory = Unit {0}
 FailsSession within _ = ⊥
 
--- why one with a log does not begin: its suffix is bad, the log is at fault, or want of memory
+-- why one with a log does not begin, and why a log is not compacted: its suffix is bad, the log is at fault, or want of memory
 abbrev pub FailsLog : Option (String Global) → Fault → Type 0
 FailsLog within wrong.BadSuffix = is_bad_suffix within ≡ true
 FailsLog within (wrong.Log fault) = is_bad_suffix within ≡ false
@@ -105,13 +117,13 @@ FailsLog within _ = ⊥
 -- why it ends before its input does: the input cannot be read, an answer or the log cannot be written, or want of
 -- memory
 abbrev pub BreaksOff : Plan → Fault → Type 0
-BreaksOff (asks.Serve workers max within) wrong.CannotRead = is_bad_suffix within ≡ false
-BreaksOff (asks.Serve workers max within) wrong.CannotWrite = is_bad_suffix within ≡ false
-BreaksOff (asks.Serve workers max within) wrong.NoMemory = is_bad_suffix within ≡ false
-BreaksOff (asks.ServeLog asked) wrong.CannotRead = is_bad_suffix asked.within ≡ false
-BreaksOff (asks.ServeLog asked) wrong.CannotWrite = is_bad_suffix asked.within ≡ false
-BreaksOff (asks.ServeLog asked) wrong.NoMemory = is_bad_suffix asked.within ≡ false
-BreaksOff (asks.ServeLog asked) (wrong.Log unlogged.CannotWrite) = is_bad_suffix asked.within ≡ false
+BreaksOff (asks.Serve asked) wrong.CannotRead = is_bad_suffix asked.within ≡ false
+BreaksOff (asks.Serve asked) wrong.CannotWrite = is_bad_suffix asked.within ≡ false
+BreaksOff (asks.Serve asked) wrong.NoMemory = is_bad_suffix asked.within ≡ false
+BreaksOff (asks.ServeLog asked) wrong.CannotRead = is_bad_suffix asked.session.within ≡ false
+BreaksOff (asks.ServeLog asked) wrong.CannotWrite = is_bad_suffix asked.session.within ≡ false
+BreaksOff (asks.ServeLog asked) wrong.NoMemory = is_bad_suffix asked.session.within ≡ false
+BreaksOff (asks.ServeLog asked) (wrong.Log unlogged.CannotWrite) = is_bad_suffix asked.session.within ≡ false
 BreaksOff plan fault = ⊥
 
 -- the fault is one by which the plan's command fails before it writes
@@ -119,8 +131,9 @@ abbrev pub Fails : Plan → Option (List ℕ) → Fault → Type 0
 Fails (asks.Crawl workers max queues file seeds options) input fault = FailsCrawl workers max options.within (string_bytes file) options.listed (map string_bytes seeds.items) input fault
 Fails (asks.Key url workers) input fault = FailsKey (string_bytes url) fault
 Fails (asks.Replay file) input fault = FailsReplay (string_bytes file) input fault
-Fails (asks.Serve workers max within) input fault = FailsSession within fault
-Fails (asks.ServeLog asked) input fault = FailsLog asked.within fault
+Fails (asks.Serve asked) input fault = FailsSession asked.within fault
+Fails (asks.ServeLog asked) input fault = FailsLog asked.session.within fault
+Fails (asks.Compact log new) input fault = FailsLog log.session.within fault
 
 -- there is nothing that the command could tell: the FILE is known and no script; whatever bytes the files of a crawl have, by
 -- what is known of them, there is no web, a seed has no canonical URL, or there is no seed; a suffix is bad; or the URL has no canonical URL
@@ -129,8 +142,9 @@ CannotTell (asks.Crawl workers max queues file seeds options) input =
     (is_bad_suffix options.within ≡ true) ⊎ (OfFiles (string_bytes file) options.listed input (λ bytes list. IsBegun bytes list (map string_bytes seeds.items)) → ⊥)
 CannotTell (asks.Key url workers) input = IsErr (canonical (string_bytes url))
 CannotTell (asks.Replay file) input = IsSomeAnd (known_bytes (string_bytes file) input) (λ bytes. IsErr (script_of bytes))
-CannotTell (asks.Serve workers max within) input = is_bad_suffix within ≡ true
-CannotTell (asks.ServeLog asked) input = is_bad_suffix asked.within ≡ true
+CannotTell (asks.Serve asked) input = is_bad_suffix asked.within ≡ true
+CannotTell (asks.ServeLog asked) input = is_bad_suffix asked.session.within ≡ true
+CannotTell (asks.Compact log new) input = is_bad_suffix log.session.within ≡ true
 
 -- a crawl alone can be incomplete, and it is one of a saved web from seeds, one at least, that have canonical URLs
 abbrev pub MayLose : Plan → Option (List ℕ) → Type 0

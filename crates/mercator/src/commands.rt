@@ -11,11 +11,14 @@ ghost use Rattle.mercator.specs.declared.commands.words.PlanError.{PlanError};
 ghost use Rattle.mercator.specs.declared.commands.fault.Fault.TheVariants as wrong;
 
 mod command_line;
+mod compacting;
 mod crawl_text;
 mod fault;
 mod fault_text;
+mod folder_words;
 mod input;
 mod log_file;
+mod opening;
 mod planned;
 mod queues;
 mod resuming;
@@ -27,27 +30,30 @@ mod window;
 mod words;
 mod writing;
 
+use compacting::compact_log;
 pub use fault::Fault;
 pub use input::{INPUT_LIMIT, InputLimits, READ_LIMIT, Unread, read_input};
-pub use log_file::{LockFiles, LogFault};
-pub use planned::{CrawlOptions, LogPlan, Plan};
+use log_file::NoLocks;
+pub use log_file::{LockFile, LogFault};
+pub use planned::{CrawlOptions, LogPlan, Plan, SessionPlan};
 pub use queues::queue_text;
 use resuming::serve_log;
 use serving::serve_plan;
 use std::alloc::Global;
+use std::fs::Files;
 use std::io::{Read, Write};
 use std::sync::Wait;
 use std::thread::Threads;
 use tell::tell;
 pub use web_crawl::{Report, crawl_saved_web, report_of_saved_web};
-pub use words::{BAD_COMMAND_LINE, PlanError, plan};
+pub use words::{BAD_COMMAND_LINE, PlanError, plan, whole_command};
 pub use writing::fault_line;
 use writing::{begin, end, tell_fault};
 
 /// Runs the program and answers its status: 0 done, 1 a fault, 2 an incomplete crawl, 3 a bad command line. The words are those
 /// after the program's name, and [`plan`] reads them; [`run_plan`] runs what they ask for. Help that is asked for is written to
-/// `out`, and what is wrong with the words to `err`. It is for a process that ends then, as [`run_plan`] is.
-pub fn run_words<R: LockFiles + Threads + Wait + Sync, I: Read, O: Write, E: Write>(
+/// `out`, and what is wrong with the words to `err`. It is for a process that ends then, as [`run_plan`] is. It can lock no file, and so opens no log.
+pub fn run_words<R: Files + Threads + Wait + Sync, I: Read, O: Write, E: Write>(
     rt: &R,
     alloc: Global,
     words: &[String],
@@ -76,8 +82,40 @@ pub fn run_words<R: LockFiles + Threads + Wait + Sync, I: Read, O: Write, E: Wri
     ensures bad_command { result ≡ 3 → (input.new ≡ input.old) × (out.new ≡ out.old) }
     ensures bad_words { result ≡ 3 → (error : PlanError) × TellsWords error (E.contents err.old) (E.contents err.new) }
 {
+    run_words_with(rt, &NoLocks, alloc, words, input, out, err)
+}
+
+/// The same, with what locks the files of logs.
+pub fn run_words_with<
+    R: Files + Threads + Wait + Sync,
+    L: LockFile<R::File>,
+    I: Read,
+    O: Write,
+    E: Write,
+>(rt: &R, locks: &L, alloc: Global, words: &[String], input: &mut I, out: &mut O, err: &mut E) -> u8
+    ensures statuses { result ≤ 3 }
+
+    // Done: help is written, or all that the plan within the limits tells which the words are.
+    ensures done { result ≡ 0 → ((input.new ≡ input.old) × ((text : List ℕ) × Appends (O.contents out.old) (O.contents out.new) text))
+        ⊎ ((plan : Plan) × IsWithinLimits plan × Gains plan (I.remaining input.old) (O.contents out.old) (O.contents out.new)) }
+
+    // A session with a log may tell that its last line was torn; what else is done tells nothing to `err`.
+    ensures silent { result ≡ 0 → (err.new ≡ err.old)
+        ⊎ ((plan : Plan) × IsWithinLimits plan × IsDoneWithNote plan (I.remaining input.old) (O.contents out.old) (O.contents out.new) (E.contents err.old) (E.contents err.new)) }
+
+    // A fault: help cannot be written, or there is no memory for the plan, or the plan's command ends by it.
+    ensures fault { result ≡ 1 → ((input.new ≡ input.old) × FailsWithoutPlan (E.contents err.old) (E.contents err.new) (out.new ≡ out.old))
+        ⊎ ((plan : Plan) × IsWithinLimits plan × EndsByFault plan result (I.remaining input.old) (E.contents err.old) (E.contents err.new) (out.new ≡ out.old)) }
+
+    // Only a crawl is incomplete, and nothing is written then.
+    ensures incomplete { result ≡ 2 → (plan : Plan) × IsWithinLimits plan × EndsByFault plan result (I.remaining input.old) (E.contents err.old) (E.contents err.new) (out.new ≡ out.old) }
+
+    // A bad command line: what is wrong with it is told, and nothing else happens.
+    ensures bad_command { result ≡ 3 → (input.new ≡ input.old) × (out.new ≡ out.old) }
+    ensures bad_words { result ≡ 3 → (error : PlanError) × TellsWords error (E.contents err.old) (E.contents err.new) }
+{
     match plan(alloc, words) {
-        Ok(plan) => run_plan(rt, alloc, &plan, input, out, err),
+        Ok(plan) => run_plan_with(rt, locks, alloc, &plan, input, out, err),
         Err(error) => show(alloc, error, out, err),
     }
 }
@@ -88,7 +126,7 @@ pub fn run_words<R: LockFiles + Threads + Wait + Sync, I: Read, O: Write, E: Wri
 ///
 /// It is for a process that ends then: a crawl's web and pages are not dropped but left to its end, which gives their memory back
 /// at once. What crawls again and again in one process calls [`crawl_saved_web`], which leaves nothing.
-pub fn run_plan<R: LockFiles + Threads + Wait + Sync, I: Read, O: Write, E: Write>(
+pub fn run_plan<R: Files + Threads + Wait + Sync, I: Read, O: Write, E: Write>(
     rt: &R,
     alloc: Global,
     plan: &Plan,
@@ -117,7 +155,39 @@ pub fn run_plan<R: LockFiles + Threads + Wait + Sync, I: Read, O: Write, E: Writ
     ensures unreported { result ≡ 2 → out.new ≡ out.old }
     ensures unread { reads_input plan.now ≡ false → input.new ≡ input.old }
 {
-    match run(rt, alloc, plan, input, out, err) {
+    run_plan_with(rt, &NoLocks, alloc, plan, input, out, err)
+}
+
+/// The same, with what locks the files of logs.
+pub fn run_plan_with<
+    R: Files + Threads + Wait + Sync,
+    L: LockFile<R::File>,
+    I: Read,
+    O: Write,
+    E: Write,
+>(rt: &R, locks: &L, alloc: Global, plan: &Plan, input: &mut I, out: &mut O, err: &mut E) -> u8
+    requires { IsWithinLimits plan.now }
+    ensures statuses { result ≤ 2 }
+
+    // What is written when a command is done, by the bytes of its FILE.
+    ensures done { result ≡ 0 → Gains plan.now (I.remaining input.old) (O.contents out.old) (O.contents out.new) }
+    ensures silent { has_log plan.now ≡ false → result ≡ 0 → err.new ≡ err.old }
+
+    // The last line of a log may be torn.
+    ensures noted { result ≡ 0 → MayNote plan.now (E.contents err.old) (E.contents err.new) }
+
+    // Else it ends by a fault, which is told in its line; the fault that comes first, and one by which this plan fails.
+    ensures fault { 0 < result → EndsByFault plan.now result (I.remaining input.old) (E.contents err.old) (E.contents err.new) (out.new ≡ out.old) }
+
+    // A command that has nothing to tell ends by a fault, and nothing is written.
+    ensures refused { CannotTell plan.now (I.remaining input.old) → (result ≡ 1) × (out.new ≡ out.old) }
+
+    // Only a crawl of a saved web is incomplete, and nothing is written then.
+    ensures incomplete { result ≡ 2 → MayLose plan.now (I.remaining input.old) }
+    ensures unreported { result ≡ 2 → out.new ≡ out.old }
+    ensures unread { reads_input plan.now ≡ false → input.new ≡ input.old }
+{
+    match run(rt, locks, alloc, plan, input, out, err) {
         Ok(()) => 0,
         Err(fault) => {
             tell_fault(alloc, err, plan.told_file(fault), fault);
@@ -127,8 +197,9 @@ pub fn run_plan<R: LockFiles + Threads + Wait + Sync, I: Read, O: Write, E: Writ
 }
 
 /// Runs a plan, but for what is told of its fault.
-fn run<R: LockFiles + Threads + Wait + Sync, I: Read, O: Write, E: Write>(
+fn run<R: Files + Threads + Wait + Sync, L: LockFile<R::File>, I: Read, O: Write, E: Write>(
     rt: &R,
+    locks: &L,
     alloc: Global,
     plan: &Plan,
     input: &mut I,
@@ -145,12 +216,9 @@ fn run<R: LockFiles + Threads + Wait + Sync, I: Read, O: Write, E: Write>(
     ensures noted { MayNote plan.now (E.contents err.old) (E.contents err.new) }
 {
     match plan {
-        Plan::Serve {
-            workers,
-            max,
-            within,
-        } => serve_plan(alloc, *workers, *max, within, input, out),
-        Plan::ServeLog(asked) => serve_log(rt, alloc, asked, input, out, err),
+        Plan::Serve(asked) => serve_plan(alloc, asked, input, out),
+        Plan::ServeLog(asked) => serve_log(rt, locks, alloc, asked, input, out, err),
+        Plan::Compact { log, new } => compact_log(rt, locks, alloc, log, new),
         _ => end(out, tell(rt, alloc, plan, input)),
     }
 }

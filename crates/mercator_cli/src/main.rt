@@ -1,7 +1,7 @@
 //! The program `mercator`.
 #![tactic(auto)]
 
-use mercator::{BAD_COMMAND_LINE, Fault, run_words};
+use mercator::{BAD_COMMAND_LINE, Fault, run_words_with};
 use mercator_site::run_site_words;
 use std::io::{ErrorKind, Write};
 use std::process::ExitCode;
@@ -23,7 +23,8 @@ fn main(rt: HostRuntime) -> ExitCode {
     if let Some(status) = folder {
         return ExitCode::from(status);
     }
-    ExitCode::from(run_words(
+    ExitCode::from(run_words_with(
+        &rt,
         &rt,
         rt.alloc(),
         &words,

@@ -18,7 +18,8 @@ use std::thread::Threads;
 pub const BROKEN: u8 = 4;
 
 /// What the help of the whole program says of these commands.
-pub const FOLDER_COMMANDS: &str = "\nOver a folder of HTML pages:\n  check   Tells which links are broken, and where they stand\n  site    Writes the folder's saved web\n";
+pub const FOLDER_COMMANDS: &str =
+    "\nOver a folder of HTML pages:\n  check   Tells which links are broken, and where they stand\n  site    Writes the folder's saved web\n";
 
 /// What words ask for.
 #[derive(Drop)]

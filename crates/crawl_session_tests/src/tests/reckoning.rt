@@ -2,7 +2,7 @@
 use std::alloc::{AllocError, Global};
 
 /// The maximum of URLs that wait or are fetched, with the opening unit.
-pub const MAX: u64 = 90;
+pub const MAX: u64 = 40;
 
 /// The numbers of the URLs that were accepted, oldest first, and how many of these were taken.
 #[derive(Drop)]

@@ -1,4 +1,5 @@
 //! The commands and options as `clap` knows them, and their help.
+use crate::commands::folder_words::{check_command, site_command};
 use clap::builder::ValueParser;
 use clap::{Arg, ArgAction, Command};
 use crawl_limits::{PENDING_LIMIT, WORKER_LIMIT};
@@ -8,8 +9,9 @@ use std::alloc::{AllocError, Global};
 pub const NAME: &str = "mercator";
 
 const STATUSES: &str = "\
-Status: 0 done, 1 a fault, 2 an incomplete crawl, 3 a bad command line.
-Example: mercator crawl site.web http://site.test/";
+Status: 0 done, 1 a fault, 2 an incomplete crawl, 3 a bad command line,
+4 a check that found something broken.
+Example: mercator check examples/site";
 
 const CRAWL_HELP: &str = "\
 The report has a line for each URL, in the order of their bytes, and a line of totals. It is the
@@ -33,6 +35,8 @@ Requests, one a line, each answered by one line at once:
   again Q         taken URL | refused nothing | refused nosuch
   done Q          count COUNT | refused nothing | refused nosuch
   endseeds        count COUNT | refused nothing
+  sync, identity  synced, identity TEXT, of a part; a URL of another part is answered
+                  elsewhere P URL
 Any other line is answered 'bad line', 'line too long' or 'not UTF-8'.";
 
 /// The whole command line.
@@ -44,7 +48,9 @@ pub fn command_line<'a>(alloc: Global) -> Result<Command<'a>, AllocError> {
         .subcommand(crawl_command(alloc)?)?
         .subcommand(key_command(alloc)?)?
         .subcommand(replay_command(alloc)?)?
-        .subcommand(serve_command(alloc)?)
+        .subcommand(serve_command(alloc)?)?
+        .subcommand(site_command(alloc)?)?
+        .subcommand(check_command(alloc)?)
 }
 
 fn crawl_command<'a>(alloc: Global) -> Result<Command<'a>, AllocError> {
@@ -95,8 +101,10 @@ fn serve_command<'a>(alloc: Global) -> Result<Command<'a>, AllocError> {
         .arg(workers(alloc, "Workers, each with a subqueue of its own: 1 to 512"))?
         .arg(max_pending(alloc))?
         .arg(within(alloc))?
+        .arg(part(alloc))?
         .arg(log(alloc))?
-        .arg(sync(alloc)?)
+        .arg(sync(alloc)?)?
+        .arg(compact(alloc)?)
 }
 
 fn workers<'a>(alloc: Global, help: &'a str) -> Arg<'a> {
@@ -173,6 +181,12 @@ fn within<'a>(alloc: Global) -> Arg<'a> {
         .help("Crawls only hosts that are SUFFIX or end with a dot and it")
 }
 
+fn part<'a>(alloc: Global) -> Arg<'a> {
+    Arg::new(alloc, "part").long("part").value_name("I/K").help(
+        "Is part I, from 0, of K frontiers with N workers each that share a crawl",
+    )
+}
+
 fn log<'a>(alloc: Global) -> Arg<'a> {
     Arg::new(alloc, "log").long("log").value_name("FILE").help(
         "Appends each request to FILE before it is answered, and begins where FILE ends",
@@ -184,6 +198,14 @@ fn sync<'a>(alloc: Global) -> Result<Arg<'a>, AllocError> {
         .long("sync")
         .action(ArgAction::SetTrue)
         .help("The disk has each request before it is answered")
+        .requires_arg("log")
+}
+
+fn compact<'a>(alloc: Global) -> Result<Arg<'a>, AllocError> {
+    Arg::new(alloc, "compact")
+        .long("compact")
+        .value_name("NEW")
+        .help("Writes the requests of FILE that are needed to a new file, and ends")
         .requires_arg("log")
 }
 

@@ -233,6 +233,8 @@ impl fmt::Display for LogText {
             LogFault::CannotRead => f.write_str("cannot read"),
             LogFault::OtherSettings => f.write_str("other settings"),
             LogFault::CannotWrite => f.write_str("cannot write"),
+            LogFault::CannotMakeNew => f.write_str("cannot make the new log"),
+            LogFault::CannotWriteNew => f.write_str("cannot write the new log"),
         }
     }
 }

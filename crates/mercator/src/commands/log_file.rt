@@ -1,38 +1,48 @@
 //! The file of a log: it gains each byte that is read, before it is handed on.
-ghost use Rattle.std.specs.Prelude.{◌≡◌, ◌<◌, ◌≤◌, ◌⊎◌, [], ◌++◌, length, take, drop, vec_len, IfOk, OnOk};
+ghost use Rattle.std.specs.Prelude.{◌≡◌, ◌<◌, ◌≤◌, ◌⊎◌, [], ◌++◌, true, length, take, drop, vec_len, IfOk, OnOk};
+ghost use Rattle.std.specs.Str.Lines.{lines};
 ghost use Rattle.std.specs.Io.{ReadsAtMost};
 ghost use Rattle.std.specs.Io.KnownBytes.{Appends, IsAtEnd, Keeps, ReadConsumes, prepend_known};
 ghost use Rattle.mercator.specs.Faults.{of_session};
 ghost use Rattle.mercator.specs.declared.commands.fault.Fault.TheVariants as wrong;
 ghost use Rattle.mercator.specs.declared.commands.log_file.LogFault.TheVariants as unlogged;
-ghost use Rattle.mercator.specs.LogFile.{items, line_end, line_len, noted};
+ghost use Rattle.mercator.specs.LogFile.{has_sync, items, line_end, line_len, may_be_sync, may_sync, noted};
 
 use crate::commands::fault::Fault;
 use crate::commands::window::Window;
 use crawl_session::{ServeError, whole_len};
-use crawl_web::LINE_LIMIT;
+use crawl_web::{LINE_LIMIT, first_line};
 use memchr::memchr;
 use std::alloc::{AllocError, Global};
-use std::fs::{File, Files, OpenFile, TryLockError};
+use std::fs::{File, OpenFile, TryLockError};
 use std::io::{self, ErrorKind, Read, Write};
 use std::rt::LibcRuntime;
 
 /// The most bytes of a line that a log needs: they tell that it is too long, whether or not a CR stands before its end.
 const HELD_LIMIT: usize = LINE_LIMIT + 2;
 
-/// A file system whose files one process at a time can have.
-pub trait LockFiles: Files {
+/// What locks files, so that one process at a time has a log.
+pub trait LockFile<F> {
     /// Whether the file is this process' now, until it is dropped; `false` where another process has it.
-    fn try_lock(&self, file: &Self::File) -> io::Result<bool>;
+    fn try_lock(&self, file: &F) -> io::Result<bool>;
 }
 
-impl LockFiles for LibcRuntime {
+impl LockFile<File> for LibcRuntime {
     fn try_lock(&self, file: &File) -> io::Result<bool> {
         match file.try_lock() {
             Ok(()) => Ok(true),
             Err(TryLockError::WouldBlock) => Ok(false),
             Err(TryLockError::Error(why)) => Err(why),
         }
+    }
+}
+
+/// What can lock no file. Without locks no log is opened.
+pub struct NoLocks;
+
+impl<F> LockFile<F> for NoLocks {
+    fn try_lock(&self, _file: &F) -> io::Result<bool> {
+        Err(io::Error::from(ErrorKind::Unsupported))
     }
 }
 
@@ -49,6 +59,10 @@ pub enum LogFault {
     OtherSettings,
     /// A write failed.
     CannotWrite,
+    /// The file that is to have the compacted log is there, or cannot be made.
+    CannotMakeNew,
+    /// A write to it failed.
+    CannotWriteNew,
 }
 
 impl From<LogFault> for Fault {
@@ -81,6 +95,8 @@ pub struct Log<F> {
     last: u8,
     /// Whether each append waits for the disk.
     sync: bool,
+    /// Whether the disk has all that was appended.
+    synced: bool,
     /// Whether an append failed.
     failed: bool,
 }
@@ -94,6 +110,7 @@ impl<F: Write + OpenFile> Log<F> {
             unfinished: 0,
             last: b'\n',
             sync,
+            synced: false,
             failed: false,
         }
     }
@@ -112,6 +129,37 @@ impl<F: Write + OpenFile> Log<F> {
         } else {
             self.append(&bytes[..room], &bytes[end..])
         }
+    }
+
+    /// The same, and where a line that ends in it may be `sync`, waits until the disk has all.
+    ///
+    /// # Errors
+    /// As for [`append`](Log::append).
+    pub fn note_synced(&mut self, bytes: &[u8]) -> io::Result<()>
+        ensures gained { OnOk result (Appends (F.contents self.old.file) (F.contents self.new.file) (noted self.old.unfinished bytes.now)) }
+        ensures synced { OnOk result (may_sync self.old.unfinished bytes.now ≡ true → self.new.synced ≡ true) }
+    {
+        let before = self.len;
+        let asked = may_sync(self.unfinished, bytes);
+        self.note(bytes)?;
+        if asked {
+            self.sync_from(before)?;
+        }
+        Ok(())
+    }
+
+    /// Waits until the disk has all; or sets the file back to this length.
+    fn sync_from(&mut self, before: u64) -> io::Result<()>
+        ensures kept { OnOk result (self.new.file ≡ self.old.file) }
+        ensures synced { OnOk result (self.new.synced ≡ true) }
+    {
+        if self.file.sync_data().is_err() {
+            self.failed = true;
+            let _ = self.file.set_len(before);
+            return Err(io::Error::from(ErrorKind::Other));
+        }
+        self.synced = true;
+        Ok(())
     }
 
     /// Ends the line that is unfinished, if there is one.
@@ -148,10 +196,12 @@ impl<F: Write + OpenFile> Log<F> {
     fn write(&mut self, front: &[u8], rest: &[u8]) -> io::Result<()>
         ensures gained { OnOk result (Appends (F.contents self.old.file) (F.contents self.new.file) (front.now ++ rest.now)) }
     {
+        self.synced = false;
         self.file.write_all(front)?;
         self.file.write_all(rest)?;
         if self.sync {
             self.file.sync_data()?;
+            self.synced = true;
         }
         Ok(())
     }
@@ -170,6 +220,18 @@ impl<F: Write + OpenFile> Log<F> {
     }
 }
 
+/// The log gains the bytes; and where it syncs, the disk has what stands before a `sync`.
+fn gain<F: Write + OpenFile>(log: &mut Log<F>, bytes: &[u8], syncs: bool) -> io::Result<()>
+    ensures gained { OnOk result (Appends (F.contents log.old.file) (F.contents log.new.file) (noted log.old.unfinished bytes.now)) }
+    ensures synced { OnOk result (syncs ≡ true → may_sync log.old.unfinished bytes.now ≡ true → log.new.synced ≡ true) }
+{
+    if syncs {
+        log.note_synced(bytes)
+    } else {
+        log.note(bytes)
+    }
+}
+
 /// How many bytes stand before the first LF, or the end.
 fn line_len(bytes: &[u8]) -> usize
     ensures value { result ≡ line_len bytes.now }
@@ -181,11 +243,41 @@ fn line_len(bytes: &[u8]) -> usize
     }
 }
 
+/// Whether a line that ends in these bytes may be `sync`, where so many bytes of an unfinished line stand before them.
+fn may_sync(unfinished: usize, bytes: &[u8]) -> bool
+    ensures { result ≡ may_sync unfinished bytes.now }
+{
+    may_be_sync(unfinished) | has_sync(bytes)
+}
+
+/// Whether so many bytes may be the beginning of `sync` and its end.
+fn may_be_sync(unfinished: usize) -> bool
+    ensures { result ≡ may_be_sync unfinished }
+{
+    0 < unfinished && unfinished < 6
+}
+
+/// Whether a line of the bytes is `sync`.
+fn has_sync(bytes: &[u8]) -> bool
+    ensures { result ≡ has_sync (lines bytes.now) }
+{
+    let mut rest = bytes;
+    while let Some((line, more)) = first_line(rest) {
+        if line == "sync".as_bytes() {
+            return true;
+        }
+        rest = more;
+    }
+    false
+}
+
 /// An input, each byte of which the log gains before it is handed on.
 #[derive(Drop)]
 pub struct LoggedInput<'a, I, F> {
     input: &'a mut I,
     log: Log<F>,
+    /// Whether the disk has what stands before a `sync` when that is handed on.
+    syncs: bool,
     window: Window,
 }
 
@@ -195,6 +287,7 @@ impl<'a, I: Read, F: Write + OpenFile> LoggedInput<'a, I, F> {
         alloc: Global,
         input: &'a mut I,
         log: Log<F>,
+        syncs: bool,
     ) -> Result<LoggedInput<'a, I, F>, AllocError>
     where
         F: Drop,
@@ -204,6 +297,7 @@ impl<'a, I: Read, F: Write + OpenFile> LoggedInput<'a, I, F> {
         Ok(LoggedInput {
             input,
             log,
+            syncs,
             window: Window::new(alloc)?,
         })
     }
@@ -228,6 +322,8 @@ impl<'a, I: Read, F: Write + OpenFile> Read for LoggedInput<'a, I, F> {
         ensures bytes { ReadConsumes (prepend_known (items self.old.window) (I.remaining self.old.input.now)) (prepend_known (items self.new.window) (I.remaining self.new.input.now)) result buf.new }
         // What is handed on stands in the log.
         ensures logged { IfOk result (λ n. 0 < n → Appends (F.contents self.old.log.file) (F.contents self.new.log.file) (noted self.old.log.unfinished (take n buf.new))) }
+        // A `sync` is handed on when the disk has it.
+        ensures synced { IfOk result (λ n. 0 < n → self.old.syncs ≡ true → may_sync self.old.log.unfinished (take n buf.new) ≡ true → self.new.log.synced ≡ true) }
     {
         if buf.is_empty() {
             return Ok(0);
@@ -239,7 +335,7 @@ impl<'a, I: Read, F: Write + OpenFile> Read for LoggedInput<'a, I, F> {
             self.log.end_line()?;
             return Ok(0);
         }
-        self.log.note(&ready[..count])?;
+        gain(&mut self.log, &ready[..count], self.syncs)?;
         buf[..count].copy_from_slice(&ready[..count]);
         self.window.consume(count);
         Ok(count)

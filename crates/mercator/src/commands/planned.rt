@@ -36,16 +36,16 @@ pub enum Plan {
         file: String,
     },
     /// `serve`: the answers to requests of the input.
-    Serve {
-        /// How many workers, and so subqueues, the frontier has: 1 to 512.
-        workers: u32,
-        /// The frontier's maximum of pending URLs: 1 to 2^40.
-        max: u64,
-        /// The suffix of the hosts that are wanted, where not all are.
-        within: Option<String>,
-    },
+    Serve(SessionPlan),
     /// `serve --log`: the same, from where a log stands, which gains the requests.
     ServeLog(LogPlan),
+    /// `serve --log --compact`: nothing. A new file gains the requests of the log that are needed.
+    Compact {
+        /// The session that the log is of.
+        log: LogPlan,
+        /// The new file's name.
+        new: String,
+    },
 }
 
 /// What else a crawl is asked for.
@@ -65,15 +65,24 @@ pub struct CrawlOptions {
     pub json: bool,
 }
 
-/// A session that has a log.
+/// A session.
 #[derive(Debug, Drop)]
-pub struct LogPlan {
-    /// How many workers, and so subqueues, the frontier has: 1 to 512.
+pub struct SessionPlan {
+    /// How many workers, and so subqueues, the frontier has; those of all parts together are 1 to 512.
     pub workers: u32,
     /// The frontier's maximum of pending URLs: 1 to 2^40.
     pub max: u64,
     /// The suffix of the hosts that are wanted, where not all are.
     pub within: Option<String>,
+    /// Which part of a crawl it is, counted from 0, and how many parts there are.
+    pub part: Option<(u32, u32)>,
+}
+
+/// A session that has a log.
+#[derive(Debug, Drop)]
+pub struct LogPlan {
+    /// The session.
+    pub session: SessionPlan,
     /// The log's name.
     pub file: String,
     /// Whether the disk has each request before it is answered.
@@ -81,14 +90,15 @@ pub struct LogPlan {
 }
 
 impl Plan {
-    /// The FILE that it names; a key names none, and has the empty text.
+    /// The FILE that it names; a key and a compaction name none, and have the empty text.
     pub fn file(&self) -> &str
         ensures { result.now ≡ file_of self.now }
     {
         match self {
             Plan::Crawl { file, .. } | Plan::Replay { file } => file.as_str(),
             Plan::Key { .. } => "",
-            Plan::Serve { .. } | Plan::ServeLog(_) => "-",
+            Plan::Serve(_) | Plan::ServeLog(_) => "-",
+            Plan::Compact { .. } => "",
         }
     }
 
@@ -101,7 +111,7 @@ impl Plan {
             (Plan::Crawl { file, options, .. }, Fault::CannotReadSeeds) => {
                 listed_or(&options.listed, file.as_str())
             }
-            (Plan::ServeLog(asked), Fault::Log(_)) => asked.file.as_str(),
+            (Plan::ServeLog(log) | Plan::Compact { log, .. }, Fault::Log(_)) => log.file.as_str(),
             _ => self.file(),
         }
     }

@@ -1,21 +1,25 @@
 //! The frontier as a co-process.
-ghost use Rattle.std.specs.Prelude.{◌≡◌, IfOk, IfErr, IsErr, true};
+ghost use Rattle.std.specs.Prelude.{◌≡◌, ◌*◌, ◌<◌, ◌≤◌, None, Some, IfOk, IfErr, IsErr, true};
 ghost use Rattle.crawl_limits.specs.Limits.{AreLimits};
 ghost use Rattle.crawl_core.specs.Shows.{Shows};
 ghost use Rattle.crawl_core.specs.State.{start};
 ghost use Rattle.mercator.specs.Faults.{of_session, status_of_fault};
-ghost use Rattle.mercator.specs.Plans.{is_bad_suffix};
-ghost use Rattle.mercator.specs.Told.{EndsBy, Gains};
+ghost use Rattle.mercator.specs.Plans.{IsSessionPlan, is_bad_suffix, queues_of};
+ghost use Rattle.mercator.specs.Told.{EndsBy, Gains, part_of};
 ghost use Rattle.mercator.specs.declared.commands.fault.Fault.TheVariants as wrong;
 ghost use Rattle.mercator.specs.declared.commands.planned.Plan.TheVariants as asks;
 
 use crate::commands::fault::Fault;
+use crate::commands::planned::SessionPlan;
 use crate::commands::tell::filter_of;
-use crawl_core::CoreError;
+use crawl_core::{CoreError, Text};
 use crawl_keys::Filter;
-use crawl_session::{ServeError, Session, serve};
+use crawl_session::{Part, ServeError, Session, serve};
 use std::alloc::Global;
 use std::io::{Read, Write};
+
+/// The identity that a part without a log tells.
+const NO_IDENTITY: &str = "none";
 
 impl From<ServeError> for Fault {
     ghost from_gives = { λ why fault. fault ≡ of_session why };
@@ -35,33 +39,84 @@ impl From<ServeError> for Fault {
 /// `BadSuffix`; `CannotRead` and `CannotWrite`, which leave what was answered before written; `NoMemory`.
 pub fn serve_plan<I: Read, O: Write>(
     alloc: Global,
-    workers: u32,
-    max: u64,
-    within: &Option<String>,
+    asked: &SessionPlan,
     input: &mut I,
     out: &mut O,
 ) -> Result<(), Fault>
-    requires { AreLimits workers max }
-    ensures done { IfOk result (λ _. Gains (asks.Serve workers max within.now) (I.remaining input.old) (O.contents out.old) (O.contents out.new)) }
-    ensures fault { IfErr result (λ fault. EndsBy (asks.Serve workers max within.now) (I.remaining input.old) fault (out.new ≡ out.old)) }
-    ensures refused { is_bad_suffix within.now ≡ true → IsErr result × (out.new ≡ out.old) }
+    requires { IsSessionPlan asked.now }
+    ensures done { IfOk result (λ _. Gains (asks.Serve asked.now) (I.remaining input.old) (O.contents out.old) (O.contents out.new)) }
+    ensures fault { IfErr result (λ fault. EndsBy (asks.Serve asked.now) (I.remaining input.old) fault (out.new ≡ out.old)) }
+    ensures refused { is_bad_suffix asked.now.within ≡ true → IsErr result × (out.new ≡ out.old) }
     ensures plain { IfErr result (λ fault. status_of_fault fault ≡ 1) }
-    ensures unread { is_bad_suffix within.now ≡ true → input.new ≡ input.old }
+    ensures unread { is_bad_suffix asked.now.within ≡ true → input.new ≡ input.old }
 {
-    let filter = filter_of(alloc, within)?;
-    let mut session = session_of(alloc, workers, max, filter)?;
+    let filter = filter_of(alloc, &asked.within)?;
+    let mut session = session_of(alloc, asked, filter, NO_IDENTITY)?;
     serve(alloc, &mut session, input, out)?;
     Ok(())
 }
 
-pub fn session_of(alloc: Global, workers: u32, max: u64, filter: Filter) -> Result<Session, Fault>
-    requires { AreLimits workers max }
-    ensures start { IfOk result (λ session. Shows session.core (start workers max)) }
-    ensures workers { IfOk result (λ session. session.settings.workers ≡ workers) }
+/// The session of a plan. A part has a log of this identity.
+pub fn session_of(
+    alloc: Global,
+    asked: &SessionPlan,
+    filter: Filter,
+    identity: &str,
+) -> Result<Session, Fault>
+    requires { IsSessionPlan asked.now }
+    ensures start { IfOk result (λ session. Shows session.core (start (queues_of asked.now) asked.now.max)) }
+    ensures workers { IfOk result (λ session. session.settings.workers ≡ queues_of asked.now) }
     ensures suffixes { IfOk result (λ session. session.settings.suffixes ≡ filter) }
+    ensures part { IfOk result (λ session. session.settings.part ≡ part_of asked.now.workers identity.now asked.now.part) }
     ensures err { IfErr result (λ fault. fault ≡ wrong.NoMemory) }
 {
-    match Session::new(alloc, workers, max, filter) {
+    match asked.part {
+        None => alone_of(alloc, asked, filter),
+        Some((number, parts)) => {
+            let part = Part {
+                number,
+                queues: asked.workers,
+                identity: Text::from_str(alloc, identity)?,
+            };
+            part_session(alloc, part, parts, asked.max, filter)
+        }
+    }
+}
+
+fn alone_of(alloc: Global, asked: &SessionPlan, filter: Filter) -> Result<Session, Fault>
+    requires { AreLimits asked.now.workers asked.now.max }
+    ensures start { IfOk result (λ session. Shows session.core (start asked.now.workers asked.now.max)) }
+    ensures workers { IfOk result (λ session. session.settings.workers ≡ asked.now.workers) }
+    ensures suffixes { IfOk result (λ session. session.settings.suffixes ≡ filter) }
+    ensures part { IfOk result (λ session. session.settings.part ≡ None) }
+    ensures err { IfErr result (λ fault. fault ≡ wrong.NoMemory) }
+{
+    match Session::new(alloc, asked.workers, asked.max, filter) {
+        Ok(session) => Ok(session),
+        Err(CoreError::NoMemory) => Err(Fault::NoMemory),
+        Err(CoreError::BadWorkers | CoreError::BadMax) => {
+            unreachable!("a plan's numbers are within the limits")
+        }
+    }
+}
+
+fn part_session(
+    alloc: Global,
+    part: Part,
+    parts: u32,
+    max: u64,
+    filter: Filter,
+) -> Result<Session, Fault>
+    requires some_queue { 1 ≤ part.queues }
+    requires there { part.number < parts }
+    requires limits { AreLimits (part.queues * parts) max }
+    ensures start { IfOk result (λ session. Shows session.core (start (part.queues * parts) max)) }
+    ensures workers { IfOk result (λ session. session.settings.workers ≡ part.queues * parts) }
+    ensures suffixes { IfOk result (λ session. session.settings.suffixes ≡ filter) }
+    ensures part { IfOk result (λ session. session.settings.part ≡ Some part) }
+    ensures err { IfErr result (λ fault. fault ≡ wrong.NoMemory) }
+{
+    match Session::of_part(alloc, part, parts, max, filter) {
         Ok(session) => Ok(session),
         Err(CoreError::NoMemory) => Err(Fault::NoMemory),
         Err(CoreError::BadWorkers | CoreError::BadMax) => {

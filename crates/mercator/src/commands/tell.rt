@@ -62,7 +62,9 @@ pub fn tell<R: Files + Threads + Wait + Sync, I: Read>(
             text
         }
         Plan::Key { url, workers } => tell_key(alloc, url, *workers),
-        Plan::Serve { .. } | Plan::ServeLog(_) => unreachable!("a session tells as it reads"),
+        Plan::Serve(_) | Plan::ServeLog(_) | Plan::Compact { .. } => {
+            unreachable!("a session tells as it reads, and a compaction nothing")
+        }
     }
 }
 

@@ -1,14 +1,15 @@
 //! The words of a command line, read by `clap`.
-ghost use Rattle.std.specs.Prelude.{◌≡◌, ◌≤◌, IfOk, IfErr, IfSome};
+ghost use Rattle.std.specs.Prelude.{◌≡◌, ◌*◌, ◌<◌, ◌≤◌, IfOk, IfErr, IfSome};
 ghost use Rattle.crawl_limits.specs.Limits.{worker_limit, pending_limit};
-ghost use Rattle.mercator.specs.Plans.{IsWithinLimits, IsShown, lists_input};
+ghost use Rattle.mercator.specs.Plans.{IsPartOf, IsSessionPlan, IsShown, IsWithinLimits, all_queues, lists_input};
 ghost use Rattle.mercator.specs.declared.commands.words.PlanError.TheVariants as wrong;
 
 use crate::commands::command_line::{self, command_line};
-use crate::commands::planned::{CrawlOptions, LogPlan, Plan};
-use clap::ArgMatches;
+use crate::commands::planned::{CrawlOptions, LogPlan, Plan, SessionPlan};
 use clap::error::ErrorKind;
+use clap::{ArgMatches, Command};
 use crawl_limits::{PENDING_LIMIT, WORKER_LIMIT};
+use crawl_replay::number32;
 use crawl_report::Sources;
 use std::alloc::{AllocError, AllocFailed, Global};
 
@@ -58,6 +59,14 @@ pub fn plan(alloc: Global, words: &[String]) -> Result<Plan, PlanError>
     }
 }
 
+/// The whole command line as `clap` knows it, with the commands that `mercator_site` runs; of their words no plan comes here.
+///
+/// # Errors
+/// Where a growth was refused.
+pub fn whole_command<'a>(alloc: Global) -> Result<Command<'a>, AllocError> {
+    command_line(alloc)
+}
+
 /// The words behind the program's name, which stands in usage lines.
 fn after_the_name<'a>(alloc: Global, words: &'a [String]) -> Result<Vec<&'a str>, AllocError> {
     let mut named = Vec::new(alloc);
@@ -91,6 +100,12 @@ pub const BAD_COMMAND_LINE: u8 = 3;
 
 const TWO_INPUTS: &str = "\
 error: FILE and '--seeds <LIST>' cannot both be '-'
+
+For more information, try '--help'.
+";
+
+const BAD_PART: &str = "\
+error: '--part <I/K>' wants a part I below K, and at most 512 workers in all parts
 
 For more information, try '--help'.
 ";
@@ -205,24 +220,74 @@ fn serve_of(alloc: Global, found: &ArgMatches<'_>) -> Result<Plan, PlanError>
     ensures limits { IfOk result IsWithinLimits }
     ensures shown { IfErr result IsShown }
 {
+    let session = session_of(alloc, found)?;
+    let Some(file) = option_of(alloc, found, "log")? else {
+        return Ok(Plan::Serve(session));
+    };
+    let log = LogPlan {
+        session,
+        file,
+        sync: found.get_flag("sync"),
+    };
+    match option_of(alloc, found, "compact")? {
+        None => Ok(Plan::ServeLog(log)),
+        Some(new) => Ok(Plan::Compact { log, new }),
+    }
+}
+
+fn session_of(alloc: Global, found: &ArgMatches<'_>) -> Result<SessionPlan, PlanError>
+    ensures limits { IfOk result IsSessionPlan }
+    ensures shown { IfErr result IsShown }
+{
     let (Some(workers), Some(max)) = (workers_of(found), max_of(found)) else {
         return Err(misread(alloc));
     };
-    let within = option_of(alloc, found, "within")?;
-    let Some(file) = option_of(alloc, found, "log")? else {
-        return Ok(Plan::Serve {
-            workers,
-            max,
-            within,
-        });
-    };
-    Ok(Plan::ServeLog(LogPlan {
+    let part = part_of(alloc, found, workers)?;
+    Ok(SessionPlan {
         workers,
         max,
-        within,
-        file,
-        sync: found.get_flag("sync"),
-    }))
+        within: option_of(alloc, found, "within")?,
+        part,
+    })
+}
+
+/// Which part of a crawl is asked for, and of how many, where each has so many queues.
+fn part_of(
+    alloc: Global,
+    found: &ArgMatches<'_>,
+    workers: u32,
+) -> Result<Option<(u32, u32)>, PlanError>
+    requires some { 1 ≤ workers }
+    requires few { workers ≤ worker_limit }
+    ensures there { IfOk result IsPartOf }
+    ensures some_queue { IfOk result (λ part. 1 ≤ all_queues workers part) }
+    ensures few_queues { IfOk result (λ part. all_queues workers part ≤ worker_limit) }
+    ensures shown { IfErr result IsShown }
+{
+    let Some(text) = found.get_str("part") else {
+        return Ok(None);
+    };
+    match part_in(text, workers) {
+        Some(part) => Ok(Some(part)),
+        None => Err(bad_part(alloc)?),
+    }
+}
+
+/// `I/K`.
+fn part_in(text: &str, workers: u32) -> Option<(u32, u32)>
+    ensures there { IfSome result (λ part. part.0 < part.1) }
+    ensures some_queue { IfSome result (λ part. 1 ≤ workers * part.1) }
+    ensures few_queues { IfSome result (λ part. workers * part.1 ≤ worker_limit) }
+{
+    let (number, parts) = text.split_once('/')?;
+    let number = number32(number)?;
+    let parts = number32(parts)?;
+    let queues = workers.checked_mul(parts)?;
+    if number < parts && 1 <= queues && queues <= WORKER_LIMIT {
+        Some((number, parts))
+    } else {
+        None
+    }
 }
 
 /// The number of workers, tested once more.
@@ -279,6 +344,16 @@ fn two_inputs(alloc: Global) -> Result<PlanError, AllocError>
 {
     Ok(PlanError::Shown {
         text: String::from_str(alloc, TWO_INPUTS)?,
+        status: BAD_COMMAND_LINE,
+    })
+}
+
+/// What is shown of a part that is none.
+fn bad_part(alloc: Global) -> Result<PlanError, AllocError>
+    ensures { IfOk result IsShown }
+{
+    Ok(PlanError::Shown {
+        text: String::from_str(alloc, BAD_PART)?,
         status: BAD_COMMAND_LINE,
     })
 }

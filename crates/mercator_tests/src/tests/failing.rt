@@ -1,7 +1,7 @@
 //! Readers, writers and flushes that fail late.
 use crate::tests::runs::{ALL, BAD_COMMAND, DONE, FAULT, Failing, INCOMPLETE, Row, holds};
-use mercator::LockFiles;
 use std::alloc::Global;
+use std::fs::Files;
 use std::sync::Wait;
 use std::thread::Threads;
 
@@ -271,10 +271,7 @@ const ROWS: [(Row, Failing); 16] = [
 ];
 
 /// The first row that does not hold.
-fn first_wrong<R: LockFiles + Threads + Wait + Sync>(
-    rt: &R,
-    alloc: Global,
-) -> Option<&'static str> {
+fn first_wrong<R: Files + Threads + Wait + Sync>(rt: &R, alloc: Global) -> Option<&'static str> {
     for (row, failing) in &ROWS {
         if !holds(rt, alloc, row, *failing) {
             return Some(row.name);

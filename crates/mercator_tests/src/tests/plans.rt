@@ -1,11 +1,12 @@
 //! Words as `clap` reads them: options in every place, and the defaults, which no run tells.
 use crate::tests::runs::words;
-use mercator::{CrawlOptions, Plan, plan};
+use mercator::{CrawlOptions, LogPlan, Plan, SessionPlan, plan};
 use std::alloc::{AllocError, Global};
 
 /// Words, and all of their plan: workers, maximum, queues, sources, suffix, FILE, file of seeds, seeds, and whether moved and unreached
-/// pages are told, and JSON; or the log, and whether it is synced.
-const ROWS: [(&str, &str); 19] = [
+/// pages are told, and JSON; or which part, the log, whether
+/// it is synced, and the new one.
+const ROWS: [(&str, &str); 22] = [
     (
         "crawl - x",
         "crawl 4 1048576 false None None - None [\"x\"] false false false",
@@ -67,6 +68,18 @@ const ROWS: [(&str, &str); 19] = [
         "serve --sync --within=b.test --log=l --workers 2",
         "serve 2 1048576 Some(\"b.test\") l true",
     ),
+    (
+        "serve --part 0/2 --workers 256",
+        "serve 256 1048576 None part 0 of 2",
+    ),
+    (
+        "serve --log l --part=1/512 --workers=1",
+        "serve 1 1048576 None part 1 of 512 l false",
+    ),
+    (
+        "serve --compact m --log l",
+        "serve 4 1048576 None l false to m",
+    ),
 ];
 
 /// The plan in one line.
@@ -85,15 +98,12 @@ fn plan_line(alloc: Global, plan: &Plan) -> Result<String, AllocError> {
         }
         Plan::Key { url, workers } => format!(in alloc; "key {url} {workers}"),
         Plan::Replay { file } => format!(in alloc; "replay {file}"),
-        Plan::Serve {
-            workers,
-            max,
-            within,
-        } => format!(in alloc; "serve {workers} {max} {within:?}"),
-        Plan::ServeLog(asked) => {
-            let (workers, max, sync) = (asked.workers, asked.max, asked.sync);
-            let (within, file) = (&asked.within, &asked.file);
-            format!(in alloc; "serve {workers} {max} {within:?} {file} {sync}")
+        Plan::Serve(session) => session_line(alloc, session),
+        Plan::ServeLog(log) => log_line(alloc, log),
+        Plan::Compact { log, new } => {
+            let mut line = log_line(alloc, log)?;
+            write!(line, " to {new}")?;
+            Ok(line)
         }
     }
 }
@@ -111,6 +121,22 @@ fn crawl_line(
     format!(in alloc;
         "{front} {sources:?} {within:?} {file} {listed:?} {seeds:?} {moved} {unreached} {json}"
     )
+}
+
+fn session_line(alloc: Global, asked: &SessionPlan) -> Result<String, AllocError> {
+    let (workers, max, within) = (asked.workers, asked.max, &asked.within);
+    let mut line = format!(in alloc; "serve {workers} {max} {within:?}")?;
+    if let Some((number, parts)) = asked.part {
+        write!(line, " part {number} of {parts}")?;
+    }
+    Ok(line)
+}
+
+fn log_line(alloc: Global, asked: &LogPlan) -> Result<String, AllocError> {
+    let mut line = session_line(alloc, &asked.session)?;
+    let (file, sync) = (&asked.file, asked.sync);
+    write!(line, " {file} {sync}")?;
+    Ok(line)
 }
 
 /// Whether the words have this plan.

@@ -3,8 +3,8 @@ use crate::tests::runs::{BAD_COMMAND, DONE, FAULT, INCOMPLETE, NOTHING_FAILS, Ro
 use crate::tests::webs::{
     MOVED, MOVED_REPORT, NOTHING, RING, RING_REPORT, TWO_LINKS, TWO_LINKS_REPORT,
 };
-use mercator::LockFiles;
 use std::alloc::Global;
+use std::fs::Files;
 use std::sync::Wait;
 use std::thread::Threads;
 
@@ -301,10 +301,7 @@ const ROWS: [Row; 29] = [
 ];
 
 /// The first row that does not hold.
-fn first_wrong<R: LockFiles + Threads + Wait + Sync>(
-    rt: &R,
-    alloc: Global,
-) -> Option<&'static str> {
+fn first_wrong<R: Files + Threads + Wait + Sync>(rt: &R, alloc: Global) -> Option<&'static str> {
     for row in &ROWS {
         if !holds(rt, alloc, row, NOTHING_FAILS) {
             return Some(row.words);

@@ -1,6 +1,7 @@
 //! Runs of the program by its words, over a reader and writers that may fail.
-use mercator::{LockFiles, run_words};
+use mercator::run_words;
 use std::alloc::{AllocError, Global};
+use std::fs::Files;
 use std::io::{self, ErrorKind, Read, Write};
 use std::sync::Wait;
 use std::thread::Threads;
@@ -114,7 +115,7 @@ pub fn words(alloc: Global, text: &str) -> Result<Vec<String>, AllocError> {
 }
 
 /// Whether the program ends as the row says, where these fail.
-pub fn holds<R: LockFiles + Threads + Wait + Sync>(
+pub fn holds<R: Files + Threads + Wait + Sync>(
     rt: &R,
     alloc: Global,
     row: &Row,

@@ -1,4 +1,4 @@
-use Rattle.std.proofs.Common.{[], ◌∷◌, map, sym, ap, ◌∙◌}
+use Rattle.std.proofs.Common.{[], ◌∷◌, map, ap, ◌∙◌}
 use Rattle.crawl_report.specs.Lines as line
 use Rattle.crawl_report.specs.Lines.{Line}
 use Rattle.crawl_report.specs.Rows.{result_lines, total_of, queue_lines, source_lines, moved_lines}

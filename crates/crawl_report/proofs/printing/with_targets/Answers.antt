@@ -1,10 +1,6 @@
-use Rattle.std.proofs.Common.{◌≡◌, ℕ, List, [], ◌∷◌, true, false, Option, ap, ◌∙◌}
-use Rattle.crawl_web.specs.ReportText.{is_moved}
-use Rattle.crawl_web.specs.declared.page.PageResult.{PageResult}
-use Rattle.crawl_report.specs.Lines as line
-use Rattle.crawl_report.specs.Lines.{Line}
-use Rattle.crawl_report.specs.Rows.{moved_lines, target}
-use Rattle.crawl_report.proofs.Adding.{adds_none, adds_same, line_kept, line_dropped, lines_all}
+use Rattle.std.proofs.Common.{true}
+use Rattle.crawl_report.specs.Rows.{moved_lines}
+use Rattle.crawl_report.proofs.Adding.{adds_none, lines_all}
 use Rattle.crawl_report.proofs.printing.with_targets.Goals as goal
 
 pub loop-one-init : goal.loop-one-init

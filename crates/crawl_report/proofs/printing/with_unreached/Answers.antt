@@ -1,8 +1,6 @@
-use Rattle.std.proofs.Common.{◌≡◌, ℕ, List, [], ◌∷◌, ◌++◌, map, take, ap, sym, ◌∙◌}
-use Rattle.std.specs.Borrow.{Bor}
+use Rattle.std.proofs.Common.{ℕ, List, [], ◌∷◌, ap}
 use Rattle.crawl_report.specs.Lines as line
 use Rattle.crawl_report.specs.Lines.{Line}
-use Rattle.crawl_report.specs.Tallies.{pointed}
 use Rattle.crawl_report.proofs.Adding.{adds_none, adds_same, pointed_line_more, pointed_lines_all}
 use Rattle.crawl_report.proofs.printing.with_unreached.Goals as goal
 

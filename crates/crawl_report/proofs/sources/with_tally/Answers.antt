@@ -1,4 +1,4 @@
-use Rattle.std.proofs.Common.{◌≡◌, [], ◌∷◌, map}
+use Rattle.std.proofs.Common.{[], ◌∷◌, map}
 use Rattle.std.specs.Option.{option_map}
 use Rattle.crawl_report.specs.Lines as line
 use Rattle.crawl_report.specs.Tallies.{pointed}

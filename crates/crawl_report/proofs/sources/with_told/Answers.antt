@@ -1,15 +1,13 @@
-use Rattle.std.proofs.Common.{◌≡◌, ℕ, ◌+◌, List, [], ◌∷◌, ◌++◌, take, length, sym, ap, subst, ◌∙◌, arith}
+use Rattle.std.proofs.Common.{sym, ap, ◌∙◌, arith}
 use Rattle.std.proofs.lemmas.List.{take_all}
-use Rattle.std.proofs.lemmas.List.Concat.{flat_map-append}
 use Rattle.std.proofs.lemmas.List.Folds.{list_any_at}
 use Rattle.std.proofs.lemmas.Slice.Eq.{bytes_eq-Decides}
 use Rattle.std.specs.List.{flat_map}
 use Rattle.std.specs.Str.{bytes_eq}
 use Rattle.crawl_web.specs.declared.page.PageResult.{PageResult}
-use Rattle.crawl_report.specs.Lines.{Line}
 use Rattle.crawl_report.specs.Rows.{lines_at}
 use Rattle.crawl_report.specs.Tallies.{pointed, count_of}
-use Rattle.crawl_report.proofs.Adding.{adds_none, adds_both, adds_same, told_more}
+use Rattle.crawl_report.proofs.Adding.{adds_none, adds_same, told_more}
 use Rattle.crawl_report.proofs.Counts.{read_pointed, length_pointed, no_count, lines_counted}
 use Rattle.crawl_report.proofs.sources.with_told.Goals as goal
 

@@ -1,4 +1,4 @@
-use Rattle.std.proofs.Common.{◌≡◌, ℕ, List, ap, ◌∙◌}
+use Rattle.std.proofs.Common.{ap, ◌∙◌}
 use Rattle.std.specs.Str.Lossy.{utf8_lossy}
 use Rattle.page_anchors.specs.Indicated.{has_decoded, ids_in}
 use Rattle.page_anchors.proofs.indicated.decoded_has.Goals as goal

@@ -1,17 +1,19 @@
 use Rattle.std.proofs.lemmas.Result.{err_from_is_err_and}
+use Rattle.mercator.specs.Told.{no_identity}
 use Rattle.mercator.proofs.PlanTexts.{filter_is}
-use Rattle.mercator.proofs.Serves.{breaks_off, gains_answers}
+use Rattle.mercator.proofs.Serves.{breaks_off, gains_answers, made_for}
 use Rattle.mercator.proofs.commands.serving.serve_plan.Goals as goal
 
 pub returns-in_err-serve-clause-fault : goal.returns-in_err-serve-clause-fault
 returns-in_err-serve-clause-fault g c =
-    let filter = filter_is c.args.within.now _ c.in_ok-filter.ensures in
+    let filter = filter_is c.args.asked.now.within _ c.in_ok-filter.ensures in
     let r = c.from_residual-in_err-serve in
     let same = err_from_is_err_and r.result r.ensures.1 in
-    rw (same.1, same.2) (breaks_off c.args.workers c.args.max c.args.within.now (g.I.Read.remaining c.args.input.now) c.in_err-serve.field-0.0 _ filter.0)
+    rw (same.1, same.2) (breaks_off c.args.asked.now (g.I.Read.remaining c.args.input.now) c.in_err-serve.field-0.0 _ filter.0)
 
 pub returns-clause-done : goal.returns-clause-done
 returns-clause-done g c =
-    let filter = filter_is c.args.within.now _ c.in_ok-filter.ensures in
+    let filter = filter_is c.args.asked.now.within _ c.in_ok-filter.ensures in
     let made = c.in_ok-session in
-    gains_answers made.session c.args.workers c.args.max c.args.within.now c.in_ok-filter.filter (g.I.Read.remaining c.args.input.now) (g.O.Write.contents c.args.out.now) (g.O.Write.contents c.serve.new.out) c.serve.new.session made.ensures.start made.ensures.workers made.ensures.suffixes filter c.in_ok-serve.ensures
+    gains_answers made.session c.args.asked.now (g.I.Read.remaining c.args.input.now) (g.O.Write.contents c.args.out.now) (g.O.Write.contents c.serve.new.out) c.serve.new.session made.ensures.start
+    (made_for made.session c.args.asked.now no_identity c.in_ok-filter.filter made.ensures.workers made.ensures.suffixes made.ensures.part filter.1) filter.0 c.in_ok-serve.ensures

@@ -1,4 +1,4 @@
-use Rattle.std.proofs.Common.{◌≡◌, rules, string_bytes, Global, map, ap, refl, sym}
+use Rattle.std.proofs.Common.{◌≡◌, rules, string_bytes, Global, map, ap}
 use Rattle.std.proofs.lemmas.Result.{err_from_is_err_and}
 use Rattle.mercator.specs.Plans.{suffixes_of}
 use Rattle.mercator.specs.WebCrawl.{IsBegun, IsFound, IsUnbegun}

@@ -2,7 +2,7 @@ use Rattle.std.proofs.Common.{ap, subst}
 use Rattle.mercator.specs.Ending.{Begins}
 use Rattle.mercator.specs.FaultText.{fault_line}
 use Rattle.mercator.proofs.Serves.{tells_fault}
-use Rattle.mercator.proofs.commands.run_plan.Goals as goal
+use Rattle.mercator.proofs.commands.run_plan_with.Goals as goal
 
 pub returns-in-Err-clause-fault : goal.returns-in-Err-clause-fault
 returns-in-Err-clause-fault g c = λ some. record {

@@ -1,0 +1,35 @@
+# Completions of mercator for bash. tests/manual_page.py holds them against `mercator --help`.
+
+_mercator() {
+    local word=${COMP_WORDS[COMP_CWORD]} before=${COMP_WORDS[COMP_CWORD - 1]}
+    local commands="crawl key replay serve help" options=
+    COMPREPLY=()
+    if [ "$COMP_CWORD" -eq 1 ]; then
+        mapfile -t COMPREPLY < <(compgen -W "$commands --help" -- "$word")
+        return
+    fi
+    case ${COMP_WORDS[1]} in
+    crawl) options="--workers --max-pending --queues --sources --within --seeds --help" ;;
+    key) options="--workers --help" ;;
+    replay) options="--help" ;;
+    serve) options="--workers --max-pending --within --log --sync --help" ;;
+    help)
+        mapfile -t COMPREPLY < <(compgen -W "$commands" -- "$word")
+        return
+        ;;
+    esac
+    case $before in
+    --workers | --max-pending | --within) return ;;
+    --seeds | --log) ;;
+    *)
+        if [[ $word == -* ]]; then
+            mapfile -t COMPREPLY < <(compgen -W "$options" -- "$word")
+            return
+        fi
+        ;;
+    esac
+    compopt -o filenames 2> /dev/null
+    mapfile -t COMPREPLY < <(compgen -f -- "$word")
+}
+
+complete -F _mercator mercator

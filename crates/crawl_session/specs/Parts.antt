@@ -1,0 +1,45 @@
+-- What a line asks of a frontier that may be one part of a crawl.
+use Rattle.std.specs.Prelude.{ℕ, ◌/◌, Bool, List, codes, nat_eq, if◌then◌else◌, Option, Some, None, Result, Ok, Err}
+use Rattle.std.specs.Str.{bytes_eq}
+use Rattle.crawl_session.specs.declared.part.Part.{Part}
+use Rattle.crawl_session.specs.declared.request.Request.{Request}
+use Rattle.crawl_session.specs.declared.request.Request.TheVariants.{Offer, Next, Again, Done, EndSeeds}
+use Rattle.crawl_session.specs.declared.request.RequestError.{RequestError}
+use Rattle.crawl_session.specs.declared.request.RequestError.TheVariants as wrong
+use Rattle.crawl_session.specs.Requests.{request_of}
+use Rattle.crawl_session.specs.Settings.{Settings}
+
+-- the number of the part that has a queue: all parts have as many as this one
+abbrev pub part_with : Part → ℕ → ℕ
+part_with part queue = queue / part.queues
+
+-- whether the queue is this part's
+abbrev pub is_own : Part → ℕ → Bool
+is_own part queue = nat_eq (part_with part queue) part.number
+
+-- a URL of another part is for that one, and another part's queue is none of this one
+abbrev pub placed : Part → Request → Result Request RequestError
+placed part (Offer url queue) = if is_own part queue then Ok (Offer url queue) else Err (wrong.Elsewhere (part_with part queue) url)
+placed part (Next queue) = if is_own part queue then Ok (Next queue) else Err wrong.OtherQueue
+placed part (Again queue) = if is_own part queue then Ok (Again queue) else Err wrong.OtherQueue
+placed part (Done queue) = if is_own part queue then Ok (Done queue) else Err wrong.OtherQueue
+placed part EndSeeds = Ok EndSeeds
+
+abbrev pub placed_if : Part → Result Request RequestError → Result Request RequestError
+placed_if part (Ok request) = placed part request
+placed_if part (Err why) = Err why
+
+-- `sync` and `identity` ask nothing of the frontier
+abbrev pub asked_by : Part → List ℕ → Result Request RequestError → Result Request RequestError
+asked_by part line asked =
+    if bytes_eq line (codes "sync") then Err wrong.Sync
+    else if bytes_eq line (codes "identity") then Err (wrong.Identity part.identity)
+    else placed_if part asked
+
+-- without a part, what a line asks is what it asks
+abbrev pub asked_of : Option Part → List ℕ → Result Request RequestError → Result Request RequestError
+asked_of None line asked = asked
+asked_of (Some part) line asked = asked_by part line asked
+
+abbrev pub request_for : Settings → List ℕ → Result Request RequestError
+request_for settings line = asked_of settings.part line (request_of settings.workers settings.suffixes line)

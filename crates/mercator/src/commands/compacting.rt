@@ -1,0 +1,165 @@
+//! The shortest log of a session, in a new file.
+ghost use Rattle.std.specs.Prelude.{◌≡◌, ◌≤◌, ℕ, List, [], true, length, Option, IfOk, IfErr, IsErr, OnOk, string_bytes};
+ghost use Rattle.std.specs.Io.KnownBytes.{Appends};
+ghost use Rattle.mercator.specs.Compaction.{Compacted, IsCompacted};
+ghost use Rattle.mercator.specs.Faults.{status_of_fault};
+ghost use Rattle.mercator.specs.LogFile.{IsLogFault};
+ghost use Rattle.mercator.specs.Plans.{IsSessionPlan, is_bad_suffix};
+ghost use Rattle.mercator.specs.Told.{Fails, Gains};
+ghost use Rattle.mercator.specs.declared.commands.planned.Plan.TheVariants as asks;
+
+use crate::commands::fault::Fault;
+use crate::commands::log_file::{LockFile, LogFault};
+use crate::commands::opening::{OpenedLog, open_log};
+use crate::commands::planned::LogPlan;
+use crate::commands::serving::session_of;
+use crate::commands::tell::filter_of;
+use crate::commands::window::READ_SIZE;
+use crawl_session::{Compactor, Session, whole_len};
+use std::alloc::Global;
+use std::fs::{self, File, Files, OpenFile};
+use std::io::{self, Read, Seek, SeekFrom, Write};
+
+/// Writes the requests of the log that are needed to a new file of this name. The log stays as it is.
+///
+/// # Errors
+/// `BadSuffix`; `Log`, where the log is at fault, or the new file is there or cannot be written; `NoMemory`.
+pub fn compact_log<R: Files, L: LockFile<R::File>>(
+    rt: &R,
+    locks: &L,
+    alloc: Global,
+    asked: &LogPlan,
+    new: &String,
+) -> Result<(), Fault>
+    requires { IsSessionPlan asked.now.session }
+    ensures done { IfOk result (λ _. (input out : Option (List ℕ)) → Gains (asks.Compact asked.now new.now) input out out) }
+    ensures fault { IfErr result (λ fault. (input : Option (List ℕ)) → Fails (asks.Compact asked.now new.now) input fault) }
+    ensures refused { is_bad_suffix asked.now.session.within ≡ true → IsErr result }
+    ensures plain { IfErr result (λ fault. status_of_fault fault ≡ 1) }
+{
+    let filter = filter_of(alloc, &asked.session.within)?;
+    let mut log = open_log(rt, locks, alloc, asked, false)?;
+    let mut session = session_of(alloc, &asked.session, filter, log.identity.as_str())?;
+    let Ok(mut file) = File::create_new(rt, new.as_str()) else {
+        return Err(Fault::Log(LogFault::CannotMakeNew));
+    };
+    let written = compact_to(alloc, &mut session, &mut log, &mut file);
+    let synced = file.sync_all();
+    if written.is_err() || synced.is_err() {
+        let _ = fs::remove_file(rt, new.as_str());
+    }
+    finish(written, synced)
+}
+
+/// How a compaction ends that was written so, and then synced.
+fn finish(written: Result<(), Fault>, synced: io::Result<()>) -> Result<(), Fault>
+    requires { IfErr written IsLogFault }
+    ensures { IfErr result IsLogFault }
+{
+    written?;
+    match synced {
+        Ok(()) => Ok(()),
+        Err(_) => Err(Fault::Log(LogFault::CannotWriteNew)),
+    }
+}
+
+/// Writes the first line of the log, and its requests that are needed.
+fn compact_to<F: Read + Seek, O: Write>(
+    alloc: Global,
+    session: &mut Session,
+    log: &mut OpenedLog<F>,
+    out: &mut O,
+) -> Result<(), Fault>
+    ensures compacted { OnOk result (IsCompacted session.old (string_bytes log.old.first) (O.contents out.old) (O.contents out.new)) }
+    ensures fault { IfErr result IsLogFault }
+{
+    write_new(out, log.first.as_bytes())?;
+    let ends = (log.first.len() as u64, log.whole);
+    compact_lines(alloc, session, &mut log.file, ends, out)
+}
+
+/// Gives the session the lines between these places of the file, and writes those that are needed.
+fn compact_lines<F: Read + Seek, O: Write>(
+    alloc: Global,
+    session: &mut Session,
+    file: &mut F,
+    ends: (u64, u64),
+    out: &mut O,
+) -> Result<(), Fault>
+    ensures compacted { OnOk result (IsCompacted session.old [] (O.contents out.old) (O.contents out.new)) }
+    ensures fault { IfErr result IsLogFault }
+{
+    let mut buffer = vec![in alloc; 0u8; READ_SIZE]?;
+    compact_by(alloc, session, file, ends, out, &mut buffer)
+}
+
+fn compact_by<F: Read + Seek, O: Write>(
+    alloc: Global,
+    session: &mut Session,
+    file: &mut F,
+    ends: (u64, u64),
+    out: &mut O,
+    buffer: &mut [u8],
+) -> Result<(), Fault>
+    ensures compacted { OnOk result (IsCompacted session.old [] (O.contents out.old) (O.contents out.new)) }
+    ensures fault { IfErr result IsLogFault }
+{
+    let (mut at, end) = ends;
+    let mut compactor = Compactor::new(alloc);
+    for _turn in 0..u64::MAX {
+        if end <= at {
+            return Ok(());
+        }
+        let count = read_lines(file, buffer, at, end)?;
+        compact_bytes(alloc, &mut compactor, session, &buffer[..count], out)?;
+        at = at.saturating_add(count as u64);
+    }
+    Err(Fault::Log(LogFault::CannotRead))
+}
+
+/// Reads whole lines from this place of the file, and answers how many bytes they have.
+fn read_lines<F: Read + Seek>(
+    file: &mut F,
+    buffer: &mut [u8],
+    at: u64,
+    end: u64,
+) -> Result<usize, Fault>
+    ensures within { IfOk result (λ count. count ≤ length buffer.new) }
+    ensures fault { IfErr result IsLogFault }
+{
+    let count = end.saturating_sub(at).min(buffer.len() as u64) as usize;
+    file.seek(SeekFrom::Start(at))?;
+    file.read_exact(&mut buffer[..count])?;
+    match whole_len(&buffer[..count]) {
+        0 => Err(Fault::Log(LogFault::CannotRead)),
+        whole => Ok(whole),
+    }
+}
+
+/// Gives the session the lines of these bytes, and writes those that are needed.
+fn compact_bytes<O: Write>(
+    alloc: Global,
+    compactor: &mut Compactor,
+    session: &mut Session,
+    bytes: &[u8],
+    out: &mut O,
+) -> Result<(), Fault>
+    ensures compacted { OnOk result (Compacted compactor.old session.old compactor.new session.new (O.contents out.old) (O.contents out.new)) }
+    ensures fault { IfErr result IsLogFault }
+{
+    let mut kept = Vec::new(alloc);
+    if compactor.compact(session, bytes, &mut kept).is_err() {
+        return Err(Fault::NoMemory);
+    }
+    write_new(out, &kept)
+}
+
+fn write_new<O: Write>(out: &mut O, bytes: &[u8]) -> Result<(), Fault>
+    ensures gained { OnOk result (Appends (O.contents out.old) (O.contents out.new) bytes.now) }
+    ensures fault { IfErr result IsLogFault }
+{
+    match out.write_all(bytes) {
+        Ok(()) => Ok(()),
+        Err(_) => Err(Fault::Log(LogFault::CannotWriteNew)),
+    }
+}

@@ -1,0 +1,210 @@
+//! The file of a log, as it is opened.
+ghost use Rattle.std.specs.Prelude.{IfErr};
+ghost use Rattle.mercator.specs.LogFile.{IsLogFault};
+
+use crate::commands::fault::Fault;
+use crate::commands::log_file::{LockFile, LogFault};
+use crate::commands::planned::LogPlan;
+use crate::commands::window::READ_SIZE;
+use crawl_replay::Header;
+use crawl_session::{settings_line, start_text, whole_len};
+use std::alloc::{AllocError, Global};
+use std::fs::{self, Files, OpenOptions};
+use std::io::{self, Read, Seek, SeekFrom};
+
+/// How many digits an identity has.
+const DIGITS: usize = 32;
+
+/// A log's file, which this process has.
+#[derive(Drop)]
+pub struct OpenedLog<F> {
+    /// The file.
+    pub file: F,
+    /// Its first line, with its end. The file may have none of it, or a beginning.
+    pub first: String,
+    /// The identity there, where the log is a part's.
+    pub identity: String,
+    /// Where its whole lines end; 0 where it ends before its first line does.
+    pub whole: u64,
+    /// Where its bytes end.
+    pub len: u64,
+}
+
+/// Opens the log, which is made where there is none and it is to be made.
+///
+/// # Errors
+/// `CannotOpen`, `InUse`; `OtherSettings` where it begins otherwise; `CannotRead`; `NoMemory`.
+pub fn open_log<R: Files, L: LockFile<R::File>>(
+    rt: &R,
+    locks: &L,
+    alloc: Global,
+    asked: &LogPlan,
+    makes: bool,
+) -> Result<OpenedLog<R::File>, Fault>
+    ensures { IfErr result IsLogFault }
+{
+    let mut file = open_file(rt, locks, asked.file.as_str(), makes)?;
+    let identity = match asked.session.part {
+        Some(part) => identity_of(rt, alloc, part, &mut file)?,
+        None => String::new(alloc),
+    };
+    let first = first_line_of(alloc, asked, identity.as_str())?;
+    let (whole, len) = measure(alloc, &mut file, first.as_bytes())?;
+    Ok(OpenedLog {
+        file,
+        first,
+        identity,
+        whole,
+        len,
+    })
+}
+
+/// The file, locked.
+fn open_file<R: Files, L: LockFile<R::File>>(
+    rt: &R,
+    locks: &L,
+    name: &str,
+    makes: bool,
+) -> Result<R::File, LogFault> {
+    let opened = OpenOptions::new()
+        .read(true)
+        .append(makes)
+        .create(makes)
+        .open(rt, name);
+    let Ok(file) = opened else {
+        return Err(LogFault::CannotOpen);
+    };
+    match locks.try_lock(&file) {
+        Ok(true) => Ok(file),
+        Ok(false) => Err(LogFault::InUse),
+        Err(_) => Err(LogFault::CannotOpen),
+    }
+}
+
+/// The identity of a part's log: the digits that stand in its first line, and drawn ones behind them.
+fn identity_of<R: Files, F: Read + Seek>(
+    rt: &R,
+    alloc: Global,
+    part: (u32, u32),
+    file: &mut F,
+) -> Result<String, Fault>
+    ensures { IfErr result IsLogFault }
+{
+    let mut digits = drawn_digits(rt)?;
+    let begin = identity_start(alloc, part)?.len() as u64;
+    let len = file.seek(SeekFrom::End(0))?;
+    let there = len.saturating_sub(begin).min(DIGITS as u64) as usize;
+    file.seek(SeekFrom::Start(begin))?;
+    file.read_exact(&mut digits[..there])?;
+    text_of_digits(alloc, &digits)
+}
+
+/// What stands before the identity.
+fn identity_start(alloc: Global, part: (u32, u32)) -> Result<String, AllocError> {
+    let mut text = start_text(alloc, Some(part), None)?;
+    text.push_str("identity ")?;
+    Ok(text)
+}
+
+/// Digits that the system draws.
+fn drawn_digits<R: Files>(rt: &R) -> Result<[u8; DIGITS], LogFault> {
+    let mut drawn = [0u8; DIGITS];
+    let Ok(mut source) = fs::open(rt, "/dev/urandom") else {
+        return Err(LogFault::CannotRead);
+    };
+    if source.read_exact(&mut drawn).is_err() {
+        return Err(LogFault::CannotRead);
+    }
+    for byte in drawn.iter_mut() {
+        *byte = digit(*byte);
+    }
+    Ok(drawn)
+}
+
+/// The digit of the low four bits.
+fn digit(byte: u8) -> u8 {
+    match byte & 15 {
+        low @ 0..=9 => b'0' + low,
+        low => b'a' + (low - 10),
+    }
+}
+
+fn text_of_digits(alloc: Global, digits: &[u8]) -> Result<String, Fault>
+    ensures { IfErr result IsLogFault }
+{
+    let mut text = String::new(alloc);
+    for digit in digits {
+        match digit {
+            b'0'..=b'9' | b'a'..=b'f' => text.push(char::from(*digit))?,
+            _ => return Err(Fault::Log(LogFault::OtherSettings)),
+        }
+    }
+    Ok(text)
+}
+
+/// The first line of the log, with its end.
+fn first_line_of(alloc: Global, asked: &LogPlan, identity: &str) -> Result<String, AllocError> {
+    let session = &asked.session;
+    let header = Header {
+        workers: session.workers,
+        max: session.max,
+    };
+    let mut line = match session.part {
+        Some(part) => start_text(alloc, Some(part), Some(identity))?,
+        None => String::new(alloc),
+    };
+    let settings = match &session.within {
+        Some(suffix) => settings_line(alloc, &header, &[suffix.as_str()])?,
+        None => settings_line(alloc, &header, &[])?,
+    };
+    line.push_str(settings.as_str())?;
+    line.push('\n')?;
+    Ok(line)
+}
+
+/// Where the whole lines of the log end, and where its bytes do. It has no whole line where it ends before its first line does.
+///
+/// # Errors
+/// `OtherSettings` where it begins otherwise; `CannotRead`; `NoMemory`.
+fn measure<F: Read + Seek>(alloc: Global, file: &mut F, first: &[u8]) -> Result<(u64, u64), Fault>
+    ensures { IfErr result IsLogFault }
+{
+    let len = file.seek(SeekFrom::End(0))?;
+    let known = (first.len() as u64).min(len) as usize;
+    let mut head = vec![in alloc; 0u8; known]?;
+    file.seek(SeekFrom::Start(0))?;
+    file.read_exact(&mut head)?;
+    if head.as_slice() != &first[..known] {
+        return Err(Fault::Log(LogFault::OtherSettings));
+    }
+    if known < first.len() {
+        return Ok((0, len));
+    }
+    let mut buffer = vec![in alloc; 0u8; READ_SIZE]?;
+    Ok((whole_end(file, known as u64, len, &mut buffer)?, len))
+}
+
+/// Where the last line with an end has its end, which is behind `from`; `from` where there is none.
+fn whole_end<F: Read + Seek>(
+    file: &mut F,
+    from: u64,
+    len: u64,
+    buffer: &mut [u8],
+) -> io::Result<u64> {
+    let mut end = len;
+    for _turn in 0..u64::MAX {
+        if end <= from || buffer.is_empty() {
+            return Ok(from);
+        }
+        let count = (end - from).min(buffer.len() as u64) as usize;
+        let start = end - count as u64;
+        file.seek(SeekFrom::Start(start))?;
+        file.read_exact(&mut buffer[..count])?;
+        let whole = whole_len(&buffer[..count]);
+        if 0 < whole {
+            return Ok(start + whole as u64);
+        }
+        end = start;
+    }
+    Ok(from)
+}

@@ -1,0 +1,149 @@
+#!/bin/bash
+# Installs mercator: the program, its manual page, completions for bash and zsh, and the Python clients.
+#
+# Usage: install.sh [--program FILE] [PREFIX]         below PREFIX, else below ~/.local
+#        install.sh [--program FILE] --deb [FOLDER]   makes a Debian package in FOLDER, else here, and prints its name
+#
+# The program is proved and built, which takes 47 minutes of processor where that was not done; or it is FILE. Wants the Rattle kit
+# for that, and Python 3.9. A package has the maintainer that DEBFULLNAME and DEBEMAIL name, else git's user.
+set -euo pipefail
+
+usage() {
+    sed -n 's/^# Usage: /usage: /p; s/^#        install.sh/       install.sh/p' "$0" >&2
+    exit 3
+}
+
+built() {
+    echo "proving and building the program, where that was not done .." >&2
+    (cd "$here/crates/mercator_cli" && rt run -- --help) > "$scratch/told" 2>&1 || { cat "$scratch/told" >&2; exit 1; }
+    echo "$here/crates/mercator_cli/out/mercator_cli"
+}
+
+# place PROGRAM ROOT PYTHON ZSH: all files below ROOT, the clients in its folder PYTHON, and zsh's completions in share/zsh/ZSH.
+place() {
+    install -D -m 755 "$1" "$2/bin/mercator"
+    install -D -m 644 "$here/docs/mercator.1" "$2/share/man/man1/mercator.1"
+    install -D -m 644 "$here/completions/mercator.bash" "$2/share/bash-completion/completions/mercator"
+    install -D -m 644 "$here/completions/_mercator" "$2/share/zsh/$4/_mercator"
+    python3 "$here/clients/python/make_wheel.py" "$2/$3"
+}
+
+# The folder of modules that the Python of this machine has below PREFIX.
+python_folder() {
+    python3 -c 'import sysconfig; print(sysconfig.get_path("purelib", "posix_prefix", {"base": ""}).lstrip("/"))'
+}
+
+install_below() {
+    local folder
+    folder=$(python_folder)
+    place "$1" "$2" "$folder" site-functions
+    echo "installed below $2: bin/mercator, share/man/man1/mercator.1, completions, and the Python clients in $folder"
+    [[ :$PATH: == *:$2/bin:* ]] || echo "for the program: PATH=$2/bin:\$PATH"
+    (cd / && python3 -c 'import mercator_frontier') 2> /dev/null || echo "for the clients: PYTHONPATH=$2/$folder"
+}
+
+version() {
+    sed -n 's/^## \([0-9][0-9.]*\).*/\1/p' "$here/CHANGELOG.md" | head -n 1
+}
+
+maintainer() {
+    local name email
+    name=${DEBFULLNAME:-$(git -C "$here" config user.name || id -un)}
+    email=${DEBEMAIL:-$(git -C "$here" config user.email || echo "$(id -un)@$(hostname)")}
+    echo "$name <$email>"
+}
+
+# The libraries that the program was linked with, as packages.
+libraries() {
+    mkdir -p "$scratch/shlibs/debian"
+    printf 'Source: mercator\n\nPackage: mercator\nArchitecture: any\n' > "$scratch/shlibs/debian/control"
+    (cd "$scratch/shlibs" && dpkg-shlibdeps -O "$1" 2> /dev/null) | sed -n 's/^shlibs:Depends=\(..*\)/\1, /p'
+}
+
+control() {
+    cat << END
+Package: mercator
+Version: $(version)
+Architecture: $(dpkg --print-architecture)
+Maintainer: $(maintainer)
+Installed-Size: $(du -sk --apparent-size "$1/usr" | cut -f 1)
+Depends: $(libraries "$1/usr/bin/mercator")python3 (>= 3.9)
+Suggests: python3-redis, python3-scrapy
+Section: web
+Priority: optional
+Description: URL frontier for crawlers, and crawls of saved web sites
+ mercator crawls a saved web site, and tells which of its links lead to no
+ page. The report is the same, byte for byte, for any number of threads.
+ .
+ mercator serve is the URL frontier of a crawler in any language, with
+ clients for Python. It gives out each URL once, and those of a host one at
+ a time.
+ .
+ A prover checks the program's code.
+END
+}
+
+copyright() {
+    cat << END
+mercator, its manual page and its clients: MIT or Apache-2.0, as you like.
+On Debian systems the text of Apache-2.0 is in
+/usr/share/common-licenses/Apache-2.0.
+
+END
+    cat "$here/LICENSE-MIT"
+}
+
+# The newest part of CHANGELOG.md, as Debian writes changes.
+changes() {
+    printf 'mercator (%s) unstable; urgency=medium\n\n' "$(version)"
+    sed -n '/^## /,/^## /{/^- /p}' "$here/CHANGELOG.md" | sed 's/^- //; s/`//g' | while read -r line; do
+        fold -s -w 74 <<< "$line" | sed '1s/^/  * /; 2,$s/^/    /; s/ *$//'
+    done
+    printf '\n -- %s  %s\n' "$(maintainer)" "$(date -R -u -d "@$SOURCE_DATE_EPOCH")"
+}
+
+# script NAME COMMAND..: a script of the package, for the bytecode of Python's modules.
+script() {
+    printf '#!/bin/sh\nset -e\nif command -v %s > /dev/null; then\n    %s -p mercator\nfi\n' "$2" "$2" > "$root/DEBIAN/$1"
+    chmod 755 "$root/DEBIAN/$1"
+}
+
+make_package() {
+    local root=$scratch/mercator name
+    name=mercator_$(version)_$(dpkg --print-architecture).deb
+    SOURCE_DATE_EPOCH=${SOURCE_DATE_EPOCH:-$(git -C "$here" log -1 --format=%ct 2> /dev/null || date +%s)}
+    export SOURCE_DATE_EPOCH
+    umask 022
+    place "$1" "$root/usr" lib/python3/dist-packages vendor-completions
+    strip "$root/usr/bin/mercator"
+    gzip -9n "$root/usr/share/man/man1/mercator.1"
+    mkdir -p "$root/usr/share/doc/mercator" "$root/DEBIAN"
+    copyright > "$root/usr/share/doc/mercator/copyright"
+    changes | gzip -9n > "$root/usr/share/doc/mercator/changelog.gz"
+    control "$root" > "$root/DEBIAN/control"
+    (cd "$root" && find usr -type f -exec md5sum {} +) > "$root/DEBIAN/md5sums"
+    script postinst py3compile
+    script prerm py3clean
+    dpkg-deb --root-owner-group --build "$root" "$2/$name" > "$scratch/told"
+    echo "$2/$name"
+}
+
+here=$(cd "$(dirname "$0")" && pwd)
+program= deb=
+while [[ ${1:-} == --* ]]; do
+    case $1 in
+    --program) [ -x "${2:-}" ] || usage; program=$(realpath "$2"); shift 2 ;;
+    --deb) deb=1; shift ;;
+    *) usage ;;
+    esac
+done
+[ $# -le 1 ] || usage
+scratch=$(mktemp -d)
+trap 'rm -rf "$scratch"' EXIT
+program=${program:-$(built)}
+if [ -n "$deb" ]; then
+    make_package "$program" "${1:-.}"
+else
+    prefix=$(realpath -m "${1:-$HOME/.local}")
+    install_below "$program" "$prefix"
+fi

@@ -1,0 +1,703 @@
+#!/usr/bin/python3
+"""Runs crawls that K parts share over a Redis of its own, with faults; compares what they fetch.
+
+Usage: cluster_runs.py [--program FILE] [--part NAME].. [--webs N] [--seed S] [--pages N] [--keep]
+
+PROGRAM is --program, else what MERCATOR of the environment names, else the built program; it has
+to have `serve --part` and `--log`. `tests/serving/fake.py`, a frontier in Python, has them. A web
+is generated, and a fetch reads it: no HTTP. What is to be fetched is what `mercator crawl` reports,
+and an own search where PROGRAM has no `crawl`.
+
+A part is a process of this script with its frontier. Redis listens on a free port of the loopback,
+in a folder of its own, and is ended. --pages is for the part `speed`, which prints figures. SECONDS
+of the environment is the time limit of a crawl. At last it prints `N passed, M failed`.
+"""
+
+from __future__ import annotations
+
+import argparse
+import json
+import os
+import random
+import shutil
+import signal
+import socket
+import subprocess
+import sys
+import tempfile
+import time
+import traceback
+from collections import Counter, defaultdict
+from pathlib import Path
+from typing import Any, Callable, Dict, Iterable, List, NamedTuple, Optional, Set, Tuple, Type
+
+ROOT = Path(__file__).resolve().parent.parent
+sys.path[:0] = [str(ROOT / "tests"), str(ROOT / "clients/python")]
+import mercator_cluster  # noqa: E402
+import redis  # noqa: E402
+from mercator_cluster import (  # noqa: E402
+    Crawl, Cut, Fetched, OtherCrawl, Part, UnsafeRedis, run,
+)
+from mercator_frontier import FrontierEnded  # noqa: E402
+from serving.crawlers import Folder, found_by_search  # noqa: E402
+
+LONG = "\u00fc" * 1500
+SECONDS = float(os.environ.get("SECONDS", "120"))
+BUILT = ROOT / "crates/mercator_cli/out/mercator_cli"
+# How a process of a part ends.
+COMPLETE, FRONTIER_DIED, FAULT = 0, 3, 1
+
+
+class Differs(Exception):
+    """A crawl is not as it should be."""
+
+
+def expect(is_so: bool, text: str) -> None:
+    if not is_so:
+        raise Differs(text)
+
+
+# ---------------------------------------------------------------- webs
+
+
+class Web(NamedTuple):
+    """Pages with the texts of their links. A URL that is no page is fetched, too, and has none."""
+
+    pages: Dict[str, List[str]]
+    seeds: List[str]
+
+    def saved(self) -> bytes:
+        lines = ["savedweb 2"]
+        for url, texts in sorted(self.pages.items()):
+            lines += [f"page {url}", *(f"link {text}" for text in texts)]
+        return ("\n".join(lines) + "\n").encode()
+
+
+def drawn_web(draw: random.Random, hosts: int, pages: int) -> Web:
+    """Links in several spellings, links to no page, and hosts of all parts."""
+    urls = [f"http://h{draw.randrange(hosts)}.test/d/{number}" for number in range(pages)]
+    links: Dict[str, List[str]] = {url: [] for url in urls}
+    for number, url in enumerate(urls):
+        # Page n is linked from page (n - 1) // 2, so that the first leads to all.
+        linked = [urls[child] for child in (2 * number + 1, 2 * number + 2) if child < pages]
+        linked += [draw.choice(urls) for _ in range(draw.randrange(4))]
+        links[url] = [spelled(draw, url, link) for link in linked]
+    return Web(links, draw.sample(urls[:2], 2))
+
+
+def spelled(draw: random.Random, page: str, url: str) -> str:
+    host, path = url[7:].split("/", 1)
+    texts = [url, url, f"HTTP://{host.upper()}:80/x/../{path}#part", f"//{host}/./\r{path}"]
+    if draw.randrange(8) == 0:
+        # The last one is canonical with three times as many bytes: no request has room for it.
+        texts = [f"http://{host}/gone/{draw.randrange(9)}", "mailto:x", "http://o.other/", "x y",
+                 f"http://{host}/{LONG}"]
+    elif page[7:].split("/")[0] == host:
+        texts += [f"/{path}", f"../{path}#f", path[2:]]
+    return draw.choice(texts)
+
+
+def plain_web(pages: int, hosts: int, links: int, seed: int = 1) -> Web:
+    """Many pages with links to random pages, for speed."""
+    draw = random.Random(seed)
+    urls = [f"http://host{draw.randrange(hosts)}.test/pages/{page}.html" for page in range(pages)]
+    web: Dict[str, List[str]] = {}
+    for number, url in enumerate(urls):
+        linked = [urls[child] for child in (2 * number + 1, 2 * number + 2) if child < pages]
+        web[url] = linked + [urls[draw.randrange(pages)] for _ in range(links - len(linked))]
+    return Web(web, urls[:1])
+
+
+def wanted_of(web: Web, program: str, folder: Path) -> Dict[str, bool]:
+    """Each URL that is to be fetched, and whether it is a page: what `mercator crawl` reports."""
+    file = folder / "web"
+    file.write_bytes(web.saved())
+    words = [program, "crawl", "--within", "test", str(file), *web.seeds]
+    done = subprocess.run(words, capture_output=True, timeout=SECONDS, check=False)
+    if done.returncode == 0:
+        lines = [line.split(" ") for line in done.stdout.decode().splitlines()[:-1]]
+        return {line[-1]: line[0] == "ok" for line in lines}
+    return searched(web)
+
+
+def searched(web: Web) -> Dict[str, bool]:
+    import drawn
+    found: Dict[str, bool] = {}
+    rest = list(web.seeds)
+    while rest:
+        url = rest.pop()
+        if url not in found:
+            found[url] = url in web.pages
+            base = drawn.url_of(url)
+            links = [drawn.url_or_none(text, base) for text in web.pages.get(url, ())]
+            rest += [str(link) for link in links if link and f".{link.host}".endswith(".test")]
+    return found
+
+
+# ---------------------------------------------------------------- Redis
+
+
+class Server:
+    """A Redis on a free port of the loopback, in a folder of its own."""
+
+    def __init__(self, folder: Path) -> None:
+        self.folder = folder / "redis"
+        self.folder.mkdir()
+        with socket.socket() as free:
+            free.bind(("127.0.0.1", 0))
+            self.port = free.getsockname()[1]
+        self.url = f"redis://127.0.0.1:{self.port}/0"
+        self.start()
+
+    def start(self) -> None:
+        self.process = subprocess.Popen(
+            ["redis-server", "--port", str(self.port), "--bind", "127.0.0.1", "--save", "",
+             "--dir", str(self.folder), "--appendonly", "yes", "--appendfsync", "everysec",
+             "--maxmemory-policy", "noeviction"],
+            stdout=subprocess.DEVNULL,
+        )
+        end = time.monotonic() + SECONDS
+        self.client = redis.Redis(port=self.port)
+        while True:
+            try:
+                self.client.ping()
+                return
+            except redis.RedisError:
+                is_alive = self.process.poll() is None
+                expect(time.monotonic() < end and is_alive, "Redis does not start")
+                time.sleep(0.02)
+
+    def lose(self, everything: bool) -> None:
+        """Kills it, and starts it again with its files or with nothing."""
+        self.process.kill()
+        self.process.wait()
+        if everything:
+            shutil.rmtree(self.folder / "appendonlydir", ignore_errors=True)
+        self.start()
+
+    def empty(self) -> None:
+        self.client.flushall()
+
+    def processor(self) -> float:
+        used = self.client.info("cpu")
+        return float(used["used_cpu_user"] + used["used_cpu_sys"])
+
+    def end(self) -> None:
+        self.process.terminate()
+        self.process.wait()
+
+
+# ---------------------------------------------------------------- one part, in a process of its own
+
+
+class Faults(NamedTuple):
+    """What goes wrong in a crawl."""
+
+    kills: int = 0  # of parts: the client, its frontier, or both
+    losses: int = 0  # of Redis, each second time with its files
+    is_twice: bool = False  # every entry is sent twice
+    late: float = 0.0  # this share of the URLs that are sent is held back, up to 50 ms
+
+
+class Shared(NamedTuple):
+    """What a crawl's processes are started with."""
+
+    crawl: Crawl
+    web: Web
+    faults: Faults
+    program: str
+    folder: Path
+    max_pending: Optional[int] = None
+    is_synced: bool = False
+    has_threads: bool = False
+
+
+class Held(NamedTuple):
+    """A line that is held back, and until when."""
+
+    due: float
+    to: int
+    line: bytes
+    owners: List[Any]
+
+
+class FaultyOutbox(mercator_cluster._Outbox):
+    """Sends entries twice, and lines late."""
+
+    def __init__(self, mine: int, faults: Faults) -> None:
+        super().__init__(mine)
+        self.faults = faults
+        self.held: List[Held] = []
+
+    def __bool__(self) -> bool:
+        return bool(self.held) or super().__bool__()
+
+    def send(self, pipe: Any, streams: List[str]) -> None:
+        self.release()
+        self.hold()
+        lines = self._lines
+        super().send(pipe, streams)
+        if self.faults.is_twice:
+            sendings = self._sendings.copy()
+            self._lines = lines
+            super().send(pipe, streams)
+            self._sendings = sendings
+
+    def release(self) -> None:
+        now = time.monotonic()
+        for held in self.held:
+            if held.due <= now:
+                lines = self._lines.setdefault(held.to, {})
+                lines.setdefault(held.line, []).extend(held.owners)
+        self.held = [held for held in self.held if held.due > now]
+
+    def hold(self) -> None:
+        for to, lines in self._lines.items():
+            for line in [line for line in lines if random.random() < self.faults.late]:
+                due = time.monotonic() + random.random() / 20
+                self.held.append(Held(due, to, line, lines.pop(line)))
+        self._lines = {to: lines for to, lines in self._lines.items() if lines}
+
+
+def started(shared: Shared, part: int) -> Part:
+    made = Part(
+        shared.crawl, part, shared.folder / f"log.{part}", shared.web.seeds if part == 0 else (),
+        max_pending=shared.max_pending, sync=shared.is_synced, program=shared.program,
+    )
+    made._outbox = FaultyOutbox(part, shared.faults)  # which is empty once a part is ready
+    process = made._frontier._channel._process
+    (shared.folder / f"frontier.{part}").write_text(str(process.pid))
+    return made
+
+
+def work(shared: Shared, part: int) -> None:
+    """A part to its end. Each URL that it fetches is written down first."""
+    pages = shared.web.pages
+    file = os.open(shared.folder / f"fetched.{part}", os.O_WRONLY | os.O_CREAT | os.O_APPEND)
+
+    def fetch(queue: int, url: str) -> Tuple[str, List[str]]:
+        os.write(file, f"{queue} {url}\n".encode())
+        return url, pages.get(url, [])
+
+    if shared.has_threads:
+        run(lambda: started(shared, part), fetch)
+        return
+    begun, counts = time.monotonic(), Counter[str]()
+    while True:
+        try:
+            with started(shared, part) as made:
+                fetched: List[Fetched] = []
+                while True:
+                    taken = made.round(fetched)
+                    if taken is None:
+                        break
+                    os.write(file, "".join([f"{queue} {url}\n" for queue, url in taken]).encode())
+                    fetched = [Fetched(queue, url, pages.get(url, [])) for queue, url in taken]
+                counts.update(vars(made.counts))
+            break
+        except Cut:
+            time.sleep(0.02)
+    times = os.times()
+    told = {
+        **counts, "seconds": time.monotonic() - begun, "client": times.user + times.system,
+        "frontier": times.children_user + times.children_system,
+    }
+    (shared.folder / f"told.{part}").write_text(json.dumps(told))
+
+
+def forked(shared: Shared, part: int) -> int:
+    process = os.fork()
+    if process:
+        return process
+    status = FAULT
+    try:
+        random.seed()
+        work(shared, part)
+        status = COMPLETE
+    except FrontierEnded:
+        status = FRONTIER_DIED
+    except BaseException:
+        traceback.print_exc()
+    finally:
+        os._exit(status)
+
+
+# ---------------------------------------------------------------- a crawl
+
+
+class Stopped(NamedTuple):
+    parts: int = 0  # times that a part was stopped, by a kill or a Redis that is gone
+    redis: int = 0
+
+
+def crawl(shared: Shared, server: Server, draw: random.Random, wanted: Iterable[str]) -> Stopped:
+    """Runs all parts to the end. Some are killed, and Redis is, at drawn moments of the crawl."""
+    parts = {part: forked(shared, part) for part in range(shared.crawl.parts)}
+    stopped = losses = 0
+    whole = sum(len(url) + 3 for url in wanted)
+    what = ["part"] * shared.faults.kills + ["redis"] * shared.faults.losses
+    moments = sorted((draw.random() * whole, word) for word in what)
+    end = time.monotonic() + SECONDS
+    try:
+        while parts:
+            expect(time.monotonic() < end, f"it does not end in {SECONDS} s")
+            for part, process in list(parts.items()):
+                ended, status = os.waitpid(process, os.WNOHANG)
+                if not ended:
+                    continue
+                del parts[part]
+                if status and (os.WIFSIGNALED(status) or os.WEXITSTATUS(status) == FRONTIER_DIED):
+                    stopped += 1
+                    parts[part] = forked(shared, part)
+                else:
+                    expect(status == 0, f"part {part} ended with {status}")
+            if moments and parts and so_far(shared.folder) >= moments[0][0]:
+                _, word = moments.pop(0)
+                time.sleep(draw.random() / 100)
+                if word == "part":
+                    kill(shared.folder, *draw.choice(list(parts.items())), draw)
+                else:
+                    server.lose(everything=losses % 2 == 0)
+                    losses += 1
+                    stopped += len(parts)
+                    # A part that had ended has to tell the new Redis what it knows.
+                    for part in set(range(shared.crawl.parts)) - set(parts):
+                        parts[part] = forked(shared, part)
+            else:
+                time.sleep(0.001 if moments else 0.005)
+    finally:
+        for process in parts.values():  # some are left only where something failed
+            os.kill(process, signal.SIGKILL)
+            os.waitpid(process, 0)
+    return Stopped(stopped, losses)
+
+
+def so_far(folder: Path) -> int:
+    """How far a crawl is: the bytes of what was written down."""
+    return sum(file.stat().st_size for file in folder.glob("fetched.*"))
+
+
+def kill(folder: Path, part: int, process: int, draw: random.Random) -> None:
+    """Kills a part's client, its frontier or both. Each is a child of this script's, or of its."""
+    what = draw.choice(("client", "frontier", "both"))
+    try:
+        if what != "client":
+            os.kill(int((folder / f"frontier.{part}").read_text()), signal.SIGKILL)
+        if what != "frontier":
+            os.kill(process, signal.SIGKILL)
+    except (OSError, ValueError):
+        pass  # it has not started, or has ended
+
+
+def fetched_by(shared: Shared) -> Tuple[Counter[str], Dict[str, Set[Tuple[int, int]]]]:
+    """How often each URL was fetched; the parts and queues that fetched from each host."""
+    count: Counter[str] = Counter()
+    hosts: Dict[str, Set[Tuple[int, int]]] = defaultdict(set)
+    for part in range(shared.crawl.parts):
+        lines = (shared.folder / f"fetched.{part}").read_text().splitlines()
+        for queue, url in (line.split(" ") for line in lines):
+            count[url] += 1
+            hosts[url.split("/")[2]].add((part, int(queue)))
+    return count, hosts
+
+
+def check(shared: Shared, server: Server, wanted: Dict[str, bool], stopped: Stopped) -> int:
+    """Compares what was fetched; how many URLs were fetched again."""
+    count, hosts = fetched_by(shared)
+    missing, more = set(wanted) - set(count), set(count) - set(wanted)
+    some = sorted(url[:80] for url in missing)[:3]
+    expect(not missing, f"{len(missing)} of {len(wanted)} URLs were not fetched: {some}")
+    expect(not more, f"{len(more)} URLs should not be fetched: {sorted(more)[:3]}")
+    pages = {url for url in count if url in shared.web.pages}
+    other = pages ^ {url for url, is_page in wanted.items() if is_page}
+    expect(not other, f"pages for one alone: {sorted(other)[:3]}")
+    again = sum(count.values()) - len(count)
+    most = stopped.parts * shared.crawl.workers
+    expect(again <= most, f"{again} URLs were fetched again, {most} can have been in hand")
+    several = [host for host, places in hosts.items() if len(places) > 1]
+    expect(not several, f"hosts of several queues: {several[:3]}")
+    wrong = [place for places in hosts.values() for place in places
+             if place[1] // shared.crawl.workers != place[0]]
+    expect(not wrong, f"queues of other parts: {wrong[:3]}")
+    expect(server.client.exists(f"{{{shared.crawl.name}}}:complete") == 1, "`complete` is not set")
+    return again
+
+
+class Trial:
+    """What all parts of this script have."""
+
+    def __init__(self, words: argparse.Namespace, program: str, folder: Path) -> None:
+        self.words, self.program, self.folder = words, program, folder
+        self.webs: int = words.webs
+        self.server = Server(folder)
+        self.number = 0
+        self.again = self.stopped = self.lost = self.crawls = self.pages = 0
+
+    def draw(self, name: str) -> random.Random:
+        return random.Random(f"{name} of seed {self.words.seed}")
+
+    def one(
+        self, draw: random.Random, web: Web, parts: int, workers: int, faults: Faults = Faults(),
+        wanted: Optional[Dict[str, bool]] = None, **options: Any,
+    ) -> Shared:
+        """A crawl, compared."""
+        self.number += 1
+        folder = self.folder / f"crawl-{self.number}"
+        folder.mkdir()
+        self.server.empty()
+        crawl_of_all = Crawl(parts, workers, "test", f"crawl {self.number}", self.server.url)
+        shared = Shared(crawl_of_all, web, faults, self.program, folder, **options)
+        if wanted is None:
+            wanted = wanted_of(web, self.program, folder)
+        stopped = crawl(shared, self.server, draw, wanted)
+        self.again += check(shared, self.server, wanted, stopped)
+        self.stopped += stopped.parts
+        self.lost += stopped.redis
+        self.crawls += 1
+        self.pages += len(wanted)
+        if not self.words.keep:
+            for log in folder.glob("log.*"):
+                log.unlink()
+        return shared
+
+    def tell(self) -> None:
+        print(
+            f"  {self.crawls} crawls, {self.pages} URLs; {self.stopped} times a part was stopped,"
+            f" {self.lost} times Redis; {self.again} URLs were fetched again", flush=True
+        )
+        self.again = self.stopped = self.lost = self.crawls = self.pages = 0
+
+
+# ---------------------------------------------------------------- the parts of this script
+
+
+def drawn_crawl(
+    trial: Trial, name: str, number: int, parts: int, faults: Faults = Faults(), **options: Any
+) -> None:
+    draw = trial.draw(f"{name} {number} {parts}")
+    web = drawn_web(draw, draw.choice((3, 20, 60)), draw.randrange(20, 800))
+    trial.one(draw, web, parts, draw.choice((1, 3, 16)), faults, **options)
+
+
+def plain(trial: Trial) -> None:
+    """1, 2, 4 and 8 parts: the URLs are those of one frontier, each once; with threads, too."""
+    for parts in (1, 2, 4, 8):
+        for number in range(trial.webs):
+            drawn_crawl(
+                trial, "plain", number, parts, has_threads=number % 5 == 4,
+                is_synced=number % 2 == 0,
+            )
+
+
+def killed(trial: Trial) -> None:
+    """Parts are killed at random moments, client, frontier or both, and started again."""
+    for parts in (1, 2, 4, 8):
+        for number in range(max(1, trial.webs // 2)):
+            drawn_crawl(trial, "killed", number, parts, Faults(kills=8))
+
+
+def twice_and_late(trial: Trial) -> None:
+    """Every entry comes twice, and 1 of 100 URLs late, or 1 of 10; with kills beside."""
+    for number in range(trial.webs):
+        faults = Faults(is_twice=True, late=(0.01, 0.1)[number % 2], kills=3 * (number % 3 == 0))
+        drawn_crawl(trial, "twice", number, (2, 4)[number % 2], faults)
+
+
+def lost_redis(trial: Trial) -> None:
+    """Redis is killed and started again, with its files and with nothing; parts are, too."""
+    for number in range(trial.webs):
+        faults = Faults(losses=4, kills=2 * (number % 2))
+        drawn_crawl(trial, "lost", number, (2, 4)[number % 2], faults, has_threads=number % 4 == 3)
+
+
+def full(trial: Trial) -> None:
+    """Frontiers with room for few URLs: what finds no room waits in the part's own stream."""
+    for number in range(trial.webs):
+        faults, parts = Faults(kills=2 * (number % 2)), (1, 2, 4)[number % 3]
+        drawn_crawl(trial, "full", number, parts, faults, max_pending=(2, 9, 40)[number % 3])
+
+
+def one_host(trial: Trial) -> None:
+    """One host: one part has all to do."""
+    for number in range(max(1, trial.webs // 5)):
+        draw = trial.draw(f"one host {number}")
+        trial.one(draw, drawn_web(draw, 1, 200), 4, 3, Faults(kills=2))
+
+
+def many_queues(trial: Trial) -> None:
+    """512 queues in all."""
+    for parts in (2, 8):
+        draw = trial.draw(f"queues {parts}")
+        trial.one(draw, drawn_web(draw, 700, 2000), parts, 512 // parts, has_threads=parts == 8)
+
+
+def refused(trial: Trial) -> None:
+    """Another number of parts, another log, or a Redis that evicts: a fault."""
+    draw = trial.draw("refused")
+    web = drawn_web(draw, 5, 30)
+    shared = trial.one(draw, web, 2, 3)
+    log = shared.folder / "other.log"
+    for crawl_of_all, part, kind in (
+        (shared.crawl._replace(parts=3), 0, OtherCrawl), (shared.crawl, 0, OtherCrawl),
+        (shared.crawl._replace(workers=4), 1, OtherCrawl),
+    ):
+        expect_refusal(kind, lambda: Part(crawl_of_all, part, log, program=shared.program))
+        log.unlink()
+    trial.server.client.config_set("maxmemory-policy", "allkeys-lru")
+    try:
+        expect_refusal(UnsafeRedis, lambda: Part(shared.crawl, 0, log, program=shared.program))
+    finally:
+        trial.server.client.config_set("maxmemory-policy", "noeviction")
+
+
+def expect_refusal(kind: Type[Exception], start: Callable[[], Part]) -> None:
+    try:
+        start().close()
+    except kind:
+        return
+    raise Differs(f"{kind.__name__} wanted")
+
+
+def full_redis(trial: Trial) -> None:
+    """A Redis without room refuses what is sent: the pages wait, and go on when it has room."""
+    draw = trial.draw("full redis")
+    client = trial.server.client
+    web = drawn_web(draw, 40, 1500)
+    process = os.fork()
+    if process == 0:
+        try:
+            for _ in range(6):
+                time.sleep(0.4)
+                client.config_set("maxmemory", 1)
+                time.sleep(0.4)
+                client.config_set("maxmemory", 0)
+        finally:
+            os._exit(0)
+    try:
+        trial.one(draw, web, 4, 16, Faults(late=0.3))
+    finally:
+        os.waitpid(process, 0)
+        client.config_set("maxmemory", 0)
+
+
+def http(trial: Trial) -> None:
+    """`examples/crawl_cluster.py` over HTTP: the shipped site as four hosts, by two parts."""
+    wanted, told = set(), []
+    folder = trial.folder / "http"
+    folder.mkdir()
+    trial.server.empty()
+    site = shutil.copytree(ROOT / "examples/site", folder / "site")
+    index = site / "index.html"
+    # Nothing but the loopback is asked.
+    index.write_text(index.read_text().replace("http://cogs.test/", "/"))
+    hosts = [Folder(site, f"127.0.0.{host}") for host in (1, 2, 3, 4)]
+    try:
+        seeds = [host.url for host in hosts]
+        for url in seeds:
+            wanted |= set(found_by_search(url).items())
+        words = ["--delay", "0", "--workers", "3", "--redis", trial.server.url]
+        words += ["--program", trial.program]
+        processes = [
+            subprocess.Popen(
+                [sys.executable, str(ROOT / "examples/crawl_cluster.py"), "--part", f"{part}/2",
+                 "--log", str(folder / f"log.{part}"), *words, *seeds],
+                stdout=subprocess.PIPE,
+            )
+            for part in range(2)
+        ]
+        for process in processes:
+            output, _ = process.communicate(timeout=SECONDS)
+            expect(process.returncode == 0, f"status {process.returncode}")
+            told += [line.split(" ") for line in output.decode().splitlines()]
+    finally:
+        for host in hosts:
+            host.__exit__()
+    ours = [(url, status) for status, _, url in told]
+    expect(len(ours) == len(set(ours)), "a URL was fetched twice")
+    expect(set(ours) == wanted, f"other URLs: {sorted(set(ours) ^ wanted)[:5]}")
+    print(f"  {len(ours)} URLs over HTTP")
+
+
+def speed(trial: Trial) -> None:
+    """100,000 pages on 1,000 hosts with 5 links each at random hosts, fetched at once."""
+    pages = trial.words.pages
+    web = plain_web(pages, 1000, 5)
+    wanted = dict.fromkeys(web.pages, True)
+    for parts, is_synced in ((1, False), (2, False), (4, False), (4, True)):
+        before, begun = trial.server.processor(), time.monotonic()
+        shared = trial.one(trial.draw("speed"), web, parts, 128, wanted=wanted, is_synced=is_synced)
+        all_told: Counter[str] = Counter()
+        seconds = 0.0
+        for part in range(parts):
+            told = json.loads((shared.folder / f"told.{part}").read_text())
+            seconds = max(seconds, told.pop("seconds"))
+            all_told.update(told)
+        used = trial.server.processor() - before
+        print(
+            f"  {parts} parts{', sync' * is_synced}: {seconds:.2f} s,"
+            f" {time.monotonic() - begun:.1f} in all; {pages / seconds:,.0f} pages/s;"
+            f" URLs through Redis: {all_told['sent'] / pages:.2f} a page,"
+            f" {all_told['sent'] / seconds:,.0f}/s,"
+            f" {all_told['sent'] / max(1, all_told['entries']):.0f} an entry;"
+            f" processor a page, us: clients {all_told['client'] / pages * 1e6:.0f},"
+            f" frontiers {all_told['frontier'] / pages * 1e6:.0f}, Redis {used / pages * 1e6:.1f};"
+            f" load {os.getloadavg()[0]:.1f}", flush=True
+        )
+
+
+PARTS: Tuple[Callable[[Trial], None], ...] = (
+    plain, killed, twice_and_late, lost_redis, full, one_host, many_queues, refused, full_redis,
+    http, speed,
+)
+
+
+def program_of(word: Optional[str]) -> str:
+    named = word or os.environ.get("MERCATOR") or str(BUILT)
+    found = shutil.which(named)
+    if found is None:
+        sys.exit(f"cluster_runs.py: {named} is no program")
+    return str(Path(found).resolve())
+
+
+def main() -> None:
+    parser = argparse.ArgumentParser(
+        description=__doc__, formatter_class=argparse.RawDescriptionHelpFormatter
+    )
+    option = parser.add_argument
+    option("--program", metavar="FILE")
+    option("--part", action="append", choices=[part.__name__ for part in PARTS], help="these alone")
+    option("--webs", type=int, default=50, metavar="N", help="of each part")
+    option("--pages", type=int, default=100_000, metavar="N", help="of the part speed")
+    option("--seed", default="1", help="draws other webs and moments")
+    option("--keep", action="store_true", help="keeps the folder")
+    words = parser.parse_args()
+    program = program_of(words.program)
+    folder = Path(tempfile.mkdtemp(prefix="cluster-"))
+    passed = failed = 0
+    trial = Trial(words, program, folder)
+    try:
+        for part in PARTS:
+            if words.part and part.__name__ not in words.part:
+                continue
+            begun = time.monotonic()
+            try:
+                part(trial)
+            except Exception as error:
+                failed += 1
+                print(f"{part.__name__}: FAILED: {error}", flush=True)
+                if not isinstance(error, Differs):
+                    traceback.print_exc(file=sys.stdout)
+            else:
+                passed += 1
+                print(f"{part.__name__}: passed, {time.monotonic() - begun:.0f} s", flush=True)
+            trial.tell()
+    finally:
+        trial.server.end()
+        if not words.keep:
+            shutil.rmtree(folder, ignore_errors=True)
+    print(f"{passed} passed, {failed} failed")
+    sys.exit(1 if failed or not passed else 0)
+
+
+if __name__ == "__main__":
+    main()

@@ -1,0 +1,112 @@
+#!/bin/bash
+# Installs mercator in three ways and tries what was installed: the Python clients by pip in a fresh virtual environment, without
+# the network; all of it below a folder; and the Debian package in a root of its own, which is as before once it is removed.
+#
+# Usage: tests/install.sh [--root FOLDER] [PROGRAM]
+# FOLDER is a root that `debootstrap --include=python3` made; as root, it is made where it is not there, which asks Debian's network.
+# Without it the package is only made and read, by lintian where that is installed. PROGRAM is the built one, where none is given.
+set -uo pipefail
+cd "$(dirname "$0")/.." || exit 1
+root=
+if [ "${1:-}" = --root ]; then
+    root=$(realpath -m "$2")
+    shift 2
+fi
+program=$(realpath "${1:-crates/mercator_cli/out/mercator_cli}")
+scratch=$(mktemp -d)
+trap 'rm -rf "$scratch"' EXIT
+passed=0
+failed=0
+
+# expect NAME COMMAND WORD..: the command succeeds.
+expect() {
+    local name=$1
+    shift
+    if "$@" > "$scratch/told" 2>&1; then
+        passed=$((passed + 1))
+    else
+        failed=$((failed + 1))
+        echo "$name: FAILED"
+        tail -n 20 "$scratch/told"
+    fi
+}
+
+# The lines of Python that the clients' README shows print what it says.
+sed -n '/^```python$/,/^```$/{//!p}' clients/python/README.md > "$scratch/lines.py"
+printf '%s\n' http://a.test/ http://a.test/b http://c.test/ > "$scratch/urls"
+
+# lines_run FOLDER COMMAND..: in a new FOLDER, once with all URLs and then with none.
+lines_run() {
+    local folder=$1
+    shift
+    mkdir "$folder"
+    (cd "$folder" && "$@" | diff "$scratch/urls" - && "$@" | diff /dev/null -)
+}
+
+is_typed() {
+    printf 'from mercator_frontier import Frontier\nreveal_type(Frontier().take(0))\n' > "$scratch/typed.py"
+    (cd "$scratch" && mypy --python-executable "$1" typed.py) | grep 'note: Revealed type is "Union\[builtins.str, None\]"'
+}
+
+by_pip() {
+    local python=$scratch/venv/bin/python
+    expect "a virtual environment" python3 -m venv "$scratch/venv"
+    expect "pip install" env PIP_NO_INDEX=1 "$python" -m pip install ./clients/python
+    expect "README's lines, by pip" lines_run "$scratch/by_pip" env MERCATOR="$program" "$python" "$scratch/lines.py"
+    if command -v mypy > /dev/null; then
+        expect "types" is_typed "$python"
+    fi
+    expect "pip uninstall" "$python" -m pip uninstall -y mercator-clients
+}
+
+below_a_folder() {
+    local prefix=$scratch/prefix modules
+    expect "install.sh" ./install.sh --program "$program" "$prefix"
+    modules=$(echo "$prefix"/lib/python3*/site-packages)
+    expect "README's lines, below a folder" lines_run "$scratch/below" env -u MERCATOR PATH="$prefix/bin:$PATH" PYTHONPATH="$modules" python3 "$scratch/lines.py"
+    expect "the program" cmp "$program" "$prefix/bin/mercator"
+    expect "the page" cmp docs/mercator.1 "$prefix/share/man/man1/mercator.1"
+    expect "bash" cmp completions/mercator.bash "$prefix/share/bash-completion/completions/mercator"
+    expect "zsh" cmp completions/_mercator "$prefix/share/zsh/site-functions/_mercator"
+}
+
+files_of_root() {
+    (cd "$root" && find . -xdev ! -path './proc/*' ! -path './tmp/*' ! -path './var/lib/dpkg/*' ! -path './var/log/*' ! -path './var/cache/*' | sort)
+}
+
+in_root() {
+    PYTHONDONTWRITEBYTECODE='' LC_ALL=C.UTF-8 chroot "$root" "$@"
+}
+
+lines_run_in_root() {
+    rm -rf "$root/tmp/trial"
+    mkdir "$root/tmp/trial"
+    cp "$scratch/lines.py" "$root/tmp/trial"
+    in_root sh -c 'cd /tmp/trial && python3 lines.py' | diff "$scratch/urls" -
+}
+
+by_package() {
+    local file=$scratch/mercator.deb
+    expect "install.sh --deb" sh -c './install.sh --program "$1" --deb "$2" && mv "$2"/mercator_*.deb "$2/mercator.deb"' sh "$program" "$scratch"
+    if command -v lintian > /dev/null; then
+        expect "lintian" lintian --allow-root --fail-on error "$file"
+    fi
+    [ -n "$root" ] || { echo "no --root: the package is not installed"; return; }
+    [ -d "$root/etc" ] || expect "debootstrap" debootstrap --variant=minbase --include=python3 bookworm "$root" http://deb.debian.org/debian
+    files_of_root > "$scratch/before"
+    cp "$file" "$root/tmp/mercator.deb"
+    expect "dpkg --install" in_root dpkg --install /tmp/mercator.deb
+    expect "the program's help, in the root" in_root mercator --help
+    expect "README's lines, in the root" lines_run_in_root
+    expect "the bytecode, in the root" in_root test -d /usr/lib/python3/dist-packages/mercator_frontier/__pycache__
+    expect "dpkg --verify" in_root dpkg --verify mercator
+    expect "dpkg --purge" in_root dpkg --purge mercator
+    files_of_root > "$scratch/after"
+    expect "the root is as before" diff "$scratch/before" "$scratch/after"
+}
+
+by_pip
+below_a_folder
+by_package
+echo "$passed passed, $failed failed"
+[ "$failed" -eq 0 ]
