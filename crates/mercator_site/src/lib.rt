@@ -8,7 +8,6 @@ mod fault;
 mod folder;
 mod print;
 mod program;
-mod words;
 mod writing;
 
 pub use asked::{CheckAsked, CheckForm, SiteAsked, SitePlan, site_plan};
@@ -16,4 +15,4 @@ pub use bodies::Files;
 pub use check::{CheckReport, CheckSettings, report_of_files, report_of_site};
 pub use fault::SiteFault;
 pub use folder::{report_of_folder, web_of_folder};
-pub use program::{BROKEN, FOLDER_COMMANDS, run_site_plan, run_site_words};
+pub use program::{BROKEN, run_site_plan, run_site_words};

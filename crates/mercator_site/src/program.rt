@@ -5,9 +5,8 @@ ghost use Rattle.mercator_site.specs.Ends.{GainsCheck, GainsPlan};
 use crate::asked::{CheckAsked, SitePlan, site_plan};
 use crate::fault::SiteFault;
 use crate::folder::{report_of_folder, web_of_folder};
-use crate::words::folder_command;
 use crate::writing::{tell_fault, write_text};
-use mercator::BAD_COMMAND_LINE;
+use mercator::{BAD_COMMAND_LINE, whole_command};
 use std::alloc::{AllocError, Global};
 use std::fs::Files;
 use std::io::Write;
@@ -16,10 +15,6 @@ use std::thread::Threads;
 
 /// The status of a check that found something broken.
 pub const BROKEN: u8 = 4;
-
-/// What the help of the whole program says of these commands.
-pub const FOLDER_COMMANDS: &str =
-    "\nOver a folder of HTML pages:\n  check   Tells which links are broken, and where they stand\n  site    Writes the folder's saved web\n";
 
 /// What words ask for.
 #[derive(Drop)]
@@ -78,7 +73,7 @@ fn asked_of(alloc: Global, words: &[String]) -> Result<Asked, AllocError> {
     for word in words {
         named.push(word.as_str())?;
     }
-    match folder_command(alloc)?.try_get_matches_from(named.as_slice()) {
+    match whole_command(alloc)?.try_get_matches_from(named.as_slice()) {
         Ok(matches) => match site_plan(alloc, &matches)? {
             Some(plan) => Ok(Asked::Plan(plan)),
             None => Ok(Asked::Other),
