@@ -2,6 +2,7 @@
 #![tactic(auto)]
 
 use mercator::{BAD_COMMAND_LINE, Fault, run_words_with};
+use mercator_site::run_site_words;
 use std::io::{ErrorKind, Write};
 use std::process::ExitCode;
 use std::rt::Env;
@@ -12,6 +13,16 @@ fn main(rt: HostRuntime) -> ExitCode {
         Ok(words) => words,
         Err(error) => return ExitCode::from(without_words(&mut rt.stderr(), &error)),
     };
+    let folder = run_site_words(
+        &rt,
+        rt.alloc(),
+        &words,
+        &mut io::writer(&rt),
+        &mut rt.stderr(),
+    );
+    if let Some(status) = folder {
+        return ExitCode::from(status);
+    }
     ExitCode::from(run_words_with(
         &rt,
         &rt,

@@ -1,4 +1,6 @@
 //! Which file a page of a site is made of.
+ghost use Rattle.std.specs.Prelude.{◌≡◌, string_bytes};
+
 use crate::error::SiteError;
 use crate::kinds::{is_document, kind_of};
 use crate::located::{LinkAt, located_links};
@@ -29,7 +31,9 @@ impl<'a> SiteFiles<'a> {
     }
 
     /// The URL of the site's top.
-    pub fn top(&self) -> &str {
+    pub fn top(&self) -> &str
+        ensures { result.now ≡ string_bytes self.now.site.top }
+    {
         self.site.top()
     }
 

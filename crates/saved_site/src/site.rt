@@ -1,4 +1,6 @@
 //! The pages of a site, by the names of its files.
+ghost use Rattle.std.specs.Prelude.{◌≡◌, string_bytes};
+
 use crate::error::SiteError;
 use crate::escapes::{push_name, push_query, push_respelled};
 use crate::notes::{Left, Note};
@@ -175,7 +177,9 @@ impl Site {
     }
 
     /// The URL of the top.
-    pub(crate) fn top(&self) -> &str {
+    pub(crate) fn top(&self) -> &str
+        ensures { result.now ≡ string_bytes self.now.top }
+    {
         self.top.as_str()
     }
 

@@ -1,2 +1,3 @@
 pub mod Counting
-pub mod Rows
+pub mod AllRows
+pub mod Fronts

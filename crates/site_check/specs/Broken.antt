@@ -46,10 +46,6 @@ shown front url = or_top (if begins front url then drop (length front) url else 
 abbrev pub is_ignored : List (List ℕ) → List ℕ → Bool
 is_ignored entries text = list_any (λ entry. begins entry text) entries
 
--- the entries that stand for none of the texts
-abbrev pub unused_of : List (List ℕ) → List (List ℕ) → List (List ℕ)
-unused_of texts entries = filter (λ entry. not (list_any (begins entry) texts)) entries
-
 -- ---- the rows
 
 pub record Row : Type 0 where

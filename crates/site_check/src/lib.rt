@@ -4,7 +4,6 @@
 mod anchors;
 mod check;
 mod ignored;
-mod indicated;
 mod linked;
 mod located;
 mod names;

@@ -116,7 +116,7 @@ fn with_count<'a>(one: &'a PageResult, tallies: &Tallies<'_>) -> Linked<'a>
     match tallies.get(url) {
         Some(tally) => Linked {
             result: one,
-            pages: tally.count(),
+            pages: tally.pages(),
         },
         None => unreachable!("each URL without a page has a count"),
     }

@@ -1,5 +1,5 @@
 //! Where broken links stand: the pages that have one are read again, and no others.
-use crate::anchors::{Lacking, Pages, Part};
+use crate::anchors::{LackedParts, Pages, Part};
 use crate::check::Bodies;
 use crate::ignored::is_ignored;
 use crate::linked::Linked;
@@ -19,7 +19,7 @@ pub(crate) struct Located {
 }
 
 /// Which URLs lead to a page that is not there, by that page's number.
-pub(crate) type Targets<'a> = BTreeMap<&'a str, usize>;
+pub(crate) type TargetNumbers<'a> = BTreeMap<&'a str, usize>;
 
 impl Located {
     /// Nothing found.
@@ -58,7 +58,7 @@ pub(crate) fn targets<'a>(
     front: &str,
     ignores: &[String],
     linked: &[Linked<'a>],
-) -> Result<Targets<'a>, NoMemory> {
+) -> Result<TargetNumbers<'a>, NoMemory> {
     let mut targets = BTreeMap::new(alloc);
     for (index, one) in linked.iter().enumerate() {
         let url = one.result.url.as_str();
@@ -75,8 +75,8 @@ pub(crate) fn targets<'a>(
 }
 
 /// The number of the page that is not there and that this one moved to.
-fn moved_to(targets: &Targets<'_>, result: &PageResult) -> Option<usize> {
-    match &result.page {
+fn moved_to(targets: &TargetNumbers<'_>, one: &PageResult) -> Option<usize> {
+    match &one.page {
         Page::Moved { to: Some(url) } => targets.get(url.as_str()).copied(),
         _ => None,
     }
@@ -84,11 +84,11 @@ fn moved_to(targets: &Targets<'_>, result: &PageResult) -> Option<usize> {
 
 /// What is looked for in pages: links that lead to no page, and links to parts that pages lack.
 #[derive(Clone, Copy)]
-pub(crate) struct Wanted<'a> {
-    pub(crate) pages: Pages<'a>,
-    pub(crate) files: &'a SiteFiles<'a>,
-    pub(crate) targets: &'a Targets<'a>,
-    pub(crate) lacking: &'a Lacking,
+pub(crate) struct Wanted<'p, 'f, 'n, 't> {
+    pub(crate) pages: Pages<'p>,
+    pub(crate) files: &'f SiteFiles<'f>,
+    pub(crate) targets: &'t TargetNumbers<'n>,
+    pub(crate) lacking: &'t LackedParts,
     /// How many numbers are before those of parts.
     pub(crate) before: usize,
 }
@@ -97,15 +97,15 @@ pub(crate) struct Wanted<'a> {
 /// lack.
 pub(crate) fn locate_all<B: Bodies>(
     alloc: Global,
-    wanted: Wanted<'_>,
+    wanted: Wanted<'_, '_, '_, '_>,
     lead_to_parts: &[bool],
     bodies: &mut B,
     found: &mut [Located],
 ) -> Result<(), NoMemory> {
-    for (number, result) in wanted.pages.results.iter().enumerate() {
+    for (number, one) in wanted.pages.results.iter().enumerate() {
         let to_part = lead_to_parts.get(number).copied().unwrap_or(false);
-        if to_part || leads_to(wanted.targets, &result.page) {
-            locate(alloc, wanted, result, bodies, found)?;
+        if to_part || leads_to(wanted.targets, &one.page) {
+            locate(alloc, wanted, one, bodies, found)?;
         }
     }
     for located in found.iter_mut() {
@@ -115,7 +115,7 @@ pub(crate) fn locate_all<B: Bodies>(
 }
 
 /// Whether a link of a page leads to a target.
-fn leads_to(targets: &Targets<'_>, page: &Page) -> bool {
+fn leads_to(targets: &TargetNumbers<'_>, page: &Page) -> bool {
     if targets.is_empty() {
         return false;
     }
@@ -130,12 +130,12 @@ fn leads_to(targets: &Targets<'_>, page: &Page) -> bool {
 
 fn locate<B: Bodies>(
     alloc: Global,
-    wanted: Wanted<'_>,
-    result: &PageResult,
+    wanted: Wanted<'_, '_, '_, '_>,
+    one: &PageResult,
     bodies: &mut B,
     found: &mut [Located],
 ) -> Result<(), NoMemory> {
-    let Some(index) = wanted.files.file_of(alloc, result.url.as_str())? else {
+    let Some(index) = wanted.files.file_of(alloc, one.url.as_str())? else {
         return Ok(());
     };
     let Some(name) = wanted.files.name(index) else {
@@ -144,10 +144,7 @@ fn locate<B: Bodies>(
     let Some(body) = bodies.body(name)? else {
         return Ok(());
     };
-    for link in wanted
-        .files
-        .links(alloc, index, body.as_slice(), &result.url)?
-    {
+    for link in wanted.files.links(alloc, index, body.as_slice(), &one.url)? {
         let (line, column) = (link.line, link.column);
         if let Some(number) = number_of(wanted, link)
             && let Some(located) = found.get_mut(number)
@@ -163,7 +160,7 @@ fn locate<B: Bodies>(
 }
 
 /// The number of what a link leads to, where it is wanted.
-fn number_of(wanted: Wanted<'_>, link: LinkAt) -> Option<usize> {
+fn number_of(wanted: Wanted<'_, '_, '_, '_>, link: LinkAt) -> Option<usize> {
     let LinkAt { url, fragment, .. } = link;
     if let Some(number) = wanted.targets.get(url.as_str()) {
         return Some(*number);

@@ -52,7 +52,7 @@ impl<'a> Tally<'a> {
     }
 
     /// How many were counted.
-    pub(crate) fn count(&self) -> u64
+    pub(crate) fn pages(&self) -> u64
         ensures { result ≡ self.now.count }
     {
         self.count

@@ -1,0 +1,26 @@
+-- What the output gains of a command over a folder.
+use Rattle.std.specs.Prelude.{◌≡◌, ℕ, Bool, false, List, Option}
+use Rattle.std.specs.Io.KnownBytes.{Appends}
+use Rattle.mercator_site.specs.Checks.{IsSiteCheck}
+use Rattle.mercator_site.specs.declared.asked.CheckAsked.{CheckAsked}
+use Rattle.mercator_site.specs.declared.asked.SitePlan.{SitePlan}
+use Rattle.mercator_site.specs.declared.asked.SitePlan.TheVariants as asks
+use Rattle.saved_site.specs.Meaning.{IsSiteWeb}
+
+-- the saved web of a folder
+pub record GainsWeb (old new : Option (List ℕ)) : Type 0 where
+  pub text : List ℕ
+  pub told : IsSiteWeb text
+  pub gained : Appends old new text
+
+-- the report of a check of a folder, which tells whether something is broken. Nothing is known of a folder's files by its name
+pub record GainsCheck (asked : CheckAsked) (broken : Bool) (old new : Option (List ℕ)) : Type 0 where
+  pub text : List ℕ
+  pub front : List ℕ
+  pub entries : List (List ℕ)
+  pub told : IsSiteCheck asked.form asked.all front entries broken text
+  pub gained : Appends old new text
+
+abbrev pub GainsPlan : SitePlan → Bool → Option (List ℕ) → Option (List ℕ) → Type 0
+GainsPlan (asks.Site asked) broken old new = (broken ≡ false) × GainsWeb old new
+GainsPlan (asks.Check asked) broken old new = GainsCheck asked broken old new

@@ -1,0 +1,151 @@
+//! A check of a site, from its files to the report.
+ghost use Rattle.std.specs.Prelude.{◌≡◌, ◌∷◌, [], IfOk, map, string_bytes, Ok};
+ghost use Rattle.crawl_keys.specs.CanonicalText.{canonical};
+ghost use Rattle.mercator_site.specs.Checks.{IsCheck, IsSiteCheck, IsTopCrawl};
+
+use crate::asked::CheckForm;
+use crate::bodies::{Files, InMemory};
+use crate::fault::SiteFault;
+use crate::print::print_check;
+use crawl_keys::{CanonUrl, Filter, KeyError, canonical};
+use crawl_limits::PENDING_LIMIT;
+use mercator::{Crawled, Fault, Mode, crawl_saved_web};
+use saved_site::{Rules, SiteFiles, SiteNames, Web, site_web};
+use site_check::{Asked, Bodies, check_results};
+use std::alloc::Global;
+use std::sync::Wait;
+use std::thread::Threads;
+
+/// How a check is made and told.
+#[derive(Clone, Copy)]
+pub struct CheckSettings<'a> {
+    /// How many workers crawl the site's web.
+    pub workers: u32,
+    /// The site's name, as it is told.
+    pub name: &'a str,
+    /// What is left out at the front of each URL that is told.
+    pub front: &'a str,
+    /// What is known to be broken: each entry stands for the targets that begin with it.
+    pub ignores: &'a [String],
+    /// Whether files that no link leads to are told.
+    pub unreached: bool,
+    pub form: CheckForm,
+    /// Whether all places of a link are told, and not three.
+    pub all: bool,
+}
+
+/// What a check tells.
+#[derive(Drop)]
+pub struct CheckReport {
+    pub text: Vec<u8>,
+    /// Whether something is broken.
+    pub is_broken: bool,
+}
+
+/// The report of a check of the site whose files have these names and bytes.
+///
+/// # Errors
+/// `BadBase`, `NoFiles`, `TooLarge`; `Crawl` where the crawl is incomplete; `NoMemory`.
+pub fn report_of_files<R: Threads + Wait + Sync>(
+    rt: &R,
+    alloc: Global,
+    files: Files<'_>,
+    base: &str,
+    rules: &Rules,
+    settings: CheckSettings<'_>,
+) -> Result<CheckReport, SiteFault>
+    ensures { IfOk result (λ report. IsSiteCheck settings.entry.form settings.entry.all settings.entry.front.now (map string_bytes settings.entry.ignores.now) report.is_broken report.text.items) }
+{
+    let input = SiteNames {
+        names: files.names,
+        base,
+        rules,
+    };
+    let web = site_web(rt, alloc, input, files.bodies)?;
+    let pages = SiteFiles::new(alloc, input)?;
+    let mut bodies = InMemory { alloc, files };
+    report_of_site(rt, alloc, &web, &pages, &mut bodies, settings)
+}
+
+/// The report of a check of a site by its saved web: of the crawl of that web from the URL of its top, within the top's host.
+///
+/// # Errors
+/// `Crawl` where the crawl is incomplete; `NoMemory`.
+pub fn report_of_site<R: Threads + Wait + Sync, B: Bodies>(
+    rt: &R,
+    alloc: Global,
+    web: &Web,
+    files: &SiteFiles<'_>,
+    bodies: &mut B,
+    settings: CheckSettings<'_>,
+) -> Result<CheckReport, SiteFault>
+    ensures { IfOk result (λ report. IsCheck (string_bytes files.now.site.top) web.now.bytes.items settings.entry.form settings.entry.all settings.entry.front.now (map string_bytes settings.entry.ignores.now) report.is_broken report.text.items) }
+{
+    let found = crawl_site(
+        rt,
+        alloc,
+        web.bytes.as_slice(),
+        files.top(),
+        settings.workers,
+    )?;
+    let asked = Asked {
+        front: settings.front,
+        ignores: settings.ignores,
+        anchors: web.anchors.as_slice(),
+        unreached: settings.unreached,
+    };
+    let checked = check_results(alloc, found.result.pages(), files, bodies, asked)?;
+    let findings = checked.findings(settings.name);
+    let text = print_check(alloc, &findings, settings.form, settings.all)?;
+    Ok(CheckReport {
+        text,
+        is_broken: checked.is_broken(),
+    })
+}
+
+/// What a crawl of a site's web finds from its top, within the top's host.
+fn crawl_site<R: Threads + Wait + Sync>(
+    rt: &R,
+    alloc: Global,
+    web: &[u8],
+    top: &str,
+    workers: u32,
+) -> Result<Crawled, SiteFault>
+    ensures { IfOk result (λ found. IsTopCrawl top.now web.now found.result) }
+{
+    let host = host_of(alloc, top)?;
+    let filter = host_filter(alloc, host.host_key())?;
+    let mut seeds = Vec::new(alloc);
+    seeds.push(String::from_str(alloc, top)?)?;
+    let found = crawl_saved_web(
+        rt,
+        alloc,
+        web,
+        &[],
+        seeds.as_slice(),
+        &filter,
+        workers,
+        PENDING_LIMIT,
+        Mode::Threads,
+    )?;
+    Ok(found)
+}
+
+fn host_of(alloc: Global, top: &str) -> Result<CanonUrl, SiteFault>
+    ensures { IfOk result (λ url. canonical top.now ≡ Ok url) }
+{
+    match canonical(alloc, top) {
+        Ok(url) => Ok(url),
+        Err(KeyError::NoMemory) => Err(SiteFault::NoMemory),
+        Err(_) => Err(SiteFault::BadBase),
+    }
+}
+
+fn host_filter(alloc: Global, host: &str) -> Result<Filter, SiteFault>
+    ensures { IfOk result (λ filter. filter ≡ host.now ∷ []) }
+{
+    match Filter::new(alloc, &[host]) {
+        Ok(filter) => Ok(filter),
+        Err(refused) => Err(SiteFault::from(Fault::from(refused))),
+    }
+}

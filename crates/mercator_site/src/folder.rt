@@ -1,0 +1,139 @@
+//! The commands over a folder, from its files to their texts.
+ghost use Rattle.std.specs.Prelude.{◌≡◌, ℕ, List, IfOk};
+ghost use Rattle.mercator_site.specs.Checks.{IsSiteCheck};
+ghost use Rattle.saved_site.specs.Meaning.{IsSiteWeb};
+
+use crate::asked::{CheckAsked, SiteAsked};
+use crate::bodies::OnDisk;
+use crate::check::{CheckReport, CheckSettings, report_of_site};
+use crate::fault::SiteFault;
+use crate::writing::tell_notes;
+use saved_site::{
+    FolderNames, Rules, SiteFiles, SiteNames, Web, folder_names, folder_web, folder_web_of,
+};
+use site_check::read_ignores;
+use std::alloc::{AllocError, Global};
+use std::fs::{self, Files};
+use std::io::{Read, Write};
+use std::sync::Wait;
+use std::thread::Threads;
+
+/// How many threads read documents.
+const THREADS: usize = 4;
+
+fn rules_of(alloc: Global, asked: &SiteAsked, anchors: bool) -> Result<Rules, AllocError> {
+    Ok(Rules {
+        index: String::from_str(alloc, "index.html")?,
+        queries: asked.queries,
+        exact: asked.exact,
+        anchors,
+        threads: THREADS,
+    })
+}
+
+/// The saved web of a folder. What is not written as it was found is told to `err`.
+///
+/// # Errors
+/// `CannotReadFolder`, `BadBase`, `NoFiles`, `TooLarge`, `NoMemory`.
+pub fn web_of_folder<R: Files + Threads + Sync, E: Write>(
+    rt: &R,
+    alloc: Global,
+    asked: &SiteAsked,
+    err: &mut E,
+) -> Result<Vec<u8>, SiteFault>
+    ensures { IfOk result (λ text. IsSiteWeb text.items) }
+{
+    let rules = rules_of(alloc, asked, false)?;
+    let web = folder_web(
+        rt,
+        alloc,
+        asked.folder.as_str(),
+        asked.base.as_str(),
+        &rules,
+    )?;
+    tell_notes(alloc, err, web.notes.as_slice())?;
+    let Web { bytes, .. } = web;
+    Ok(bytes)
+}
+
+/// The report of a check of a folder. What is not read as it was found is told to `err`.
+///
+/// # Errors
+/// `CannotReadKnown`, `CannotReadFolder`, `BadBase`, `NoFiles`, `TooLarge`; `Crawl` where the crawl is incomplete; `NoMemory`.
+pub fn report_of_folder<R: Files + Threads + Wait + Sync, E: Write>(
+    rt: &R,
+    alloc: Global,
+    asked: &CheckAsked,
+    err: &mut E,
+) -> Result<CheckReport, SiteFault>
+    ensures { IfOk result (λ report. (front : List ℕ) × (entries : List (List ℕ)) × IsSiteCheck asked.now.form asked.now.all front entries report.is_broken report.text.items) }
+{
+    let known = known_entries(rt, alloc, &asked.known)?;
+    let rules = rules_of(alloc, &asked.site, asked.anchors)?;
+    let FolderNames { names, notes } = folder_names(rt, alloc, asked.site.folder.as_str())?;
+    let input = SiteNames {
+        names: names.as_slice(),
+        base: asked.site.base.as_str(),
+        rules: &rules,
+    };
+    tell_notes(alloc, err, notes.as_slice())?;
+    report_of_names(rt, alloc, asked, input, known.as_slice(), err)
+}
+
+fn report_of_names<R: Files + Threads + Wait + Sync, E: Write>(
+    rt: &R,
+    alloc: Global,
+    asked: &CheckAsked,
+    input: SiteNames<'_>,
+    known: &[String],
+    err: &mut E,
+) -> Result<CheckReport, SiteFault>
+    ensures { IfOk result (λ report. (front : List ℕ) × (entries : List (List ℕ)) × IsSiteCheck asked.now.form asked.now.all front entries report.is_broken report.text.items) }
+{
+    let folder = asked.site.folder.as_str();
+    let web = folder_web_of(rt, alloc, folder, input, Vec::new(alloc))?;
+    tell_notes(alloc, err, web.notes.as_slice())?;
+    let files = SiteFiles::new(alloc, input)?;
+    let mut bodies = OnDisk { rt, alloc, folder };
+    let settings = settings_of(asked, files.top(), known);
+    report_of_site(rt, alloc, &web, &files, &mut bodies, settings)
+}
+
+/// How the check is made and told: without BASE the folder names the site, and what is behind the top's URL is told.
+fn settings_of<'a>(asked: &'a CheckAsked, top: &'a str, known: &'a [String]) -> CheckSettings<'a>
+    ensures form { result.form ≡ asked.now.form }
+    ensures all { result.all ≡ asked.now.all }
+{
+    CheckSettings {
+        workers: asked.workers,
+        name: if asked.paths {
+            asked.site.folder.as_str()
+        } else {
+            top
+        },
+        front: if asked.paths { top } else { "" },
+        ignores: known,
+        unreached: asked.unreached,
+        form: asked.form,
+        all: asked.all,
+    }
+}
+
+/// The entries of the file of what is known to be broken; none where there is no such file.
+fn known_entries<R: Files>(
+    rt: &R,
+    alloc: Global,
+    known: &Option<String>,
+) -> Result<Vec<String>, SiteFault> {
+    let Some(file) = known else {
+        return Ok(Vec::new(alloc));
+    };
+    let Ok(mut opened) = fs::open(rt, file.as_str()) else {
+        return Err(SiteFault::CannotReadKnown);
+    };
+    let mut bytes = Vec::new(alloc);
+    if opened.read_to_end(&mut bytes).is_err() {
+        return Err(SiteFault::CannotReadKnown);
+    }
+    Ok(read_ignores(alloc, bytes.as_slice())?)
+}

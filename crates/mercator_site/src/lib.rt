@@ -1,0 +1,18 @@
+//! The commands over a folder: `site` writes its saved web, `check` tells which of its links are broken.
+#![tactic(auto)]
+
+mod asked;
+mod bodies;
+mod check;
+mod fault;
+mod folder;
+mod print;
+mod program;
+mod writing;
+
+pub use asked::{CheckAsked, CheckForm, SiteAsked, SitePlan, site_plan};
+pub use bodies::Files;
+pub use check::{CheckReport, CheckSettings, report_of_files, report_of_site};
+pub use fault::SiteFault;
+pub use folder::{report_of_folder, web_of_folder};
+pub use program::{BROKEN, run_site_plan, run_site_words};

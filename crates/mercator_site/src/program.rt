@@ -1,0 +1,167 @@
+//! The commands over a folder as the program runs them.
+ghost use Rattle.std.specs.Prelude.{◌≡◌, ◌≤◌, ◌⊎◌, true, false, IfOk};
+ghost use Rattle.mercator_site.specs.Ends.{GainsCheck, GainsPlan};
+
+use crate::asked::{CheckAsked, SitePlan, site_plan};
+use crate::fault::SiteFault;
+use crate::folder::{report_of_folder, web_of_folder};
+use crate::writing::{tell_fault, write_text};
+use mercator::{BAD_COMMAND_LINE, whole_command};
+use std::alloc::{AllocError, Global};
+use std::fs::Files;
+use std::io::Write;
+use std::sync::Wait;
+use std::thread::Threads;
+
+/// The status of a check that found something broken.
+pub const BROKEN: u8 = 4;
+
+/// What words ask for.
+#[derive(Drop)]
+enum Asked {
+    /// A command over a folder.
+    Plan(SitePlan),
+    /// Such a command's help, with status 0, or what is wrong with its words, with status 3.
+    Shown(String, u8),
+    /// Another command.
+    Other,
+}
+
+/// Runs the program's words where they are those of a command over a folder, and answers its status; nothing where they are not,
+/// and then nothing is written. Statuses are 0 done, 1 a fault, 2 an incomplete crawl, 3 a bad command line, 4 something is broken.
+pub fn run_site_words<R: Files + Threads + Wait + Sync, O: Write, E: Write>(
+    rt: &R,
+    alloc: Global,
+    words: &[String],
+    out: &mut O,
+    err: &mut E,
+) -> Option<u8> {
+    match asked_of(alloc, words) {
+        Ok(Asked::Plan(plan)) => Some(run_site_plan(rt, alloc, &plan, out, err)),
+        Ok(Asked::Shown(text, status)) => Some(show(text.as_bytes(), status, out, err)),
+        Ok(Asked::Other) => None,
+        Err(_) => {
+            tell_fault(alloc, err, "", SiteFault::NoMemory);
+            Some(1)
+        }
+    }
+}
+
+/// Writes help to the output, and what is wrong with words to the writer for faults.
+fn show<O: Write, E: Write>(text: &[u8], status: u8, out: &mut O, err: &mut E) -> u8 {
+    if status != 0 {
+        let _ = err.write_all(text);
+        return status;
+    }
+    match write_text(out, text) {
+        Ok(()) => 0,
+        Err(fault) => fault.status(),
+    }
+}
+
+/// What the words ask for.
+fn asked_of(alloc: Global, words: &[String]) -> Result<Asked, AllocError> {
+    let is_ours = match words.first() {
+        Some(word) => word.as_str() == "site" || word.as_str() == "check",
+        None => false,
+    };
+    if !is_ours {
+        return Ok(Asked::Other);
+    }
+    let mut named = Vec::new(alloc);
+    named.push("mercator")?;
+    for word in words {
+        named.push(word.as_str())?;
+    }
+    match whole_command(alloc)?.try_get_matches_from(named.as_slice()) {
+        Ok(matches) => match site_plan(alloc, &matches)? {
+            Some(plan) => Ok(Asked::Plan(plan)),
+            None => Ok(Asked::Other),
+        },
+        Err(error) => shown(alloc, &error),
+    }
+}
+
+/// What is shown for this answer of `clap`.
+fn shown(alloc: Global, error: &clap::Error) -> Result<Asked, AllocError> {
+    let status = if error.use_stderr() {
+        BAD_COMMAND_LINE
+    } else {
+        0
+    };
+    Ok(Asked::Shown(format!(in alloc; "{error}")?, status))
+}
+
+/// Runs such a command and answers its status. What it tells is whole before any of it is written.
+pub fn run_site_plan<R: Files + Threads + Wait + Sync, O: Write, E: Write>(
+    rt: &R,
+    alloc: Global,
+    plan: &SitePlan,
+    out: &mut O,
+    err: &mut E,
+) -> u8
+    // Done: the output gained the saved web of a folder, or the report of a check that found nothing broken.
+    ensures done { result ≡ 0 → GainsPlan plan.now false (O.contents out.old) (O.contents out.new) }
+    // Something is broken: it gained the report that tells so.
+    ensures broken { result ≡ 4 → GainsPlan plan.now true (O.contents out.old) (O.contents out.new) }
+{
+    match run(rt, alloc, plan, out, err) {
+        Ok(is_broken) => if is_broken { BROKEN } else { 0 },
+        Err(fault) => {
+            tell_fault(alloc, err, told_name(plan, fault), fault);
+            status_of(fault)
+        }
+    }
+}
+
+/// The status of a fault, which is none of those of a command that is done.
+fn status_of(fault: SiteFault) -> u8
+    ensures { (result ≡ 1) ⊎ (result ≡ 2) }
+{
+    if fault.status() == 2 { 2 } else { 1 }
+}
+
+fn run<R: Files + Threads + Wait + Sync, O: Write, E: Write>(
+    rt: &R,
+    alloc: Global,
+    plan: &SitePlan,
+    out: &mut O,
+    err: &mut E,
+) -> Result<bool, SiteFault>
+    ensures { IfOk result (λ broken. GainsPlan plan.now broken (O.contents out.old) (O.contents out.new)) }
+{
+    match plan {
+        SitePlan::Site(asked) => {
+            let text = web_of_folder(rt, alloc, asked, err)?;
+            write_text(out, text.as_slice())?;
+            Ok(false)
+        }
+        SitePlan::Check(asked) => run_check(rt, alloc, asked, out, err),
+    }
+}
+
+fn run_check<R: Files + Threads + Wait + Sync, O: Write, E: Write>(
+    rt: &R,
+    alloc: Global,
+    asked: &CheckAsked,
+    out: &mut O,
+    err: &mut E,
+) -> Result<bool, SiteFault>
+    ensures { IfOk result (λ broken. GainsCheck asked.now broken (O.contents out.old) (O.contents out.new)) }
+{
+    let report = report_of_folder(rt, alloc, asked, err)?;
+    write_text(out, report.text.as_slice())?;
+    Ok(report.is_broken)
+}
+
+/// The name that a fault speaks of.
+fn told_name(plan: &SitePlan, fault: SiteFault) -> &str {
+    match (plan, fault) {
+        (SitePlan::Check(asked), SiteFault::CannotReadKnown) => match &asked.known {
+            Some(file) => file.as_str(),
+            None => "",
+        },
+        (SitePlan::Check(asked), _) => asked.site.folder.as_str(),
+        (SitePlan::Site(asked), _) => asked.folder.as_str(),
+    }
+}

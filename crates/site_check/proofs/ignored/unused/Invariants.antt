@@ -1,7 +1,0 @@
-use Rattle.std.proofs.Common.{◌≡◌, take, map, string_bytes}
-use Rattle.crawl_sources.specs.Tallies.{pointed}
-use Rattle.site_check.specs.Broken.{unused_of}
-use Rattle.site_check.proofs.ignored.unused.Given as goal
-
-abbrev pub invariant-loop-entry : goal.invariant-loop-entry
-invariant-loop-entry l = map string_bytes l.all.items ≡ unused_of (pointed l.texts) (map string_bytes (take l.entry-index l.entries))
