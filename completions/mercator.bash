@@ -2,25 +2,31 @@
 
 _mercator() {
     local word=${COMP_WORDS[COMP_CWORD]} before=${COMP_WORDS[COMP_CWORD - 1]}
-    local commands="crawl key replay serve help" options=
+    local commands="check site crawl key replay serve help" options=
     COMPREPLY=()
     if [ "$COMP_CWORD" -eq 1 ]; then
         mapfile -t COMPREPLY < <(compgen -W "$commands --help" -- "$word")
         return
     fi
     case ${COMP_WORDS[1]} in
-    crawl) options="--workers --max-pending --queues --sources --within --seeds --help" ;;
+    check)
+        options="--workers --json --annotations --html --all-sources --unreached --no-anchors --ignore --exact --queries --help"
+        ;;
+    site) options="--exact --queries --help" ;;
+    crawl)
+        options="--workers --max-pending --queues --sources --all-sources --moved --unreached --json --within --seeds --help"
+        ;;
     key) options="--workers --help" ;;
     replay) options="--help" ;;
-    serve) options="--workers --max-pending --within --log --sync --help" ;;
+    serve) options="--workers --max-pending --within --part --log --sync --compact --help" ;;
     help)
         mapfile -t COMPREPLY < <(compgen -W "$commands" -- "$word")
         return
         ;;
     esac
     case $before in
-    --workers | --max-pending | --within) return ;;
-    --seeds | --log) ;;
+    --workers | --max-pending | --within | --part) return ;;
+    --seeds | --log | --ignore | --compact) ;;
     *)
         if [[ $word == -* ]]; then
             mapfile -t COMPREPLY < <(compgen -W "$options" -- "$word")

@@ -36,6 +36,7 @@ part tests/refused-growths.sh tests
 part tests/drawn.py --count 100000
 part tests/plain_texts.py
 part tests/serve.py
+part tests/check.py --drawn 200 --changed 50 --large 20000
 part tests/cluster_model.py
 part tests/cluster.sh
 part tests/manual_page.py

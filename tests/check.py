@@ -4,8 +4,8 @@
 The reckoning (tests/checking/) has its own tokenizer, server, search and anchors, after the standards. Compared are small
 folders worked by hand, the shipped site, each FOLDER and drawn folders of nasty documents. Without a FOLDER those of site.py
 that are installed are taken. With --tags the reckoning's tags are compared with those of
-html5lib (Debian's python3-html5lib). PROGRAM in the environment is the program, else crates/mercator_cli's is taken. Without
-one, or with --reckoning, the worked folders are reckoned alone.
+html5lib (Debian's python3-html5lib). PROGRAM in the environment is the program, else crates/mercator_cli's is taken. With
+--reckoning it is not asked, and the worked folders are reckoned alone.
 """
 
 from __future__ import annotations
@@ -32,10 +32,12 @@ BUILT = loading.ROOT / "crates/mercator_cli/out/mercator_cli"
 TOLD = 5  # so many differences are told
 
 
-def program() -> Optional[str]:
-    """The program, where there is one."""
-    given = os.environ.get("PROGRAM")
-    return given or (str(BUILT) if BUILT.exists() else None)
+def program() -> str:
+    """The program; `rt run -- --help` in its crate builds it."""
+    given = os.environ.get("PROGRAM", str(BUILT))
+    if not os.path.isfile(given):
+        sys.exit(f"{given} is not there: `rt run -- --help` in crates/mercator_cli builds it")
+    return given
 
 
 def words_of(asked: Asked, folder: str, scratch: str) -> List[str]:

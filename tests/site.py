@@ -1,7 +1,7 @@
 #!/usr/bin/env python3
 """Compares the program's saved webs of folders with the converter's: site.py [--drawn COUNT] [--seed SEED] [FOLDER ..].
 
-PROGRAM in the environment is the program, called as `PROGRAM FOLDER BASE > WEB`; without it crates/site_trial is built.
+PROGRAM in the environment is the program, else crates/mercator_cli's is taken; it is called as `PROGRAM site FOLDER BASE`.
 Each FOLDER is compared byte for byte with tools/site_to_web.py as it stands, and so is the shipped site. Without a
 FOLDER those of Debian's python3.11-doc, apache2-doc and postgresql-doc-15 that are installed are taken.
 
@@ -48,18 +48,13 @@ def load(name: str, path: pathlib.Path) -> Any:
 
 
 def program() -> str:
-    """The program, built where none is given."""
-    given = os.environ.get("PROGRAM")
-    if given:
-        return given
-    crate = TOP / "crates/site_trial"
-    subprocess.run(["rt", "run", "--", "data/site", BASE], cwd=crate, stdout=subprocess.DEVNULL, check=False)
-    return str(crate / "out/site_trial")
+    """The program; `rt run -- --help` in its crate builds it."""
+    return os.environ.get("PROGRAM") or str(TOP / "crates/mercator_cli/out/mercator_cli")
 
 
 def web_of(call: str, folder: str, words: list[str]) -> bytes:
     """The program's web of a folder."""
-    done = subprocess.run([call, folder, BASE, *words], capture_output=True, check=False)
+    done = subprocess.run([call, "site", *words, folder, BASE], capture_output=True, check=False)
     if done.returncode != 0:
         sys.exit(f"{folder}: status {done.returncode}\n{done.stderr.decode(errors='replace')}")
     return done.stdout

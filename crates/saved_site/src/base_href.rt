@@ -1,5 +1,5 @@
 //! What the links of a page mean whose base is given.
-use crate::cleaning::{before_fragment, is_web, push_without_breaks, scheme_of, trimmed};
+use crate::cleaning::{is_web, push_without_breaks, scheme_of, trimmed};
 use crawl_keys::{Base, CanonUrl, KeyError};
 use std::alloc::{AllocError, Global};
 
@@ -76,7 +76,7 @@ pub(crate) fn resolved(
     base: &Base,
     text: &[u8],
 ) -> Result<Option<CanonUrl>, AllocError> {
-    let Ok(text) = str::from_utf8(before_fragment(text)) else {
+    let Ok(text) = str::from_utf8(text) else {
         return Ok(None);
     };
     match base.resolve(alloc, text) {

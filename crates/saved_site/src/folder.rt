@@ -184,10 +184,21 @@ impl Walk {
     }
 }
 
+/// Room for the names that one call of the system gives, which fails where a name has no room.
+const NAMES_ROOM: usize = 1 << 16;
+
 /// The names in a folder, each ended by a NUL.
 fn names_in<R: Files>(rt: &R, alloc: Global, path: &str) -> io::Result<Vec<u8>> {
+    let mut folder = rt.open_dir(path)?;
+    let mut room = vec![in alloc; 0u8; NAMES_ROOM]?;
     let mut names = Vec::new(alloc);
-    rt.open_dir(path)?.read_to_end(&mut names)?;
+    for _ in 0..u64::MAX {
+        let count = folder.read(room.as_mut_slice())?;
+        if count == 0 {
+            break;
+        }
+        names.extend_from_slice(room.as_slice().get(..count).unwrap_or(&[]))?;
+    }
     Ok(names)
 }
 

@@ -55,7 +55,7 @@ const RING_IN_2_QUEUES: &str = "ok 3 1 http://a.test/\n\
 
 // What `clap` says of them in Rust.
 const NO_COMMAND: &str = "error: 'mercator' requires a subcommand but one was not provided\n  \
-    [subcommands: crawl, key, replay, serve, help]\n\
+    [subcommands: crawl, key, replay, serve, site, check, help]\n\
     \n\
     Usage: mercator <COMMAND>\n\
     \n\
