@@ -200,9 +200,11 @@ class Reckoning:
         """Where the links of a page lead."""
         page = base = drawn.url_of(url)
         front = ""  # what is put before a link without a scheme
+        has_base = False
         if document.base is not None:
             try:
                 base = drawn.url_of(document.base, page)
+                has_base = True
             except drawn.NotUrl:
                 pass
             except drawn.NotHttp:
@@ -213,7 +215,7 @@ class Reckoning:
             target = url_of(text if TOOL.scheme_of(text) else front + text, base)
             if target is None:
                 self.skipped += TOOL.scheme_of(front + text) not in (None, "http", "https") or is_short("link", text)
-            elif is_short("link", target if document.base is not None else text.partition("#")[0]):
+            elif is_short("link", target if has_base else text.partition("#")[0]):
                 yield Lead(target, fragment_of(link.text), Place(name, *document.lines.place(link.at)))
 
     def rows(self) -> List[Row]:
