@@ -4,7 +4,7 @@
 # Usage: install.sh [--program FILE] [PREFIX]         below PREFIX, else below ~/.local
 #        install.sh [--program FILE] --deb [FOLDER]   makes a Debian package in FOLDER, else here, and prints its name
 #
-# The program is proved and built, which takes 47 minutes of processor where that was not done; or it is FILE. Wants the Rattle kit
+# The program is proved and built, which takes an hour and a half of processor where that was not done; or it is FILE. Wants the Rattle kit
 # for that, and Python 3.9. A package has the maintainer that DEBFULLNAME and DEBEMAIL name, else git's user.
 set -euo pipefail
 
