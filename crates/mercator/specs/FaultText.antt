@@ -1,9 +1,13 @@
 -- The texts of faults, and their lines.
 use Rattle.std.specs.Prelude.{ℕ, List, [], ◌∷◌, ◌++◌, codes}
 use Rattle.std.specs.Fmt.{decimal}
+use Rattle.crawl_certificate.specs.declared.error.CertError.{CertError}
 use Rattle.crawl_certificate.specs.declared.error.CertError.TheVariants as cert
+use Rattle.crawl_frontier.specs.ErrorTexts.{frontier_error_text}
+use Rattle.crawl_frontier.specs.declared.error.FinishError.{FinishError}
 use Rattle.crawl_frontier.specs.declared.error.FinishError.TheVariants as finish
 use Rattle.crawl_keys.specs.CanonicalText.{message}
+use Rattle.crawl_workers.specs.ErrorTexts.{run_error_text}
 use Rattle.crawl_web.specs.declared.saved_web.error.WebError.{WebError}
 use Rattle.crawl_web.specs.declared.saved_web.error.WebError.TheVariants as web
 use Rattle.crawl_sources.specs.declared.seeds.SeedsFault.{SeedsFault}
@@ -50,20 +54,28 @@ script_text (script.BadLine number) = line_text number (codes "bad line")
 script_text (script.BadUrl number) = line_text number (codes "bad URL")
 script_text script.NoMemory = codes "out of memory"
 
--- why a crawl is incomplete. Want of memory is told as such, and the numbers of a plan have a frontier, so two texts never come
+-- what is wrong with an account
+abbrev pub finish_text : FinishError → List ℕ
+finish_text finish.MissingPart = codes "part missing"
+finish_text (finish.Unsettled word) = codes "gate not closed"
+finish_text (finish.Disagree queue) = codes "subqueue " ++ decimal queue ++ codes " disagrees"
+finish_text finish.NoMemory = codes "out of memory"
+
+-- what a certificate lacks
+abbrev pub cert_text : CertError → List ℕ
+cert_text cert.SeedMissing = codes "seed missing"
+cert_text cert.NotFetched = codes "page not fetched"
+cert_text cert.LinkMissing = codes "link missing"
+cert_text cert.Unfounded = codes "unfounded URL"
+cert_text cert.Twice = codes "fetched twice"
+cert_text cert.NoMemory = codes "out of memory"
+
+-- why a crawl has no pages: no frontier has its numbers, in the frontier's own words, and nothing was crawled; or it is incomplete
 abbrev pub crawl_text : CrawlError → List ℕ
-crawl_text (crawl.Cert cert.SeedMissing) = codes "seed missing"
-crawl_text (crawl.Cert cert.NotFetched) = codes "page not fetched"
-crawl_text (crawl.Cert cert.LinkMissing) = codes "link missing"
-crawl_text (crawl.Cert cert.Unfounded) = codes "unfounded URL"
-crawl_text (crawl.Cert cert.Twice) = codes "fetched twice"
-crawl_text (crawl.Cert cert.NoMemory) = codes "out of memory"
-crawl_text (crawl.Finish finish.MissingPart) = codes "part missing"
-crawl_text (crawl.Finish (finish.Unsettled word)) = codes "gate not closed"
-crawl_text (crawl.Finish (finish.Disagree queue)) = codes "subqueue " ++ decimal queue ++ codes " disagrees"
-crawl_text (crawl.Finish finish.NoMemory) = codes "out of memory"
-crawl_text (crawl.Run error) = codes "no thread"
-crawl_text (crawl.Frontier error) = codes "no frontier"
+crawl_text (crawl.Frontier error) = frontier_error_text error
+crawl_text (crawl.Run error) = codes "incomplete: " ++ run_error_text error
+crawl_text (crawl.Finish error) = codes "incomplete: " ++ finish_text error
+crawl_text (crawl.Cert error) = codes "incomplete: " ++ cert_text error
 crawl_text crawl.NoMemory = codes "out of memory"
 
 -- why there is no session with a log, or no more of it
@@ -89,7 +101,7 @@ fault_text file (wrong.Seeds fault) = codes "seeds: " ++ seeds_text fault
 fault_text file wrong.NoSeed = codes "seeds: no seed"
 fault_text file (wrong.Web fault) = codes "saved web: " ++ web_text fault
 fault_text file (wrong.Script fault) = codes "script: " ++ script_text fault
-fault_text file (wrong.Crawl error) = codes "incomplete: " ++ crawl_text error
+fault_text file (wrong.Crawl error) = crawl_text error
 fault_text file (wrong.Log fault) = codes "log " ++ file ++ codes ": " ++ log_text fault
 
 -- the line that tells it

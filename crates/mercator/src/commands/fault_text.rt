@@ -1,6 +1,6 @@
 //! The texts of faults.
 ghost use Rattle.std.specs.Prelude.{Some};
-ghost use Rattle.mercator.specs.FaultText.{fault_text, line_text, log_text, web_text, seeds_text, script_text, crawl_text};
+ghost use Rattle.mercator.specs.FaultText.{fault_text, line_text, log_text, web_text, seeds_text, script_text, crawl_text, finish_text, cert_text};
 
 use crate::commands::fault::Fault;
 use crate::commands::log_file::LogFault;
@@ -49,10 +49,7 @@ impl fmt::Display for FaultText<'_> {
                 let text = ScriptText(fault);
                 write!(f, "script: {text}")
             }
-            Fault::Crawl(error) => {
-                let text = CrawlText(error);
-                write!(f, "incomplete: {text}")
-            }
+            Fault::Crawl(error) => CrawlText(error).fmt(f),
             Fault::Log(fault) => {
                 let (file, text) = (self.file, LogText(fault));
                 write!(f, "log {file}: {text}")
@@ -201,21 +198,51 @@ impl fmt::Display for CrawlText {
 
     fn fmt<W: fmt::Write>(&self, f: &mut fmt::Formatter<W>) -> fmt::Result {
         match self.0 {
-            CrawlError::Cert(CertError::SeedMissing) => f.write_str("seed missing"),
-            CrawlError::Cert(CertError::NotFetched) => f.write_str("page not fetched"),
-            CrawlError::Cert(CertError::LinkMissing) => f.write_str("link missing"),
-            CrawlError::Cert(CertError::Unfounded) => f.write_str("unfounded URL"),
-            CrawlError::Cert(CertError::Twice) => f.write_str("fetched twice"),
-            CrawlError::Finish(FinishError::MissingPart) => f.write_str("part missing"),
-            CrawlError::Finish(FinishError::Unsettled { .. }) => f.write_str("gate not closed"),
-            CrawlError::Finish(FinishError::Disagree { queue }) => {
-                write!(f, "subqueue {queue} disagrees")
+            CrawlError::Frontier(error) => error.fmt(f),
+            CrawlError::Run(error) => write!(f, "incomplete: {error}"),
+            CrawlError::Finish(error) => {
+                let text = FinishText(error);
+                write!(f, "incomplete: {text}")
             }
-            CrawlError::Run(_) => f.write_str("no thread"),
-            CrawlError::Frontier(_) => f.write_str("no frontier"),
-            CrawlError::Cert(CertError::NoMemory)
-            | CrawlError::Finish(FinishError::NoMemory)
-            | CrawlError::NoMemory => f.write_str("out of memory"),
+            CrawlError::Cert(error) => {
+                let text = CertText(error);
+                write!(f, "incomplete: {text}")
+            }
+            CrawlError::NoMemory => f.write_str("out of memory"),
+        }
+    }
+}
+
+#[derive(Clone, Copy)]
+struct FinishText(FinishError);
+
+impl fmt::Display for FinishText {
+    ghost output = { λ told. Some (finish_text told.0) };
+
+    fn fmt<W: fmt::Write>(&self, f: &mut fmt::Formatter<W>) -> fmt::Result {
+        match self.0 {
+            FinishError::MissingPart => f.write_str("part missing"),
+            FinishError::Unsettled { .. } => f.write_str("gate not closed"),
+            FinishError::Disagree { queue } => write!(f, "subqueue {queue} disagrees"),
+            FinishError::NoMemory => f.write_str("out of memory"),
+        }
+    }
+}
+
+#[derive(Clone, Copy)]
+struct CertText(CertError);
+
+impl fmt::Display for CertText {
+    ghost output = { λ told. Some (cert_text told.0) };
+
+    fn fmt<W: fmt::Write>(&self, f: &mut fmt::Formatter<W>) -> fmt::Result {
+        match self.0 {
+            CertError::SeedMissing => f.write_str("seed missing"),
+            CertError::NotFetched => f.write_str("page not fetched"),
+            CertError::LinkMissing => f.write_str("link missing"),
+            CertError::Unfounded => f.write_str("unfounded URL"),
+            CertError::Twice => f.write_str("fetched twice"),
+            CertError::NoMemory => f.write_str("out of memory"),
         }
     }
 }

@@ -1,11 +1,11 @@
 //! The lines of the faults that no command leads to.
 use crawl_certificate::CertError;
-use crawl_frontier::FinishError;
+use crawl_frontier::{FinishError, FrontierError};
 use crawl_workers::RunError;
 use mercator::{CrawlError, Fault, fault_line};
 use std::alloc::Global;
 
-const ROWS: [(Fault, u8, &str); 10] = [
+const ROWS: [(Fault, u8, &str); 12] = [
     (
         Fault::Crawl(CrawlError::Cert(CertError::SeedMissing)),
         2,
@@ -50,6 +50,16 @@ const ROWS: [(Fault, u8, &str); 10] = [
         Fault::Crawl(CrawlError::Run(RunError::NoThread)),
         2,
         "mercator: incomplete: no thread\n",
+    ),
+    (
+        Fault::Crawl(CrawlError::Frontier(FrontierError::BadWorkers)),
+        1,
+        "mercator: workers not from 1 to 512\n",
+    ),
+    (
+        Fault::Crawl(CrawlError::Frontier(FrontierError::BadLimit)),
+        1,
+        "mercator: maximum not from 1 to 2^40\n",
     ),
     (Fault::NoMemory, 1, "mercator: out of memory\n"),
 ];
