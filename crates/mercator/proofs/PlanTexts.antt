@@ -1,5 +1,5 @@
 -- What a crawl tells; and plans that ask for one text are told one.
-use Rattle.std.proofs.Common.{◌≡◌, ℕ, Bool, true, false, not, ◌&&◌, List, [], ◌∷◌, ◌++◌, Option, Some, None, Result, Ok, Err, String, Vec, Global, IfOk, IfSome, ◌≤◌, length, map, string_bytes, refl, sym, ap, subst, ◌∙◌}
+use Rattle.std.proofs.Common.{◌≡◌, ℕ, Bool, true, false, not, ◌&&◌, List, [], ◌∷◌, ◌++◌, Option, Some, None, Result, Ok, Err, String, Vec, Global, IfOk, IfErr, IfSome, ◌≤◌, length, map, string_bytes, refl, sym, ap, subst, ◌∙◌}
 use Rattle.std.specs.Bool.{if◌then◌else◌}
 use Rattle.std.specs.List.{flat_map}
 use Rattle.std.specs.List.Sorted.{IsPermutation}
@@ -14,9 +14,10 @@ use Rattle.mercator.specs.Crawls.{AreCounts}
 use Rattle.crawl_keys.specs.HostFilter.{allows, filter_of, is_good}
 use Rattle.mercator.specs.Plans.{is_bad_suffix, is_input, known_bytes, known_seeds, lists_input, suffixes_of}
 use Rattle.mercator.specs.Limits.{most_input_bytes}
-use Rattle.mercator.specs.Told.{AskForOneReport, AskForOneText, FailsCrawl, Gains, IsTold, OfFile, OfFiles}
+use Rattle.mercator.specs.Told.{AreFiles, AskForOneReport, AskForOneText, FailsCrawl, Gains, IsTold, OfFile, OfFiles}
 use Rattle.mercator.specs.WebCrawl.{AreUnreached, IsBegun, IsCrawlText, IsFound, IsTextOf, IsUnbegun, asked_pages, printed_with}
 use Rattle.mercator.specs.declared.commands.planned.CrawlOptions.{CrawlOptions}
+use Rattle.mercator.specs.declared.commands.tell.Inputs.{Inputs}
 use Rattle.mercator.specs.declared.commands.tell.WebFound.{WebFound}
 use Rattle.mercator.specs.declared.commands.fault.Fault.{Fault}
 use Rattle.mercator.specs.declared.commands.fault.Fault.TheVariants as wrong
@@ -69,21 +70,21 @@ one_text workers others queues options its bytes listed texts suffixes text othe
         one_count others (result_urls those) counts other (subst (λ n. AreCounts n (result_urls those) counts) (many refl) (subst (λ p. AreCounts workers (result_urls p) counts) same own)) their
 
 pub one_output : (plan other : Plan) (bytes before after its : List ℕ) → AskForOneText plan other → Gains plan (Some bytes) (Some before) (Some after) → Gains other (Some bytes) (Some before) (Some its) → after ≡ its
-one_output (asks.Crawl workers max queues file seeds options) (asks.Crawl others other_max other_queues other_file other_seeds other_options) bytes before after its ask own other =
+one_output (asks.Crawl workers max queues file seeds within options) (asks.Crawl others other_max other_queues other_file other_seeds other_within other_options) bytes before after its ask own other =
     let (own_input, other_input, own_none, other_none, seeded, filtered, parts, queued, many) = ask in
     let texts = map string_bytes seeds.items in
-    let suffixes = suffixes_of options.within in
+    let suffixes = suffixes_of within in
     let first : IsCrawlText workers queues options bytes [] texts suffixes own.text = (of_web (λ b l. IsBegun b l texts × IsCrawlText workers queues options b l texts suffixes own.text) (string_bytes file) options.listed bytes own_input own_none own.told.1).1 in
-    let plain = (of_web (λ b l. IsBegun b l (map string_bytes other_seeds.items) × IsCrawlText others other_queues other_options b l (map string_bytes other_seeds.items) (suffixes_of other_options.within) other.text) (string_bytes other_file) other_options.listed bytes other_input other_none other.told.1).1 in
-    let same_seeds = subst (λ t. IsCrawlText others other_queues other_options bytes [] t (suffixes_of other_options.within) other.text) (sym seeded) plain in
+    let plain = (of_web (λ b l. IsBegun b l (map string_bytes other_seeds.items) × IsCrawlText others other_queues other_options b l (map string_bytes other_seeds.items) (suffixes_of other_within) other.text) (string_bytes other_file) other_options.listed bytes other_input other_none other.told.1).1 in
+    let same_seeds = subst (λ t. IsCrawlText others other_queues other_options bytes [] t (suffixes_of other_within) other.text) (sym seeded) plain in
     let same_filter = subst (λ s. IsCrawlText others other_queues other_options bytes [] texts s other.text) (sym filtered) same_seeds in
     let second : IsCrawlText others queues other_options bytes [] texts suffixes other.text = subst (λ q. IsCrawlText others q other_options bytes [] texts suffixes other.text) (sym queued) same_filter in
     own.gained ∙ ap (λ t. before ++ t) (one_text workers others queues options other_options bytes [] texts suffixes own.text other.text many parts first second) ∙ sym other.gained
-one_output (asks.Crawl workers max queues file seeds options) (asks.Key url others) bytes before after its ask own other = absurd ask
-one_output (asks.Crawl workers max queues file seeds options) (asks.Replay other_file) bytes before after its ask own other = absurd ask
-one_output (asks.Crawl workers max queues file seeds options) (asks.Serve asked) bytes before after its ask own other = absurd ask
-one_output (asks.Crawl workers max queues file seeds options) (asks.Compact log new) bytes before after its ask own other = absurd ask
-one_output (asks.Crawl workers max queues file seeds options) (asks.ServeLog asked) bytes before after its ask own other = absurd ask
+one_output (asks.Crawl workers max queues file seeds within options) (asks.Key url others) bytes before after its ask own other = absurd ask
+one_output (asks.Crawl workers max queues file seeds within options) (asks.Replay other_file) bytes before after its ask own other = absurd ask
+one_output (asks.Crawl workers max queues file seeds within options) (asks.Serve asked) bytes before after its ask own other = absurd ask
+one_output (asks.Crawl workers max queues file seeds within options) (asks.Compact log new) bytes before after its ask own other = absurd ask
+one_output (asks.Crawl workers max queues file seeds within options) (asks.ServeLog asked) bytes before after its ask own other = absurd ask
 one_output (asks.Compact log new) other_plan bytes before after its ask own other = absurd ask
 one_output (asks.Serve asked) other_plan bytes before after its ask own other = absurd ask
 one_output (asks.ServeLog asked) other_plan bytes before after its ask own other = absurd ask
@@ -131,14 +132,14 @@ crawl_text workers queues options file listed texts filter suffixes input web fo
 }
 
 -- so the text of what was found is the plan's, where there is one
-pub told_of : (workers max : ℕ) (queues : Bool) (file : String Global) (seeds : Vec (String Global) Global) (options : CrawlOptions) (input : Option (List ℕ)) (plan : Plan) (name : List ℕ) (given : List (String Global)) (found : WebFound) (result : Result (Vec ℕ Global) Fault)
-    → plan ≡ asks.Crawl workers max queues file seeds options → name ≡ string_bytes file → given ≡ seeds.items
-    → (is_bad_suffix options.within ≡ false) × (found.filter ≡ suffixes_of options.within)
-    × OfFiles name options.listed input (λ bytes list. (bytes ≡ found.bytes.items) × IsBegun bytes list (map string_bytes given) × IsFound workers bytes list (map string_bytes given) (suffixes_of options.within) found.crawled)
+pub told_of : (workers max : ℕ) (queues : Bool) (file : String Global) (seeds : Vec (String Global) Global) (within : Option (String Global)) (options : CrawlOptions) (input : Option (List ℕ)) (plan : Plan) (name : List ℕ) (given : List (String Global)) (found : WebFound) (result : Result (Vec ℕ Global) Fault)
+    → plan ≡ asks.Crawl workers max queues file seeds within options → name ≡ string_bytes file → given ≡ seeds.items
+    → (is_bad_suffix within ≡ false) × (found.filter ≡ suffixes_of within)
+    × OfFiles name options.listed input (λ bytes list. (bytes ≡ found.bytes.items) × IsBegun bytes list (map string_bytes given) × IsFound workers bytes list (map string_bytes given) (suffixes_of within) found.crawled)
     → IfOk result (λ text. IsTextOf queues options found.bytes.items found.filter found.crawled.result found.crawled.counts.items text.items) → IfOk result (λ text. IsTold plan input text.items)
-told_of workers max queues file seeds options input plan name given found (Err fault) is named same crawl written = tt
-told_of workers max queues file seeds options input plan name given found (Ok text) is named same crawl written =
-    let suffixes = suffixes_of options.within in
+told_of workers max queues file seeds within options input plan name given found (Err fault) is named same crawl written = tt
+told_of workers max queues file seeds within options input plan name given found (Ok text) is named same crawl written =
+    let suffixes = suffixes_of within in
     let of = crawl_text workers queues options name options.listed (map string_bytes given) found.filter suffixes input found.bytes.items found.crawled text.items crawl.1 written crawl.2 in
     let seeded = subst (λ ts. OfFiles name options.listed input (λ bytes list. IsBegun bytes list (map string_bytes ts) × IsCrawlText workers queues options bytes list (map string_bytes ts) suffixes text.items)) same of in
     let filed = subst (λ f. OfFiles f options.listed input (λ bytes list. IsBegun bytes list (map string_bytes seeds.items) × IsCrawlText workers queues options bytes list (map string_bytes seeds.items) suffixes text.items)) named seeded in
@@ -158,18 +159,27 @@ still_known file None before after bytes one same known = known
 still_known file (Some name) before after bytes one same known = by_name (is_input file) (is_input (string_bytes name)) before after bytes one same known
 
 -- the two files of a crawl, as they were read, one after the other
-pub files_read : (file : List ℕ) (listed : Option (String Global)) (input after : Option (List ℕ)) (P : List ℕ → List ℕ → Type 0) (bytes list given other : List ℕ) → (is_input file && lists_input listed) ≡ false
+pub are_read : (file : List ℕ) (listed : Option (String Global)) (input after : Option (List ℕ)) (bytes list : List ℕ) → (is_input file && lists_input listed) ≡ false
     → IfSome (known_bytes file input) (λ known. bytes ≡ known) → length bytes ≤ most_input_bytes → (is_input file ≡ false → after ≡ input)
-    → IfSome (known_seeds listed after) (λ known. list ≡ known) → length list ≤ most_input_bytes → given ≡ bytes → other ≡ list → P given other → OfFiles file listed input P
-files_read file listed input after P bytes list given other one read few same seeds short is its holds = record {
-  bytes = bytes;
+    → IfSome (known_seeds listed after) (λ known. list ≡ known) → length list ≤ most_input_bytes → AreFiles file listed input bytes list
+are_read file listed input after bytes list one read few same seeds short = record {
   read = read;
   few = few;
+  read_seeds = still_known file listed input after list one same seeds;
+  few_seeds = short;
+}
+
+-- what holds of the bytes that were read holds of some that the files can have
+of_files : (file : List ℕ) (listed : Option (String Global)) (input : Option (List ℕ)) (bytes list : List ℕ) (P : List ℕ → List ℕ → Type 0) → AreFiles file listed input bytes list → P bytes list → OfFiles file listed input P
+of_files file listed input bytes list P are holds = record {
+  bytes = bytes;
+  read = are.read;
+  few = are.few;
   holds = record {
     bytes = list;
-    read = still_known file listed input after list one same seeds;
-    few = short;
-    holds = subst (λ l. P bytes l) its (subst (λ b. P b other) is holds);
+    read = are.read_seeds;
+    few = are.few_seeds;
+    holds = holds;
   };
 }
 
@@ -189,3 +199,25 @@ fails workers max within file listed seeds input (wrong.Log fault) good of = (go
 fails workers max within file listed seeds input wrong.BadSuffix good of = absurd of.holds.holds
 fails workers max within file listed seeds input wrong.CannotWrite good of = (good, of)
 fails workers max within file listed seeds input wrong.NoMemory good of = tt
+
+-- what a crawl of inputs finds is found in the files that they were read from
+pub found_in_files : (workers : ℕ) (within : Option (String Global)) (file : List ℕ) (listed : Option (String Global)) (texts : List (List ℕ)) (input : Option (List ℕ)) (inputs : Inputs) (result : Result WebFound Fault)
+    → (is_bad_suffix within ≡ false) × (inputs.filter ≡ suffixes_of within) → AreFiles file listed input inputs.bytes.items inputs.list.items
+    → IfOk result (λ found. (found.filter ≡ inputs.filter) × (found.bytes.items ≡ inputs.bytes.items)) → IfOk result (λ _. IsBegun inputs.bytes.items inputs.list.items texts)
+    → IfOk result (λ found. IsFound workers inputs.bytes.items inputs.list.items texts inputs.filter found.crawled)
+    → IfOk result (λ found. (is_bad_suffix within ≡ false) × (found.filter ≡ suffixes_of within)
+    × OfFiles file listed input (λ bytes list. (bytes ≡ found.bytes.items) × IsBegun bytes list texts × IsFound workers bytes list texts (suffixes_of within) found.crawled))
+found_in_files workers within file listed texts input inputs (Err fault) suffix are same begun found = tt
+found_in_files workers within file listed texts input inputs (Ok found) suffix are same begun own = (
+  suffix.0,
+  same.0 ∙ suffix.1,
+  of_files file listed input inputs.bytes.items inputs.list.items (λ bytes list. (bytes ≡ found.bytes.items) × IsBegun bytes list texts × IsFound workers bytes list texts (suffixes_of within) found.crawled) are
+      (sym same.1, begun, found_within workers inputs.bytes.items inputs.list.items texts inputs.filter (suffixes_of within) found.crawled suffix.1 own),
+)
+
+-- and a crawl of inputs fails as one of these files
+pub fails_in_files : (workers max : ℕ) (within : Option (String Global)) (file : List ℕ) (listed : Option (String Global)) (texts : List (List ℕ)) (input : Option (List ℕ)) (inputs : Inputs) (result : Result WebFound Fault)
+    → is_bad_suffix within ≡ false → AreFiles file listed input inputs.bytes.items inputs.list.items → IfErr result (IsUnbegun workers max inputs.bytes.items inputs.list.items texts) → IfErr result (FailsCrawl workers max within file listed texts input)
+fails_in_files workers max within file listed texts input inputs (Ok found) good are unbegun = tt
+fails_in_files workers max within file listed texts input inputs (Err fault) good are unbegun =
+    fails workers max within file listed texts input fault good (of_files file listed input inputs.bytes.items inputs.list.items (λ bytes list. IsUnbegun workers max bytes list texts fault) are unbegun)

@@ -127,7 +127,7 @@ plain_log wrong.CannotWrite is = absurd is
 
 -- a plan that is no session tells a text, and notes nothing
 pub is_telling : (plan : Plan) → ((asked : SessionPlan) → plan ≡ asks.Serve asked → ⊥) → ((asked : LogPlan) → plan ≡ asks.ServeLog asked → ⊥) → ((log : LogPlan) (new : String Global) → plan ≡ asks.Compact log new → ⊥) → IsTelling plan
-is_telling (asks.Crawl workers max queues file seeds options) other logged compacts = tt
+is_telling (asks.Crawl workers max queues file seeds within options) other logged compacts = tt
 is_telling (asks.Key url workers) other logged compacts = tt
 is_telling (asks.Replay file) other logged compacts = tt
 is_telling (asks.Serve asked) other logged compacts = other asked refl
@@ -135,7 +135,7 @@ is_telling (asks.ServeLog asked) other logged compacts = logged asked refl
 is_telling (asks.Compact log new) other logged compacts = compacts log new refl
 
 pub notes_nothing : (plan : Plan) (old new : Option (List ℕ)) → ((asked : LogPlan) → plan ≡ asks.ServeLog asked → ⊥) → MayNote plan old new
-notes_nothing (asks.Crawl workers max queues file seeds options) old new plain = tt
+notes_nothing (asks.Crawl workers max queues file seeds within options) old new plain = tt
 notes_nothing (asks.Key url workers) old new plain = tt
 notes_nothing (asks.Replay file) old new plain = tt
 notes_nothing (asks.Serve asked) old new plain = tt
@@ -144,7 +144,7 @@ notes_nothing (asks.ServeLog asked) old new plain = absurd (plain asked refl)
 
 -- a fault's line is told, behind what a session with a log may have told
 pub tells_fault : (plan : Plan) (old middle new : Option (List ℕ)) (line : List ℕ) → (has_log plan ≡ false → middle ≡ old) → MayNote plan old middle → Begins middle new line → TellsFault plan old new line
-tells_fault (asks.Crawl workers max queues file seeds options) old middle new line silent noted told = subst (λ o. Begins o new line) (silent refl) told
+tells_fault (asks.Crawl workers max queues file seeds within options) old middle new line silent noted told = subst (λ o. Begins o new line) (silent refl) told
 tells_fault (asks.Key url workers) old middle new line silent noted told = subst (λ o. Begins o new line) (silent refl) told
 tells_fault (asks.Replay file) old middle new line silent noted told = subst (λ o. Begins o new line) (silent refl) told
 tells_fault (asks.Compact log file) old middle new line silent noted told = subst (λ o. Begins o new line) (silent refl) told
@@ -154,7 +154,7 @@ tells_fault (asks.ServeLog asked) old middle new line silent noted told = (middl
 -- words are done that are a plan's
 pub done_words : {E : Type 0} (plan : Plan) (contents : E → Option (List ℕ)) (input out_old out_new : Option (List ℕ)) (old new : E) → IsWithinLimits plan → Gains plan input out_old out_new → (has_log plan ≡ false → new ≡ old) → MayNote plan (contents old) (contents new)
     → (new ≡ old) ⊎ ((plan : Plan) × IsWithinLimits plan × IsDoneWithNote plan input out_old out_new (contents old) (contents new))
-done_words (asks.Crawl workers max queues file seeds options) contents input out_old out_new old new limits gains silent noted = inl (silent refl)
+done_words (asks.Crawl workers max queues file seeds within options) contents input out_old out_new old new limits gains silent noted = inl (silent refl)
 done_words (asks.Key url workers) contents input out_old out_new old new limits gains silent noted = inl (silent refl)
 done_words (asks.Replay file) contents input out_old out_new old new limits gains silent noted = inl (silent refl)
 done_words (asks.Compact log file) contents input out_old out_new old new limits gains silent noted = inl (silent refl)

@@ -40,7 +40,7 @@ IsSessionPlan asked = (1 ≤ asked.workers) × (AreLimits (queues_of asked) aske
 
 -- a frontier can be made with its numbers; a crawl has a seed or a file of seeds, and not both of its files are the input
 abbrev pub IsWithinLimits : Plan → Type 0
-IsWithinLimits (asks.Crawl workers max queues file seeds options) =
+IsWithinLimits (asks.Crawl workers max queues file seeds within options) =
     AreLimits workers max × (IsSome options.listed ⊎ (1 ≤ length seeds.items)) × ((is_input (string_bytes file) && lists_input options.listed) ≡ false)
 IsWithinLimits (asks.Key url workers) = (1 ≤ workers) × (workers ≤ worker_limit)
 IsWithinLimits (asks.Replay file) = Unit {0}
@@ -64,7 +64,7 @@ known_seeds (Some file) input = known_bytes (string_bytes file) input
 
 -- the FILE of a plan; a key and a compaction have none, and a session is of the input
 abbrev pub file_of : Plan → List ℕ
-file_of (asks.Crawl workers max queues file seeds options) = string_bytes file
+file_of (asks.Crawl workers max queues file seeds within options) = string_bytes file
 file_of (asks.Key url workers) = []
 file_of (asks.Replay file) = string_bytes file
 file_of (asks.Serve asked) = codes "-"
@@ -79,7 +79,7 @@ listed_or (Some listed) file = string_bytes listed
 -- the file that a fault of a plan speaks of: that of the seeds where this one cannot be read, the log where this one is at fault,
 -- else FILE
 abbrev pub told_file : Plan → Fault → List ℕ
-told_file (asks.Crawl workers max queues file seeds options) fault.CannotReadSeeds = listed_or options.listed (string_bytes file)
+told_file (asks.Crawl workers max queues file seeds within options) fault.CannotReadSeeds = listed_or options.listed (string_bytes file)
 told_file (asks.ServeLog asked) (fault.Log why) = string_bytes asked.file
 told_file (asks.Compact log new) (fault.Log why) = string_bytes log.file
 told_file plan fault = file_of plan
@@ -96,7 +96,7 @@ is_bad_suffix (Some suffix) = not (is_good (string_bytes suffix))
 
 -- the command reads the input: one of its files stands for it, or it is a session, and no bad suffix ends the command before
 abbrev pub reads_input : Plan → Bool
-reads_input (asks.Crawl workers max queues file seeds options) = not (is_bad_suffix options.within) && (is_input (string_bytes file) || lists_input options.listed)
+reads_input (asks.Crawl workers max queues file seeds within options) = not (is_bad_suffix within) && (is_input (string_bytes file) || lists_input options.listed)
 reads_input (asks.Key url workers) = false
 reads_input (asks.Replay file) = is_input (string_bytes file)
 reads_input (asks.Serve asked) = not (is_bad_suffix asked.within)

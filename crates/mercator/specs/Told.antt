@@ -39,6 +39,13 @@ pub record OfFile (known : Option (List ℕ)) (P : List ℕ → Type 0) : Type 0
 abbrev pub OfFiles : List ℕ → Option (String Global) → Option (List ℕ) → (List ℕ → List ℕ → Type 0) → Type 0
 OfFiles file listed input P = OfFile (known_bytes file input) (λ bytes. OfFile (known_seeds listed input) (λ seeds. P bytes seeds))
 
+-- these can be the bytes of the two files
+pub record AreFiles (file : List ℕ) (listed : Option (String Global)) (input : Option (List ℕ)) (bytes seeds : List ℕ) : Type 0 where
+  pub read : IfSome (known_bytes file input) (λ known. bytes ≡ known)
+  pub few : length bytes ≤ most_input_bytes
+  pub read_seeds : IfSome (known_seeds listed input) (λ known. seeds ≡ known)
+  pub few_seeds : length seeds ≤ most_input_bytes
+
 -- the part of so many queues whose log has this identity
 abbrev pub part_of : ℕ → List ℕ → Option (ℕ × ℕ) → Option Part
 part_of queues identity None = None
@@ -69,9 +76,9 @@ pub record GoesOn (asked : SessionPlan) (input : Option (List ℕ)) (text : List
 
 -- the text is the plan's
 abbrev pub IsTold : Plan → Option (List ℕ) → List ℕ → Type 0
-IsTold (asks.Crawl workers max queues file seeds options) input text =
-    (is_bad_suffix options.within ≡ false)
-    × OfFiles (string_bytes file) options.listed input (λ bytes list. IsBegun bytes list (map string_bytes seeds.items) × IsCrawlText workers queues options bytes list (map string_bytes seeds.items) (suffixes_of options.within) text)
+IsTold (asks.Crawl workers max queues file seeds within options) input text =
+    (is_bad_suffix within ≡ false)
+    × OfFiles (string_bytes file) options.listed input (λ bytes list. IsBegun bytes list (map string_bytes seeds.items) × IsCrawlText workers queues options bytes list (map string_bytes seeds.items) (suffixes_of within) text)
 IsTold (asks.Key url workers) input text = IsKeyLine (string_bytes url) workers text
 IsTold (asks.Replay file) input text = OfFile (known_bytes (string_bytes file) input) (λ bytes. IsReplay bytes text)
 IsTold (asks.Serve asked) input text = (is_bad_suffix asked.within ≡ false) × IsAnswered asked input text
@@ -128,7 +135,7 @@ BreaksOff plan fault = ⊥
 
 -- the fault is one by which the plan's command fails before it writes
 abbrev pub Fails : Plan → Option (List ℕ) → Fault → Type 0
-Fails (asks.Crawl workers max queues file seeds options) input fault = FailsCrawl workers max options.within (string_bytes file) options.listed (map string_bytes seeds.items) input fault
+Fails (asks.Crawl workers max queues file seeds within options) input fault = FailsCrawl workers max within (string_bytes file) options.listed (map string_bytes seeds.items) input fault
 Fails (asks.Key url workers) input fault = FailsKey (string_bytes url) fault
 Fails (asks.Replay file) input fault = FailsReplay (string_bytes file) input fault
 Fails (asks.Serve asked) input fault = FailsSession asked.within fault
@@ -138,8 +145,8 @@ Fails (asks.Compact log new) input fault = FailsLog log.session.within fault
 -- there is nothing that the command could tell: the FILE is known and no script; whatever bytes the files of a crawl have, by
 -- what is known of them, there is no web, a seed has no canonical URL, or there is no seed; a suffix is bad; or the URL has no canonical URL
 abbrev pub CannotTell : Plan → Option (List ℕ) → Type 0
-CannotTell (asks.Crawl workers max queues file seeds options) input =
-    (is_bad_suffix options.within ≡ true) ⊎ (OfFiles (string_bytes file) options.listed input (λ bytes list. IsBegun bytes list (map string_bytes seeds.items)) → ⊥)
+CannotTell (asks.Crawl workers max queues file seeds within options) input =
+    (is_bad_suffix within ≡ true) ⊎ (OfFiles (string_bytes file) options.listed input (λ bytes list. IsBegun bytes list (map string_bytes seeds.items)) → ⊥)
 CannotTell (asks.Key url workers) input = IsErr (canonical (string_bytes url))
 CannotTell (asks.Replay file) input = IsSomeAnd (known_bytes (string_bytes file) input) (λ bytes. IsErr (script_of bytes))
 CannotTell (asks.Serve asked) input = is_bad_suffix asked.within ≡ true
@@ -148,8 +155,8 @@ CannotTell (asks.Compact log new) input = is_bad_suffix log.session.within ≡ t
 
 -- a crawl alone can be incomplete, and it is one of a saved web from seeds, one at least, that have canonical URLs
 abbrev pub MayLose : Plan → Option (List ℕ) → Type 0
-MayLose (asks.Crawl workers max queues file seeds options) input =
-    (is_bad_suffix options.within ≡ false) × OfFiles (string_bytes file) options.listed input (λ bytes list. IsBegun bytes list (map string_bytes seeds.items))
+MayLose (asks.Crawl workers max queues file seeds within options) input =
+    (is_bad_suffix within ≡ false) × OfFiles (string_bytes file) options.listed input (λ bytes list. IsBegun bytes list (map string_bytes seeds.items))
 MayLose _ input = ⊥
 
 -- a writer that held the old bytes gained the plan's text, where it says what it holds
@@ -191,9 +198,9 @@ pub record AskForOneReport (options others : CrawlOptions) : Type 0 where
 -- both plans crawl the input, from the same seeds of the command line within the same suffix, and tell the same parts; with the
 -- lines of subqueues, where there are as many
 abbrev pub AskForOneText : Plan → Plan → Type 0
-AskForOneText (asks.Crawl workers max queues file seeds options) (asks.Crawl others other_max other_queues other_file other_seeds other_options) =
+AskForOneText (asks.Crawl workers max queues file seeds within options) (asks.Crawl others other_max other_queues other_file other_seeds other_within other_options) =
     (is_input (string_bytes file) ≡ true) × (is_input (string_bytes other_file) ≡ true) × (options.listed ≡ None) × (other_options.listed ≡ None)
-    × (map string_bytes seeds.items ≡ map string_bytes other_seeds.items) × (suffixes_of options.within ≡ suffixes_of other_options.within)
+    × (map string_bytes seeds.items ≡ map string_bytes other_seeds.items) × (suffixes_of within ≡ suffixes_of other_within)
     × AskForOneReport options other_options × (queues ≡ other_queues) × (queues ≡ true → workers ≡ others)
 AskForOneText _ _ = ⊥
 

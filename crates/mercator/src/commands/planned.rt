@@ -21,6 +21,9 @@ pub enum Plan {
         file: String,
         /// Where the crawl begins, behind the seeds of a file of seeds.
         seeds: Vec<String>,
+        /// The suffix of the hosts that are wanted, where not all are.
+        within: Option<String>,
+        /// What else it is asked for.
         options: CrawlOptions,
     },
     /// `key`: the URL's key line.
@@ -51,8 +54,6 @@ pub enum Plan {
 /// What else a crawl is asked for.
 #[derive(Debug, Drop)]
 pub struct CrawlOptions {
-    /// The suffix of the hosts that are wanted, where not all are.
-    pub within: Option<String>,
     /// The name of a file of seeds, or `-` for the input, where there is one.
     pub listed: Option<String>,
     /// Whether it tells where missing URLs are linked from, and by which pages.

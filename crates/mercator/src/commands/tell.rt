@@ -7,8 +7,8 @@ ghost use Rattle.mercator.specs.KeyLine.{IsKeyLine};
 ghost use Rattle.mercator.specs.Limits.{most_input_bytes};
 ghost use Rattle.mercator.specs.Plans.{IsTelling, IsWithinLimits, is_input, is_bad_suffix, known_bytes, known_seeds, lists_input, reads_input, suffixes_of};
 ghost use Rattle.crawl_replay.specs.Replay.{IsReplay};
-ghost use Rattle.mercator.specs.Told.{IsTold, Fails, FailsReplay, FailsCrawl, FailsKey, OfFile, OfFiles};
-ghost use Rattle.mercator.specs.WebCrawl.{IsBegun, IsFound, IsTextOf};
+ghost use Rattle.mercator.specs.Told.{AreFiles, IsTold, Fails, FailsReplay, FailsCrawl, FailsKey, OfFile, OfFiles};
+ghost use Rattle.mercator.specs.WebCrawl.{IsBegun, IsFound, IsTextOf, IsUnbegun};
 ghost use Rattle.mercator.specs.declared.commands.fault.Fault.TheVariants as wrong;
 
 use crate::commands::crawl_text::crawl_text;
@@ -53,9 +53,18 @@ pub fn tell<R: Files + Threads + Wait + Sync, I: Read>(
             queues,
             file,
             seeds,
+            within,
             options,
         } => {
-            let found = crawl_files(rt, alloc, *workers, *max, file, seeds, options, input)?;
+            let asked = AskedCrawl {
+                workers: *workers,
+                max: *max,
+                file,
+                listed: &options.listed,
+                seeds,
+                within,
+            };
+            let found = crawl_files(rt, alloc, &asked, input)?;
             let text = text_of(alloc, &found, *queues, options);
             // The process ends soon, and gives it back at once.
             forget(found);
@@ -82,6 +91,25 @@ fn tell_replay<R: Files, I: Read>(
     Ok(replay_text(alloc, &bytes)?)
 }
 
+/// A crawl that is asked for, but for what is told of it.
+#[derive(Clone, Copy)]
+struct AskedCrawl<'p> {
+    workers: u32,
+    max: u64,
+    file: &'p str,
+    listed: &'p Option<String>,
+    seeds: &'p [String],
+    within: &'p Option<String>,
+}
+
+/// What a crawl reads before it begins.
+#[derive(Drop)]
+struct Inputs {
+    filter: Filter,
+    bytes: Vec<u8>,
+    list: Vec<u8>,
+}
+
 /// What a crawl of its files found, the web's bytes and the filter.
 #[derive(Drop)]
 struct WebFound {
@@ -94,30 +122,68 @@ struct WebFound {
 fn crawl_files<R: Files + Threads + Wait + Sync, I: Read>(
     rt: &R,
     alloc: Global,
-    workers: u32,
-    max: u64,
-    file: &str,
-    seeds: &[String],
-    options: &CrawlOptions,
+    asked: &AskedCrawl<'_>,
     input: &mut I,
 ) -> Result<WebFound, Fault>
-    requires one_input { (is_input file.now && lists_input options.now.listed) ≡ false }
-    ensures found { IfOk result (λ found. (is_bad_suffix options.now.within ≡ false) × (found.filter ≡ suffixes_of options.now.within)
-        × OfFiles file.now options.now.listed (I.remaining input.old) (λ bytes list. (bytes ≡ found.bytes.items) × IsBegun bytes list (map string_bytes seeds.now) × IsFound workers bytes list (map string_bytes seeds.now) (suffixes_of options.now.within) found.crawled)) }
-    ensures fault { IfErr result (FailsCrawl workers max options.now.within file.now options.now.listed (map string_bytes seeds.now) (I.remaining input.old)) }
-    ensures unfiltered { is_bad_suffix options.now.within ≡ true → input.new ≡ input.old }
-    ensures unread { (is_input file.now || lists_input options.now.listed) ≡ false → input.new ≡ input.old }
+    requires one_input { (is_input asked.now.file.now && lists_input asked.now.listed.now) ≡ false }
+    ensures found { IfOk result (λ found. (is_bad_suffix asked.now.within.now ≡ false) × (found.filter ≡ suffixes_of asked.now.within.now)
+        × OfFiles asked.now.file.now asked.now.listed.now (I.remaining input.old) (λ bytes list. (bytes ≡ found.bytes.items) × IsBegun bytes list (map string_bytes asked.now.seeds.now) × IsFound asked.now.workers bytes list (map string_bytes asked.now.seeds.now) (suffixes_of asked.now.within.now) found.crawled)) }
+    ensures fault { IfErr result (FailsCrawl asked.now.workers asked.now.max asked.now.within.now asked.now.file.now asked.now.listed.now (map string_bytes asked.now.seeds.now) (I.remaining input.old)) }
+    ensures unfiltered { is_bad_suffix asked.now.within.now ≡ true → input.new ≡ input.old }
+    ensures unread { (is_input asked.now.file.now || lists_input asked.now.listed.now) ≡ false → input.new ≡ input.old }
 {
-    let filter = filter_of(alloc, &options.within)?;
-    let bytes = read_file(rt, alloc, file, input)?;
-    let list = read_list(rt, alloc, &options.listed, input)?;
+    let inputs = read_inputs(rt, alloc, asked, input)?;
+    crawl_inputs(rt, alloc, asked, inputs)
+}
+
+/// Reads the suffix of a crawl, then its web, then its file of seeds.
+fn read_inputs<R: Files, I: Read>(
+    rt: &R,
+    alloc: Global,
+    asked: &AskedCrawl<'_>,
+    input: &mut I,
+) -> Result<Inputs, Fault>
+    requires one_input { (is_input asked.now.file.now && lists_input asked.now.listed.now) ≡ false }
+    ensures suffix { IfOk result (λ inputs. (is_bad_suffix asked.now.within.now ≡ false) × (inputs.filter ≡ suffixes_of asked.now.within.now)) }
+    ensures files { IfOk result (λ inputs. AreFiles asked.now.file.now asked.now.listed.now (I.remaining input.old) inputs.bytes.items inputs.list.items) }
+    ensures fault { IfErr result (FailsCrawl asked.now.workers asked.now.max asked.now.within.now asked.now.file.now asked.now.listed.now (map string_bytes asked.now.seeds.now) (I.remaining input.old)) }
+    ensures unfiltered { is_bad_suffix asked.now.within.now ≡ true → input.new ≡ input.old }
+    ensures unread { (is_input asked.now.file.now || lists_input asked.now.listed.now) ≡ false → input.new ≡ input.old }
+{
+    let filter = filter_of(alloc, asked.within)?;
+    let bytes = read_file(rt, alloc, asked.file, input)?;
+    let list = read_list(rt, alloc, asked.listed, input)?;
+    Ok(Inputs {
+        filter,
+        bytes,
+        list,
+    })
+}
+
+/// What a crawl of these inputs finds.
+fn crawl_inputs<R: Threads + Wait + Sync>(
+    rt: &R,
+    alloc: Global,
+    asked: &AskedCrawl<'_>,
+    inputs: Inputs,
+) -> Result<WebFound, Fault>
+    ensures same { IfOk result (λ found. (found.filter ≡ inputs.filter) × (found.bytes.items ≡ inputs.bytes.items)) }
+    ensures begun { IfOk result (λ _. IsBegun inputs.bytes.items inputs.list.items (map string_bytes asked.now.seeds.now)) }
+    ensures found { IfOk result (λ found. IsFound asked.now.workers inputs.bytes.items inputs.list.items (map string_bytes asked.now.seeds.now) inputs.filter found.crawled) }
+    ensures fault { IfErr result (IsUnbegun asked.now.workers asked.now.max inputs.bytes.items inputs.list.items (map string_bytes asked.now.seeds.now)) }
+{
+    let Inputs {
+        filter,
+        bytes,
+        list,
+    } = inputs;
     let settings = CrawlSettings {
-        workers,
-        max_pending: max,
+        workers: asked.workers,
+        max_pending: asked.max,
         mode: Mode::Threads,
         filter: &filter,
     };
-    let (web, crawled) = crawl_with_web(rt, alloc, &bytes, &list, seeds, &settings)?;
+    let (web, crawled) = crawl_with_web(rt, alloc, &bytes, &list, asked.seeds, &settings)?;
     // As the pages, by `tell`.
     forget(web);
     Ok(WebFound {

@@ -158,26 +158,22 @@ fn crawl_of(alloc: Global, found: &ArgMatches<'_>) -> Result<Plan, PlanError>
         queues: found.get_flag("queues"),
         file: String::from_str(alloc, file)?,
         seeds,
-        options: options_of(alloc, found, listed)?,
+        within: option_of(alloc, found, "within")?,
+        options: options_of(found, listed),
     })
 }
 
 /// What else a crawl is asked for, with this file of seeds.
-fn options_of(
-    alloc: Global,
-    found: &ArgMatches<'_>,
-    listed: Option<String>,
-) -> Result<CrawlOptions, AllocError>
-    ensures { IfOk result (λ options. options.listed ≡ listed) }
+fn options_of(found: &ArgMatches<'_>, listed: Option<String>) -> CrawlOptions
+    ensures { result.listed ≡ listed }
 {
-    Ok(CrawlOptions {
-        within: option_of(alloc, found, "within")?,
+    CrawlOptions {
         listed,
         sources: sources_of(found),
         moved: found.get_flag("moved"),
         unreached: found.get_flag("unreached"),
         json: found.get_flag("json"),
-    })
+    }
 }
 
 /// Which sources are told. All of them are told behind the first.

@@ -91,10 +91,14 @@ fn plan_line(alloc: Global, plan: &Plan) -> Result<String, AllocError> {
             queues,
             file,
             seeds,
+            within,
             options,
         } => {
-            let front = format!(in alloc; "crawl {workers} {max} {queues}")?;
-            crawl_line(alloc, front.as_str(), file, seeds, options)
+            let (sources, listed) = (options.sources, &options.listed);
+            let mut line = format!(in alloc; "crawl {workers} {max} {queues} {sources:?}")?;
+            write!(line, " {within:?} {file} {listed:?} {seeds:?}")?;
+            push_parts(&mut line, options)?;
+            Ok(line)
         }
         Plan::Key { url, workers } => format!(in alloc; "key {url} {workers}"),
         Plan::Replay { file } => format!(in alloc; "replay {file}"),
@@ -108,19 +112,11 @@ fn plan_line(alloc: Global, plan: &Plan) -> Result<String, AllocError> {
     }
 }
 
-/// That of a crawl, whose plan begins so.
-fn crawl_line(
-    alloc: Global,
-    front: &str,
-    file: &str,
-    seeds: &[String],
-    options: &CrawlOptions,
-) -> Result<String, AllocError> {
-    let (within, listed, sources) = (&options.within, &options.listed, options.sources);
+/// Which further parts a crawl tells, and how.
+fn push_parts(line: &mut String, options: &CrawlOptions) -> Result<(), AllocError> {
     let (moved, unreached, json) = (options.moved, options.unreached, options.json);
-    format!(in alloc;
-        "{front} {sources:?} {within:?} {file} {listed:?} {seeds:?} {moved} {unreached} {json}"
-    )
+    write!(line, " {moved} {unreached} {json}")?;
+    Ok(())
 }
 
 fn session_line(alloc: Global, asked: &SessionPlan) -> Result<String, AllocError> {

@@ -5,5 +5,5 @@ use Rattle.mercator.proofs.commands.tell.tell.Goals as goal
 pub returns-in_ok-found-in-Crawl-clause-text : goal.returns-in_ok-found-in-Crawl-clause-text
 returns-in_ok-found-in-Crawl-clause-text g c =
     let asked = c.in-Crawl in
-    told_of asked.workers asked.max asked.queues asked.file asked.seeds asked.options (g.I.Read.remaining c.args.input.now) c.args.plan.now c.deref-in-Crawl.result.now c.deref-in-Crawl-2.result.now c.in_ok-found-in-Crawl.found c.text_of-text.result
+    told_of asked.workers asked.max asked.queues asked.file asked.seeds asked.within asked.options (g.I.Read.remaining c.args.input.now) c.args.plan.now c.deref-in-Crawl.result.now c.deref-in-Crawl-2.result.now c.in_ok-found-in-Crawl.found c.text_of-text.result
     (search rules) (search rules) (search rules) c.in_ok-found-in-Crawl.ensures.found c.text_of-text.ensures.text
