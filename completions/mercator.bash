@@ -5,7 +5,7 @@ _mercator() {
     local commands="check site crawl key replay serve help" options=
     COMPREPLY=()
     if [ "$COMP_CWORD" -eq 1 ]; then
-        mapfile -t COMPREPLY < <(compgen -W "$commands --help" -- "$word")
+        mapfile -t COMPREPLY < <(compgen -W "$commands --help --version" -- "$word")
         return
     fi
     case ${COMP_WORDS[1]} in
@@ -14,7 +14,7 @@ _mercator() {
         ;;
     site) options="--exact --queries --help" ;;
     crawl)
-        options="--workers --max-pending --queues --sources --all-sources --moved --unreached --json --within --seeds --help"
+        options="--workers --max-pending --queues --sources --all-sources --moved --unreached --json --explain --within --seeds --help"
         ;;
     key) options="--workers --help" ;;
     replay) options="--help" ;;

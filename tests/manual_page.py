@@ -222,7 +222,7 @@ def compare_page(trial: Trial, helps: Dict[str, Said]) -> None:
 
 
 def compare_shell(trial: Trial, helps: Dict[str, Said], shell: str, offered: Offered) -> None:
-    trial.equal(f"{shell}'s commands", offered(("",)) - {"--help"}, {*helps, "help"})
+    trial.equal(f"{shell}'s commands", offered(("",)) - {"--help", "--version"}, {*helps, "help"})
     for command, wanted in helps.items():
         options = {f"--{option.name}" for option in wanted.options} | {"--help"}
         trial.equal(f"{shell}'s options of {command}", offered((command, "--")), options)
@@ -257,6 +257,9 @@ def main() -> None:
     helps = {command: said_by_help(help_of(program, command)) for command in commands}
     trial = Trial()
     compare_page(trial, helps)
+    told = subprocess.run([program, "--version"], capture_output=True, text=True, timeout=SECONDS)
+    version = version_in("CHANGELOG.md", "## ")
+    trial.equal("the program's version", told.stdout.split()[:2], ["mercator", version])
     with tempfile.TemporaryDirectory() as folder:
         compare_shells(trial, helps, Path(folder))
     print(f"{trial.passed} passed, {trial.failed} failed")

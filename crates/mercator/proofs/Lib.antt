@@ -7,5 +7,4 @@ pub mod Seeds
 pub mod SiteCrawls
 pub mod WithoutLoss
 pub mod Serves
-mod Verdicts
 mod Windows

@@ -13,12 +13,14 @@ use Rattle.crawl_web.specs.declared.page.PageResult.{PageResult}
 use Rattle.mercator.specs.Crawls.{AreCounts}
 use Rattle.crawl_keys.specs.HostFilter.{allows, filter_of, is_good}
 use Rattle.mercator.specs.Plans.{is_bad_suffix, is_input, known_bytes, known_seeds, lists_input, suffixes_of}
+use Rattle.mercator.specs.Ending.{EndsByText}
 use Rattle.mercator.specs.Limits.{most_input_bytes}
-use Rattle.mercator.specs.Told.{AreFiles, AskForOneReport, AskForOneText, FailsCrawl, Gains, IsTold, OfFile, OfFiles}
-use Rattle.mercator.specs.WebCrawl.{AreUnreached, IsBegun, IsCrawlText, IsFound, IsTextOf, IsUnbegun, asked_pages, printed_with}
+use Rattle.mercator.specs.Told.{AreFiles, AskForOneReport, AskForOneText, Explains, ExplainsCrawl, FailsCrawl, Gains, IsTold, OfFile, OfFiles}
+use Rattle.mercator.specs.WebCrawl.{AreUnreached, IsBegun, IsCrawlText, IsFound, IsNamedAt, IsTextOf, IsUnbegun, asked_pages, printed_with}
 use Rattle.mercator.specs.declared.commands.planned.CrawlOptions.{CrawlOptions}
 use Rattle.mercator.specs.declared.commands.tell.Inputs.{Inputs}
 use Rattle.mercator.specs.declared.commands.tell.WebFound.{WebFound}
+use Rattle.mercator.specs.declared.commands.failure.Failure.{Failure}
 use Rattle.mercator.specs.declared.commands.fault.Fault.{Fault}
 use Rattle.mercator.specs.declared.commands.fault.Fault.TheVariants as wrong
 use Rattle.mercator.specs.declared.crawling.Crawled.{Crawled}
@@ -131,19 +133,18 @@ crawl_text workers queues options file listed texts filter suffixes input web fo
   };
 }
 
--- so the text of what was found is the plan's, where there is one
-pub told_of : (workers max : ℕ) (queues : Bool) (file : String Global) (seeds : Vec (String Global) Global) (within : Option (String Global)) (options : CrawlOptions) (input : Option (List ℕ)) (plan : Plan) (name : List ℕ) (given : List (String Global)) (found : WebFound) (result : Result (Vec ℕ Global) Fault)
+-- so the text of what was found is the plan's
+pub told_of : (workers max : ℕ) (queues : Bool) (file : String Global) (seeds : Vec (String Global) Global) (within : Option (String Global)) (options : CrawlOptions) (input : Option (List ℕ)) (plan : Plan) (name : List ℕ) (given : List (String Global)) (found : WebFound) (text : List ℕ)
     → plan ≡ asks.Crawl workers max queues file seeds within options → name ≡ string_bytes file → given ≡ seeds.items
     → (is_bad_suffix within ≡ false) × (found.filter ≡ suffixes_of within)
     × OfFiles name options.listed input (λ bytes list. (bytes ≡ found.bytes.items) × IsBegun bytes list (map string_bytes given) × IsFound workers bytes list (map string_bytes given) (suffixes_of within) found.crawled)
-    → IfOk result (λ text. IsTextOf queues options found.bytes.items found.filter found.crawled.result found.crawled.counts.items text.items) → IfOk result (λ text. IsTold plan input text.items)
-told_of workers max queues file seeds within options input plan name given found (Err fault) is named same crawl written = tt
-told_of workers max queues file seeds within options input plan name given found (Ok text) is named same crawl written =
+    → IsTextOf queues options found.bytes.items found.filter found.crawled.result found.crawled.counts.items text → IsTold plan input text
+told_of workers max queues file seeds within options input plan name given found text is named same crawl written =
     let suffixes = suffixes_of within in
-    let of = crawl_text workers queues options name options.listed (map string_bytes given) found.filter suffixes input found.bytes.items found.crawled text.items crawl.1 written crawl.2 in
-    let seeded = subst (λ ts. OfFiles name options.listed input (λ bytes list. IsBegun bytes list (map string_bytes ts) × IsCrawlText workers queues options bytes list (map string_bytes ts) suffixes text.items)) same of in
-    let filed = subst (λ f. OfFiles f options.listed input (λ bytes list. IsBegun bytes list (map string_bytes seeds.items) × IsCrawlText workers queues options bytes list (map string_bytes seeds.items) suffixes text.items)) named seeded in
-    subst (λ p. IsTold p input text.items) (sym is) (crawl.0, filed)
+    let of = crawl_text workers queues options name options.listed (map string_bytes given) found.filter suffixes input found.bytes.items found.crawled text crawl.1 written crawl.2 in
+    let seeded = subst (λ ts. OfFiles name options.listed input (λ bytes list. IsBegun bytes list (map string_bytes ts) × IsCrawlText workers queues options bytes list (map string_bytes ts) suffixes text)) same of in
+    let filed = subst (λ f. OfFiles f options.listed input (λ bytes list. IsBegun bytes list (map string_bytes seeds.items) × IsCrawlText workers queues options bytes list (map string_bytes seeds.items) suffixes text)) named seeded in
+    subst (λ p. IsTold p input text) (sym is) (crawl.0, filed)
 
 -- by whether FILE and the file of seeds are the input
 by_name : (own its : Bool) (before after : Option (List ℕ)) (bytes : List ℕ) → (own && its) ≡ false → (own ≡ false → after ≡ before)
@@ -201,13 +202,13 @@ fails workers max within file listed seeds input wrong.CannotWrite good of = (go
 fails workers max within file listed seeds input wrong.NoMemory good of = tt
 
 -- what a crawl of inputs finds is found in the files that they were read from
-pub found_in_files : (workers : ℕ) (within : Option (String Global)) (file : List ℕ) (listed : Option (String Global)) (texts : List (List ℕ)) (input : Option (List ℕ)) (inputs : Inputs) (result : Result WebFound Fault)
+pub found_in_files : (workers : ℕ) (within : Option (String Global)) (file : List ℕ) (listed : Option (String Global)) (texts : List (List ℕ)) (input : Option (List ℕ)) (inputs : Inputs) (result : Result WebFound Failure)
     → (is_bad_suffix within ≡ false) × (inputs.filter ≡ suffixes_of within) → AreFiles file listed input inputs.bytes.items inputs.list.items
     → IfOk result (λ found. (found.filter ≡ inputs.filter) × (found.bytes.items ≡ inputs.bytes.items)) → IfOk result (λ _. IsBegun inputs.bytes.items inputs.list.items texts)
     → IfOk result (λ found. IsFound workers inputs.bytes.items inputs.list.items texts inputs.filter found.crawled)
     → IfOk result (λ found. (is_bad_suffix within ≡ false) × (found.filter ≡ suffixes_of within)
     × OfFiles file listed input (λ bytes list. (bytes ≡ found.bytes.items) × IsBegun bytes list texts × IsFound workers bytes list texts (suffixes_of within) found.crawled))
-found_in_files workers within file listed texts input inputs (Err fault) suffix are same begun found = tt
+found_in_files workers within file listed texts input inputs (Err failure) suffix are same begun found = tt
 found_in_files workers within file listed texts input inputs (Ok found) suffix are same begun own = (
   suffix.0,
   same.0 ∙ suffix.1,
@@ -216,8 +217,34 @@ found_in_files workers within file listed texts input inputs (Ok found) suffix a
 )
 
 -- and a crawl of inputs fails as one of these files
-pub fails_in_files : (workers max : ℕ) (within : Option (String Global)) (file : List ℕ) (listed : Option (String Global)) (texts : List (List ℕ)) (input : Option (List ℕ)) (inputs : Inputs) (result : Result WebFound Fault)
-    → is_bad_suffix within ≡ false → AreFiles file listed input inputs.bytes.items inputs.list.items → IfErr result (IsUnbegun workers max inputs.bytes.items inputs.list.items texts) → IfErr result (FailsCrawl workers max within file listed texts input)
+pub fails_in_files : (workers max : ℕ) (within : Option (String Global)) (file : List ℕ) (listed : Option (String Global)) (texts : List (List ℕ)) (input : Option (List ℕ)) (inputs : Inputs) (result : Result WebFound Failure)
+    → is_bad_suffix within ≡ false → AreFiles file listed input inputs.bytes.items inputs.list.items → IfErr result (λ failure. IsUnbegun workers max inputs.bytes.items inputs.list.items texts failure.fault)
+    → IfErr result (λ failure. FailsCrawl workers max within file listed texts input failure.fault)
 fails_in_files workers max within file listed texts input inputs (Ok found) good are unbegun = tt
-fails_in_files workers max within file listed texts input inputs (Err fault) good are unbegun =
-    fails workers max within file listed texts input fault good (of_files file listed input inputs.bytes.items inputs.list.items (λ bytes list. IsUnbegun workers max bytes list texts fault) are unbegun)
+fails_in_files workers max within file listed texts input inputs (Err failure) good are unbegun =
+    fails workers max within file listed texts input failure.fault good (of_files file listed input inputs.bytes.items inputs.list.items (λ bytes list. IsUnbegun workers max bytes list texts failure.fault) are unbegun)
+
+-- at a URL of these files, where it names one
+explained : (within : Option (String Global)) (file : List ℕ) (listed : Option (String Global)) (texts : List (List ℕ)) (input : Option (List ℕ)) (bytes list : List ℕ) (filter : List (List ℕ)) (fault : Fault) (culprit : Option (List ℕ)) → filter ≡ suffixes_of within
+    → AreFiles file listed input bytes list → IsNamedAt bytes list texts filter fault culprit → ExplainsCrawl within file listed texts input fault culprit
+explained within file listed texts input bytes list filter fault None is are at = at
+explained within file listed texts input bytes list filter fault (Some url) is are at =
+    of_files file listed input bytes list (λ bytes list. IsNamedAt bytes list texts (suffixes_of within) fault (Some url)) are (subst (λ s. IsNamedAt bytes list texts s fault (Some url)) is at)
+
+pub explains_files : (within : Option (String Global)) (file : List ℕ) (listed : Option (String Global)) (texts : List (List ℕ)) (input : Option (List ℕ)) (inputs : Inputs) (result : Result WebFound Failure) → inputs.filter ≡ suffixes_of within → AreFiles file listed input inputs.bytes.items inputs.list.items
+    → IfErr result (λ failure. IsNamedAt inputs.bytes.items inputs.list.items texts inputs.filter failure.fault failure.culprit) → IfErr result (λ failure. ExplainsCrawl within file listed texts input failure.fault failure.culprit)
+explains_files within file listed texts input inputs (Ok found) is are at = tt
+explains_files within file listed texts input inputs (Err failure) is are at = explained within file listed texts input inputs.bytes.items inputs.list.items inputs.filter failure.fault failure.culprit is are at
+
+-- what is told whole is written without a URL
+pub written_at_none : (plan : Plan) (input : Option (List ℕ)) → Explains plan input wrong.CannotWrite None
+written_at_none (asks.Crawl workers max queues file seeds within options) input = tt
+written_at_none (asks.Key url workers) input = refl
+written_at_none (asks.Replay file) input = refl
+written_at_none (asks.Serve asked) input = refl
+written_at_none (asks.ServeLog asked) input = refl
+written_at_none (asks.Compact log new) input = refl
+
+pub ends_at_none : (plan : Plan) (input : Option (List ℕ)) (text : List ℕ) (old new : Option (List ℕ)) (how : Result (Unit {0}) Fault) → EndsByText text old new how → IfErr how (λ fault. Explains plan input fault None)
+ends_at_none plan input text old new (Ok done) ends = tt
+ends_at_none plan input text old new (Err fault) ends = subst (λ f. Explains plan input f None) (sym ends) (written_at_none plan input)

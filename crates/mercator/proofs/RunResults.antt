@@ -1,12 +1,14 @@
 -- From the ends of a run to its results, and from an account to its counts.
-use Rattle.std.proofs.Common.{◌≡◌, inl, inr, ℕ, ◌+◌, Bool, List, [], ◌∷◌, ◌++◌, length, slice_get, Option, Some, None, Err, sym, ap, subst, ◌∙◌, arith, length-append}
+use Rattle.std.proofs.Common.{◌≡◌, ◌⊎◌, inl, inr, true≢false, ℕ, ◌+◌, Bool, List, [], ◌∷◌, ◌++◌, length, slice_get, Option, Some, None, sym, ap, subst, ◌∙◌, arith, length-append}
 use Rattle.std.proofs.lemmas.Bool.{cases_lt}
 use Rattle.std.proofs.lemmas.List.Elements.{All-nil, All-append, All-head, All-tail, All-cons}
-use Rattle.crawl_certificate.specs.Certificate.{ArePages, CountsOf, unless_fault}
+use Rattle.crawl_certificate.specs.Certificate.{ArePages, CountsOf}
 use Rattle.crawl_certificate.specs.CertFaults.{first_fault}
 use Rattle.crawl_certificate.specs.declared.error.CertError.{CertError}
 use Rattle.crawl_certificate.specs.declared.error.CertError.TheVariants as cert
-use Rattle.crawl_keys.specs.Outcome.{IsRefusal}
+use Rattle.crawl_certificate.specs.Culprits.{IsCulprit, is_at_fault, no_memory}
+use Rattle.crawl_certificate.specs.Least.{IsLeast}
+use Rattle.crawl_certificate.specs.declared.culprit.Culprit.{Culprit}
 use Rattle.crawl_certificate.proofs.Places.{get_push, get_last}
 use Rattle.crawl_frontier.specs.Accounts.{AccountId}
 use Rattle.crawl_frontier.specs.Parts.{WorkerId}
@@ -15,7 +17,10 @@ use Rattle.crawl_web.specs.declared.page.Page.{Page}
 use Rattle.crawl_web.specs.declared.page.PageResult.{PageResult}
 use Rattle.crawl_workers.specs.Runs.{AllRan}
 use Rattle.crawl_workers.specs.declared.worker_end.WorkerEnd.{WorkerEnd}
-use Rattle.mercator.specs.Crawls.{AllPages, AreCounts, CountedBelow, IsFaultOf, IsJudged, of_cert}
+use Rattle.mercator.specs.Crawls.{AllPages, AreCounts, ComesIn, CountedBelow, IsJudged, IsJudgedAt, IsOfRun, IsUncertified, of_cert}
+use Rattle.mercator.specs.declared.crawling.Mode.{Mode}
+use Rattle.mercator.specs.declared.crawling.error.CrawlError.{CrawlError}
+use Rattle.mercator.specs.declared.crawling.error.CrawlError.TheVariants as wrong
 
 pub all_pages : {K : _} (workers : ℕ) (allowed : List ℕ → Bool) (meaning : List ℕ → Page) (starts : List WorkerId) (ends : List (WorkerEnd K)) → AllRan workers allowed meaning starts ends → AllPages meaning ends
 all_pages {K} workers allowed meaning [] [] ran = All-nil (λ (e : WorkerEnd K). ArePages meaning e.results.items)
@@ -57,21 +62,55 @@ urls_counted account urls counts counted own = record {
 
 -- ---- the fault of a certificate
 
-fault_from : (fault : Option CertError) (error : CertError) → unless_fault fault ≡ Err error → fault ≡ Some error
-fault_from None error told = absurd (cc)
-fault_from (Some fault) error told = cc
+-- that of these entries and results, with the least URL that has it
+judged_at : (meaning : List ℕ → Page) (allowed : List ℕ → Bool) (seeds : List (List ℕ)) (entries : List Entry) (results : List PageResult) (cause : CertError) (url : List ℕ) → ArePages meaning results → first_fault allowed seeds entries results ≡ Some cause
+    → IsLeast (is_at_fault allowed seeds entries results cause) (Some url) → IsJudgedAt meaning allowed seeds (of_cert cause) (Some url)
+judged_at meaning allowed seeds entries results cert.NoMemory url means first least = absurd (true≢false (sym least.0))
+judged_at meaning allowed seeds entries results cert.SeedMissing url means first least = record { entries = entries; results = results; means = means; first = first; least = least }
+judged_at meaning allowed seeds entries results cert.NotFetched url means first least = record { entries = entries; results = results; means = means; first = first; least = least }
+judged_at meaning allowed seeds entries results cert.LinkMissing url means first least = record { entries = entries; results = results; means = means; first = first; least = least }
+judged_at meaning allowed seeds entries results cert.Unfounded url means first least = record { entries = entries; results = results; means = means; first = first; least = least }
+judged_at meaning allowed seeds entries results cert.Twice url means first least = record { entries = entries; results = results; means = means; first = first; least = least }
 
-at_fault : (meaning : List ℕ → Page) (allowed : List ℕ → Bool) (seeds : List (List ℕ)) (entries : List Entry) (results : List PageResult) (error : CertError) → ¬ (error ≡ cert.NoMemory) → ArePages meaning results → IsRefusal cert.NoMemory (unless_fault (first_fault allowed seeds entries results)) error → IsFaultOf meaning allowed seeds error
-at_fault meaning allowed seeds entries results error other means told = elim told [
-  | inl is ↦ record { entries = entries; results = results; means = means; first = fault_from _ error is }
-  | inr no_memory ↦ absurd (other no_memory)
+-- a culprit of these entries and results, as the crawl tells it
+pub culprit_judged : (meaning : List ℕ → Page) (allowed : List ℕ → Bool) (seeds : List (List ℕ)) (entries : List Entry) (results : List PageResult) (culprit : Culprit) → ArePages meaning results
+    → IsCulprit (first_fault allowed seeds entries results) (is_at_fault allowed seeds entries results) culprit ⊎ (culprit ≡ no_memory) → IsJudgedAt meaning allowed seeds (of_cert culprit.cause) culprit.url
+culprit_judged meaning allowed seeds entries results culprit means told = elim told [
+  | inl found ↦ subst (IsJudgedAt meaning allowed seeds (of_cert culprit.cause)) (sym found.named) (judged_at meaning allowed seeds entries results culprit.cause found.url means found.cause found.least)
+  | inr memory ↦ subst (λ (c : Culprit). IsJudgedAt meaning allowed seeds (of_cert c.cause) c.url) (sym memory) tt
 ]
 
--- a refusal of the certificate, of these entries and results, as the crawl tells it
-pub judged : (meaning : List ℕ → Page) (allowed : List ℕ → Bool) (seeds : List (List ℕ)) (entries : List Entry) (results : List PageResult) (error : CertError) → ArePages meaning results → IsRefusal cert.NoMemory (unless_fault (first_fault allowed seeds entries results)) error → IsJudged meaning allowed seeds (of_cert error)
-judged meaning allowed seeds entries results cert.NoMemory means told = tt
-judged meaning allowed seeds entries results cert.SeedMissing means told = at_fault meaning allowed seeds entries results _ (λ e. absurd (cc)) means told
-judged meaning allowed seeds entries results cert.NotFetched means told = at_fault meaning allowed seeds entries results _ (λ e. absurd (cc)) means told
-judged meaning allowed seeds entries results cert.LinkMissing means told = at_fault meaning allowed seeds entries results _ (λ e. absurd (cc)) means told
-judged meaning allowed seeds entries results cert.Unfounded means told = at_fault meaning allowed seeds entries results _ (λ e. absurd (cc)) means told
-judged meaning allowed seeds entries results cert.Twice means told = at_fault meaning allowed seeds entries results _ (λ e. absurd (cc)) means told
+-- the cause of a culprit is an error of a run
+pub cause_of_run : (cause : CertError) → IsOfRun (of_cert cause)
+cause_of_run cert.NoMemory = tt
+cause_of_run cert.SeedMissing = tt
+cause_of_run cert.NotFetched = tt
+cause_of_run cert.LinkMissing = tt
+cause_of_run cert.Unfounded = tt
+cause_of_run cert.Twice = tt
+
+-- and comes in either mode
+pub cause_comes : (mode : Mode) (cause : CertError) → ComesIn mode (of_cert cause)
+cause_comes mode cert.NoMemory = tt
+cause_comes mode cert.SeedMissing = tt
+cause_comes mode cert.NotFetched = tt
+cause_comes mode cert.LinkMissing = tt
+cause_comes mode cert.Unfounded = tt
+cause_comes mode cert.Twice = tt
+
+-- an error without a certificate is told with no URL
+pub uncertified_judged : (meaning : List ℕ → Page) (allowed : List ℕ → Bool) (seeds : List (List ℕ)) (error : CrawlError) → IsUncertified error → IsOfRun error × IsJudgedAt meaning allowed seeds error None
+uncertified_judged meaning allowed seeds (wrong.Frontier error) is = absurd is
+uncertified_judged meaning allowed seeds (wrong.Run error) is = (is, tt)
+uncertified_judged meaning allowed seeds (wrong.Finish error) is = (is, tt)
+uncertified_judged meaning allowed seeds (wrong.Cert error) is = absurd is
+uncertified_judged meaning allowed seeds wrong.NoMemory is = (tt, tt)
+
+-- the error alone
+pub judged_alone : (meaning : List ℕ → Page) (allowed : List ℕ → Bool) (seeds : List (List ℕ)) (error : CrawlError) (culprit : Option (List ℕ)) → IsJudgedAt meaning allowed seeds error culprit → IsJudged meaning allowed seeds error
+judged_alone meaning allowed seeds (wrong.Cert error) (Some url) at = record { entries = at.entries; results = at.results; means = at.means; first = at.first }
+judged_alone meaning allowed seeds (wrong.Cert error) None at = absurd at
+judged_alone meaning allowed seeds (wrong.Frontier error) culprit at = tt
+judged_alone meaning allowed seeds (wrong.Run error) culprit at = tt
+judged_alone meaning allowed seeds (wrong.Finish error) culprit at = tt
+judged_alone meaning allowed seeds wrong.NoMemory culprit at = tt

@@ -1,6 +1,7 @@
 -- The pages of a saved web that can be reached are one list, and so its report is one text.
-use Rattle.std.proofs.Common.{◌≡◌, ℕ, Bool, List, [], ◌∷◌, map, ◌++◌, Result, Ok, refl, sym, ap, subst, ◌∙◌}
+use Rattle.std.proofs.Common.{◌≡◌, ℕ, Bool, List, [], ◌∷◌, map, ◌++◌, Option, Some, None, Result, Ok, refl, sym, ap, subst, ◌∙◌}
 use Rattle.crawl_certificate.specs.Certificate.{IsCrawl, result_urls}
+use Rattle.crawl_certificate.specs.declared.error.CertError.{CertError}
 use Rattle.crawl_certificate.proofs.OneCrawl.{one_crawl}
 use Rattle.crawl_keys.specs.HostFilter.{allows}
 use Rattle.crawl_keys.specs.declared.error.KeyError.{KeyError}
@@ -11,9 +12,14 @@ use Rattle.crawl_web.specs.declared.page.Page.{Page}
 use Rattle.crawl_web.specs.declared.page.PageResult.{PageResult}
 use Rattle.std.specs.Str.Lines.{lines}
 use Rattle.crawl_web.specs.WebFaults.{IsSound}
-use Rattle.mercator.specs.Crawls.{AreCounts}
-use Rattle.mercator.specs.WebCrawl.{AreAllSeeds, IsFound, IsSiteCrawl, IsCrawlReport}
+use Rattle.mercator.specs.Crawls.{AreCounts, IsFaultAt, IsJudgedAt}
+use Rattle.mercator.specs.WebCrawl.{AreAllSeeds, IsFound, IsNamedAt, IsSiteCrawl, IsSiteFault, IsCrawlReport, IsUnread}
+use Rattle.mercator.specs.Faults.{of_crawl}
+use Rattle.mercator.specs.declared.commands.fault.Fault.{Fault}
+use Rattle.mercator.specs.declared.commands.fault.Fault.TheVariants as wrong
 use Rattle.mercator.specs.declared.crawling.Crawled.{Crawled}
+use Rattle.mercator.specs.declared.crawling.error.CrawlError.{CrawlError}
+use Rattle.mercator.specs.declared.crawling.error.CrawlError.TheVariants as crawl
 
 -- of texts that are all canonical, there is one list of URLs
 abbrev as_ok : List ℕ → Result (List ℕ) KeyError
@@ -46,6 +52,47 @@ found_of workers bytes listed texts suffixes meaning seeds found sound same name
   };
   counted = counted;
 }
+
+-- a fault of such a crawl is told with its URL
+site_fault : (bytes listed : List ℕ) (texts suffixes : List (List ℕ)) (meaning : List ℕ → Page) (seeds : List (List ℕ)) (error : CertError) (url : List ℕ) → IsSound (lines bytes) → ((url : List ℕ) → meaning url ≡ page_of (lines bytes) url)
+    → AreAllSeeds listed texts seeds → IsFaultAt meaning (allows suffixes) seeds error url → IsSiteFault bytes listed texts suffixes error url
+site_fault bytes listed texts suffixes meaning seeds error url sound same named at =
+    let both : meaning ≡ page_of (lines bytes) = λ i url. same url i in
+    record {
+      sound = sound;
+      seeds = seeds;
+      named = named;
+      fault = subst (λ m. IsFaultAt m (allows suffixes) seeds error url) both at;
+    }
+
+pub named_of : (bytes listed : List ℕ) (texts suffixes : List (List ℕ)) (meaning : List ℕ → Page) (seeds : List (List ℕ)) (error : CrawlError) (culprit : Option (List ℕ)) → IsSound (lines bytes) → ((url : List ℕ) → meaning url ≡ page_of (lines bytes) url)
+    → AreAllSeeds listed texts seeds → IsJudgedAt meaning (allows suffixes) seeds error culprit → IsNamedAt bytes listed texts suffixes (of_crawl error) culprit
+named_of bytes listed texts suffixes meaning seeds (crawl.Cert error) (Some url) sound same named at = site_fault bytes listed texts suffixes meaning seeds error url sound same named at
+named_of bytes listed texts suffixes meaning seeds (crawl.Cert error) None sound same named at = at
+named_of bytes listed texts suffixes meaning seeds (crawl.Frontier error) (Some url) sound same named at = at
+named_of bytes listed texts suffixes meaning seeds (crawl.Frontier error) None sound same named at = tt
+named_of bytes listed texts suffixes meaning seeds (crawl.Run error) (Some url) sound same named at = at
+named_of bytes listed texts suffixes meaning seeds (crawl.Run error) None sound same named at = tt
+named_of bytes listed texts suffixes meaning seeds (crawl.Finish error) (Some url) sound same named at = at
+named_of bytes listed texts suffixes meaning seeds (crawl.Finish error) None sound same named at = tt
+named_of bytes listed texts suffixes meaning seeds crawl.NoMemory (Some url) sound same named at = at
+named_of bytes listed texts suffixes meaning seeds crawl.NoMemory None sound same named at = tt
+
+-- a fault before it is told with none
+pub unread_named : (bytes listed : List ℕ) (texts suffixes : List (List ℕ)) (fault : Fault) → IsUnread bytes listed texts fault → IsNamedAt bytes listed texts suffixes fault None
+unread_named bytes listed texts suffixes (wrong.Web fault) is = tt
+unread_named bytes listed texts suffixes (wrong.Seeds fault) is = tt
+unread_named bytes listed texts suffixes (wrong.Seed place refusal) is = tt
+unread_named bytes listed texts suffixes wrong.NoMemory is = tt
+unread_named bytes listed texts suffixes wrong.CannotRead is = tt
+unread_named bytes listed texts suffixes wrong.CannotReadSeeds is = tt
+unread_named bytes listed texts suffixes (wrong.Script fault) is = tt
+unread_named bytes listed texts suffixes wrong.NoSeed is = tt
+unread_named bytes listed texts suffixes (wrong.Url refusal) is = tt
+unread_named bytes listed texts suffixes (wrong.Crawl error) is = absurd is
+unread_named bytes listed texts suffixes wrong.BadSuffix is = tt
+unread_named bytes listed texts suffixes wrong.CannotWrite is = tt
+unread_named bytes listed texts suffixes (wrong.Log fault) is = tt
 
 -- a file of seeds and texts have one list of seeds
 one_seeds : (listed : List ℕ) (texts seeds others : List (List ℕ)) → AreAllSeeds listed texts seeds → AreAllSeeds listed texts others → seeds ≡ others

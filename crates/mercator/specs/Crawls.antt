@@ -1,10 +1,12 @@
 -- What a crawl answers beside its pages.
-use Rattle.std.specs.Prelude.{◌≡◌, ℕ, ◌<◌, ◌==◌, Bool, List, length, count_by, slice_get, Some}
+use Rattle.std.specs.Prelude.{◌≡◌, ℕ, ◌<◌, ◌==◌, Bool, List, length, count_by, slice_get, Option, Some, None}
 use Rattle.std.specs.List.{All}
 use Rattle.crawl_certificate.specs.Certificate.{ArePages}
 use Rattle.crawl_certificate.specs.CertFaults.{first_fault}
 use Rattle.crawl_certificate.specs.declared.error.CertError.{CertError}
 use Rattle.crawl_certificate.specs.declared.error.CertError.TheVariants as cert
+use Rattle.crawl_certificate.specs.Culprits.{is_at_fault}
+use Rattle.crawl_certificate.specs.Least.{IsLeast}
 use Rattle.crawl_frontier.specs.Accounts.{AccountId}
 use Rattle.crawl_frontier.specs.Limits.{IsWorkers}
 use Rattle.crawl_frontier.specs.declared.entry.Entry.{Entry}
@@ -23,6 +25,7 @@ use Rattle.mercator.specs.declared.crawling.Mode.{Mode}
 use Rattle.mercator.specs.declared.crawling.Mode.TheVariants.{Threads}
 use Rattle.mercator.specs.declared.crawling.error.CrawlError.{CrawlError}
 use Rattle.mercator.specs.declared.crawling.error.CrawlError.TheVariants as wrong
+use Rattle.mercator.specs.declared.crawling.failure.CrawlFailure.{CrawlFailure}
 
 -- a count for each subqueue: of the URLs, those that belong to it
 pub record AreCounts (workers : ℕ) (urls : List (List ℕ)) (counts : List ℕ) : Type 0 where
@@ -64,6 +67,11 @@ IsOfRun (wrong.Finish (finish.Unsettled word)) = ⊥
 IsOfRun (wrong.Cert cert.NoMemory) = ⊥
 IsOfRun _ = Unit {0}
 
+-- the same, before there is a certificate
+abbrev pub IsUncertified : CrawlError → Type 0
+IsUncertified (wrong.Cert error) = ⊥
+IsUncertified error = IsOfRun error
+
 -- an error that comes in this mode: a thread that cannot be started is told of workers in threads alone
 abbrev pub ComesIn : Mode → CrawlError → Type 0
 ComesIn mode (wrong.Run error) = mode ≡ Threads
@@ -75,6 +83,29 @@ pub record IsFaultOf (meaning : List ℕ → Page) (allowed : List ℕ → Bool)
   pub results : List PageResult
   pub means : ArePages meaning results
   pub first : first_fault allowed seeds entries results ≡ Some error
+
+-- and no URL below this one, byte by byte, has this fault of them
+pub record IsFaultAt (meaning : List ℕ → Page) (allowed : List ℕ → Bool) (seeds : List (List ℕ)) (error : CertError) (url : List ℕ) : Type 0 where
+  pub entries : List Entry
+  pub results : List PageResult
+  pub means : ArePages meaning results
+  pub first : first_fault allowed seeds entries results ≡ Some error
+  pub least : IsLeast (is_at_fault allowed seeds entries results error) (Some url)
+
+-- an error that is told with no URL: it is not of the certificate
+abbrev pub NamesNone : CrawlError → Type 0
+NamesNone (wrong.Cert error) = ⊥
+NamesNone error = Unit {0}
+
+-- a fault of a certificate is told with such a URL, and another error with none
+abbrev pub IsJudgedAt : (List ℕ → Page) → (List ℕ → Bool) → List (List ℕ) → CrawlError → Option (List ℕ) → Type 0
+IsJudgedAt meaning allowed seeds error None = NamesNone error
+IsJudgedAt meaning allowed seeds (wrong.Cert error) (Some url) = IsFaultAt meaning allowed seeds error url
+IsJudgedAt meaning allowed seeds error (Some url) = ⊥
+
+-- told with no URL
+abbrev pub without_url : CrawlError → CrawlFailure
+without_url error = record { error = error; culprit = None }
 
 -- a fault of a certificate that is told is such a one
 abbrev pub IsJudged : (List ℕ → Page) → (List ℕ → Bool) → List (List ℕ) → CrawlError → Type 0

@@ -1,7 +1,6 @@
 -- How a command ends.
-use Rattle.std.specs.Prelude.{◌≡◌, ℕ, List, ◌++◌, Option, Result, Ok, Err, Vec}
+use Rattle.std.specs.Prelude.{◌≡◌, ℕ, List, ◌++◌, Option, Result, Ok, Err}
 use Rattle.std.specs.Io.KnownBytes.{Appends}
-use Rattle.std.specs.declared.alloc.Global.{Global}
 use Rattle.mercator.specs.declared.commands.fault.Fault.{Fault}
 use Rattle.mercator.specs.declared.commands.fault.Fault.TheVariants as wrong
 
@@ -13,8 +12,3 @@ Begins old new bytes = (front : List ℕ) × (rest : List ℕ) × (bytes ≡ fro
 abbrev pub EndsByText : List ℕ → Option (List ℕ) → Option (List ℕ) → Result (Unit {0}) Fault → Type 0
 EndsByText text old new (Ok _) = Appends old new text
 EndsByText text old new (Err fault) = fault ≡ wrong.CannotWrite
-
--- how a command ends that told this, over a writer: without a text the writer is as it was
-abbrev pub Ends : {O : Type 0} → (O → Option (List ℕ)) → O → O → Result (Vec ℕ Global) Fault → Result (Unit {0}) Fault → Type 0
-Ends contents old new (Ok text) ended = EndsByText text.items (contents old) (contents new) ended
-Ends contents old new (Err fault) ended = (ended ≡ Err fault) × (new ≡ old)

@@ -1,5 +1,5 @@
 -- The texts of faults, and their lines.
-use Rattle.std.specs.Prelude.{ℕ, List, [], ◌∷◌, ◌++◌, codes}
+use Rattle.std.specs.Prelude.{ℕ, List, [], ◌∷◌, ◌++◌, codes, Option, Some, None}
 use Rattle.std.specs.Fmt.{decimal}
 use Rattle.crawl_certificate.specs.declared.error.CertError.{CertError}
 use Rattle.crawl_certificate.specs.declared.error.CertError.TheVariants as cert
@@ -24,6 +24,11 @@ use Rattle.crawl_replay.specs.declared.script.error.ScriptError.TheVariants as s
 -- what is wrong with a line
 abbrev pub line_text : ℕ → List ℕ → List ℕ
 line_text number words = codes "line " ++ decimal number ++ codes ": " ++ words
+
+-- words about the line with this number, where there is one
+abbrev pub words_text : Option ℕ → List ℕ → List ℕ
+words_text None words = words
+words_text (Some number) words = line_text number words
 
 -- why bytes are no saved web
 abbrev pub web_text : WebError → List ℕ
@@ -107,6 +112,11 @@ fault_text file (wrong.Log fault) = codes "log " ++ file ++ codes ": " ++ log_te
 -- the line that tells it
 abbrev pub fault_line : List ℕ → Fault → List ℕ
 fault_line file fault = codes "mercator: " ++ fault_text file fault ++ 10 ∷ []
+
+-- the line that tells a fault at this URL
+abbrev pub culprit_line : List ℕ → Fault → Option (List ℕ) → List ℕ
+culprit_line file fault None = []
+culprit_line file fault (Some url) = codes "mercator: " ++ fault_text file fault ++ codes ": " ++ url ++ 10 ∷ []
 
 -- the line that tells that the last line of this log had no end, and is cut off
 abbrev pub torn_line : List ℕ → List ℕ

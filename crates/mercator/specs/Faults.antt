@@ -1,5 +1,5 @@
 -- The fault of a command that a refusal leads to: want of memory is one fault, wherever it comes.
-use Rattle.std.specs.Prelude.{ℕ}
+use Rattle.std.specs.Prelude.{ℕ, None}
 use Rattle.crawl_keys.specs.declared.error.KeyError.{KeyError}
 use Rattle.crawl_keys.specs.declared.error.KeyError.TheVariants as key
 use Rattle.crawl_keys.specs.declared.filter.error.FilterError.{FilterError}
@@ -12,6 +12,7 @@ use Rattle.crawl_session.specs.declared.serving.ServeError.{ServeError}
 use Rattle.crawl_session.specs.declared.serving.ServeError.TheVariants as serving
 use Rattle.mercator.specs.declared.commands.fault.Fault.{Fault}
 use Rattle.mercator.specs.declared.commands.fault.Fault.TheVariants as wrong
+use Rattle.mercator.specs.declared.commands.failure.Failure.{Failure}
 use Rattle.mercator.specs.declared.commands.input.Unread.{Unread}
 use Rattle.mercator.specs.declared.commands.input.Unread.TheVariants as unread
 use Rattle.mercator.specs.declared.crawling.error.CrawlError.{CrawlError}
@@ -57,6 +58,10 @@ of_session serving.NoMemory = wrong.NoMemory
 abbrev pub of_crawl : CrawlError → Fault
 of_crawl crawl.NoMemory = wrong.NoMemory
 of_crawl error = wrong.Crawl error
+
+-- told with no URL
+abbrev pub without_url : Fault → Failure
+without_url fault = record { fault = fault; culprit = None }
 
 -- the status of a fault: 2 where a crawl is incomplete, since it was not certified, has no account or had no thread
 abbrev pub status_of_fault : Fault → ℕ

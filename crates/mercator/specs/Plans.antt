@@ -114,3 +114,8 @@ IsTelling plan = Unit {0}
 abbrev pub has_log : Plan → Bool
 has_log (asks.ServeLog asked) = true
 has_log plan = false
+
+-- the command tells the URL at fault of a crawl that is incomplete
+abbrev pub explains : Plan → Bool
+explains (asks.Crawl workers max queues file seeds within options) = options.explain
+explains plan = false

@@ -1,14 +1,14 @@
 -- What each command tells, and why it fails, by the bytes of its FILE.
-use Rattle.std.specs.Prelude.{◌≡◌, ◌⊎◌, ℕ, ◌≤◌, true, false, List, [], codes, length, map, Option, Some, None, Err, IfSome, IsSome, IsSomeAnd, IsErr, String, string_bytes}
+use Rattle.std.specs.Prelude.{◌≡◌, ◌⊎◌, ℕ, ◌≤◌, true, false, if◌then◌else◌, List, [], ◌++◌, codes, length, map, Option, Some, None, Err, IfSome, IsSome, IsSomeAnd, IsErr, String, string_bytes}
 use Rattle.std.specs.Io.KnownBytes.{Appends}
 use Rattle.std.specs.declared.alloc.Global.{Global}
 use Rattle.crawl_keys.specs.CanonicalText.{canonical}
 use Rattle.mercator.specs.Ending.{Begins}
-use Rattle.mercator.specs.FaultText.{fault_line, torn_line}
+use Rattle.mercator.specs.FaultText.{culprit_line, fault_line, torn_line}
 use Rattle.mercator.specs.Faults.{status_of_fault}
 use Rattle.mercator.specs.KeyLine.{IsKeyLine}
 use Rattle.mercator.specs.Limits.{most_input_bytes}
-use Rattle.mercator.specs.Plans.{has_log, is_bad_suffix, is_input, known_bytes, known_seeds, queues_of, suffixes_of, told_file}
+use Rattle.mercator.specs.Plans.{explains, has_log, is_bad_suffix, is_input, known_bytes, known_seeds, queues_of, suffixes_of, told_file}
 use Rattle.crawl_replay.specs.Replay.{IsReplay}
 use Rattle.crawl_replay.specs.Script.{script_of}
 use Rattle.crawl_session.specs.Answers.{answer_lines}
@@ -17,7 +17,7 @@ use Rattle.crawl_session.specs.Settings.{Settings}
 use Rattle.crawl_session.specs.declared.part.Part.{Part}
 use Rattle.crawl_core.specs.State.{start}
 use Rattle.std.specs.Str.Lines.{lines}
-use Rattle.mercator.specs.WebCrawl.{IsBegun, IsCrawlText, IsUnbegun}
+use Rattle.mercator.specs.WebCrawl.{IsAtNone, IsBegun, IsCrawlText, IsNamedAt, IsUnbegun}
 use Rattle.mercator.specs.declared.commands.planned.CrawlOptions.{CrawlOptions}
 use Rattle.mercator.specs.declared.commands.planned.Plan.{Plan}
 use Rattle.mercator.specs.declared.commands.planned.SessionPlan.{SessionPlan}
@@ -102,6 +102,11 @@ FailsCrawl workers max within file listed seeds input wrong.NoMemory = Unit {0}
 FailsCrawl workers max within file listed seeds input fault =
     (is_bad_suffix within ≡ false) × OfFiles file listed input (λ bytes list. IsUnbegun workers max bytes list seeds fault)
 
+-- at which URL a crawl fails: at that of its certificate's fault, by the bytes of its files, and at none by another fault
+abbrev pub ExplainsCrawl : Option (String Global) → List ℕ → Option (String Global) → List (List ℕ) → Option (List ℕ) → Fault → Option (List ℕ) → Type 0
+ExplainsCrawl within file listed seeds input fault None = IsAtNone fault
+ExplainsCrawl within file listed seeds input fault (Some url) = OfFiles file listed input (λ bytes list. IsNamedAt bytes list seeds (suffixes_of within) fault (Some url))
+
 -- why a key is not told: the text has no canonical URL, by this refusal; or want of memory
 abbrev pub FailsKey : List ℕ → Fault → Type 0
 FailsKey url (wrong.Url refusal) = canonical url ≡ Err refusal
@@ -159,6 +164,12 @@ MayLose (asks.Crawl workers max queues file seeds within options) input =
     (is_bad_suffix within ≡ false) × OfFiles (string_bytes file) options.listed input (λ bytes list. IsBegun bytes list (map string_bytes seeds.items))
 MayLose _ input = ⊥
 
+-- at which URL the plan's command ends by this fault; a crawl alone names one
+abbrev pub Explains : Plan → Option (List ℕ) → Fault → Option (List ℕ) → Type 0
+Explains (asks.Crawl workers max queues file seeds within options) input fault culprit =
+    ExplainsCrawl within (string_bytes file) options.listed (map string_bytes seeds.items) input fault culprit
+Explains plan input fault culprit = culprit ≡ None
+
 -- a writer that held the old bytes gained the plan's text, where it says what it holds
 pub record Gains (plan : Plan) (input old new : Option (List ℕ)) : Type 0 where
   pub text : List ℕ
@@ -180,12 +191,19 @@ abbrev pub TellsFault : Plan → Option (List ℕ) → Option (List ℕ) → Lis
 TellsFault (asks.ServeLog asked) old new line = (middle : Option (List ℕ)) × MayNote (asks.ServeLog asked) old middle × Begins middle new line
 TellsFault plan old new line = Begins old new line
 
--- a command ended by a fault. The status is the fault's, and the writer for faults gained the fault's line, up to where it
--- refused it
+-- the lines that tell a fault: its own; and where they are asked for, behind it the one that tells it at its URL
+abbrev pub told_lines : Plan → Fault → Option (List ℕ) → List ℕ
+told_lines plan fault culprit =
+    if explains plan then fault_line (told_file plan fault) fault ++ culprit_line (told_file plan fault) fault culprit else fault_line (told_file plan fault) fault
+
+-- a command ended by a fault. The status is the fault's, and the writer for faults gained the fault's lines, up to where it
+-- refused them
 pub record EndsByFault (plan : Plan) (ended : ℕ) (input err_old err_new : Option (List ℕ)) (Unwritten : Type 0) : Type 0 where
   pub fault : Fault
   pub status : ended ≡ status_of_fault fault
-  pub told : TellsFault plan err_old err_new (fault_line (told_file plan fault) fault)
+  pub culprit : Option (List ℕ)
+  pub named : Explains plan input fault culprit
+  pub told : TellsFault plan err_old err_new (told_lines plan fault culprit)
   pub why : EndsBy plan input fault Unwritten
 
 -- both crawls tell the same parts, in the same form

@@ -1,5 +1,5 @@
 -- A crawl of a saved web, from its bytes to the report.
-use Rattle.std.specs.Prelude.{◌≡◌, ℕ, ◌+◌, Bool, false, if◌then◌else◌, List, [], ◌∷◌, ◌++◌, ◌≤◌, length, map, Ok, Err, IsOk}
+use Rattle.std.specs.Prelude.{◌≡◌, ℕ, ◌+◌, Bool, false, if◌then◌else◌, List, [], ◌∷◌, ◌++◌, ◌≤◌, length, map, Option, Some, None, Ok, Err, IsOk}
 use Rattle.std.specs.Cmp.Lexicographic.{slice_cmp}
 use Rattle.std.specs.List.{flat_map}
 use Rattle.std.specs.List.Sorted.{IsPermutation, IsSortedByKey}
@@ -19,11 +19,13 @@ use Rattle.mercator.specs.declared.commands.fault.Fault.{Fault}
 use Rattle.mercator.specs.declared.commands.fault.Fault.TheVariants as wrong
 use Rattle.mercator.specs.declared.commands.planned.CrawlOptions.{CrawlOptions}
 use Rattle.crawl_certificate.specs.Certificate.{IsCrawl, result_urls}
+use Rattle.crawl_certificate.specs.declared.error.CertError.{CertError}
 use Rattle.crawl_keys.specs.HostFilter.{allows}
-use Rattle.mercator.specs.Crawls.{AreCounts, ComesIn, CrawlFails}
+use Rattle.mercator.specs.Crawls.{AreCounts, ComesIn, CrawlFails, IsFaultAt, NamesNone}
 use Rattle.mercator.specs.QueueLines.{queue_lines}
 use Rattle.mercator.specs.declared.crawling.Crawled.{Crawled}
 use Rattle.mercator.specs.declared.crawling.Mode.{Mode}
+use Rattle.mercator.specs.declared.crawling.error.CrawlError.TheVariants as crawl
 use Rattle.crawl_web.specs.ReportText.{report}
 use Rattle.crawl_web.specs.declared.page.PageResult.{PageResult}
 
@@ -89,6 +91,24 @@ abbrev pub IsUnbegun : ℕ → ℕ → List ℕ → List ℕ → List (List ℕ)
 IsUnbegun workers max bytes listed texts wrong.NoSeed = IsSound (lines bytes) × AreAllSeeds listed texts []
 IsUnbegun workers max bytes listed texts (wrong.Crawl error) = IsBegun bytes listed texts × CrawlFails workers max error
 IsUnbegun workers max bytes listed texts fault = IsUnread bytes listed texts fault
+
+-- the bytes are a saved web, and the certificate of a crawl of it from the seeds has this fault; no URL below this one has it
+pub record IsSiteFault (bytes listed : List ℕ) (texts suffixes : List (List ℕ)) (error : CertError) (url : List ℕ) : Type 0 where
+  pub sound : IsSound (lines bytes)
+  pub seeds : List (List ℕ)
+  pub named : AreAllSeeds listed texts seeds
+  pub fault : IsFaultAt (page_of (lines bytes)) (allows suffixes) seeds error url
+
+-- a fault that is told with no URL
+abbrev pub IsAtNone : Fault → Type 0
+IsAtNone (wrong.Crawl error) = NamesNone error
+IsAtNone fault = Unit {0}
+
+-- a fault of the certificate is told with such a URL, and another fault with none
+abbrev pub IsNamedAt : List ℕ → List ℕ → List (List ℕ) → List (List ℕ) → Fault → Option (List ℕ) → Type 0
+IsNamedAt bytes listed texts suffixes fault None = IsAtNone fault
+IsNamedAt bytes listed texts suffixes (wrong.Crawl (crawl.Cert error)) (Some url) = IsSiteFault bytes listed texts suffixes error url
+IsNamedAt bytes listed texts suffixes fault (Some url) = ⊥
 
 -- a fault of a crawl in this mode
 abbrev pub ComesOf : Mode → Fault → Type 0

@@ -1,18 +1,20 @@
 //! The program over its words, an input and two writers.
-ghost use Rattle.std.specs.Prelude.{◌≡◌, ◌≤◌, ◌<◌, ◌⊎◌, List, ℕ, [], false, string_bytes, IfOk, IfErr, IsErr};
+ghost use Rattle.std.specs.Prelude.{◌≡◌, ◌≤◌, ◌<◌, ◌⊎◌, List, ℕ, [], None, false, string_bytes, IfOk, IfErr, IsErr};
 ghost use Rattle.std.specs.Io.KnownBytes.{Appends};
 ghost use Rattle.mercator.specs.Ending.{Begins};
 ghost use Rattle.mercator.specs.FaultText.{fault_line};
 ghost use Rattle.mercator.specs.Faults.{status_of_fault};
 ghost use Rattle.mercator.specs.Plans.{IsShown, IsWithinLimits, has_log, reads_input};
-ghost use Rattle.mercator.specs.Told.{CannotTell, EndsBy, EndsByFault, FailsWithoutPlan, Gains, IsDoneWithNote, MayLose, MayNote, TellsWords};
+ghost use Rattle.mercator.specs.Told.{CannotTell, EndsBy, EndsByFault, Explains, FailsWithoutPlan, Gains, IsDoneWithNote, MayLose, MayNote, TellsWords};
 ghost use Rattle.mercator.specs.declared.commands.planned.Plan.{Plan};
 ghost use Rattle.mercator.specs.declared.commands.words.PlanError.{PlanError};
 ghost use Rattle.mercator.specs.declared.commands.fault.Fault.TheVariants as wrong;
 
+mod arguments;
 mod command_line;
 mod compacting;
 mod crawl_text;
+mod failure;
 mod fault;
 mod fault_text;
 mod folder_words;
@@ -31,6 +33,7 @@ mod words;
 mod writing;
 
 use compacting::compact_log;
+use crawl_keys::CanonUrl;
 pub use fault::Fault;
 pub use input::{INPUT_LIMIT, InputLimits, READ_LIMIT, Unread, read_input};
 use log_file::NoLocks;
@@ -48,7 +51,7 @@ use tell::tell;
 pub use web_crawl::{Report, crawl_saved_web, report_of_saved_web};
 pub use words::{BAD_COMMAND_LINE, PlanError, plan, whole_command};
 pub use writing::fault_line;
-use writing::{begin, end, tell_fault};
+use writing::{begin, end, tell_ended, tell_fault};
 
 /// Runs the program and answers its status: 0 done, 1 a fault, 2 an incomplete crawl, 3 a bad command line. The words are those
 /// after the program's name, and [`plan`] reads them; [`run_plan`] runs what they ask for. Help that is asked for is written to
@@ -187,12 +190,29 @@ pub fn run_plan_with<
     ensures unreported { result ≡ 2 → out.new ≡ out.old }
     ensures unread { reads_input plan.now ≡ false → input.new ≡ input.old }
 {
-    match run(rt, locks, alloc, plan, input, out, err) {
+    let ended = run(rt, locks, alloc, plan, input, out, err);
+    match ended.how {
         Ok(()) => 0,
         Err(fault) => {
-            tell_fault(alloc, err, plan.told_file(fault), fault);
+            tell_ended(alloc, err, plan, fault, &ended.culprit);
             fault.status()
         }
+    }
+}
+
+/// How a plan's command ended; of a crawl that is not certified, at which URL.
+#[derive(Drop)]
+struct Ended {
+    how: Result<(), Fault>,
+    culprit: Option<CanonUrl>,
+}
+
+impl Ended {
+    /// At none.
+    fn at_none(how: Result<(), Fault>) -> Ended
+        ensures { result ≡ record { how = how; culprit = None } }
+    {
+        Ended { how, culprit: None }
     }
 }
 
@@ -205,21 +225,30 @@ fn run<R: Files + Threads + Wait + Sync, L: LockFile<R::File>, I: Read, O: Write
     input: &mut I,
     out: &mut O,
     err: &mut E,
-) -> Result<(), Fault>
+) -> Ended
     requires { IsWithinLimits plan.now }
-    ensures done { IfOk result (λ _. Gains plan.now (I.remaining input.old) (O.contents out.old) (O.contents out.new)) }
-    ensures fault { IfErr result (λ fault. EndsBy plan.now (I.remaining input.old) fault (out.new ≡ out.old)) }
-    ensures refused { CannotTell plan.now (I.remaining input.old) → IfErr result (λ fault. status_of_fault fault ≡ 1) × IsErr result × (out.new ≡ out.old) }
-    ensures incomplete { IfErr result (λ fault. status_of_fault fault ≡ 2 → MayLose plan.now (I.remaining input.old) × (out.new ≡ out.old)) }
+    ensures done { IfOk result.how (λ _. Gains plan.now (I.remaining input.old) (O.contents out.old) (O.contents out.new)) }
+    ensures fault { IfErr result.how (λ fault. EndsBy plan.now (I.remaining input.old) fault (out.new ≡ out.old)) }
+    ensures named { IfErr result.how (λ fault. Explains plan.now (I.remaining input.old) fault result.culprit) }
+    ensures refused { CannotTell plan.now (I.remaining input.old) → IfErr result.how (λ fault. status_of_fault fault ≡ 1) × IsErr result.how × (out.new ≡ out.old) }
+    ensures incomplete { IfErr result.how (λ fault. status_of_fault fault ≡ 2 → MayLose plan.now (I.remaining input.old) × (out.new ≡ out.old)) }
     ensures unread { reads_input plan.now ≡ false → input.new ≡ input.old }
     ensures silent { has_log plan.now ≡ false → err.new ≡ err.old }
     ensures noted { MayNote plan.now (E.contents err.old) (E.contents err.new) }
 {
     match plan {
-        Plan::Serve(asked) => serve_plan(alloc, asked, input, out),
-        Plan::ServeLog(asked) => serve_log(rt, locks, alloc, asked, input, out, err),
-        Plan::Compact { log, new } => compact_log(rt, locks, alloc, log, new),
-        _ => end(out, tell(rt, alloc, plan, input)),
+        Plan::Serve(asked) => Ended::at_none(serve_plan(alloc, asked, input, out)),
+        Plan::ServeLog(asked) => Ended::at_none(serve_log(
+            rt, locks, alloc, asked, input, out, err,
+        )),
+        Plan::Compact { log, new } => Ended::at_none(compact_log(rt, locks, alloc, log, new)),
+        _ => match tell(rt, alloc, plan, input) {
+            Ok(text) => Ended::at_none(end(out, &text)),
+            Err(failure) => Ended {
+                how: Err(failure.fault),
+                culprit: failure.culprit,
+            },
+        },
     }
 }
 
@@ -249,7 +278,7 @@ fn show_help<O: Write, E: Write>(alloc: Global, text: String, out: &mut O, err: 
     ensures silent { result ≡ 0 → err.new ≡ err.old }
     ensures fault { result ≡ 1 → Begins (E.contents err.old) (E.contents err.new) (fault_line [] wrong.CannotWrite) }
 {
-    match end(out, Ok(text.into_bytes())) {
+    match end(out, text.as_bytes()) {
         Ok(()) => 0,
         Err(fault) => fail(alloc, fault, err),
     }
@@ -260,6 +289,6 @@ fn fail<E: Write>(alloc: Global, fault: Fault, err: &mut E) -> u8
     ensures status { result ≡ status_of_fault fault }
     ensures told { Begins (E.contents err.old) (E.contents err.new) (fault_line [] fault) }
 {
-    tell_fault(alloc, err, "", fault);
+    tell_fault(alloc, err, fault);
     fault.status()
 }

@@ -4,10 +4,11 @@ ghost use Rattle.crawl_certificate.specs.Certificate.{IsCrawl, result_urls};
 ghost use Rattle.crawl_frontier.specs.Limits.{IsWorkers};
 ghost use Rattle.crawl_gate.specs.GateError.{IsMaximum};
 ghost use Rattle.crawl_keys.specs.HostFilter.{allows};
-ghost use Rattle.mercator.specs.Crawls.{AreCounts, ComesIn, CrawlFails, IsJudged};
+ghost use Rattle.mercator.specs.Crawls.{AreCounts, ComesIn, CrawlFails, IsJudged, IsJudgedAt};
 
 mod certified;
 mod error;
+mod failure;
 mod gather;
 mod named;
 mod settings;
@@ -17,6 +18,7 @@ use crawl_frontier::Setup;
 use crawl_keys::{CanonUrl, Filter};
 use crawl_web::{Fetch, SessionFetch, WithoutSession};
 pub use error::CrawlError;
+pub use failure::CrawlFailure;
 use named::crawl_named;
 pub use settings::CrawlSettings;
 use std::alloc::Global;
@@ -101,6 +103,32 @@ pub fn crawl_with<F: SessionFetch + Sync, R: Threads + Wait + Sync>(
     ensures mode { IfErr result (ComesIn settings.now.mode) }
     ensures judged { IfErr result (IsJudged (F.meaning fetcher.now) (allows settings.now.filter.now) seeds.now) }
 {
-    let setup = Setup::new(alloc, settings.workers, settings.max_pending)?;
-    crawl_named::<Brand, F, R>(rt, alloc, setup, fetcher, settings, seeds)
+    match crawl_explained(rt, alloc, fetcher, settings, seeds) {
+        Ok(crawled) => Ok(crawled),
+        Err(failure) => Err(failure.error),
+    }
+}
+
+/// As [`crawl_with`], and where a fault of the certificate is told, the least URL, byte by byte, that has it.
+///
+/// # Errors
+/// Those of [`crawl`], of which those of the certificate name a URL.
+pub fn crawl_explained<F: SessionFetch + Sync, R: Threads + Wait + Sync>(
+    rt: &R,
+    alloc: Global,
+    fetcher: &F,
+    settings: &CrawlSettings<'_>,
+    seeds: &[CanonUrl],
+) -> Result<Crawled, CrawlFailure>
+    ensures pages { IfOk result (λ crawled. IsCrawl (F.meaning fetcher.now) (allows settings.now.filter.now) seeds.now crawled.result) }
+    ensures counts { IfOk result (λ crawled. AreCounts settings.now.workers (result_urls crawled.result) crawled.counts.items) }
+    ensures numbers { MatchResult result (λ _. IsWorkers settings.now.workers × IsMaximum settings.now.max_pending) (λ failure. CrawlFails settings.now.workers settings.now.max_pending failure.error) }
+    ensures mode { IfErr result (λ failure. ComesIn settings.now.mode failure.error) }
+    // A fault of the certificate is the first one of some entries and of results that have the fetcher's pages, and no lesser URL has it.
+    ensures judged { IfErr result (λ failure. IsJudgedAt (F.meaning fetcher.now) (allows settings.now.filter.now) seeds.now failure.error failure.culprit) }
+{
+    match Setup::new(alloc, settings.workers, settings.max_pending) {
+        Ok(setup) => crawl_named::<Brand, F, R>(rt, alloc, setup, fetcher, settings, seeds),
+        Err(error) => Err(CrawlFailure::from(CrawlError::from(error))),
+    }
 }

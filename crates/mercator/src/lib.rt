@@ -19,5 +19,7 @@ pub use crawl_replay::{Script, ScriptError, read_script, replay_text};
 pub use crawl_report::Sources;
 pub use crawl_web::{LINE_LIMIT, SessionFetch};
 pub use crawl_workers::{RunError, WorkerEnd, run_threads, run_turns, run_worker};
-pub use crawling::{CrawlError, CrawlSettings, Crawled, Mode, crawl, crawl_with};
+pub use crawling::{
+    CrawlError, CrawlFailure, CrawlSettings, Crawled, Mode, crawl, crawl_explained, crawl_with,
+};
 pub use key::key_line;

@@ -9,7 +9,7 @@ use crate::fault::SiteFault;
 use crate::print::print_check;
 use crawl_keys::{CanonUrl, Filter, KeyError, canonical};
 use crawl_limits::PENDING_LIMIT;
-use mercator::{Crawled, Fault, Mode, crawl_saved_web};
+use mercator::{CrawlSettings, Crawled, Fault, Mode, crawl_saved_web};
 use saved_site::{Rules, SiteFiles, SiteNames, Web, site_web};
 use site_check::{Asked, Bodies, check_results};
 use std::alloc::Global;
@@ -117,17 +117,13 @@ fn crawl_site<R: Threads + Wait + Sync>(
     let filter = host_filter(alloc, host.host_key())?;
     let mut seeds = Vec::new(alloc);
     seeds.push(String::from_str(alloc, top)?)?;
-    let found = crawl_saved_web(
-        rt,
-        alloc,
-        web,
-        &[],
-        seeds.as_slice(),
-        &filter,
+    let settings = CrawlSettings {
         workers,
-        PENDING_LIMIT,
-        Mode::Threads,
-    )?;
+        max_pending: PENDING_LIMIT,
+        mode: Mode::Threads,
+        filter: &filter,
+    };
+    let found = crawl_saved_web(rt, alloc, web, &[], seeds.as_slice(), &settings)?;
     Ok(found)
 }
 

@@ -1,6 +1,6 @@
 //! The texts of faults.
-ghost use Rattle.std.specs.Prelude.{Some};
-ghost use Rattle.mercator.specs.FaultText.{fault_text, line_text, log_text, web_text, seeds_text, script_text, crawl_text, finish_text, cert_text};
+ghost use Rattle.std.specs.Prelude.{◌≡◌, Some};
+ghost use Rattle.mercator.specs.FaultText.{fault_text, line_text, words_text, log_text, web_text, seeds_text, script_text, crawl_text, finish_text, cert_text};
 
 use crate::commands::fault::Fault;
 use crate::commands::log_file::LogFault;
@@ -37,156 +37,128 @@ impl fmt::Display for FaultText<'_> {
             Fault::Url(why) => write!(f, "URL: {why}"),
             Fault::Seed(place, why) => write!(f, "seed {place}: {why}"),
             Fault::Seeds(fault) => {
-                let text = SeedsText(fault);
-                write!(f, "seeds: {text}")
+                let words = seeds_words(fault);
+                write!(f, "seeds: {words}")
             }
             Fault::NoSeed => f.write_str("seeds: no seed"),
             Fault::Web(fault) => {
-                let text = WebText(fault);
-                write!(f, "saved web: {text}")
+                let words = web_words(fault);
+                write!(f, "saved web: {words}")
             }
             Fault::Script(fault) => {
-                let text = ScriptText(fault);
-                write!(f, "script: {text}")
+                let words = script_words(fault);
+                write!(f, "script: {words}")
             }
             Fault::Crawl(error) => CrawlText(error).fmt(f),
             Fault::Log(fault) => {
-                let (file, text) = (self.file, LogText(fault));
-                write!(f, "log {file}: {text}")
+                let (file, words) = (self.file, log_words(fault));
+                write!(f, "log {file}: {words}")
             }
         }
     }
 }
 
-/// What is wrong with the line with this number.
+/// Words, with the number of the line that they are about, where they are about one.
 #[derive(Clone, Copy)]
-struct LineText {
-    number: u64,
+struct Words {
+    line: Option<u64>,
     words: &'static str,
 }
 
-impl fmt::Display for LineText {
-    ghost output = { λ told. Some (line_text told.number told.words.now) };
+impl fmt::Display for Words {
+    ghost output = { λ told. Some (words_text told.line told.words.now) };
 
     fn fmt<W: fmt::Write>(&self, f: &mut fmt::Formatter<W>) -> fmt::Result {
-        let (number, words) = (self.number, self.words);
-        write!(f, "line {number}: {words}")
-    }
-}
-
-#[derive(Clone, Copy)]
-struct WebText(WebError);
-
-impl fmt::Display for WebText {
-    ghost output = { λ told. Some (web_text told.0) };
-
-    fn fmt<W: fmt::Write>(&self, f: &mut fmt::Formatter<W>) -> fmt::Result {
-        match self.0 {
-            WebError::LineTooLong(number) => LineText {
-                number,
-                words: "line too long",
-            }
-            .fmt(f),
-            WebError::NotText(number) => LineText {
-                number,
-                words: "not UTF-8",
-            }
-            .fmt(f),
-            WebError::BadHeader => f.write_str("bad header"),
-            WebError::BadLine(number) => LineText {
-                number,
-                words: "bad line",
-            }
-            .fmt(f),
-            WebError::LinkBeforePage(number) => LineText {
-                number,
-                words: "link before page",
-            }
-            .fmt(f),
-            WebError::MovedMixed(number) => LineText {
-                number,
-                words: "mixed page",
-            }
-            .fmt(f),
-            WebError::BadPageUrl(number) => LineText {
-                number,
-                words: "bad page URL",
-            }
-            .fmt(f),
-            WebError::PageTwice(number) => LineText {
-                number,
-                words: "page twice",
-            }
-            .fmt(f),
-            WebError::NoMemory => f.write_str("out of memory"),
+        let words = self.words;
+        match self.line {
+            Some(number) => write!(f, "line {number}: {words}"),
+            None => f.write_str(words),
         }
     }
 }
 
-#[derive(Clone, Copy)]
-struct SeedsText(SeedsFault);
-
-impl fmt::Display for SeedsText {
-    ghost output = { λ told. Some (seeds_text told.0) };
-
-    fn fmt<W: fmt::Write>(&self, f: &mut fmt::Formatter<W>) -> fmt::Result {
-        match self.0 {
-            SeedsFault::LineTooLong(number) => LineText {
-                number,
-                words: "line too long",
-            }
-            .fmt(f),
-            SeedsFault::NotText(number) => LineText {
-                number,
-                words: "not UTF-8",
-            }
-            .fmt(f),
-            SeedsFault::NotUrl(number) => LineText {
-                number,
-                words: "not a URL",
-            }
-            .fmt(f),
-            SeedsFault::NotHttp(number) => LineText {
-                number,
-                words: "not http or https",
-            }
-            .fmt(f),
-            SeedsFault::NoMemory => f.write_str("out of memory"),
-        }
+/// Words about the line with this number.
+fn at(number: u64, words: &'static str) -> Words
+    ensures { words_text result.line result.words.now ≡ line_text number words.now }
+{
+    Words {
+        line: Some(number),
+        words,
     }
 }
 
-#[derive(Clone, Copy)]
-struct ScriptText(ScriptError);
+/// Words about no line.
+fn alone(words: &'static str) -> Words
+    ensures { words_text result.line result.words.now ≡ words.now }
+{
+    Words { line: None, words }
+}
 
-impl fmt::Display for ScriptText {
-    ghost output = { λ told. Some (script_text told.0) };
+fn web_words(fault: WebError) -> Words
+    ensures { words_text result.line result.words.now ≡ web_text fault }
+{
+    match fault {
+        WebError::LineTooLong(number) => at(number, "line too long"),
+        WebError::NotText(number) => at(number, "not UTF-8"),
+        WebError::BadHeader => alone("bad header"),
+        WebError::BadLine(number) => at(number, "bad line"),
+        WebError::LinkBeforePage(number) => at(number, "link before page"),
+        WebError::MovedMixed(number) => at(number, "mixed page"),
+        WebError::BadPageUrl(number) => at(number, "bad page URL"),
+        WebError::PageTwice(number) => at(number, "page twice"),
+        WebError::NoMemory => alone("out of memory"),
+    }
+}
 
-    fn fmt<W: fmt::Write>(&self, f: &mut fmt::Formatter<W>) -> fmt::Result {
-        match self.0 {
-            ScriptError::LineTooLong(number) => LineText {
-                number,
-                words: "line too long",
-            }
-            .fmt(f),
-            ScriptError::NotText(number) => LineText {
-                number,
-                words: "not UTF-8",
-            }
-            .fmt(f),
-            ScriptError::BadHeader => f.write_str("bad header"),
-            ScriptError::BadLine(number) => LineText {
-                number,
-                words: "bad line",
-            }
-            .fmt(f),
-            ScriptError::BadUrl(number) => LineText {
-                number,
-                words: "bad URL",
-            }
-            .fmt(f),
-            ScriptError::NoMemory => f.write_str("out of memory"),
-        }
+fn seeds_words(fault: SeedsFault) -> Words
+    ensures { words_text result.line result.words.now ≡ seeds_text fault }
+{
+    match fault {
+        SeedsFault::LineTooLong(number) => at(number, "line too long"),
+        SeedsFault::NotText(number) => at(number, "not UTF-8"),
+        SeedsFault::NotUrl(number) => at(number, "not a URL"),
+        SeedsFault::NotHttp(number) => at(number, "not http or https"),
+        SeedsFault::NoMemory => alone("out of memory"),
+    }
+}
+
+fn script_words(fault: ScriptError) -> Words
+    ensures { words_text result.line result.words.now ≡ script_text fault }
+{
+    match fault {
+        ScriptError::LineTooLong(number) => at(number, "line too long"),
+        ScriptError::NotText(number) => at(number, "not UTF-8"),
+        ScriptError::BadHeader => alone("bad header"),
+        ScriptError::BadLine(number) => at(number, "bad line"),
+        ScriptError::BadUrl(number) => at(number, "bad URL"),
+        ScriptError::NoMemory => alone("out of memory"),
+    }
+}
+
+fn cert_words(fault: CertError) -> Words
+    ensures { words_text result.line result.words.now ≡ cert_text fault }
+{
+    match fault {
+        CertError::SeedMissing => alone("seed missing"),
+        CertError::NotFetched => alone("page not fetched"),
+        CertError::LinkMissing => alone("link missing"),
+        CertError::Unfounded => alone("unfounded URL"),
+        CertError::Twice => alone("fetched twice"),
+        CertError::NoMemory => alone("out of memory"),
+    }
+}
+
+fn log_words(fault: LogFault) -> Words
+    ensures { words_text result.line result.words.now ≡ log_text fault }
+{
+    match fault {
+        LogFault::CannotOpen => alone("cannot open"),
+        LogFault::InUse => alone("in use"),
+        LogFault::CannotRead => alone("cannot read"),
+        LogFault::OtherSettings => alone("other settings"),
+        LogFault::CannotWrite => alone("cannot write"),
+        LogFault::CannotMakeNew => alone("cannot make the new log"),
+        LogFault::CannotWriteNew => alone("cannot write the new log"),
     }
 }
 
@@ -205,8 +177,8 @@ impl fmt::Display for CrawlText {
                 write!(f, "incomplete: {text}")
             }
             CrawlError::Cert(error) => {
-                let text = CertText(error);
-                write!(f, "incomplete: {text}")
+                let words = cert_words(error);
+                write!(f, "incomplete: {words}")
             }
             CrawlError::NoMemory => f.write_str("out of memory"),
         }
@@ -225,43 +197,6 @@ impl fmt::Display for FinishText {
             FinishError::Unsettled { .. } => f.write_str("gate not closed"),
             FinishError::Disagree { queue } => write!(f, "subqueue {queue} disagrees"),
             FinishError::NoMemory => f.write_str("out of memory"),
-        }
-    }
-}
-
-#[derive(Clone, Copy)]
-struct CertText(CertError);
-
-impl fmt::Display for CertText {
-    ghost output = { λ told. Some (cert_text told.0) };
-
-    fn fmt<W: fmt::Write>(&self, f: &mut fmt::Formatter<W>) -> fmt::Result {
-        match self.0 {
-            CertError::SeedMissing => f.write_str("seed missing"),
-            CertError::NotFetched => f.write_str("page not fetched"),
-            CertError::LinkMissing => f.write_str("link missing"),
-            CertError::Unfounded => f.write_str("unfounded URL"),
-            CertError::Twice => f.write_str("fetched twice"),
-            CertError::NoMemory => f.write_str("out of memory"),
-        }
-    }
-}
-
-#[derive(Clone, Copy)]
-struct LogText(LogFault);
-
-impl fmt::Display for LogText {
-    ghost output = { λ told. Some (log_text told.0) };
-
-    fn fmt<W: fmt::Write>(&self, f: &mut fmt::Formatter<W>) -> fmt::Result {
-        match self.0 {
-            LogFault::CannotOpen => f.write_str("cannot open"),
-            LogFault::InUse => f.write_str("in use"),
-            LogFault::CannotRead => f.write_str("cannot read"),
-            LogFault::OtherSettings => f.write_str("other settings"),
-            LogFault::CannotWrite => f.write_str("cannot write"),
-            LogFault::CannotMakeNew => f.write_str("cannot make the new log"),
-            LogFault::CannotWriteNew => f.write_str("cannot write the new log"),
         }
     }
 }

@@ -1,7 +1,6 @@
 //! The commands over a folder as `clap` knows them. The crate `mercator_site` runs them.
-use clap::builder::ValueParser;
+use crate::commands::arguments::{flag, option, word, workers};
 use clap::{Arg, ArgAction, Command};
-use crawl_limits::WORKER_LIMIT;
 use std::alloc::{AllocError, Global};
 
 const SITE_HELP: &str = "\
@@ -16,93 +15,110 @@ Example: mercator check examples/site";
 
 /// `site`: a folder's saved web.
 pub fn site_command<'a>(alloc: Global) -> Result<Command<'a>, AllocError> {
+    let args = vec![in alloc;
+        exact(alloc),
+        queries(alloc),
+        folder(alloc),
+        base(alloc).required(true),
+    ]?;
     Command::new(alloc, "site")
         .about("Writes the saved web of a folder of HTML pages")
         .after_help(SITE_HELP)
-        .arg(flag(
-            alloc,
-            "exact",
-            "Other spellings of a page's URL are no pages",
-        ))?
-        .arg(flag(alloc, "queries", "A ? in a file's name begins the query"))?
-        .arg(folder(alloc))?
-        .arg(base(alloc).required(true))
+        .args(args)
 }
 
 /// `check`: which links of a folder are broken.
 pub fn check_command<'a>(alloc: Global) -> Result<Command<'a>, AllocError> {
-    let command = Command::new(alloc, "check")
+    let mut args = forms(alloc)?;
+    args.append(&mut rules(alloc)?)?;
+    Command::new(alloc, "check")
         .about("Tells which links of a folder of HTML pages are broken, and where they stand")
         .after_help(CHECK_HELP)
-        .arg(workers(alloc))?
-        .arg(flag(alloc, "json", "Writes a JSON object a line"))?
-        .arg(flag(
+        .args(args)
+}
+
+/// How a check is made and told.
+fn forms<'a>(alloc: Global) -> Result<Vec<Arg<'a>>, AllocError> {
+    Ok(vec![in alloc;
+        workers(alloc, "1", "Workers that crawl the site's web: 1 to 512"),
+        flag(alloc, "json", "Writes a JSON object a line"),
+        flag(
             alloc,
             "annotations",
             "Writes lines that GitHub's jobs show beside the file",
-        ))?
-        .arg(flag(alloc, "html", "Writes a page of HTML"))?;
-    with_rest(alloc, command)
-}
-
-fn with_rest<'a>(alloc: Global, command: Command<'a>) -> Result<Command<'a>, AllocError> {
-    command
-        .arg(flag(
+        ),
+        flag(alloc, "html", "Writes a page of HTML"),
+        flag(
             alloc,
             "all-sources",
             "Tells all places of a link, not the first three",
-        ))?
-        .arg(flag(alloc, "unreached", "Tells the files that no link leads to"))?
-        .arg(flag(
+        ),
+        flag(alloc, "unreached", "Tells the files that no link leads to"),
+        flag(
+            alloc,
+            "external",
+            "Tells where links to other hosts lead, which are not looked at",
+        ),
+    ]?)
+}
+
+/// What is checked.
+fn rules<'a>(alloc: Global) -> Result<Vec<Arg<'a>>, AllocError> {
+    Ok(vec![in alloc;
+        flag(
             alloc,
             "no-anchors",
             "Leaves out parts of pages, such as page.html#use",
-        ))?
-        .arg(known(alloc))?
-        .arg(flag(
-            alloc,
-            "exact",
-            "Other spellings of a page's URL are no pages",
-        ))?
-        .arg(flag(alloc, "queries", "A ? in a file's name begins the query"))?
-        .arg(folder(alloc))?
-        .arg(base(alloc))
+        ),
+        known(alloc),
+        seed(alloc),
+        exact(alloc),
+        queries(alloc),
+        folder(alloc),
+        base(alloc),
+    ]?)
 }
 
-fn flag<'a>(alloc: Global, name: &'a str, help: &'a str) -> Arg<'a> {
-    Arg::new(alloc, name)
-        .long(name)
-        .action(ArgAction::SetTrue)
-        .help(help)
+fn exact<'a>(alloc: Global) -> Arg<'a> {
+    flag(
+        alloc,
+        "exact",
+        "Other spellings of a page's URL are no pages",
+    )
 }
 
-fn workers<'a>(alloc: Global) -> Arg<'a> {
-    Arg::new(alloc, "workers")
-        .long("workers")
-        .value_name("N")
-        .value_parser(ValueParser::unsigned(1, WORKER_LIMIT as u64))
-        .default_value("1")
-        .help("Workers that crawl the site's web: 1 to 512")
+fn queries<'a>(alloc: Global) -> Arg<'a> {
+    flag(alloc, "queries", "A ? in a file's name begins the query")
 }
 
 fn known<'a>(alloc: Global) -> Arg<'a> {
-    Arg::new(alloc, "ignore")
-        .long("ignore")
-        .value_name("LIST")
-        .help(
-            "A file of targets that are known to be broken, or of what they begin with, one a line",
-        )
+    option(
+        alloc,
+        "ignore",
+        "LIST",
+        "A file of targets that are known to be broken, or of what they begin with, one a line",
+    )
+}
+
+fn seed<'a>(alloc: Global) -> Arg<'a> {
+    option(
+        alloc,
+        "seed",
+        "LINK",
+        "Begins at this link of the top, and not at the top itself; may be given again",
+    )
+    .action(ArgAction::Append)
 }
 
 fn folder<'a>(alloc: Global) -> Arg<'a> {
-    Arg::new(alloc, "folder")
-        .value_name("FOLDER")
-        .required(true)
-        .help("The folder")
+    word(alloc, "folder", "FOLDER", "The folder").required(true)
 }
 
 fn base<'a>(alloc: Global) -> Arg<'a> {
-    Arg::new(alloc, "base")
-        .value_name("BASE")
-        .help("The URL of its top, with http or https")
+    word(
+        alloc,
+        "base",
+        "BASE",
+        "The URL of its top, with http or https",
+    )
 }

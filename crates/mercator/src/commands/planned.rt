@@ -1,13 +1,13 @@
 //! What a command line asks for.
 ghost use Rattle.std.specs.Prelude.{◌≡◌};
-ghost use Rattle.mercator.specs.Plans.{file_of, listed_or, told_file};
+ghost use Rattle.mercator.specs.Plans.{explains, file_of, listed_or, told_file};
 
 use crate::commands::fault::Fault;
 use crawl_report::Sources;
 
 /// What the words of a command line ask for. [`plan`](crate::plan) answers one whose numbers are within the limits, and
 /// a crawl with at least one seed or a file of seeds, and not both of its files the input.
-#[derive(Debug, Drop)]
+#[derive(Drop)]
 pub enum Plan {
     /// `crawl`: the report of a crawl of a saved web.
     Crawl {
@@ -52,7 +52,7 @@ pub enum Plan {
 }
 
 /// What else a crawl is asked for.
-#[derive(Debug, Drop)]
+#[derive(Drop)]
 pub struct CrawlOptions {
     /// The name of a file of seeds, or `-` for the input, where there is one.
     pub listed: Option<String>,
@@ -64,10 +64,12 @@ pub struct CrawlOptions {
     pub unreached: bool,
     /// Whether its report is in JSON, an object a line.
     pub json: bool,
+    /// Whether it tells at which URL it is incomplete.
+    pub explain: bool,
 }
 
 /// A session.
-#[derive(Debug, Drop)]
+#[derive(Drop)]
 pub struct SessionPlan {
     /// How many workers, and so subqueues, the frontier has; those of all parts together are 1 to 512.
     pub workers: u32,
@@ -80,7 +82,7 @@ pub struct SessionPlan {
 }
 
 /// A session that has a log.
-#[derive(Debug, Drop)]
+#[derive(Drop)]
 pub struct LogPlan {
     /// The session.
     pub session: SessionPlan,
@@ -100,6 +102,16 @@ impl Plan {
             Plan::Key { .. } => "",
             Plan::Serve(_) | Plan::ServeLog(_) => "-",
             Plan::Compact { .. } => "",
+        }
+    }
+
+    /// Whether it tells at which URL it is incomplete.
+    pub fn explains(&self) -> bool
+        ensures { result ≡ explains self.now }
+    {
+        match self {
+            Plan::Crawl { options, .. } => options.explain,
+            _ => false,
         }
     }
 

@@ -7,11 +7,12 @@ ghost use Rattle.mercator.specs.KeyLine.{IsKeyLine};
 ghost use Rattle.mercator.specs.Limits.{most_input_bytes};
 ghost use Rattle.mercator.specs.Plans.{IsTelling, IsWithinLimits, is_input, is_bad_suffix, known_bytes, known_seeds, lists_input, reads_input, suffixes_of};
 ghost use Rattle.crawl_replay.specs.Replay.{IsReplay};
-ghost use Rattle.mercator.specs.Told.{AreFiles, IsTold, Fails, FailsReplay, FailsCrawl, FailsKey, OfFile, OfFiles};
-ghost use Rattle.mercator.specs.WebCrawl.{IsBegun, IsFound, IsTextOf, IsUnbegun};
+ghost use Rattle.mercator.specs.Told.{AreFiles, Explains, ExplainsCrawl, IsTold, Fails, FailsReplay, FailsCrawl, FailsKey, OfFile, OfFiles};
+ghost use Rattle.mercator.specs.WebCrawl.{IsAtNone, IsBegun, IsFound, IsNamedAt, IsTextOf, IsUnbegun};
 ghost use Rattle.mercator.specs.declared.commands.fault.Fault.TheVariants as wrong;
 
 use crate::commands::crawl_text::crawl_text;
+use crate::commands::failure::Failure;
 use crate::commands::fault::Fault;
 use crate::commands::planned::{CrawlOptions, Plan};
 use crate::commands::source::read_file;
@@ -38,15 +39,16 @@ pub fn tell<R: Files + Threads + Wait + Sync, I: Read>(
     alloc: Global,
     plan: &Plan,
     input: &mut I,
-) -> Result<Vec<u8>, Fault>
+) -> Result<Vec<u8>, Failure>
     requires limits { IsWithinLimits plan.now }
     requires telling { IsTelling plan.now }
     ensures text { IfOk result (λ text. IsTold plan.now (I.remaining input.old) text.items) }
-    ensures fault { IfErr result (λ fault. Fails plan.now (I.remaining input.old) fault) }
+    ensures fault { IfErr result (λ failure. Fails plan.now (I.remaining input.old) failure.fault) }
+    ensures named { IfErr result (λ failure. Explains plan.now (I.remaining input.old) failure.fault failure.culprit) }
     ensures unread { reads_input plan.now ≡ false → input.new ≡ input.old }
 {
     match plan {
-        Plan::Replay { file } => tell_replay(rt, alloc, file, input),
+        Plan::Replay { file } => Ok(tell_replay(rt, alloc, file, input)?),
         Plan::Crawl {
             workers,
             max,
@@ -65,12 +67,12 @@ pub fn tell<R: Files + Threads + Wait + Sync, I: Read>(
                 within,
             };
             let found = crawl_files(rt, alloc, &asked, input)?;
-            let text = text_of(alloc, &found, *queues, options);
+            let text = text_of(alloc, &found, *queues, options)?;
             // The process ends soon, and gives it back at once.
             forget(found);
-            text
+            Ok(text)
         }
-        Plan::Key { url, workers } => tell_key(alloc, url, *workers),
+        Plan::Key { url, workers } => Ok(tell_key(alloc, url, *workers)?),
         Plan::Serve(_) | Plan::ServeLog(_) | Plan::Compact { .. } => {
             unreachable!("a session tells as it reads, and a compaction nothing")
         }
@@ -124,11 +126,12 @@ fn crawl_files<R: Files + Threads + Wait + Sync, I: Read>(
     alloc: Global,
     asked: &AskedCrawl<'_>,
     input: &mut I,
-) -> Result<WebFound, Fault>
+) -> Result<WebFound, Failure>
     requires one_input { (is_input asked.now.file.now && lists_input asked.now.listed.now) ≡ false }
     ensures found { IfOk result (λ found. (is_bad_suffix asked.now.within.now ≡ false) × (found.filter ≡ suffixes_of asked.now.within.now)
         × OfFiles asked.now.file.now asked.now.listed.now (I.remaining input.old) (λ bytes list. (bytes ≡ found.bytes.items) × IsBegun bytes list (map string_bytes asked.now.seeds.now) × IsFound asked.now.workers bytes list (map string_bytes asked.now.seeds.now) (suffixes_of asked.now.within.now) found.crawled)) }
-    ensures fault { IfErr result (FailsCrawl asked.now.workers asked.now.max asked.now.within.now asked.now.file.now asked.now.listed.now (map string_bytes asked.now.seeds.now) (I.remaining input.old)) }
+    ensures fault { IfErr result (λ failure. FailsCrawl asked.now.workers asked.now.max asked.now.within.now asked.now.file.now asked.now.listed.now (map string_bytes asked.now.seeds.now) (I.remaining input.old) failure.fault) }
+    ensures named { IfErr result (λ failure. ExplainsCrawl asked.now.within.now asked.now.file.now asked.now.listed.now (map string_bytes asked.now.seeds.now) (I.remaining input.old) failure.fault failure.culprit) }
     ensures unfiltered { is_bad_suffix asked.now.within.now ≡ true → input.new ≡ input.old }
     ensures unread { (is_input asked.now.file.now || lists_input asked.now.listed.now) ≡ false → input.new ≡ input.old }
 {
@@ -147,6 +150,7 @@ fn read_inputs<R: Files, I: Read>(
     ensures suffix { IfOk result (λ inputs. (is_bad_suffix asked.now.within.now ≡ false) × (inputs.filter ≡ suffixes_of asked.now.within.now)) }
     ensures files { IfOk result (λ inputs. AreFiles asked.now.file.now asked.now.listed.now (I.remaining input.old) inputs.bytes.items inputs.list.items) }
     ensures fault { IfErr result (FailsCrawl asked.now.workers asked.now.max asked.now.within.now asked.now.file.now asked.now.listed.now (map string_bytes asked.now.seeds.now) (I.remaining input.old)) }
+    ensures early { IfErr result IsAtNone }
     ensures unfiltered { is_bad_suffix asked.now.within.now ≡ true → input.new ≡ input.old }
     ensures unread { (is_input asked.now.file.now || lists_input asked.now.listed.now) ≡ false → input.new ≡ input.old }
 {
@@ -166,11 +170,12 @@ fn crawl_inputs<R: Threads + Wait + Sync>(
     alloc: Global,
     asked: &AskedCrawl<'_>,
     inputs: Inputs,
-) -> Result<WebFound, Fault>
+) -> Result<WebFound, Failure>
     ensures same { IfOk result (λ found. (found.filter ≡ inputs.filter) × (found.bytes.items ≡ inputs.bytes.items)) }
     ensures begun { IfOk result (λ _. IsBegun inputs.bytes.items inputs.list.items (map string_bytes asked.now.seeds.now)) }
     ensures found { IfOk result (λ found. IsFound asked.now.workers inputs.bytes.items inputs.list.items (map string_bytes asked.now.seeds.now) inputs.filter found.crawled) }
-    ensures fault { IfErr result (IsUnbegun asked.now.workers asked.now.max inputs.bytes.items inputs.list.items (map string_bytes asked.now.seeds.now)) }
+    ensures fault { IfErr result (λ failure. IsUnbegun asked.now.workers asked.now.max inputs.bytes.items inputs.list.items (map string_bytes asked.now.seeds.now) failure.fault) }
+    ensures named { IfErr result (λ failure. IsNamedAt inputs.bytes.items inputs.list.items (map string_bytes asked.now.seeds.now) inputs.filter failure.fault failure.culprit) }
 {
     let Inputs {
         filter,

@@ -9,11 +9,12 @@ ghost use Rattle.crawl_web.specs.SavedWeb.{page_of};
 ghost use Rattle.crawl_web.specs.WebFaults.{IsSound};
 ghost use Rattle.crawl_web.specs.declared.page.PageResult.{PageResult};
 ghost use Rattle.mercator.specs.Crawls.{AreCounts};
-ghost use Rattle.mercator.specs.WebCrawl.{AreAllSeeds, AreSeeds, ComesOf, IsBegun, IsFound, IsSiteCrawl, IsCrawlReport, IsRefused, IsSeedFault, IsUnbegun, IsUnread};
+ghost use Rattle.mercator.specs.WebCrawl.{AreAllSeeds, AreSeeds, ComesOf, IsBegun, IsFound, IsSiteCrawl, IsCrawlReport, IsNamedAt, IsRefused, IsSeedFault, IsUnbegun, IsUnread};
 
+use crate::commands::failure::Failure;
 use crate::commands::fault::Fault;
-use crate::crawling::{CrawlSettings, Crawled, Mode, crawl_with};
-use crawl_keys::{CanonUrl, Filter, canonical};
+use crate::crawling::{CrawlSettings, Crawled, crawl_explained, crawl_with};
+use crawl_keys::{CanonUrl, canonical};
 use crawl_sources::read_seeds;
 use crawl_web::{SavedWeb, report_text};
 use std::alloc::Global;
@@ -32,7 +33,7 @@ pub struct Report {
 /// The report of a crawl of the saved web that the bytes are: of every URL that can be reached from the seeds by URLs that
 /// the filter allows, and of no other. Neither the number of workers, nor their mode, nor what the threads did shows in it.
 ///
-/// The web is read before the seeds are, and both before anything is fetched. `workers` and `max_pending` are those of
+/// The web is read before the seeds are, and both before anything is fetched. The settings are those of
 /// [`crawl`](crate::crawl).
 ///
 /// # Errors
@@ -43,29 +44,16 @@ pub fn report_of_saved_web<R: Threads + Wait + Sync>(
     alloc: Global,
     bytes: &[u8],
     seeds: &[String],
-    filter: &Filter,
-    workers: u32,
-    max_pending: u64,
-    mode: Mode,
+    settings: &CrawlSettings<'_>,
 ) -> Result<Report, Fault>
-    ensures report { IfOk result (λ r. IsCrawlReport bytes.now (map string_bytes seeds.now) filter.now r.text.items) }
-    ensures counts { IfOk result (λ r. (pages : List PageResult) → IsSiteCrawl bytes.now [] (map string_bytes seeds.now) filter.now pages → AreCounts workers (result_urls pages) r.counts.items) }
-    ensures refused { IfErr result (λ fault. IsRefused workers max_pending bytes.now [] (map string_bytes seeds.now) fault) }
+    ensures report { IfOk result (λ r. IsCrawlReport bytes.now (map string_bytes seeds.now) settings.now.filter.now r.text.items) }
+    ensures counts { IfOk result (λ r. (pages : List PageResult) → IsSiteCrawl bytes.now [] (map string_bytes seeds.now) settings.now.filter.now pages → AreCounts settings.now.workers (result_urls pages) r.counts.items) }
+    ensures refused { IfErr result (λ fault. IsRefused settings.now.workers settings.now.max_pending bytes.now [] (map string_bytes seeds.now) fault) }
     // No report comes of numbers that no frontier takes, and no want of a thread of workers in turn.
-    ensures numbers { IfOk result (λ _. IsWorkers workers × IsMaximum max_pending) }
-    ensures mode { IfErr result (ComesOf mode) }
+    ensures numbers { IfOk result (λ _. IsWorkers settings.now.workers × IsMaximum settings.now.max_pending) }
+    ensures mode { IfErr result (ComesOf settings.now.mode) }
 {
-    let found = crawl_saved_web(
-        rt,
-        alloc,
-        bytes,
-        &[],
-        seeds,
-        filter,
-        workers,
-        max_pending,
-        mode,
-    )?;
+    let found = crawl_saved_web(rt, alloc, bytes, &[], seeds, settings)?;
     let text = report_text(alloc, found.result.pages())?;
     Ok(Report {
         text,
@@ -84,24 +72,15 @@ pub fn crawl_saved_web<R: Threads + Wait + Sync>(
     bytes: &[u8],
     listed: &[u8],
     seeds: &[String],
-    filter: &Filter,
-    workers: u32,
-    max_pending: u64,
-    mode: Mode,
+    settings: &CrawlSettings<'_>,
 ) -> Result<Crawled, Fault>
-    ensures found { IfOk result (λ crawled. IsFound workers bytes.now listed.now (map string_bytes seeds.now) filter.now crawled) }
-    ensures refused { IfErr result (λ fault. IsRefused workers max_pending bytes.now listed.now (map string_bytes seeds.now) fault) }
-    ensures numbers { IfOk result (λ _. IsWorkers workers × IsMaximum max_pending) }
-    ensures mode { IfErr result (ComesOf mode) }
+    ensures found { IfOk result (λ crawled. IsFound settings.now.workers bytes.now listed.now (map string_bytes seeds.now) settings.now.filter.now crawled) }
+    ensures refused { IfErr result (λ fault. IsRefused settings.now.workers settings.now.max_pending bytes.now listed.now (map string_bytes seeds.now) fault) }
+    ensures numbers { IfOk result (λ _. IsWorkers settings.now.workers × IsMaximum settings.now.max_pending) }
+    ensures mode { IfErr result (ComesOf settings.now.mode) }
 {
     let (web, urls) = read_site(alloc, bytes, listed, seeds)?;
-    let settings = CrawlSettings {
-        workers,
-        max_pending,
-        mode,
-        filter,
-    };
-    let found = crawl_with(rt, alloc, &web, &settings, &urls)?;
+    let found = crawl_with(rt, alloc, &web, settings, &urls)?;
     Ok(found)
 }
 
@@ -116,16 +95,17 @@ pub(in crate::commands) fn crawl_with_web<'a, R: Threads + Wait + Sync>(
     listed: &[u8],
     seeds: &[String],
     settings: &CrawlSettings<'_>,
-) -> Result<(SavedWeb<'a>, Crawled), Fault>
+) -> Result<(SavedWeb<'a>, Crawled), Failure>
     ensures found { IfOk result (λ r. IsFound settings.now.workers bytes.now listed.now (map string_bytes seeds.now) settings.now.filter.now r.1) }
     ensures begun { IfOk result (λ _. IsBegun bytes.now listed.now (map string_bytes seeds.now)) }
-    ensures refused { IfErr result (λ fault. IsUnbegun settings.now.workers settings.now.max_pending bytes.now listed.now (map string_bytes seeds.now) fault) }
+    ensures refused { IfErr result (λ failure. IsUnbegun settings.now.workers settings.now.max_pending bytes.now listed.now (map string_bytes seeds.now) failure.fault) }
+    ensures named { IfErr result (λ failure. IsNamedAt bytes.now listed.now (map string_bytes seeds.now) settings.now.filter.now failure.fault failure.culprit) }
 {
     let (web, urls) = read_site(alloc, bytes, listed, seeds)?;
     if urls.is_empty() {
-        return Err(Fault::NoSeed);
+        return Err(Failure::from(Fault::NoSeed));
     }
-    let found = crawl_with(rt, alloc, &web, settings, &urls)?;
+    let found = crawl_explained(rt, alloc, &web, settings, &urls)?;
     Ok((web, found))
 }
 

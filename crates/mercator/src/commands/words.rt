@@ -173,6 +173,7 @@ fn options_of(found: &ArgMatches<'_>, listed: Option<String>) -> CrawlOptions
         moved: found.get_flag("moved"),
         unreached: found.get_flag("unreached"),
         json: found.get_flag("json"),
+        explain: found.get_flag("explain"),
     }
 }
 

@@ -1,38 +1,62 @@
 //! The certificate of a run, by threads where its workers had some.
-ghost use Rattle.std.specs.Prelude.{IfOk};
+ghost use Rattle.std.specs.Prelude.{◌≡◌, ℕ, List, IfErr, IfOk};
 ghost use Rattle.std.specs.List.Sorted.{IsPermutation};
 ghost use Rattle.crawl_certificate.specs.AccountEntries.{entries_of};
-ghost use Rattle.crawl_certificate.specs.CertFaults.{first_fault};
-ghost use Rattle.crawl_certificate.specs.Certificate.{Tells, IsAscending, CountsOf, result_urls};
+ghost use Rattle.crawl_certificate.specs.Certificate.{ArePages, IsAscending, IsCrawl, CountsOf, result_urls};
+ghost use Rattle.crawl_certificate.specs.Culprits.{NamesCulprit};
 ghost use Rattle.crawl_keys.specs.HostFilter.{allows};
+ghost use Rattle.crawl_web.specs.declared.page.Page.{Page};
+ghost use Rattle.mercator.specs.Crawls.{AreCounts, ComesIn, IsJudgedAt, IsOfRun};
+ghost use Rattle.mercator.specs.declared.crawling.Mode.{Mode};
 
-use crate::crawling::Mode;
-use crawl_certificate::{CertError, CrawlResult, certify_in_threads, certify_moved};
+use crate::crawling::gather::{Ran, counts_of};
+use crate::crawling::{CrawlFailure, CrawlSettings, Crawled, Mode};
+use crawl_certificate::{CrawlResult, Culprit, certify_in_threads, certify_moved};
 use crawl_frontier::Account;
-use crawl_keys::{CanonUrl, Filter};
+use crawl_keys::CanonUrl;
 use crawl_web::PageResult;
 use std::alloc::Global;
 use std::thread::Threads;
 
-/// Certifies the results. Where no worker had a thread, none is started here.
-pub fn certified<R: Threads + Sync>(
+/// What a run found, once it is certified.
+pub fn crawled_of<R: Threads + Sync>(
     rt: &R,
     alloc: Global,
-    filter: &Filter,
+    settings: &CrawlSettings<'_>,
+    seeds: &[CanonUrl],
+    ran: Ran,
+) -> Result<Crawled, CrawlFailure>
+    ensures pages { (meaning : List ℕ → Page) → ArePages meaning ran.results.items → IfOk result (λ crawled. IsCrawl meaning (allows settings.now.filter.now) seeds.now crawled.result) }
+    ensures counts { IfOk result (λ crawled. AreCounts ran.account.workers (result_urls crawled.result) crawled.counts.items) }
+    ensures errors { IfErr result (λ failure. IsOfRun failure.error) }
+    ensures mode { (mode : Mode) → IfErr result (λ failure. ComesIn mode failure.error) }
+    ensures judged { (meaning : List ℕ → Page) → ArePages meaning ran.results.items → IfErr result (λ failure. IsJudgedAt meaning (allows settings.now.filter.now) seeds.now failure.error failure.culprit) }
+{
+    let Ran { account, results } = ran;
+    let result = certified(rt, alloc, settings, seeds, &account, results)?;
+    let counts = counts_of(alloc, &account)?;
+    Ok(Crawled { result, counts })
+}
+
+/// Certifies the results. Where no worker had a thread, none is started here.
+fn certified<R: Threads + Sync>(
+    rt: &R,
+    alloc: Global,
+    settings: &CrawlSettings<'_>,
     seeds: &[CanonUrl],
     account: &Account,
     results: Vec<PageResult>,
-    mode: Mode,
-) -> Result<CrawlResult, CertError>
-    ensures fault { Tells result (first_fault (allows filter.now) seeds.now (entries_of account.now) results.items) }
+) -> Result<CrawlResult, Culprit>
+    ensures fault { NamesCulprit (allows settings.now.filter.now) seeds.now (entries_of account.now) results.items result }
     ensures same { IfOk result (λ pages. IsPermutation results.items pages) }
     ensures ascends { IfOk result (λ pages. IsAscending (result_urls pages)) }
     ensures counts { IfOk result (λ pages. CountsOf account.now (result_urls pages)) }
 {
-    match mode {
+    let filter = settings.filter;
+    match settings.mode {
         Mode::Threads if account.workers() > 1 => {
-            Ok(certify_in_threads(rt, alloc, filter, seeds, account, results)?)
+            certify_in_threads(rt, alloc, filter, seeds, account, results)
         }
-        _ => Ok(certify_moved(alloc, filter, seeds, account, results)?),
+        _ => certify_moved(alloc, filter, seeds, account, results),
     }
 }

@@ -1,17 +1,45 @@
 //! What a run left, put together.
-ghost use Rattle.std.specs.Prelude.{ℕ, List, IfOk};
+ghost use Rattle.std.specs.Prelude.{◌≡◌, ℕ, List, IfErr, IfOk};
 ghost use Rattle.crawl_certificate.specs.Certificate.{ArePages};
 ghost use Rattle.crawl_web.specs.declared.page.Page.{Page};
-ghost use Rattle.mercator.specs.Crawls.{AllPages, CountedBelow};
+ghost use Rattle.mercator.specs.Crawls.{AllPages, ComesIn, CountedBelow, IsUncertified};
+ghost use Rattle.mercator.specs.declared.crawling.Mode.{Mode};
 
-use crawl_frontier::{Account, ClosedWorker, Name};
+use crate::crawling::CrawlError;
+use crawl_frontier::{Account, ClosedWorker, Frontier, Name, Sender};
 use crawl_web::PageResult;
 use crawl_workers::WorkerEnd;
 use std::alloc::{AllocError, Global};
 
+/// What a run left: its account, and the results of all workers.
+#[derive(Drop)]
+pub struct Ran {
+    pub account: Account,
+    pub results: Vec<PageResult>,
+}
+
+/// What is left of a run of this frontier that ended so, whose seeds this sender offered.
+pub fn ran_of<K: Name>(
+    alloc: Global,
+    frontier: Frontier<K>,
+    ends: Vec<WorkerEnd<K>>,
+    sender: Sender<K>,
+) -> Result<Ran, CrawlError>
+    ensures pages { (meaning : List ℕ → Page) → AllPages meaning ends.items → IfOk result (λ ran. ArePages meaning ran.results.items) }
+    ensures workers { IfOk result (λ ran. ran.account.workers ≡ K.workers) }
+    ensures errors { IfErr result IsUncertified }
+    ensures mode { (mode : Mode) → IfErr result (ComesIn mode) }
+{
+    let (closed, results) = gathered(alloc, ends)?;
+    let mut senders = Vec::new(alloc);
+    senders.push(sender)?;
+    let account = frontier.finish(closed, senders)?;
+    Ok(Ran { account, results })
+}
+
 /// The closed workers, and the results of all of them, in the order of the ends: so the results come in the order of an
 /// account's entries, where the certificate looks for each first.
-pub fn gathered<K: Name>(
+fn gathered<K: Name>(
     alloc: Global,
     ends: Vec<WorkerEnd<K>>,
 ) -> Result<(Vec<ClosedWorker<K>>, Vec<PageResult>), AllocError>

@@ -1,16 +1,16 @@
 //! A crawl on a frontier that has a name.
 ghost use Rattle.std.specs.Prelude.{◌≡◌, ◌⊎◌, ◌≤◌, true, false, IfOk, IfErr, vec_len};
-ghost use Rattle.crawl_certificate.specs.Certificate.{IsCrawl, result_urls};
+ghost use Rattle.crawl_certificate.specs.Certificate.{ArePages, IsCrawl, result_urls};
 ghost use Rattle.crawl_keys.specs.HostFilter.{allows};
 ghost use Rattle.crawl_workers.specs.Logs.{AllLogged, Grows, HasLine};
 ghost use Rattle.crawl_workers.specs.Runs.{AllRan};
 ghost use Rattle.crawl_workers.specs.declared.error.RunError.TheVariants as unrun;
-ghost use Rattle.mercator.specs.Crawls.{AreCounts, ComesIn, IsJudged, IsOfRun};
+ghost use Rattle.mercator.specs.Crawls.{AreCounts, ComesIn, IsJudgedAt, IsOfRun, IsUncertified};
 ghost use Rattle.mercator.specs.declared.crawling.Mode.TheVariants as modes;
 
-use crate::crawling::certified::certified;
-use crate::crawling::gather::{counts_of, gathered};
-use crate::crawling::{CrawlError, CrawlSettings, Crawled, Mode};
+use crate::crawling::certified::crawled_of;
+use crate::crawling::gather::{Ran, ran_of};
+use crate::crawling::{CrawlError, CrawlFailure, CrawlSettings, Crawled, Mode};
 use crawl_frontier::{Frontier, Name, OfferError, Seeder, Setup, Worker};
 use crawl_keys::CanonUrl;
 use crawl_web::SessionFetch;
@@ -27,31 +27,45 @@ pub fn crawl_named<K: Name + Send + Sync, F: SessionFetch + Sync, R: Threads + W
     fetcher: &F,
     settings: &CrawlSettings<'_>,
     seeds: &[CanonUrl],
-) -> Result<Crawled, CrawlError>
+) -> Result<Crawled, CrawlFailure>
     requires gate { setup.gate ≡ K.gate }
     requires workers { setup.workers ≡ K.workers }
     requires queues { setup.queues ≡ K.queues }
     requires filter { settings.now.filter.now ≡ K.filter }
     ensures pages { IfOk result (λ crawled. IsCrawl (F.meaning fetcher.now) (allows settings.now.filter.now) seeds.now crawled.result) }
     ensures counts { IfOk result (λ crawled. AreCounts setup.workers (result_urls crawled.result) crawled.counts.items) }
-    ensures errors { IfErr result IsOfRun }
-    ensures mode { IfErr result (ComesIn settings.now.mode) }
-    ensures judged { IfErr result (IsJudged (F.meaning fetcher.now) (allows settings.now.filter.now) seeds.now) }
+    ensures errors { IfErr result (λ failure. IsOfRun failure.error) }
+    ensures mode { IfErr result (λ failure. ComesIn settings.now.mode failure.error) }
+    ensures judged { IfErr result (λ failure. IsJudgedAt (F.meaning fetcher.now) (allows settings.now.filter.now) seeds.now failure.error failure.culprit) }
 {
-    let filter = settings.filter;
-    let mode = settings.mode;
-    let (frontier, workers, mut seeder) = Frontier::<K>::new(alloc, setup, filter)?;
+    let ran = run_from::<K, F, R>(rt, alloc, setup, fetcher, settings, seeds)?;
+    crawled_of(rt, alloc, settings, seeds, ran)
+}
+
+/// Runs all workers of the frontier of this setup from the seeds.
+fn run_from<K: Name + Send + Sync, F: SessionFetch + Sync, R: Threads + Wait + Sync>(
+    rt: &R,
+    alloc: Global,
+    setup: Setup,
+    fetcher: &F,
+    settings: &CrawlSettings<'_>,
+    seeds: &[CanonUrl],
+) -> Result<Ran, CrawlError>
+    requires gate { setup.gate ≡ K.gate }
+    requires workers { setup.workers ≡ K.workers }
+    requires queues { setup.queues ≡ K.queues }
+    requires filter { settings.now.filter.now ≡ K.filter }
+    ensures pages { IfOk result (λ ran. ArePages (F.meaning fetcher.now) ran.results.items) }
+    ensures workers { IfOk result (λ ran. ran.account.workers ≡ setup.workers) }
+    ensures errors { IfErr result IsUncertified }
+    ensures mode { IfErr result (ComesIn settings.now.mode) }
+{
+    let (frontier, workers, mut seeder) = Frontier::<K>::new(alloc, setup, settings.filter)?;
     // A seed that was refused may still come in by a link, and the certificate asks for it.
     let _refused = offer_seeds(rt, &frontier, &mut seeder, seeds);
     let sender = seeder.end(&frontier);
-    let ends = run(rt, alloc, &frontier, workers, fetcher, mode)?;
-    let (closed, results) = gathered(alloc, ends)?;
-    let mut senders = Vec::new(alloc);
-    senders.push(sender)?;
-    let account = frontier.finish(closed, senders)?;
-    let result = certified(rt, alloc, filter, seeds, &account, results, mode)?;
-    let counts = counts_of(alloc, &account)?;
-    Ok(Crawled { result, counts })
+    let ends = run(rt, alloc, &frontier, workers, fetcher, settings.mode)?;
+    ran_of(alloc, frontier, ends, sender)
 }
 
 /// Offers the seeds in order, and answers how many are refused.

@@ -5,7 +5,9 @@ use crawl_certificate::CertError;
 use crawl_frontier::FrontierError;
 use crawl_keys::Filter;
 use crawl_web::report_text;
-use mercator::{CrawlError, Fault, Mode, Report, crawl_saved_web, report_of_saved_web};
+use mercator::{
+    CrawlError, CrawlSettings, Fault, Mode, Report, crawl_saved_web, report_of_saved_web,
+};
 use std::alloc::Global;
 use std::sync::Wait;
 use std::thread::Threads;
@@ -149,17 +151,13 @@ fn report_of<R: Threads + Wait + Sync>(
 ) -> Result<Report, Fault> {
     let seeds = words(alloc, row.seeds)?;
     let every = Filter::new(alloc, &[])?;
-    let bytes = row.web.as_bytes();
-    report_of_saved_web(
-        rt,
-        alloc,
-        bytes,
-        &seeds,
-        &every,
-        row.workers,
-        row.max_pending,
+    let settings = CrawlSettings {
+        workers: row.workers,
+        max_pending: row.max_pending,
         mode,
-    )
+        filter: &every,
+    };
+    report_of_saved_web(rt, alloc, row.web.as_bytes(), &seeds, &settings)
 }
 
 /// Whether it is what the row says.
@@ -203,8 +201,13 @@ fn report_of_list<R: Threads + Wait + Sync>(rt: &R, alloc: Global) -> Result<Vec
     let every = Filter::new(alloc, &[])?;
     let listed = "\nhttp://c.test\r\n\n".as_bytes();
     let web = RING.as_bytes();
-    let mode = Mode::Turns;
-    let found = crawl_saved_web(rt, alloc, web, listed, &given, &every, 2, 100, mode)?;
+    let settings = CrawlSettings {
+        workers: 2,
+        max_pending: 100,
+        mode: Mode::Turns,
+        filter: &every,
+    };
+    let found = crawl_saved_web(rt, alloc, web, listed, &given, &settings)?;
     Ok(report_text(alloc, found.result.pages())?)
 }
 

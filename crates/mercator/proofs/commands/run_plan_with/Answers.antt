@@ -1,15 +1,16 @@
-use Rattle.std.proofs.Common.{ap, subst}
+use Rattle.std.proofs.Common.{◌≡◌, Err, IfErr, ap, subst}
 use Rattle.mercator.specs.Ending.{Begins}
-use Rattle.mercator.specs.FaultText.{fault_line}
+use Rattle.mercator.specs.Told.{EndsBy, Explains, told_lines}
 use Rattle.mercator.proofs.Serves.{tells_fault}
 use Rattle.mercator.proofs.commands.run_plan_with.Goals as goal
 
-pub returns-in-Err-clause-fault : goal.returns-in-Err-clause-fault
-returns-in-Err-clause-fault g c = λ some. record {
+pub returns-clause-fault : goal.returns-clause-fault
+returns-clause-fault g c = λ some. record {
   fault = c.in-Err.fault;
   status = c.status.ensures;
+  culprit = c.run-ended.result.culprit;
+  named = subst (λ r. IfErr r (λ fault. Explains c.args.plan.now (g.I.Read.remaining c.args.input.now) fault c.run-ended.result.culprit)) c.in-Err.is c.run-ended.ensures.named;
   told =
-      tells_fault c.args.plan.now (g.E.Write.contents c.args.err.now) (g.E.Write.contents c.run.new.err) (g.E.Write.contents c.tell_fault.new.err) _ (λ plain. ap (g.E.Write.contents) (c.run.ensures.silent plain)) c.run.ensures.noted
-      (subst (λ f. Begins (g.E.Write.contents c.run.new.err) (g.E.Write.contents c.tell_fault.new.err) (fault_line f c.in-Err.fault)) c.told_file.ensures c.tell_fault.ensures);
-  why = c.in-Err.ensures.fault;
+      tells_fault c.args.plan.now (g.E.Write.contents c.args.err.now) (g.E.Write.contents c.run-ended.new.err) (g.E.Write.contents c.tell_ended.new.err) _ (λ plain. ap (g.E.Write.contents) (c.run-ended.ensures.silent plain)) c.run-ended.ensures.noted c.tell_ended.ensures;
+  why = subst (λ r. IfErr r (λ fault. EndsBy c.args.plan.now (g.I.Read.remaining c.args.input.now) fault (c.run-ended.new.out ≡ c.args.out.now))) c.in-Err.is c.run-ended.ensures.fault;
 }

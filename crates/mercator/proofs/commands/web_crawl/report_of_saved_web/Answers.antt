@@ -13,6 +13,6 @@ returns-clause-report g c = record {
 
 pub returns-clause-counts : goal.returns-clause-counts
 returns-clause-counts g c = λ pages crawl.
-    subst (λ found. AreCounts c.args.workers (result_urls found) c.in_ok-found.found.counts.items)
-    (one_site_crawl c.args.bytes.now [] (map (string_bytes {Z = Global}) c.args.seeds.now) c.args.filter.now c.in_ok-found.found.result pages c.in_ok-found.ensures.found.crawl crawl)
+    subst (λ found. AreCounts c.args.settings.now.workers (result_urls found) c.in_ok-found.found.counts.items)
+    (one_site_crawl c.args.bytes.now [] (map (string_bytes {Z = Global}) c.args.seeds.now) c.args.settings.now.filter.now c.in_ok-found.found.result pages c.in_ok-found.ensures.found.crawl crawl)
     c.in_ok-found.ensures.found.counted
