@@ -34,7 +34,7 @@ PAGES = [
 ]
 
 HOSTS = ["a.test", "www.b-1.test", "a_b.c.test", "x.y9", "localhost"]
-SCHEMES = ["http://", "https://"]
+SCHEMES = ["http:", "https:"]
 PORTS = ["", "", "", ":8080", ":80", ":443", ":1", ":65535"]
 SEGMENTS = ["a", "page-1.html", "~user", "x..", "a.b", "a%20b", "-", "with:colon", "1"]
 QUERIES = ["", "", "?", "?q", "?a=b&c=d/../e", "?x?y"]
@@ -49,9 +49,12 @@ def tail(draw: random.Random) -> str:
     return draw.choice(QUERIES) + draw.choice(FRAGMENTS)
 
 
+def by_host(draw: random.Random) -> str:
+    return "//" + draw.choice(HOSTS) + draw.choice(PORTS) + "/" + draw.choice(["", path(draw)]) + tail(draw)
+
+
 def absolute(draw: random.Random) -> str:
-    head = draw.choice(SCHEMES) + draw.choice(HOSTS) + draw.choice(PORTS)
-    return head + "/" + draw.choice(["", path(draw)]) + tail(draw)
+    return draw.choice(SCHEMES) + by_host(draw)
 
 
 def link(draw: random.Random) -> str:
@@ -66,7 +69,7 @@ def link(draw: random.Random) -> str:
     if kind == 3:
         return draw.choice(QUERIES) + draw.choice(FRAGMENTS)
     if kind == 4:
-        return "//" + draw.choice(HOSTS) + "/" + path(draw)
+        return by_host(draw)
     return absolute(draw)
 
 

@@ -9,5 +9,6 @@ pub mod MarkLemmas
 pub mod PlainLemmas
 pub mod SpelledLemmas
 pub mod PlainLinks
+pub mod HostLinks
 pub mod BaseLemmas
 pub mod LaneLemmas

@@ -57,7 +57,7 @@ unstripped xs all =
     filter_all _ xs (All-weaker Visible (Passes (λ b. not (is_tab_or_new_line b))) (λ b above. grind (arith, nat_tests)) xs all)
 
 -- the whole text is left
-uncut : (text : List ℕ) → All (Passes is_kept) text → split_once 35 (strip_tabs_and_new_lines (trim_c0_control_and_space text)) ≡ (text, None)
+pub uncut : (text : List ℕ) → All (Passes is_kept) text → split_once 35 (strip_tabs_and_new_lines (trim_c0_control_and_space text)) ≡ (text, None)
 uncut text kept =
     let visible = All-weaker (Passes is_kept) Visible visible_byte text kept in
     ap (λ t. split_once 35 (strip_tabs_and_new_lines t)) (untrimmed text visible)
@@ -68,7 +68,7 @@ abbrev Split : Type 0
 Split = List ℕ × Option (List ℕ)
 
 -- what the parser makes of a kept text with no scheme
-parse_url-kept : (base : Parts) (text body : List ℕ) (query : Option (List ℕ)) → All (Passes is_kept) text → split_once 63 text ≡ (body, query) → split_scheme body ≡ None
+pub parse_url-kept : (base : Parts) (text body : List ℕ) (query : Option (List ℕ)) → All (Passes is_kept) text → split_once 63 text ≡ (body, query) → split_scheme body ≡ None
     → parse_url (Some base) text ≡ parse_without_scheme (Some base) body query None
 unfolding parse_url
 parse_url-kept base text body query kept split none =
@@ -99,7 +99,7 @@ parse_url-path base text body path query web kept split none some own relative =
 -- ---- `/path`
 
 -- no scheme ends in front of a slash
-rooted_scheme : (more : List ℕ) → split_scheme (47 ∷ more) ≡ None
+pub rooted_scheme : (more : List ℕ) → split_scheme (47 ∷ more) ≡ None
 rooted_scheme more =
     no_scheme 47 (47 ∷ more) (record { rest = more; is = refl; all = λ n d inside. inl refl })
 

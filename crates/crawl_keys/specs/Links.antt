@@ -1,12 +1,20 @@
 -- Links that are resolved without a parse.
-use Rattle.std.specs.Prelude.{◌≡◌, ◌+◌, ◌-◌, ℕ, zero, suc, Bool, true, ◌&&◌, ◌||◌, ◌==◌, nat_lt, List, [], ◌∷◌, length, slice_index, slice_range, ⊤}
+use Rattle.std.specs.Prelude.{◌≡◌, ◌≤◌, ◌+◌, ◌-◌, ℕ, zero, suc, Bool, true, ◌&&◌, ◌||◌, ◌==◌, nat_lt, List, [], ◌∷◌, length, slice_index, slice_range, ⊤}
 use Rattle.url.specs.Ascii.{dot, number_sign, question_mark, slash}
 use Rattle.url.specs.Path.{without_last_segment}
 use Rattle.crawl_keys.specs.declared.plain.PlainLink.{PlainLink}
-use Rattle.crawl_keys.specs.declared.plain.PlainLink.TheVariants.{Absolute, Rooted, Query, Same, Other}
+use Rattle.crawl_keys.specs.declared.plain.PlainLink.TheVariants.{Absolute, ByHost, Rooted, Query, Same, Other}
 use Rattle.crawl_keys.specs.Folders.{is_of_folder}
-use Rattle.crawl_keys.specs.Plain.{first_is_slash, is_plain}
+use Rattle.crawl_keys.specs.Plain.{first_is_slash, host_len, is_plain, is_plain_host}
 use Rattle.crawl_keys.specs.Spelled.{IsSpelled}
+
+-- two slashes, and a plain host that is so long, with a path and a query
+pub record IsByHost (text : List ℕ) (len : ℕ) : Type 0 where
+  pub rest : List ℕ
+  pub is : text ≡ slash ∷ slash ∷ rest
+  pub plain : is_plain_host rest ≡ true
+  pub host : len ≡ host_len rest
+  pub within : len ≤ length rest
 
 -- a path that begins with one slash, and a query
 abbrev pub is_rooted : List ℕ → Bool
@@ -45,6 +53,7 @@ is_same (b ∷ text) = b == number_sign
 -- the text is a link of this kind
 abbrev pub IsLink : List ℕ → PlainLink → Type 0
 IsLink text (Absolute host) = IsSpelled text host.start host.end
+IsLink text (ByHost len) = IsByHost text len
 IsLink text Rooted = is_rooted text ≡ true
 IsLink text Query = is_query text ≡ true
 IsLink text Same = is_same text ≡ true

@@ -1,9 +1,10 @@
 //! A page whose links are resolved.
 ghost use Rattle.std.specs.Prelude.{◌≡◌, ◌≤◌, ◌+◌, ℕ, List, Ok, Some, length, true, IfSome};
-ghost use Rattle.crawl_keys.specs.Bases.{IsBase};
+ghost use Rattle.crawl_keys.specs.Bases.{IsBase, IsSchemeOf};
+ghost use Rattle.crawl_keys.specs.CanonicalText.{IsCanonical};
 ghost use Rattle.crawl_keys.specs.CanonicalText as spec;
 ghost use Rattle.crawl_keys.specs.Folders.{is_of_folder};
-ghost use Rattle.crawl_keys.specs.Links.{IsInFolder, is_query, is_rooted, is_same};
+ghost use Rattle.crawl_keys.specs.Links.{IsByHost, IsInFolder, is_query, is_rooted, is_same};
 ghost use Rattle.crawl_keys.specs.Outcome.{Gives};
 ghost use Rattle.crawl_keys.specs.Spelled.{IsSpelled};
 ghost use Rattle.url.specs.Parser.{parse_url};
@@ -105,6 +106,7 @@ impl Base {
     {
         match plain_link(text) {
             PlainLink::Absolute(host) => Some(self.absolute(alloc, text, host)),
+            PlainLink::ByHost(len) => Some(self.by_host(alloc, text, len)),
             PlainLink::Rooted => Some(self.rooted(alloc, text)),
             PlainLink::Query => Some(self.query(alloc, text)),
             PlainLink::Same => Some(self.same(text)),
@@ -134,6 +136,32 @@ impl Base {
         // For the proof: the page's URL has a text that parses.
         let _ = self.url.as_str();
         CanonUrl::join(alloc, text, "", host)
+    }
+
+    /// The canonical URL of a link that stands behind the page's scheme, with a host that is so long.
+    fn by_host(&self, alloc: Global, text: &str, len: usize) -> Result<CanonUrl, KeyError>
+        requires { IsByHost text.now len }
+        ensures { Gives KeyError.NoMemory (λ url. url) result (spec.resolve self.now text.now) }
+    {
+        let scheme = self.scheme();
+        let start = scheme.len() + 2;
+        let host = HostPlace {
+            start,
+            end: start + len,
+        };
+        CanonUrl::join(alloc, scheme, text, host)
+    }
+
+    /// The page's scheme, with its colon.
+    fn scheme(&self) -> &'static str
+        ensures value { IsSchemeOf self.now result.now }
+        ensures canonical { IsCanonical self.now }
+        ensures short { length result.now ≤ 6 }
+    {
+        match self.url.as_str().as_bytes() {
+            [_, _, _, _, b's', ..] => "https:",
+            _ => "http:",
+        }
     }
 
     /// The canonical URL of a link that stands behind the page's root.
