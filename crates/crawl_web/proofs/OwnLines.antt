@@ -1,7 +1,6 @@
 -- The lines under a page, cut where the next page begins.
-use Rattle.std.proofs.Common.{◌≡◌, ◌⊎◌, inl, inr, Ok, ℕ, ◌+◌, ◌-◌, ◌<◌, ◌≤◌, ◌==◌, Bool, true, false, ◌||◌, not, List, [], ◌∷◌, ◌++◌, length, take, get_or, Option, Some, None, is_some, refl, sym, ap, subst, ◌∙◌, arith, append_assoc, append-nil, length-append}
+use Rattle.std.proofs.Common.{◌≡◌, ◌⊎◌, inl, inr, Ok, ℕ, ◌+◌, ◌-◌, ◌<◌, ◌≤◌, ◌==◌, Bool, true, false, not, List, [], ◌∷◌, ◌++◌, length, take, get_or, Option, Some, None, is_some, refl, sym, ap, subst, ◌∙◌, arith, append_assoc, append-nil, length-append}
 use Rattle.std.specs.Bool.{if◌then◌else◌}
-use Rattle.std.specs.List.{list_any}
 use Rattle.std.specs.Option.{option_map, option_or, option_map_or}
 use Rattle.std.specs.Str.{bytes_eq, IsUtf8, IsCharBoundary}
 use Rattle.std.specs.Str.Lines.{lines}
@@ -15,12 +14,11 @@ use Rattle.crawl_web.specs.KnownPages.{KnownPages, has_some, known_page, kept_be
 use Rattle.crawl_web.specs.SavedWeb.{lines_behind, put_link, put_moved, link_texts, moved_text, page_behind, page_with as page_of_texts, page_of, up_to_page}
 use Rattle.crawl_web.specs.WebChecks.{line_fault}
 use Rattle.crawl_web.specs.WebFaults.{checked}
-use Rattle.crawl_web.specs.WebLines.{line_of, says_page, is_page, is_moved_line, page_url}
+use Rattle.crawl_web.specs.WebLines.{line_of, says_page, is_page, page_url}
 use Rattle.crawl_web.specs.declared.saved_web.add.Above.{Above}
 use Rattle.crawl_web.specs.declared.saved_web.line.Line.{Line}
 use Rattle.crawl_web.specs.declared.saved_web.line.Line.TheVariants as says
-use Rattle.crawl_web.proofs.FirstVersion.{text_nowhere}
-use Rattle.crawl_web.proofs.ReadWeb.{ReadTo, page_with-push, any_more, read_more}
+use Rattle.crawl_web.proofs.ReadWeb.{ReadTo, page_with-push, read_more}
 use Rattle.crawl_web.proofs.Unmixed.{up_to_page-page, up_to_page-other}
 
 -- ---- what stands under the last page, as far as it was read
@@ -223,7 +221,6 @@ pub record ReadPages (text rest start : List ℕ) (number : ℕ) (above : Above)
   pub read : ReadTo text rest number above pages
   pub own : List (List ℕ)
   pub cut : IsCut start rest own
-  pub moved : above.moved ≡ list_any is_moved_line own
   pub last : LastBehind pages start
   pub found : AllFound text rest pages
 
@@ -232,7 +229,6 @@ read_none text = record {
   read = record { earlier = []; cut = refl; numbered = refl; sound = tt; second = refl; link = refl; moved = refl; some_page = refl; known = λ url. refl };
   own = [];
   cut = cut_none text;
-  moved = refl;
   last = λ front page is. absurd (omega (arith, ap length is, length-append front (page ∷ [])));
   found = λ url. refl;
 }
@@ -266,7 +262,6 @@ reads_page text rest start number above old mid line more after new is e first p
       read = read_more text rest number above mid line more more after new first passes adds page follows (read_ended text rest number above old mid e k.read);
       own = [];
       cut = cut_none more;
-      moved = follows.moved ∙ ap (λ b. if b then false else above.moved || is_moved_line line) is;
       last = last_put mid new (page_url line) more (sym page ∙ is) adds;
       found = found_more text rest mid line more new first adds (found_ended text rest old mid e k.found);
     }
@@ -278,9 +273,6 @@ reads_other text rest start number above old line more after new is first ends s
       read = read_more text rest number above old line more more after new first passes adds page follows k.read;
       own = k.own ++ line ∷ [];
       cut = cut_more start rest line more k.own first ends (omega (arith, shorter)) k.cut;
-      moved =
-          follows.moved ∙ ap (λ b. if b then false else above.moved || is_moved_line line) is
-          ∙ ap (λ b. b || is_moved_line line) k.moved ∙ any_more is_moved_line (is_moved_line line) k.own line refl;
       last = subst (λ ps. LastBehind ps start) (sym same) k.last;
       found = found_more text rest old line more new first adds k.found;
     }
@@ -298,10 +290,6 @@ reads_on text rest start number above old mid line more next after new e first e
         (reads_other text rest start number above old line more after new is first ends shorter
         (subst (λ ps. checked (line_fault (kept_before (number + 1) ps above) line) ≡ Ok tt) same passes)
         (subst (λ ps. Adds ps new (page_url line) more) same adds) page follows k)
-
--- own lines without a moved line have none
-pub none_moved : (start rest : List ℕ) (own : List (List ℕ)) (moved : Bool) → IsCut start rest own → moved ≡ list_any is_moved_line own → moved ≡ false → moved_text (lines (take (length start - length rest) start)) ≡ None
-none_moved start rest own moved k is off = ap moved_text (own_lines start rest own k) ∙ text_nowhere own (sym is ∙ off)
 
 -- the own lines are those up to the next page, where that is the next line, or where nothing is left
 pub own_up_page : (start rest line more : List ℕ) (own : List (List ℕ)) → IsCut start rest own → lines rest ≡ line ∷ lines more → is_page line ≡ true → up_to_page (lines start) ≡ up_to_page own

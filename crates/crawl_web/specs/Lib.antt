@@ -5,6 +5,7 @@ pub mod LineEnds
 pub mod Lines
 pub mod OwnLines
 pub mod PageLists
+pub mod PageUrls
 pub mod Pages
 pub mod Parts
 pub mod ReportText

@@ -2,10 +2,8 @@
 ghost use Rattle.std.specs.Prelude.{◌≡◌, ◌∷◌, ℕ, List, Ok, Err, IfOk, IfErr, IsUtf8};
 ghost use Rattle.crawl_keys.specs.Outcome.{Gives};
 ghost use Rattle.std.specs.Str.Lines.{lines};
-ghost use Rattle.std.specs.List.{list_any};
 ghost use Rattle.crawl_web.specs.OwnLines.{Ended, EndsBefore, IsCut, LastBehind};
 ghost use Rattle.crawl_web.specs.SavedWeb.{page_of, up_to_page};
-ghost use Rattle.crawl_web.specs.WebLines.{is_moved_line};
 ghost use Rattle.crawl_web.specs.KnownPages.{known_page, page_at};
 ghost use Rattle.crawl_web.specs.WebFaults.{IsSound, IsWebFault, IsWebRefusal};
 
@@ -19,6 +17,7 @@ mod line;
 mod link_cache;
 mod link_text;
 mod links;
+mod page_url;
 mod pages;
 
 use crate::fetch::{Fetch, FetchError};
@@ -26,7 +25,7 @@ use crate::lines::{first_line, first_text};
 use crate::page::Page;
 use crate::session::SessionFetch;
 use add::{Above, add_line, check_line};
-use crawl_keys::CanonUrl;
+use crawl_keys::{Base, CanonUrl};
 pub use error::WebError;
 use line::is_page;
 use link_cache::LinkCache;
@@ -89,7 +88,7 @@ fn pages_in(alloc: Global, text: &str) -> Result<Pages<'_>, WebError>
     let mut number: u64 = 0;
     let mut above = Above::nothing();
     while let Some((line, more)) = first_text(rest) {
-        start = next_start(&mut pages, start, rest, line, more, above.moved);
+        start = next_start(&mut pages, start, rest, line, more);
         rest = more;
         number += 1;
         above = add_line(alloc, &mut pages, number, above, line, more)?;
@@ -97,7 +96,7 @@ fn pages_in(alloc: Global, text: &str) -> Result<Pages<'_>, WebError>
     if number == 0 {
         return Err(WebError::BadHeader);
     }
-    end_page(&mut pages, start, rest, above.moved);
+    end_page(&mut pages, start, rest);
     Ok(pages)
 }
 
@@ -109,27 +108,26 @@ fn next_start<'a>(
     rest: &'a str,
     line: &str,
     more: &'a str,
-    moved: bool,
 ) -> &'a str
     requires last { LastBehind pages.old start.now }
     requires first { lines rest.now ≡ line.now ∷ lines more.now }
-    requires cut { (own : List (List ℕ)) × IsCut start.now rest.now own × (moved ≡ list_any is_moved_line own) }
+    requires cut { (own : List (List ℕ)) × IsCut start.now rest.now own }
     ensures { EndsBefore line.now pages.old pages.new start.now more.now result.now }
 {
     if !is_page(line) {
         return start;
     }
-    end_page(pages, start, rest, moved);
+    end_page(pages, start, rest);
     more
 }
 
 /// Ends the last page, if there is one, where the rest begins: its own lines are those before.
-fn end_page<'a>(pages: &mut Pages<'a>, start: &'a str, rest: &str, moved: bool)
+fn end_page<'a>(pages: &mut Pages<'a>, start: &'a str, rest: &str)
     requires last { LastBehind pages.old start.now }
-    requires cut { (own : List (List ℕ)) × IsCut start.now rest.now own × (moved ≡ list_any is_moved_line own) × (up_to_page (lines start.now) ≡ up_to_page own) }
+    requires cut { (own : List (List ℕ)) × IsCut start.now rest.now own × (up_to_page (lines start.now) ≡ up_to_page own) }
     ensures { Ended pages.old pages.new }
 {
-    pages.end_last(&start[..start.len() - rest.len()], moved);
+    pages.end_last(&start[..start.len() - rest.len()]);
 }
 
 /// The fault of bytes that are not UTF-8.
@@ -192,14 +190,19 @@ impl<'a> SessionFetch for SavedWeb<'a> {
         ensures refused { IfErr result (λ e. e ≡ FetchError.NoMemory) }
     {
         match self.pages.get(url) {
-            Some(page) => page_behind(
-                alloc,
-                session,
-                page.base()?,
-                page.behind(),
-                page.has_moved(),
-            ),
+            Some(page) => page_behind(alloc, session, base_of(alloc, url)?, page.behind()),
             None => Ok(Page::Missing),
         }
+    }
+}
+
+/// The base for the links of the page at this URL.
+fn base_of(alloc: Global, url: &CanonUrl) -> Result<Base, FetchError>
+    ensures base { IfOk result (λ base. base ≡ url.now) }
+    ensures refused { IfErr result (λ e. e ≡ FetchError.NoMemory) }
+{
+    match Base::new(alloc, url) {
+        Ok(base) => Ok(base),
+        Err(_) => Err(FetchError::NoMemory),
     }
 }

@@ -15,7 +15,7 @@ loop-line-init c = record {
 pub next_start-start-requires : goal.next_start-start-requires
 next_start-start-requires c =
     let k = c.loop-line.invariant.read in
-    record { last = k.last; first = c.in-Some.ensures.cut; cut = (k.own, k.cut, k.moved) }
+    record { last = k.last; first = c.in-Some.ensures.cut; cut = (k.own, k.cut) }
 
 pub loop-line-preserved : goal.loop-line-preserved
 loop-line-preserved c = record {
@@ -42,4 +42,4 @@ returns-clause-pages c =
 pub end_page-requires : goal.end_page-requires
 end_page-requires c =
     let k = c.loop-line.invariant.read in
-    record { last = k.last; cut = (k.own, k.cut, k.moved, own_up_all c.loop-line.start.now c.loop-line.rest.now k.own k.cut c.in_default.ensures.cut) }
+    record { last = k.last; cut = (k.own, k.cut, own_up_all c.loop-line.start.now c.loop-line.rest.now k.own k.cut c.in_default.ensures.cut) }

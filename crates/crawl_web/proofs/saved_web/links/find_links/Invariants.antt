@@ -6,7 +6,7 @@ use Rattle.std.specs.Option.{is_none}
 use Rattle.std.specs.Str.Lines.{lines}
 use Rattle.crawl_web.specs.KnownLinks.{AreLinks}
 use Rattle.crawl_web.specs.SavedWeb.{link_texts, link_url}
-use Rattle.crawl_web.proofs.saved_web.links.found_page.Given as goal
+use Rattle.crawl_web.proofs.saved_web.links.find_links.Given as goal
 
 abbrev pub invariant-loop-text : goal.invariant-loop-text
 invariant-loop-text l = record {

@@ -3,7 +3,7 @@ use Rattle.std.specs.List.{filter_map}
 use Rattle.std.specs.Str.Lines.{lines}
 use Rattle.crawl_web.specs.SavedWeb.{link_texts, link_url}
 use Rattle.crawl_web.proofs.PageLinks.{pushed_next}
-use Rattle.crawl_web.proofs.saved_web.links.found_page.Goals as goal
+use Rattle.crawl_web.proofs.saved_web.links.find_links.Goals as goal
 
 pub loop-text-preserved-in-Continue-branch-3 : goal.loop-text-preserved-in-Continue-branch-3
 loop-text-preserved-in-Continue-branch-3 c =
