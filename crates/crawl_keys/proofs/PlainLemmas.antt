@@ -4,6 +4,8 @@ use Rattle.std.specs.Prelude.{Option, is_some, unwrap_or}
 use Rattle.std.proofs.lemmas.Bool.{agree_below, agree_below_at, and_from, and_parts, cases_eq, cond-true, cond_both, eq-eqb, eqb-true, ne_eqb, true≢false}
 use Rattle.std.proofs.lemmas.Bool.Decides.{nat_tests}
 use Rattle.std.proofs.lemmas.List.Elements.{All-nil, All-cons, All-head, All-tail, All-weaker}
+use Rattle.std.specs.List.{after_first, before_first, position_or_len}
+use Rattle.std.proofs.lemmas.List.Sums.{passes_at_first, split_at_first}
 use Rattle.percent_encoding.specs.Percent.{IsKept}
 use Rattle.url.specs.declared.sets.TheConstants.{PATH, SPECIAL_QUERY}
 use Rattle.url.specs.declared.scheme.SchemeType.TheVariants.{SpecialNotFile}
@@ -182,6 +184,13 @@ splits last (b ∷ text) plain =
       kept = later.kept;
       whole = ap (λ l. b ∷ l) later.whole;
     }
+
+-- ---- a text that is cut at a byte
+
+pub cut_at : (s : ℕ) (text : List ℕ) → position_or_len (λ b. b == s) text < length text → text ≡ before_first (λ b. b == s) text ++ s ∷ after_first (λ b. b == s) text
+cut_at s text inside =
+    let here = eqb-true (get_or text (position_or_len (λ b. b == s) text) 0) s (passes_at_first (λ b. b == s) text 0 inside) in
+    split_at_first (λ b. b == s) text 0 inside ∙ ap (λ b. before_first (λ c. c == s) text ++ b ∷ after_first (λ c. c == s) text) here
 
 -- ---- the table of bytes
 

@@ -172,7 +172,7 @@ spelled_rooted base root text start end valid page rooted is first last =
 
 -- ---- `path`, and `../path`
 
-no_slashes : (kind : SchemeType) (body : List ℕ) → StopsAt (is_slash kind) body → leading_slashes kind body ≡ 0
+pub no_slashes : (kind : SchemeType) (body : List ℕ) → StopsAt (is_slash kind) body → leading_slashes kind body ≡ 0
 unfolding leading_slashes
 no_slashes kind [] stops = refl
 no_slashes kind (b ∷ body) stops = rw stops refl

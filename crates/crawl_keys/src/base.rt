@@ -10,6 +10,7 @@ ghost use Rattle.crawl_keys.specs.Spelled.{IsSpelled};
 ghost use Rattle.url.specs.Parser.{parse_url};
 
 use crate::folder::{folder_above, folder_len, has_no_scheme};
+use crate::opaque::is_opaque;
 use crate::parsed::Parsed;
 use crate::plain::{HostPlace, PlainLink, behind_ups, is_plain, len_before, plain_link};
 use crate::{CanonUrl, KeyError, before_fragment};
@@ -120,11 +121,11 @@ impl Base {
     {
         let front = before_fragment(text);
         if front.len() == text.len() {
-            return self.parsed(alloc, text);
+            return self.not_plain(alloc, text);
         }
         match self.known(alloc, front) {
             Some(answer) => answer,
-            None => self.parsed(alloc, front),
+            None => self.not_plain(alloc, front),
         }
     }
 
@@ -193,6 +194,18 @@ impl Base {
             return Some(self.in_folder(alloc, text, ups, rest));
         }
         None
+    }
+
+    /// The canonical URL of a link that is not plain and has no fragment to be cut.
+    fn not_plain(&self, alloc: Global, text: &str) -> Result<CanonUrl, KeyError>
+        ensures { Gives KeyError.NoMemory (λ url. url) result (spec.resolve self.now text.now) }
+    {
+        // For the proof: the page's URL has a text that parses.
+        let _ = self.url.as_str();
+        if is_opaque(text) {
+            return Err(KeyError::NotHttp);
+        }
+        self.parsed(alloc, text)
     }
 
     /// The canonical URL of a link that has to be parsed.

@@ -9,6 +9,7 @@ mod filter;
 mod folder;
 mod fragment;
 mod lanes;
+mod opaque;
 mod parsed;
 mod plain;
 mod read;
