@@ -69,8 +69,8 @@ def link(draw: random.Random) -> str:
     if kind == 1:
         return path(draw) + tail(draw)
     if kind == 2:
-        ups = "".join(draw.choice(["../", "../", "./"]) for _ in range(draw.randint(1, 4)))
-        return ups + draw.choice(["", path(draw)]) + tail(draw)
+        dots = "".join(draw.choice(["../", "../", "./", "a/../", "x-1.html/../"]) for _ in range(draw.randint(1, 4)))
+        return dots + draw.choice(["", path(draw)]) + tail(draw)
     if kind == 3:
         return draw.choice(QUERIES) + draw.choice(FRAGMENTS)
     if kind == 4:

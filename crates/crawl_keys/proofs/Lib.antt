@@ -13,3 +13,4 @@ pub mod HostLinks
 pub mod BaseLemmas
 pub mod LaneLemmas
 pub mod OpaqueLinks
+pub mod DotLinks

@@ -80,6 +80,30 @@ begins_segment b segment begins =
     let no_escape : (b == 37) ≡ false = grind (arith, nat_tests) in
     dots_none (b ∷ segment) (rw (no_dot, no_escape) refl)
 
+dots_none_of : (segment : List ℕ) → is_plain 47 segment ≡ true → dot_count segment ≡ 0
+dots_none_of [] plain = dots_none [] refl
+dots_none_of (b ∷ segment) plain = begins_segment b segment (behind_slash 47 b (and_parts _ _ plain).0 refl)
+
+whole_bytes : (segment : List ℕ) → All (Passes is_kept) segment → All (IsNot 47) segment → All (IsNoSlash SpecialNotFile) segment
+whole_bytes [] kept none = All-nil (IsNoSlash SpecialNotFile)
+whole_bytes (b ∷ segment) kept none =
+    All-cons (IsNoSlash SpecialNotFile) b segment (no_slash_byte b (All-head (Passes is_kept) b segment kept) (All-head (IsNot 47) b segment none))
+    (whole_bytes segment (All-tail (Passes is_kept) b segment kept) (All-tail (IsNot 47) b segment none))
+
+path_bytes : (segment : List ℕ) → All (Passes is_kept) segment → All (IsNot 63) segment → All (IsKept PATH) segment
+path_bytes [] kept none = All-nil (IsKept PATH)
+path_bytes (b ∷ segment) kept none =
+    All-cons (IsKept PATH) b segment (path_byte b (All-head (Passes is_kept) b segment kept) (All-head (IsNot 63) b segment none))
+    (path_bytes segment (All-tail (Passes is_kept) b segment kept) (All-tail (IsNot 63) b segment none))
+
+-- a plain text with no slash and no query is a segment
+pub plain_segment : (segment : List ℕ) → is_plain 47 segment ≡ true → All (IsNot 63) segment → All (IsNot 47) segment → IsSegment SpecialNotFile segment
+plain_segment segment plain no_query no_slash = record {
+  escaped = path_bytes segment (all_kept 47 segment plain) no_query;
+  whole = whole_bytes segment (all_kept 47 segment plain) no_slash;
+  resolved = dots_none_of segment plain;
+}
+
 -- the text goes on with the segment that this byte stands in or begins, and has whole segments behind it
 pub record IsRun (last : ℕ) (text : List ℕ) : Type 0 where
   pub first : List ℕ

@@ -9,6 +9,7 @@ ghost use Rattle.crawl_keys.specs.Outcome.{Gives};
 ghost use Rattle.crawl_keys.specs.Spelled.{IsSpelled};
 ghost use Rattle.url.specs.Parser.{parse_url};
 
+use crate::dots::behind_dots;
 use crate::folder::{folder_above, folder_len, has_no_scheme};
 use crate::opaque::is_opaque;
 use crate::parsed::Parsed;
@@ -190,7 +191,18 @@ impl Base {
         ensures { IfSome result (λ answer. Gives KeyError.NoMemory (λ url. url) answer (spec.resolve self.now text.now)) }
     {
         let (ups, rest) = behind_ups(text);
-        if is_plain(b'/', rest.as_bytes()) && has_no_scheme(ups, text) {
+        if is_plain(b'/', rest.as_bytes()) && has_no_scheme(text) {
+            return Some(self.in_folder(alloc, text, ups, rest));
+        }
+        None
+    }
+
+    /// What a link leads to that begins with dot segments and segments that they take back. `None` says nothing.
+    fn dotted(&self, alloc: Global, text: &str) -> Option<Result<CanonUrl, KeyError>>
+        ensures { IfSome result (λ answer. Gives KeyError.NoMemory (λ url. url) answer (spec.resolve self.now text.now)) }
+    {
+        let (ups, rest) = behind_dots(text);
+        if is_plain(b'/', rest.as_bytes()) && has_no_scheme(text) {
             return Some(self.in_folder(alloc, text, ups, rest));
         }
         None
@@ -200,6 +212,9 @@ impl Base {
     fn not_plain(&self, alloc: Global, text: &str) -> Result<CanonUrl, KeyError>
         ensures { Gives KeyError.NoMemory (λ url. url) result (spec.resolve self.now text.now) }
     {
+        if let Some(answer) = self.dotted(alloc, text) {
+            return answer;
+        }
         // For the proof: the page's URL has a text that parses.
         let _ = self.url.as_str();
         if is_opaque(text) {
@@ -218,7 +233,7 @@ impl Base {
         }
     }
 
-    /// The canonical URL of a link that is `../` so many times and this rest.
+    /// The canonical URL of a link to the folder so many above the page's, and from there to this rest.
     fn in_folder(
         &self,
         alloc: Global,

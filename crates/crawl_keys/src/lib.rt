@@ -4,6 +4,7 @@
 mod assignment;
 mod base;
 mod canon_url;
+mod dots;
 mod error;
 mod filter;
 mod folder;
