@@ -35,6 +35,7 @@ PAGES = [
 
 HOSTS = ["a.test", "www.b-1.test", "a_b.c.test", "x.y9", "localhost"]
 SCHEMES = ["http:", "https:"]
+OTHER_SCHEMES = ["mailto", "javascript", "tel", "data", "a", "ftp", "ws", "wss", "file", "http", "https", "httpx", "x-y"]
 PORTS = ["", "", "", ":8080", ":80", ":443", ":1", ":65535"]
 SEGMENTS = ["a", "page-1.html", "~user", "x..", "a.b", "a%20b", "-", "with:colon", "1"]
 QUERIES = ["", "", "?", "?q", "?a=b&c=d/../e", "?x?y"]
@@ -57,19 +58,25 @@ def absolute(draw: random.Random) -> str:
     return draw.choice(SCHEMES) + by_host(draw)
 
 
+def opaque(draw: random.Random) -> str:
+    return draw.choice(OTHER_SCHEMES) + ":" + path(draw) + tail(draw)
+
+
 def link(draw: random.Random) -> str:
-    kind = draw.randrange(6)
+    kind = draw.randrange(7)
     if kind == 0:
         return "/" + path(draw) + tail(draw)
     if kind == 1:
         return path(draw) + tail(draw)
     if kind == 2:
-        ups = "".join(draw.choice(["../", "../", "./"]) for _ in range(draw.randint(1, 4)))
-        return ups + draw.choice(["", path(draw)]) + tail(draw)
+        dots = "".join(draw.choice(["../", "../", "./", "a/../", "x-1.html/../"]) for _ in range(draw.randint(1, 4)))
+        return dots + draw.choice(["", path(draw)]) + tail(draw)
     if kind == 3:
         return draw.choice(QUERIES) + draw.choice(FRAGMENTS)
     if kind == 4:
         return by_host(draw)
+    if kind == 5:
+        return opaque(draw)
     return absolute(draw)
 
 

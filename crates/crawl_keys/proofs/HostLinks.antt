@@ -70,14 +70,14 @@ http_scheme text k other url parses =
 abbrev Split : Type 0
 Split = List ℕ × Option (List ℕ)
 
-split_behind : (front rest : List ℕ) → All (IsNot 63) front → split_once 63 (front ++ rest) ≡ (front ++ (split_once 63 rest).0, (split_once 63 rest).1)
+pub split_behind : (front rest : List ℕ) → All (IsNot 63) front → split_once 63 (front ++ rest) ≡ (front ++ (split_once 63 rest).0, (split_once 63 rest).1)
 unfolding split_once
 split_behind [] rest none = refl
 split_behind (b ∷ front) rest none =
     cond-false _ _ _ (ne_eqb b 63 (All-head (IsNot 63) b front none)) ∙ ap (λ (r : Split). (b ∷ r.0, r.1)) (split_behind front rest (All-tail (IsNot 63) b front none))
 
 -- what the parser makes of a kept text with a scheme
-parse_url-scheme : (base : Option Parts) (scheme rest body : List ℕ) (query : Option (List ℕ)) → IsScheme scheme → All (Passes is_kept) (scheme ++ 58 ∷ rest)
+pub parse_url-scheme : (base : Option Parts) (scheme rest body : List ℕ) (query : Option (List ℕ)) → IsScheme scheme → All (Passes is_kept) (scheme ++ 58 ∷ rest)
     → split_once 63 (scheme ++ 58 ∷ rest) ≡ (scheme ++ 58 ∷ body, query) → parse_url base (scheme ++ 58 ∷ rest) ≡ parse_parts scheme (base_for_scheme base scheme) body query None
 unfolding parse_url
 parse_url-scheme base scheme rest body query valid kept split =

@@ -12,3 +12,5 @@ pub mod PlainLinks
 pub mod HostLinks
 pub mod BaseLemmas
 pub mod LaneLemmas
+pub mod OpaqueLinks
+pub mod DotLinks

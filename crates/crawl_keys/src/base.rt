@@ -9,7 +9,9 @@ ghost use Rattle.crawl_keys.specs.Outcome.{Gives};
 ghost use Rattle.crawl_keys.specs.Spelled.{IsSpelled};
 ghost use Rattle.url.specs.Parser.{parse_url};
 
+use crate::dots::behind_dots;
 use crate::folder::{folder_above, folder_len, has_no_scheme};
+use crate::opaque::is_opaque;
 use crate::parsed::Parsed;
 use crate::plain::{HostPlace, PlainLink, behind_ups, is_plain, len_before, plain_link};
 use crate::{CanonUrl, KeyError, before_fragment};
@@ -120,11 +122,11 @@ impl Base {
     {
         let front = before_fragment(text);
         if front.len() == text.len() {
-            return self.parsed(alloc, text);
+            return self.not_plain(alloc, text);
         }
         match self.known(alloc, front) {
             Some(answer) => answer,
-            None => self.parsed(alloc, front),
+            None => self.not_plain(alloc, front),
         }
     }
 
@@ -189,10 +191,36 @@ impl Base {
         ensures { IfSome result (λ answer. Gives KeyError.NoMemory (λ url. url) answer (spec.resolve self.now text.now)) }
     {
         let (ups, rest) = behind_ups(text);
-        if is_plain(b'/', rest.as_bytes()) && has_no_scheme(ups, text) {
+        if is_plain(b'/', rest.as_bytes()) && has_no_scheme(text) {
             return Some(self.in_folder(alloc, text, ups, rest));
         }
         None
+    }
+
+    /// What a link leads to that begins with dot segments and segments that they take back. `None` says nothing.
+    fn dotted(&self, alloc: Global, text: &str) -> Option<Result<CanonUrl, KeyError>>
+        ensures { IfSome result (λ answer. Gives KeyError.NoMemory (λ url. url) answer (spec.resolve self.now text.now)) }
+    {
+        let (ups, rest) = behind_dots(text);
+        if is_plain(b'/', rest.as_bytes()) && has_no_scheme(text) {
+            return Some(self.in_folder(alloc, text, ups, rest));
+        }
+        None
+    }
+
+    /// The canonical URL of a link that is not plain and has no fragment to be cut.
+    fn not_plain(&self, alloc: Global, text: &str) -> Result<CanonUrl, KeyError>
+        ensures { Gives KeyError.NoMemory (λ url. url) result (spec.resolve self.now text.now) }
+    {
+        if let Some(answer) = self.dotted(alloc, text) {
+            return answer;
+        }
+        // For the proof: the page's URL has a text that parses.
+        let _ = self.url.as_str();
+        if is_opaque(text) {
+            return Err(KeyError::NotHttp);
+        }
+        self.parsed(alloc, text)
     }
 
     /// The canonical URL of a link that has to be parsed.
@@ -205,7 +233,7 @@ impl Base {
         }
     }
 
-    /// The canonical URL of a link that is `../` so many times and this rest.
+    /// The canonical URL of a link to the folder so many above the page's, and from there to this rest.
     fn in_folder(
         &self,
         alloc: Global,

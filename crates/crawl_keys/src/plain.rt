@@ -135,7 +135,8 @@ pub fn len_before(bytes: &[u8], mark: u8) -> usize
     bytes.len()
 }
 
-fn begins_path(tail: &[u8]) -> bool
+/// Whether the bytes begin with a slash.
+pub fn begins_path(tail: &[u8]) -> bool
     ensures { result ≡ (spec.first_is_slash tail.now) }
 {
     matches!(tail, [b'/', ..])
