@@ -8,6 +8,7 @@ pub mod PageLists
 pub mod PageUrls
 pub mod Pages
 pub mod Parts
+pub mod Reading
 pub mod ReportText
 pub mod SavedWeb
 pub mod WebChecks

@@ -158,7 +158,7 @@ fn add_text<'a>(
 }
 
 /// Whether the first line says version 2.
-fn header(text: &str) -> Result<bool, WebError>
+pub fn header(text: &str) -> Result<bool, WebError>
     ensures { Gives WebError.NoMemory (λ second. second) result (header_of text.now) }
 {
     match text {

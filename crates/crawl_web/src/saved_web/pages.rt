@@ -1,5 +1,5 @@
 //! The pages of a saved web, found by their URLs.
-ghost use Rattle.std.specs.Prelude.{◌≡◌, ◌==◌, ◌++◌, ◌∷◌, [], List, not, length, IfOk, IfSome, if◌then◌else◌};
+ghost use Rattle.std.specs.Prelude.{◌≡◌, ◌==◌, ◌++◌, ◌∷◌, [], ℕ, List, true, false, not, length, IfOk, IfSome, if◌then◌else◌};
 ghost use Rattle.std.specs.Option.{option_map};
 ghost use Rattle.crawl_web.specs.PageLists.{PageRead, page_with, has};
 
@@ -88,4 +88,31 @@ impl<'a> Pages<'a> {
             None => None,
         }
     }
+    /// Whether a page of each has one URL.
+    pub fn shares_url(&self, others: &Pages<'_>) -> bool
+        ensures { result ≡ false → (url : List ℕ) → has others.now url ≡ true → has self.now url ≡ false }
+    {
+        shares_url(self, &others.list)
+    }
+
+    /// Whether there is a page with the URL of this one.
+    #[tactic(auto, using(crate::proofs::PageIndex::has_index_there))]
+    fn has(&self, page: &KnownPage<'_>) -> bool
+        ensures { result ≡ has self.now page.now.url }
+    {
+        let found = self.index.find(&self.list, page);
+        found.is_some()
+    }
+}
+
+/// Whether one of the pages in the list has the URL of a page.
+fn shares_url(pages: &Pages<'_>, list: &[KnownPage<'_>]) -> bool
+    ensures { result ≡ false → (url : List ℕ) → has list.now url ≡ true → has pages.now url ≡ false }
+{
+    for page in list {
+        if pages.has(page) {
+            return true;
+        }
+    }
+    false
 }

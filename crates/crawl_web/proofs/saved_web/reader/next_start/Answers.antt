@@ -1,7 +1,7 @@
 use Rattle.std.proofs.Common.{rules, ◌≡◌, true}
 use Rattle.crawl_web.specs.WebLines.{is_page}
 use Rattle.crawl_web.proofs.OwnLines.{own_up_page}
-use Rattle.crawl_web.proofs.saved_web.next_start.Goals as goal
+use Rattle.crawl_web.proofs.saved_web.reader.next_start.Goals as goal
 
 pub end_page-requires-clause-cut : goal.end_page-requires-clause-cut
 end_page-requires-clause-cut c =

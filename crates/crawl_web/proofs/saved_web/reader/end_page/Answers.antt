@@ -2,7 +2,7 @@ use Rattle.std.proofs.Common.{rules, ◌≡◌, ◌-◌, length, take, ap, sym, 
 use Rattle.std.specs.Str.Lines.{lines}
 use Rattle.crawl_web.specs.SavedWeb.{up_to_page}
 use Rattle.crawl_web.proofs.OwnLines.{cut_boundary, own_lines, ended}
-use Rattle.crawl_web.proofs.saved_web.end_page.Goals as goal
+use Rattle.crawl_web.proofs.saved_web.reader.end_page.Goals as goal
 
 pub range-requires-clause-end_boundary : goal.range-requires-clause-end_boundary
 range-requires-clause-end_boundary c =
