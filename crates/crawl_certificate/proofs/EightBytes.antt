@@ -22,11 +22,11 @@ rises (suc count) s t i j a b small less =
     let byte : slice_index s i < 256 = small.0 in
     rises count s t (suc i) (suc j) (a * 256 + slice_index s i) (b * 256 + slice_index t j) small.1 (omega arith)
 
--- the bytes of two texts are the same from a place on, up to one where that of the first is less
+-- the bytes of two texts are the same from an index on, up to one where that of the first is less
 record FirstLess (s t : List ℕ) (from : ℕ) : Type 0 where
-  place : ℕ
-  alike : (k : ℕ) → from ≤ k → k < place → slice_index s k ≡ slice_index t k
-  less : slice_index s place < slice_index t place
+  index : ℕ
+  alike : (k : ℕ) → from ≤ k → k < index → slice_index s k ≡ slice_index t k
+  less : slice_index s index < slice_index t index
 
 less_somewhere : (count : ℕ) (s t : List ℕ) (from n : ℕ) → Small (bytes_from s from count) → Small (bytes_from t from count)
     → after n (bytes_from s from count) < after n (bytes_from t from count) → FirstLess s t from
@@ -36,14 +36,14 @@ less_somewhere (suc count) s t from n small_s small_t less = elim (cases_order (
       let rest = less_somewhere count s t (suc from) (n * 256 + slice_index s from) small_s.1 small_t.1
       (subst (λ v. after (n * 256 + slice_index s from) (bytes_from s (suc from) count) < after (n * 256 + v) (bytes_from t (suc from) count)) (sym same) less) in
       record {
-        place = rest.place;
+        index = rest.index;
         alike = λ k least below. elim (cases_eq k from) [
           | inl here ↦ ap (slice_index s) here ∙ same ∙ ap (slice_index t) (sym here)
           | inr later ↦ rest.alike k (above_from k from least later) below
         ];
         less = rest.less;
       }
-  | inr (inl below) ↦ record { place = from; alike = λ k least before. absurd (omega arith); less = below }
+  | inr (inl below) ↦ record { index = from; alike = λ k least before. absurd (omega arith); less = below }
   | inr (inr above) ↦
       let byte : slice_index t from < 256 = small_t.0 in
       let more = rises count t s (suc from) (suc from) (n * 256 + slice_index t from) (n * 256 + slice_index s from) small_t.1 (omega arith) in
@@ -87,22 +87,22 @@ is_less x y less = grind (arith, nat_tests)
 is_equal : (x y : ℕ) → x ≡ y → nat_cmp x y ≡ Equal
 is_equal x y same = grind (arith, nat_tests)
 
-less_text : (place : ℕ) (a b : List ℕ) → BeginAlike place a b → slice_index a place < slice_index b place → slice_cmp nat_cmp a b ≡ Less
+less_text : (index : ℕ) (a b : List ℕ) → BeginAlike index a b → slice_index a index < slice_index b index → slice_cmp nat_cmp a b ≡ Less
 less_text zero [] [] alike less = absurd (omega arith)
 less_text zero [] (y ∷ b) alike less = refl
 less_text zero (x ∷ a) [] alike less = absurd (omega arith)
 less_text zero (x ∷ a) (y ∷ b) alike less = ap (λ o. ordering_then o (slice_cmp nat_cmp a b)) (is_less x y less)
-less_text (suc place) [] [] alike less = absurd (omega arith)
-less_text (suc place) [] (y ∷ b) alike less = refl
-less_text (suc place) (x ∷ a) [] alike less = absurd (omega arith)
-less_text (suc place) (x ∷ a) (y ∷ b) alike less =
+less_text (suc index) [] [] alike less = absurd (omega arith)
+less_text (suc index) [] (y ∷ b) alike less = refl
+less_text (suc index) (x ∷ a) [] alike less = absurd (omega arith)
+less_text (suc index) (x ∷ a) (y ∷ b) alike less =
     ap (λ o. ordering_then o (slice_cmp nat_cmp a b)) (is_equal x y (alike zero (omega arith)))
-    ∙ less_text place a b (λ k below. alike (suc k) (omega arith)) less
+    ∙ less_text index a b (λ k below. alike (suc k) (omega arith)) less
 
 pub less_number : (a b : List ℕ) (from m n : ℕ) → BeginAlike from a b → IsEight a from m → IsEight b from n → m < n → is_lt (slice_cmp nat_cmp b a) ≡ false
 less_number a b from m n alike one other less =
     let first = less_somewhere 8 a b from 0 one.bytes other.bytes (omega (arith, one.value, other.value, less)) in
-    let is = less_text first.place a b (λ k below. elim (cases_lt k from) [ inl early ↦ alike k early | inr late ↦ first.alike k late below ]) first.less in
+    let is = less_text first.index a b (λ k below. elim (cases_lt k from) [ inl early ↦ alike k early | inr late ↦ first.alike k late below ]) first.less in
     ap is_lt (nat_list_cmp_total.antisymm b a ∙ ap ordering_reverse is)
 
 pub equal_number : (a b : List ℕ) (from m n : ℕ) → BeginAlike from a b → IsEight a from m → IsEight b from n → m ≡ n → BeginAlike (from + 8) a b

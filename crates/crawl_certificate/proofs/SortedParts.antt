@@ -1,5 +1,5 @@
 -- Results with their numbers: what begins alike, and what is sorted in two parts.
-use Rattle.std.proofs.Common.{◌≡◌, ℕ, zero, suc, ◌+◌, ◌-◌, ◌*◌, ◌<◌, ◌≤◌, Bool, false, List, [], ◌∷◌, ◌++◌, length, map, take, drop, get_or, set, refl, sym, ap, subst, ◌∙◌, arith, inl, inr}
+use Rattle.std.proofs.Common.{◌≡◌, ℕ, zero, suc, ◌+◌, ◌-◌, ◌*◌, ◌<◌, ◌≤◌, Bool, false, List, [], ◌∷◌, ◌++◌, length, take, drop, get_or, set, refl, sym, ap, subst, ◌∙◌, arith, inl, inr}
 use Rattle.std.specs.List.{All, Contains}
 use Rattle.std.specs.List.Sorted.{IsPermutation, IsNonDecreasingBy, IsSortedBy, IsSortedByKey}
 use Rattle.std.specs.Cmp.Lexicographic.{slice_cmp}
@@ -71,14 +71,18 @@ prepared_back from levels index pages back whole is = subst (ArePrepared from le
   rising = IsNonDecreasingBy-drop (λ (p : Numbered). p.number) index pages whole.rising;
 })
 
-pub alike_further : (from levels : ℕ) (pages : List Numbered) → ArePrepared from levels pages → AllEqual pages → AllBeginAlike (from + 8) (pages_of pages)
-alike_further from levels pages whole equal = λ a b in_a in_b.
+pub alike_further : (from : ℕ) (pages : List Numbered) → AllBeginAlike from (pages_of pages) → All (IsNumbered from) pages → AllEqual pages → AllBeginAlike (from + 8) (pages_of pages)
+alike_further from pages alike numbered equal = λ a b in_a in_b.
     let one = has_page pages a in_a in
     let other = has_page pages b in_b in
     let further = equal_number one.numbered.page.url other.numbered.page.url from one.numbered.number other.numbered.number
-    (subst (λ p. BeginAlike from p.url other.numbered.page.url) (sym one.is) (subst (λ p. BeginAlike from a.url p.url) (sym other.is) (whole.alike a b in_a in_b)))
-    (All-contains (IsNumbered from) pages one.numbered whole.numbered one.among) (All-contains (IsNumbered from) pages other.numbered whole.numbered other.among) (equal one.numbered other.numbered one.among other.among) in
+    (subst (λ p. BeginAlike from p.url other.numbered.page.url) (sym one.is) (subst (λ p. BeginAlike from a.url p.url) (sym other.is) (alike a b in_a in_b)))
+    (All-contains (IsNumbered from) pages one.numbered numbered one.among) (All-contains (IsNumbered from) pages other.numbered numbered other.among) (equal one.numbered other.numbered one.among other.among) in
     subst (λ p. BeginAlike (from + 8) p.url b.url) one.is (subst (λ p. BeginAlike (from + 8) one.numbered.page.url p.url) other.is further)
+
+pub one_number : (number : ℕ) (pages : List Numbered) → All (λ (p : Numbered). p.number ≡ number) pages → AllEqual pages
+one_number number pages all = λ a b in_a in_b.
+    All-contains (λ (p : Numbered). p.number ≡ number) pages a all in_a ∙ sym (All-contains (λ (p : Numbered). p.number ≡ number) pages b all in_b)
 
 -- ---- two sorted lists, one behind the other
 

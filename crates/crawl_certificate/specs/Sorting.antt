@@ -16,7 +16,7 @@ pages_of pages = map (λ p. p.page) pages
 abbrev pub AllBeginAlike : ℕ → List PageResult → Type 0
 AllBeginAlike count pages = (a b : PageResult) → Contains pages a → Contains pages b → BeginAlike count a.url b.url
 
--- the number has the eight bytes of the URL from a place on
+-- the number has the eight bytes of the URL from an index on
 abbrev pub IsNumbered : ℕ → Numbered → Type 0
 IsNumbered from numbered = IsEight numbered.page.url from numbered.number
 
@@ -24,7 +24,7 @@ IsNumbered from numbered = IsEight numbered.page.url from numbered.number
 abbrev pub AreInOrder : List Numbered → Type 0
 AreInOrder pages = IsSortedByKey (λ p. p.page.url) (slice_cmp nat_cmp) pages
 
--- results that begin alike up to a place, in the order of their numbers, which have the eight bytes from there on
+-- results that begin alike up to an index, in the order of their numbers, which have the eight bytes from there on
 pub record ArePrepared (from levels : ℕ) (pages : List Numbered) : Type 0 where
   pub alike : AllBeginAlike from (pages_of pages)
   pub room : from + 8 * levels ≤ 4088

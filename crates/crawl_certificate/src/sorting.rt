@@ -83,7 +83,7 @@ fn sort_from(pages: &mut [Numbered], from: usize, levels: usize)
     sort_runs(pages, from, levels - 1);
 }
 
-/// Sorts results that are in the order of their numbers, which have the eight bytes from this place on.
+/// Sorts results that are in the order of their numbers, which have the eight bytes from this index on.
 #[cycle(sort)]
 fn sort_runs(pages: &mut [Numbered], from: usize, levels: usize)
     requires { ArePrepared from levels pages.old }
@@ -118,7 +118,7 @@ fn middle(pages: &[Numbered]) -> Option<usize>
     Some(pages.partition_point(|one| one.number <= mean))
 }
 
-/// Sets each number to the eight bytes of the URL from this place on.
+/// Sets each number to the eight bytes of the URL from this index on.
 fn set_numbers(pages: &mut [Numbered], from: usize)
     requires { from + 8 ≤ 4096 }
     ensures same { pages_of pages.new ≡ pages_of pages.old }

@@ -1,5 +1,6 @@
 //! The sort by threads: numbers are sorted by all of them, and then each takes a part of the results.
-ghost use Rattle.std.specs.Prelude.{◌≡◌, ◌+◌, ◌*◌, ◌≤◌, IfOk};
+ghost use Rattle.std.specs.Prelude.{◌≡◌, ◌↔◌, ◌+◌, ◌*◌, ◌≤◌, IsTrue, IfOk};
+ghost use Rattle.std.specs.List.{All};
 ghost use Rattle.std.specs.List.Sorted.{IsPermutation, IsSortedByKey};
 ghost use Rattle.std.specs.Cmp.Lexicographic.{slice_cmp};
 ghost use Rattle.std.specs.Ordering.{nat_cmp};
@@ -55,8 +56,20 @@ fn sort_in_threads<R: Threads + Sync>(
         return;
     }
     set_numbers(pages, from);
+    let number = pages[0].number;
+    if have_number(pages, number) {
+        sort_in_threads(rt, halvings, pages, from + BYTES, levels - 1);
+        return;
+    }
     par_sort_unstable_by_key(rt, pages, |one| one.number);
     sort_runs_in_threads(rt, halvings, pages, from, levels - 1);
+}
+
+/// Whether all have this number.
+fn have_number(pages: &[Numbered], number: u64) -> bool
+    ensures { IsTrue result ↔ All (λ p. p.number ≡ number) pages.now }
+{
+    pages.iter().all(|one| one.number == number)
 }
 
 /// As [`super::sort_runs`], by threads where there are many.

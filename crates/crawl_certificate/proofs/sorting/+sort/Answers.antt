@@ -1,4 +1,4 @@
-use Rattle.std.proofs.Common.{◌≡◌, refl, subst, arith, rules}
+use Rattle.std.proofs.Common.{refl, subst, arith, rules}
 use Rattle.std.specs.List.Sorted.{IsPermutation}
 use Rattle.std.specs.Cmp.Lexicographic.{slice_cmp, nat_list_cmp_total}
 use Rattle.std.specs.Ordering.{nat_cmp, is_lt}
@@ -35,7 +35,7 @@ sort_from-returns-clause-same t c =
 
 pub sort_runs-sort_from-requires : goal.sort_runs-sort_from-requires
 sort_runs-sort_from-requires t c =
-    (omega (arith, c.decreases), (alike_further c.args.from c.args.levels c.args.pages.now c.requires (c.in-None.ensures.none refl), omega (arith, c.requires.room)))
+    (omega (arith, c.decreases), (alike_further c.args.from c.args.pages.now c.requires.alike c.requires.numbered (c.in-None.ensures.none refl), omega (arith, c.requires.room)))
 
 pub sort_runs-sort_runs-requires : goal.sort_runs-sort_runs-requires
 sort_runs-sort_runs-requires t c =

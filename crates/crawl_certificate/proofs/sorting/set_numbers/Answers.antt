@@ -1,9 +1,7 @@
-use Rattle.std.proofs.Common.{◌≡◌, ◌<◌, length, get_or, set, map, refl, sym, ap, subst, ◌∙◌, arith}
-use Rattle.std.proofs.lemmas.List.{map-set, set-get_or, get_or_default, get_or-map, length-map}
+use Rattle.std.proofs.Common.{◌<◌, length, get_or, refl, subst, ◌∙◌, arith}
 use Rattle.std.proofs.lemmas.List.Elements.{AllWithin-more_set}
-use Rattle.crawl_web.specs.declared.page.PageResult.{PageResult}
 use Rattle.crawl_certificate.specs.declared.sorting.Numbered.{Numbered}
-use Rattle.crawl_certificate.specs.Sorting.{IsNumbered, pages_of}
+use Rattle.crawl_certificate.specs.Sorting.{IsNumbered}
 use Rattle.crawl_certificate.specs.Eights.{IsEight}
 use Rattle.crawl_certificate.proofs.SortedParts.{same_pages}
 use Rattle.crawl_certificate.proofs.sorting.set_numbers.Goals as goal

@@ -1,9 +1,9 @@
-use Rattle.std.proofs.Common.{refl, subst, arith, rules}
+use Rattle.std.proofs.Common.{refl, sym, subst, arith, rules}
 use Rattle.std.specs.List.Sorted.{IsPermutation}
 use Rattle.std.proofs.lemmas.List.Sorted.{IsPermutation-map, IsPermutation-trans, IsNonDecreasingBy-from_sort_by_key}
 use Rattle.crawl_certificate.specs.declared.sorting.Numbered.{Numbered}
-use Rattle.crawl_certificate.specs.Sorting.{pages_of}
-use Rattle.crawl_certificate.proofs.SortedParts.{prepared, prepared_front, prepared_back, alike_further, parted_in_order, parts_permuted}
+use Rattle.crawl_certificate.specs.Sorting.{AllBeginAlike, pages_of}
+use Rattle.crawl_certificate.proofs.SortedParts.{prepared, prepared_front, prepared_back, alike_further, one_number, parted_in_order, parts_permuted}
 use Rattle.crawl_certificate.proofs.sorting.threads.+sort_in_threads.Goals as goal
 
 pub sort_in_threads-sort_runs_in_threads-requires-after_bounds : goal.sort_in_threads-sort_runs_in_threads-requires-after_bounds
@@ -14,6 +14,12 @@ sort_in_threads-sort_runs_in_threads-requires-after_bounds g t c κs within =
     prepared c.args.from _ c.args.pages.now numbered sorted c.requires.alike (omega (arith, c.requires.room, c.if-levels-eq0.false)) c.set_numbers.ensures.same
     c.set_numbers.ensures.numbered c.par_sort_unstable_by_key.ensures.permutation rising
 
+pub sort_in_threads-sort_in_threads-requires-clause-alike : goal.sort_in_threads-sort_in_threads-requires-clause-alike
+sort_in_threads-sort_in_threads-requires-clause-alike g t c κs within =
+    let numbered = c.set_numbers.new.pages in
+    alike_further c.args.from numbered (subst (AllBeginAlike c.args.from) (sym c.set_numbers.ensures.same) c.requires.alike) c.set_numbers.ensures.numbered
+    (one_number _ numbered (c.have_number.ensures.0 c.if-have_number.true))
+
 pub sort_in_threads-returns-clause-same : goal.sort_in_threads-returns-clause-same
 sort_in_threads-returns-clause-same g t c =
     let numbered = c.set_numbers.new.pages in
@@ -23,7 +29,7 @@ sort_in_threads-returns-clause-same g t c =
 
 pub sort_runs_in_threads-sort_in_threads-requires-clause-alike : goal.sort_runs_in_threads-sort_in_threads-requires-clause-alike
 sort_runs_in_threads-sort_in_threads-requires-clause-alike g t c κs within =
-    alike_further c.args.from c.args.levels c.args.pages.now c.requires (c.in-None.ensures.none refl)
+    alike_further c.args.from c.args.pages.now c.requires.alike c.requires.numbered (c.in-None.ensures.none refl)
 
 pub sort_runs_in_threads-sort_parts-requires-clause-low : goal.sort_runs_in_threads-sort_parts-requires-clause-low
 sort_runs_in_threads-sort_parts-requires-clause-low g t c κs within =
