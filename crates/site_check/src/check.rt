@@ -11,6 +11,7 @@ use crate::located::{Wanted, locate_all, none_located, targets};
 use crate::names::name_all;
 use crate::rows::{broken_rows, redirect_rows};
 use crate::shown::shown;
+use crate::turns::{Alone, Turns};
 use crate::unreached::unreached;
 use crate::worst::{place_count, worst};
 use check_report::{Broken, FileCount, Findings, Kind, Redirect, Totals};
@@ -93,12 +94,29 @@ pub fn check_results<'f, B: Bodies>(
     // Those of redirects are the moved results that are linked to.
     ensures redirects { IfOk result (λ checked. map way_of checked.redirects.items ≡ redirects_of asked.entry.front.now results.now) }
 {
-    let pages = Pages {
-        results,
-        anchors: asked.anchors,
+    check_by(alloc, &Alone, results, files, bodies, asked)
+}
+
+fn check_by<'f, T: Turns, B: Bodies>(
+    alloc: Global,
+    turns: &T,
+    results: &[PageResult],
+    files: &'f SiteFiles<'f>,
+    bodies: &mut B,
+    asked: Asked<'_>,
+) -> Result<Checked, NoMemory>
+    ensures broken { IfOk result (λ checked. rows_in checked.broken.items ≡ broken_of asked.entry.front.now (map string_bytes asked.entry.ignores.now) results.now) }
+    ensures redirects { IfOk result (λ checked. map way_of checked.redirects.items ≡ redirects_of asked.entry.front.now results.now) }
+{
+    let site = Site {
+        pages: Pages {
+            results,
+            anchors: asked.anchors,
+        },
+        files,
     };
     let linked = linked_results(alloc, results)?;
-    let (broken, texts) = broken_all(alloc, pages, files, bodies, asked, linked.as_slice())?;
+    let (broken, texts) = broken_all(alloc, turns, site, bodies, asked, linked.as_slice())?;
     let redirects = redirect_rows(alloc, asked.front, linked.as_slice())?;
     let unused_ignores = unused_entries(alloc, asked, linked.as_slice(), texts.as_slice())?;
     let unreached = if asked.unreached {
@@ -118,19 +136,28 @@ pub fn check_results<'f, B: Bodies>(
     })
 }
 
+/// The results of a crawl of a site, and its files.
+#[derive(Clone, Copy)]
+struct Site<'s> {
+    pages: Pages<'s>,
+    files: &'s SiteFiles<'s>,
+}
+
 /// The rows of the pages that are not there and of the parts that pages lack, with where links to them stand; and the texts of
 /// all such parts.
-fn broken_all<'f, B: Bodies>(
+fn broken_all<'s, T: Turns, B: Bodies>(
     alloc: Global,
-    pages: Pages<'_>,
-    files: &'f SiteFiles<'f>,
+    turns: &T,
+    site: Site<'s>,
     bodies: &mut B,
     asked: Asked<'_>,
     linked: &[Linked<'_>],
 ) -> Result<(Vec<Broken>, Vec<String>), NoMemory>
     ensures { IfOk result (λ r. rows_in r.0.items ≡ flat_map (rows_with asked.entry.front.now (map string_bytes asked.entry.ignores.now)) (map linked_at linked.now)) }
 {
-    let (lacking, leading) = lacking(alloc, pages)?;
+    let Site { pages, files } = site;
+    let lacked = turns.lacked(alloc, pages)?;
+    let (lacking, leading) = lacking(alloc, lacked, pages.results.len())?;
     let targets = targets(alloc, asked.front, asked.ignores, linked)?;
     let wanted = Wanted {
         pages,
@@ -140,7 +167,7 @@ fn broken_all<'f, B: Bodies>(
         before: linked.len(),
     };
     let mut found = none_located(alloc, linked.len(), lacking.len())?;
-    locate_all(alloc, wanted, leading.as_slice(), bodies, &mut found)?;
+    locate_all(alloc, turns, wanted, leading.as_slice(), bodies, &mut found)?;
     name_all(alloc, asked.front, linked, files, found.as_mut_slice())?;
     let texts = part_texts(alloc, asked.front, pages, &lacking)?;
     let rows = broken_rows(alloc, asked, linked, found.as_mut_slice())?;

@@ -10,6 +10,7 @@ mod names;
 mod rows;
 mod shown;
 mod tally;
+mod turns;
 mod unreached;
 mod worst;
 

@@ -2,7 +2,7 @@ use Rattle.std.proofs.Common.{map, string_bytes, ap, ◌∙◌}
 use Rattle.std.specs.List.{flat_map}
 use Rattle.site_check.specs.Broken.{linked_at, rows_with, ways_with}
 use Rattle.site_check.proofs.AllRows.{rows_of_all, ways_of_all}
-use Rattle.site_check.proofs.check.check_results.Goals as goal
+use Rattle.site_check.proofs.check.check_by.Goals as goal
 
 pub returns-clause-broken : goal.returns-clause-broken
 returns-clause-broken g c =
