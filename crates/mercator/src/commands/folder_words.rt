@@ -55,10 +55,16 @@ fn with_rest<'a>(alloc: Global, command: Command<'a>) -> Result<Command<'a>, All
         .arg(flag(alloc, "unreached", "Tells the files that no link leads to"))?
         .arg(flag(
             alloc,
+            "external",
+            "Tells where links to other hosts lead, which are not looked at",
+        ))?
+        .arg(flag(
+            alloc,
             "no-anchors",
             "Leaves out parts of pages, such as page.html#use",
         ))?
         .arg(known(alloc))?
+        .arg(seed(alloc))?
         .arg(flag(
             alloc,
             "exact",
@@ -92,6 +98,14 @@ fn known<'a>(alloc: Global) -> Arg<'a> {
         .help(
             "A file of targets that are known to be broken, or of what they begin with, one a line",
         )
+}
+
+fn seed<'a>(alloc: Global) -> Arg<'a> {
+    Arg::new(alloc, "seed")
+        .long("seed")
+        .value_name("LINK")
+        .action(ArgAction::Append)
+        .help("Begins at this link of the top, and not at the top itself; may be given again")
 }
 
 fn folder<'a>(alloc: Global) -> Arg<'a> {
