@@ -4,15 +4,14 @@
 # memory. The files are in the system's cache, since the first run is not counted. Wants GNU time in the path.
 #
 # Usage: bench/site.sh FOLDER ..   In the environment, PROGRAM is another program than the one built here, and RUNS another
-# number of runs than 10. With BESIDE=1 one run each of LinkChecker, html-proofer and `wget --spider` over a server of Python's,
-# where they are installed, stands beside them: they look at links within the folder alone, as `check` does.
+# number of runs than 10.
 set -euo pipefail
 cd "$(dirname "$0")/.."
 made=bench/out
 program=${PROGRAM:-$PWD/crates/mercator_cli/out/mercator_cli}
 runs=${RUNS:-10}
 mkdir -p "$made"
-trap 'rm -rf "$made"/site.*' EXIT
+trap 'rm -f "$made"/site.*' EXIT
 
 # `rt run` proves and builds the program, and leaves it in out/.
 if [ -z "${PROGRAM:-}" ]; then (cd crates/mercator_cli && rt run -- --help > /dev/null); fi
@@ -38,34 +37,8 @@ row() {
         "$command" "$folder" "$documents" "$bytes" "$(stat -c %s "$made/site.out")" "$seconds" "$processor" "$peak"
 }
 
-# once NAME FOLDER COMMAND ..: the row of one run of another checker, whatever its status.
-once() {
-    local name=$1 folder=$2
-    shift 2
-    if ! command -v "$1" > /dev/null; then echo "$name is not installed"; return; fi
-    start=$EPOCHREALTIME
-    env time -q -o "$made/site.time" -f '%U %S %M' "$@" > "$made/site.out" 2> /dev/null || true
-    end=$EPOCHREALTIME
-    read -r user system peak < "$made/site.time"
-    awk -v n="$name" -v f="$folder" -v w="$(stat -c %s "$made/site.out")" -v a="$start" -v b="$end" -v u="$user" -v s="$system" -v m="$peak" \
-        'BEGIN { printf "%-12s %-37s %9s %12s %12d %8.3f %8.3f %10d\n", n, f, "", "", w, b - a, u + s, m }'
-}
-
-# beside FOLDER: the rows of other checkers.
-beside() {
-    local folder=$1 served
-    once linkchecker "$folder" linkchecker --no-status --no-warnings "$folder/index.html"
-    once htmlproofer "$folder" htmlproofer --disable-external "$folder"
-    python3 -m http.server 8474 --bind 127.0.0.1 --directory "$folder" > /dev/null 2>&1 &
-    served=$!
-    sleep 1
-    once wget "$folder" wget -nv --spider -r -l inf -nd -P "$made/site.wget" http://127.0.0.1:8474/
-    kill "$served"
-}
-
 printf '%-5s %-44s %9s %12s %12s %8s %8s %10s\n' '' folder documents bytes written seconds processor 'peak KiB'
 for folder in "$@"; do
     row site "$folder"
     row check "$folder"
-    if [ -n "${BESIDE:-}" ]; then beside "$folder"; fi
 done
