@@ -4,7 +4,6 @@ use crate::check::Bodies;
 use crate::ignored::is_ignored;
 use crate::linked::Linked;
 use crate::shown::shown;
-use crate::turns::Turns;
 use check_report::Place;
 use crawl_web::{NoMemory, Page, PageResult};
 use saved_site::{LinkAt, LinksTo, SiteFiles, text_places};
@@ -114,56 +113,33 @@ pub(crate) struct PlaceOf {
     place: Place,
 }
 
-/// Adds the places of the links of all results that are wanted, where `lead_to_parts` says which have links to parts that pages
-/// lack.
-pub(crate) fn locate_all<T: Turns, B: Bodies>(
+/// Where the links of these results stand that are wanted.
+pub(crate) fn locate_all<B: Bodies>(
     alloc: Global,
-    turns: &T,
-    wanted: Wanted<'_, '_, '_, '_>,
-    lead_to_parts: &[bool],
-    bodies: &mut B,
-    found: &mut [Located],
-) -> Result<(), NoMemory> {
-    let pages = with_wanted(alloc, wanted, lead_to_parts)?;
-    locate_in(alloc, turns, wanted, pages.as_slice(), bodies, found)?;
-    for located in found.iter_mut() {
-        in_order(&mut located.places)?;
-    }
-    Ok(())
-}
-
-/// Adds the places of the links of these results that are wanted.
-fn locate_in<T: Turns, B: Bodies>(
-    alloc: Global,
-    turns: &T,
     wanted: Wanted<'_, '_, '_, '_>,
     pages: &[&PageResult],
     bodies: &mut B,
-    found: &mut [Located],
-) -> Result<(), NoMemory> {
-    let mut done: usize = 0;
-    for _ in 0..pages.len() {
-        if done >= pages.len() {
-            break;
+) -> Result<Vec<PlaceOf>, NoMemory> {
+    let mut all = Vec::new(alloc);
+    for one in pages {
+        if let Some(page) = read_page(alloc, wanted.files, *one, bodies)? {
+            push_places(alloc, wanted, &page, &mut all)?;
         }
-        let rest = &pages[done..];
-        let (read, count) = read_some(alloc, wanted.files, rest, bodies)?;
-        add_places(turns.places(alloc, wanted, read.as_slice())?, found)?;
-        done = done.saturating_add(count);
     }
-    Ok(())
+    Ok(all)
 }
 
-/// The results that have a link that is wanted.
-fn with_wanted<'p>(
+/// The results that have a link that is wanted, where `lead_to_parts` says which have one to a part that a page lacks.
+pub(crate) fn with_wanted<'p>(
     alloc: Global,
-    wanted: Wanted<'p, '_, '_, '_>,
+    results: &'p [PageResult],
+    targets: &TargetNumbers<'_>,
     lead_to_parts: &[bool],
 ) -> Result<Vec<&'p PageResult>, NoMemory> {
     let mut pages = Vec::new(alloc);
-    for (number, one) in wanted.pages.results.iter().enumerate() {
+    for (number, one) in results.iter().enumerate() {
         let to_part = lead_to_parts.get(number).copied().unwrap_or(false);
-        if to_part || leads_to(wanted.targets, &one.page) {
+        if to_part || leads_to(targets, &one.page) {
             pages.push(one)?;
         }
     }
@@ -185,7 +161,7 @@ fn leads_to(targets: &TargetNumbers<'_>, page: &Page) -> bool {
 }
 
 /// Reads the first of these pages, and answers how many.
-fn read_some<'p, 'f, B: Bodies>(
+pub(crate) fn read_some<'p, 'f, B: Bodies>(
     alloc: Global,
     files: &'f SiteFiles<'f>,
     pages: &[&'p PageResult],
@@ -313,12 +289,16 @@ fn number_of(
     Some(wanted.before.saturating_add(count.number))
 }
 
-fn add_places(places: Vec<PlaceOf>, found: &mut [Located]) -> Result<(), NoMemory> {
+/// Adds these places to what is found, in order.
+pub(crate) fn add_places(places: Vec<PlaceOf>, found: &mut [Located]) -> Result<(), NoMemory> {
     for one in places {
         let PlaceOf { number, place } = one;
         if let Some(located) = found.get_mut(number) {
             located.places.push(place)?;
         }
+    }
+    for located in found.iter_mut() {
+        in_order(&mut located.places)?;
     }
     Ok(())
 }
