@@ -18,7 +18,7 @@ use crawl_limits::PENDING_LIMIT;
 use crawl_web::PageResult;
 use mercator::{Crawled, Fault, Mode, crawl_saved_web};
 use saved_site::{Rules, SiteFiles, SiteNames, Web, site_web};
-use site_check::{Asked, Bodies, check_results};
+use site_check::{Asked, Bodies, check_site};
 use std::alloc::Global;
 use std::sync::Wait;
 use std::thread::Threads;
@@ -111,7 +111,7 @@ pub fn report_of_site<R: Threads + Wait + Sync, B: Bodies>(
         anchors: web.anchors.as_slice(),
         unreached: settings.unreached,
     };
-    let checked = check_results(alloc, found.result.pages(), files, bodies, asked)?;
+    let checked = check_site(rt, alloc, found.result.pages(), files, bodies, asked)?;
     let findings = checked.findings(settings.name);
     let text = print_check(alloc, &findings, told, settings.form, settings.all)?;
     Ok(CheckReport {
