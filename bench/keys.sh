@@ -1,8 +1,8 @@
 #!/bin/bash
 # Measures crawl_keys: URLs and links per second, instructions each by callgrind, and the bytes
 # that a URL keeps in a set, alone and with three copies; and what a filter's answer costs. URLs and
-# links that are not parsed are the works `plain`, `joined`, `rooted`, `beside` and `part`. Wants `rt`,
-# valgrind and GNU time in the path.
+# links that are not parsed are the works `plain`, `joined`, `by_host`, `rooted`, `beside` and `part`.
+# Wants `rt`, valgrind and GNU time in the path.
 #
 # usage: bench/keys.sh [URLS [LINKS]]      300000 URLs and 500000 links where none is given
 set -euo pipefail
@@ -74,7 +74,7 @@ answer() {
 row canonical "$urls" texts
 row plain "$urls" spelled
 row joined "$links" links
-for work in rooted beside part odd; do row "$work" "$links"; done
+for work in by_host rooted beside part odd; do row "$work" "$links"; done
 kept kept
 kept shared
 

@@ -16,7 +16,7 @@ HREF = re.compile(r"""<(?:a|area|link)\b[^>]*?\bhref\s*=\s*(?:"([^"]*)"|'([^']*)
 KEPT = re.compile(r"""[!-~]*""")
 MARKS = re.compile(r"""["#'<>\\^`{}]""")
 ODD_SEGMENT = re.compile(r"/[/.%]")
-ABSOLUTE = re.compile(r"https?://([a-z0-9._-]*)(/.*)")
+BY_HOST = re.compile(r"(https?:)?//([a-z0-9._-]*)(/.*)")
 
 
 def is_kept(text, before=""):
@@ -26,10 +26,12 @@ def is_kept(text, before=""):
 def kind(text):
     if not text:
         return "same"
-    absolute = ABSOLUTE.fullmatch(text)
-    if absolute:
-        named = re.match("[a-z]", absolute[1].rsplit(".", 1)[-1])
-        return "absolute" if named and is_kept(absolute[2]) else "parsed"
+    by_host = BY_HOST.fullmatch(text)
+    if by_host:
+        named = re.match("[a-z]", by_host[2].rsplit(".", 1)[-1])
+        if not named or not is_kept(by_host[3]):
+            return "parsed"
+        return "absolute" if by_host[1] else "by host"
     if text[0] == "/":
         return "rooted" if is_kept(text) else "parsed"
     if text[0] == "?":

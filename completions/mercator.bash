@@ -10,7 +10,7 @@ _mercator() {
     fi
     case ${COMP_WORDS[1]} in
     check)
-        options="--workers --json --annotations --html --all-sources --unreached --no-anchors --ignore --exact --queries --help"
+        options="--workers --json --annotations --html --all-sources --unreached --external --seed --no-anchors --ignore --exact --queries --help"
         ;;
     site) options="--exact --queries --help" ;;
     crawl)
@@ -25,7 +25,7 @@ _mercator() {
         ;;
     esac
     case $before in
-    --workers | --max-pending | --within | --part) return ;;
+    --workers | --max-pending | --within | --part | --seed) return ;;
     --seeds | --log | --ignore | --compact) ;;
     *)
         if [[ $word == -* ]]; then

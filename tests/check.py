@@ -22,7 +22,7 @@ from random import Random
 from typing import List, Optional, Tuple
 
 import drawn
-from checking import drawing, loading
+from checking import drawing, forms, loading
 from checking.reckoning import Asked, Reckoning, Row
 from checking.tags import start_tags
 from checking.worked import WORKED, Worked
@@ -40,11 +40,13 @@ def program() -> str:
     return given
 
 
-def words_of(asked: Asked, folder: str, scratch: str) -> List[str]:
+def words_of(asked: Asked, folder: str, scratch: str, form: str = "--json") -> List[str]:
     """The words of the command that asks for this."""
-    words = ["check", "--json"]
+    words = ["check", form]
     words += [] if asked.anchors else ["--no-anchors"]
     words += ["--unreached"] if asked.unreached else []
+    words += ["--external"] if asked.external else []
+    words += [f"--seed={seed}" for seed in asked.seeds]
     words += ["--exact"] if asked.exact else []
     if asked.ignores:
         entries = Path(scratch, "ignores")
@@ -110,7 +112,7 @@ def filled(worked: Worked, top: Path) -> str:
     """A folder with the files."""
     for name, text in worked.files.items():
         (top / name).parent.mkdir(parents=True, exist_ok=True)
-        (top / name).write_text(text, "utf-8", newline="")
+        (top / name).write_bytes(text.encode())
     return str(top)
 
 
@@ -144,7 +146,8 @@ def drawn_question(draw: Random) -> Asked:
     """What is asked of a drawn folder."""
     ignores = draw.choice([(), (), (BASE + "gone",), (BASE + "a", "x", BASE + "sub/#")])
     anchors, unreached, exact = draw.random() < 0.8, draw.random() < 0.5, draw.random() < 0.2
-    return Asked(BASE, ignores=ignores, anchors=anchors, unreached=unreached, exact=exact)
+    seeds = draw.choice([(), (), ("sub/",), ("#x", "a.html?b", "gone/../b.html")])
+    return Asked(BASE, ignores=ignores, anchors=anchors, unreached=unreached, exact=exact, external=draw.random() < 0.5, seeds=seeds)
 
 
 def compare_drawn(call: str, count: int, seed: int) -> int:
@@ -169,7 +172,7 @@ def compare_changed(call: str, count: int, seed: int) -> int:
         with tempfile.TemporaryDirectory() as above:
             folder = Path(above, f"site{number}")
             drawing.change_folder(draw, loading.ROOT / "examples/site", folder)
-            kinds += compare_folder(series, call, str(folder), Asked(BASE, unreached=True))
+            kinds += compare_folder(series, call, str(folder), Asked(BASE, unreached=True, external=True))
     print("rows of changed folders:", dict(kinds))
     return series.end()
 
@@ -187,8 +190,18 @@ def compare_folders(call: str, folders: List[str]) -> int:
     """Compares folders as they stand."""
     series = Series("folders")
     for folder in folders:
-        kinds = compare_folder(series, call, folder, Asked(BASE, unreached=True))
+        kinds = compare_folder(series, call, folder, Asked(BASE, unreached=True, external=True))
         print(f"{folder}: {dict(kinds)}")
+    return series.end()
+
+
+def compare_forms(call: str, folder: str) -> int:
+    """Compares a folder's page with its rows, and its text on a terminal with that of a pipe."""
+    series, asked = Series("forms"), Asked(BASE, unreached=True, external=True)
+    with tempfile.TemporaryDirectory() as scratch:
+        page = subprocess.run([call, *words_of(asked, folder, scratch, "--html")], capture_output=True, check=False).stdout
+    series.add(f"page of {folder}", forms.page_fault(page, Reckoning(folder, asked).rows()))
+    series.add(f"colour of {folder}", forms.colour_fault(call, folder))
     return series.end()
 
 
@@ -235,7 +248,7 @@ def main() -> int:
     if call:
         shipped = str(loading.ROOT / "examples/site")
         folders = given.folders or [folder for folder in drawing.SITE.DOCUMENTS if os.path.isdir(folder)]
-        failed += compare_folders(call, [shipped, *folders])
+        failed += compare_folders(call, [shipped, *folders]) + compare_forms(call, shipped)
         failed += compare_drawn(call, given.drawn, given.seed) + compare_changed(call, given.changed, given.seed)
         failed += compare_large(call, given.large) if given.large else 0
     if given.tags:

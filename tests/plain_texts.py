@@ -34,7 +34,8 @@ PAGES = [
 ]
 
 HOSTS = ["a.test", "www.b-1.test", "a_b.c.test", "x.y9", "localhost"]
-SCHEMES = ["http://", "https://"]
+SCHEMES = ["http:", "https:"]
+OTHER_SCHEMES = ["mailto", "javascript", "tel", "data", "a", "ftp", "ws", "wss", "file", "http", "https", "httpx", "x-y"]
 PORTS = ["", "", "", ":8080", ":80", ":443", ":1", ":65535"]
 SEGMENTS = ["a", "page-1.html", "~user", "x..", "a.b", "a%20b", "-", "with:colon", "1"]
 QUERIES = ["", "", "?", "?q", "?a=b&c=d/../e", "?x?y"]
@@ -49,24 +50,33 @@ def tail(draw: random.Random) -> str:
     return draw.choice(QUERIES) + draw.choice(FRAGMENTS)
 
 
+def by_host(draw: random.Random) -> str:
+    return "//" + draw.choice(HOSTS) + draw.choice(PORTS) + "/" + draw.choice(["", path(draw)]) + tail(draw)
+
+
 def absolute(draw: random.Random) -> str:
-    head = draw.choice(SCHEMES) + draw.choice(HOSTS) + draw.choice(PORTS)
-    return head + "/" + draw.choice(["", path(draw)]) + tail(draw)
+    return draw.choice(SCHEMES) + by_host(draw)
+
+
+def opaque(draw: random.Random) -> str:
+    return draw.choice(OTHER_SCHEMES) + ":" + path(draw) + tail(draw)
 
 
 def link(draw: random.Random) -> str:
-    kind = draw.randrange(6)
+    kind = draw.randrange(7)
     if kind == 0:
         return "/" + path(draw) + tail(draw)
     if kind == 1:
         return path(draw) + tail(draw)
     if kind == 2:
-        ups = "".join(draw.choice(["../", "../", "./"]) for _ in range(draw.randint(1, 4)))
-        return ups + draw.choice(["", path(draw)]) + tail(draw)
+        dots = "".join(draw.choice(["../", "../", "./", "a/../", "x-1.html/../"]) for _ in range(draw.randint(1, 4)))
+        return dots + draw.choice(["", path(draw)]) + tail(draw)
     if kind == 3:
         return draw.choice(QUERIES) + draw.choice(FRAGMENTS)
     if kind == 4:
-        return "//" + draw.choice(HOSTS) + "/" + path(draw)
+        return by_host(draw)
+    if kind == 5:
+        return opaque(draw)
     return absolute(draw)
 
 

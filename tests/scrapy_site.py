@@ -530,6 +530,8 @@ class Tests:
         site.pages[site.seed] = Page("200", page_of(path for _, path in links), links)
         for asked in links + ((other, "/form"), (host, "/form"), (host, "/" + "x" * 5000)):
             site.pages[asked] = Page("200")
+        again = (host, "/again")
+        site.pages[again] = Page("200", page_of([again[1]]), (again,))
         site.pages[(other, "/failing")] = Page("500")
         form, failing = self.url((host, "/form")), self.url((other, "/failing"))
         extra = [["post", form, body] for body in ("a", "b", "a")]  # one of them is a duplicate
@@ -540,14 +542,14 @@ class Tests:
             site.pages[asked] = Page("200")
             extra += [["get", self.url(asked), ""]]
             extra += [["post", f"http://{alias}:{self.servers.port}/form/{number}", "a"]]
-        extra += [["again", self.url((host, "/p/3")), ""]] * 3
+        extra += [["again", self.url(again), ""]] * 3
         extra += [["get", self.url((host, "/" + "x" * 5000)), ""]] * 2
         extra += [["get", "data:text/html,text", ""]] * 2
         failing_urls = ["http://1.2.3.4.5:1/", "http://nowhere.test:1/", "ftp://nowhere.test/file"]
         extra += [["get", url, ""] for url in failing_urls]
         count, told = self.crawl(site, MERCATOR, {"extra": extra})
         wanted = {site.seed: 1, (host, "/" + "x" * 5000): 1, **{asked: 1 for asked in links}}
-        wanted[(host, "/p/3")] = 3  # three that are not to be filtered; the link is seen
+        wanted[again] = 3  # three that are not to be filtered; the page's link to itself is seen
         self.check_mercator("odd requests", count, told, wanted)
         posted = {(host, "/form"): 2, (other, "/form"): 1, (other, "/failing"): RETRIES + 1}
         posted.update({(numeric, f"/form/{number}"): 1 for number in range(4)})
@@ -590,8 +592,10 @@ class Tests:
         settings = {"CONCURRENT_REQUESTS": 1, "MERCATOR_WORKERS": 512}
         count, told = self.crawl(site, MERCATOR, {"by_number": True, "settings": settings})
         self.check_mercator("priorities", count, told, {asked: 1 for asked in site.pages})
-        order = [site.seed, *sorted(links, reverse=True)]
-        self.check("priorities: the highest first", count.order == order, count.order)
+        # The engine may ask for a request once the first of these has come.
+        first, *rest = count.order[1:] or links
+        order = sorted({*links} - {first}, reverse=True)
+        self.check("priorities: the highest first", rest == order, count.order)
 
     def idle_spider(self) -> None:
         """A spider that finds more to do when it is idle, twice a URL that was seen."""

@@ -27,13 +27,15 @@ import enum
 import fcntl
 import itertools
 import os
+import re
 import select
 import subprocess
 import tempfile
 import threading
 import time
+from functools import partial
 from types import TracebackType
-from typing import Dict, Iterable, List, NamedTuple, NoReturn, Optional, Sequence, Type, Union
+from typing import Dict, Iterable, Iterator, List, NamedTuple, NoReturn, Optional, Sequence, Type, Union
 
 __all__ = [
     "Accepted", "Channel", "Closed", "Frontier", "FrontierEnded", "FrontierError", "LogInUse",
@@ -124,6 +126,7 @@ class Refusal(enum.Enum):
 
 Offer = Union[Accepted, Refusal]
 _REFUSALS = {refusal.value.encode(): refusal for refusal in Refusal}
+_ACCEPTED = re.compile(rb"accepted [0-9]+ [0-9]+")
 _ERRORS: Dict[bytes, Type[FrontierError]] = {
     b"refused busy": QueueBusy, b"refused nothing": NothingTaken, b"refused nosuch": NoSuchQueue
 }
@@ -490,7 +493,8 @@ def _wait_for(log: Union[str, os.PathLike[str]]) -> None:
 def request_lines(word: str, texts: List[str]) -> bytes:
     """A request line for each text."""
     lines = f"{word}{(chr(10) + word).join(texts)}\n"
-    if lines.count("\n") != len(texts) or max(map(len, texts)) > _LONGEST:
+    is_long = len(lines) > _LONGEST and max(map(len, texts)) > _LONGEST
+    if is_long or lines.count("\n") != len(texts):
         # The URL Standard leaves out each LF of a text.
         texts = [text.replace("\n", "")[:_LONGEST] for text in texts]
         lines = "".join(f"{word}{text}\n" for text in texts)
@@ -503,17 +507,23 @@ def link_word(base: str) -> str:
 
 
 def _offers_in(answers: List[bytes]) -> List[Offer]:
-    refusals = _REFUSALS
-    offers: List[Offer] = []
-    for answer in answers:
-        if answer in refusals:
-            offers.append(refusals[answer])
-        elif answer.startswith(b"accepted "):
-            _, queue, number = answer.split(b" ")
-            offers.append(Accepted(int(queue), int(number)))
-        else:
-            _refuse(answer)
-    return offers
+    refusals = list(map(_REFUSALS.get, answers))
+    others = [answer for answer, refusal in zip(answers, refusals) if refusal is None]
+    accepted = _accepted_in(others)
+    if len(others) == len(answers):
+        return list(accepted)
+    return [next(accepted) if refusal is None else refusal for refusal in refusals]
+
+
+def _accepted_in(answers: List[bytes]) -> Iterator[Accepted]:
+    """All at once: a URL costs half of what it does one by one."""
+    if not answers:
+        return iter(())
+    words = b" ".join(answers).split(b" ")
+    if len(words) != 3 * len(answers) or set(words[::3]) != {b"accepted"}:
+        _refuse(next(answer for answer in answers if not _ACCEPTED.fullmatch(answer)))
+    pairs = zip(map(int, words[1::3]), map(int, words[2::3]))
+    return map(partial(tuple.__new__, Accepted), pairs)
 
 
 def _in_hand(answer: bytes) -> Optional[str]:

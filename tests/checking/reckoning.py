@@ -55,6 +55,8 @@ class Asked(NamedTuple):
     anchors: bool = True
     unreached: bool = False
     exact: bool = False
+    external: bool = False
+    seeds: Tuple[str, ...] = ()  # links of the top, where the search begins
 
 
 def url_of(text: str, base: drawn.Url) -> Optional[str]:
@@ -173,7 +175,7 @@ class Reckoning:
         self.answers: Dict[str, Answer] = {}
         self.leads: Dict[str, List[Lead]] = {}
         self.skipped = 0
-        waiting = [str(self.site.base)]
+        waiting = [str(drawn.url_of(seed, self.site.base)) for seed in asked.seeds] or [str(self.site.base)]
         while waiting:
             url = waiting.pop()
             if url not in self.answers and self.is_within(url):
@@ -229,15 +231,18 @@ class Reckoning:
         ]
         files = sorted(Counter(row["file"] for row in places).items(), key=lambda row: (-row[1], row[0].encode()))
         unreached = list(self.unreached()) if self.asked.unreached else []
+        external = self.external() if self.asked.external else []
+        counted = {"unreached": len(unreached)} if self.asked.unreached else {}
+        counted.update({"external": len(external)} if self.asked.external else {})
         total = {
-            "kind": "total", "pages": len(self.leads), "redirects": len(redirects), "unreached": len(unreached),
+            "kind": "total", "pages": len(self.leads), "redirects": len(redirects), **counted,
             "links": self.skipped + sum(map(len, self.leads.values())), "broken": len(places),
             "missing_pages": sum(row["kind"] == "broken" and row["missing"] == "page" for row in broken),
             "missing_anchors": sum(row["kind"] == "broken" and row["missing"] == "anchor" for row in broken),
         }
         worst = [{"kind": "worst", "file": file, "links": count} for file, count in files[:MOST_FILES]]
         names = [{"kind": "unreached", "name": name} for name in unreached]
-        return [total, *broken, *worst, *redirects, *names, *self.unused()]
+        return [total, *broken, *worst, *redirects, *names, *external, *self.unused()]
 
     def linked(self) -> Dict[str, Set[str]]:
         """The pages that link to each URL. A page that has moved links to where it moved."""
@@ -320,6 +325,11 @@ class Reckoning:
             if name not in reached:
                 reached.add(name)
                 yield self.told(url)
+
+    def external(self) -> List[Row]:
+        """The rows of where links to other hosts lead."""
+        urls = Counter(lead.url for leads in self.leads.values() for lead in leads if not self.is_within(lead.url))
+        return [{"kind": "external", "url": url, "links": count} for url, count in sorted(urls.items(), key=lambda row: row[0].encode())]
 
     def unused(self) -> Iterator[Row]:
         """The entries of what is known to be broken that nothing matched."""

@@ -111,6 +111,15 @@ def wait(frontier: Frontier, queue: int, ends: List[FrontierEnded]) -> None:
 
 def interrupted_call(trial: Trial) -> None:
     """Ctrl-C in the midst of a call, whose answers nobody reads, ends the frontier."""
+    # A shell's background job, which these tests may be, ignores the signal.
+    before = signal.signal(signal.SIGINT, signal.default_int_handler)
+    try:
+        interrupt_a_call(trial)
+    finally:
+        signal.signal(signal.SIGINT, before)
+
+
+def interrupt_a_call(trial: Trial) -> None:
     with Frontier(2, program=trial.program) as frontier:
         os.kill(pid_of(frontier), signal.SIGSTOP)
         threading.Timer(0.2, signal.pthread_kill, (threading.get_ident(), signal.SIGINT)).start()

@@ -1,2 +1,3 @@
 mod Adding
 mod Inert
+mod Members

@@ -24,7 +24,7 @@ abbrev pub broken_annotation : Broken → List ℕ
 broken_annotation b = if nat_lt 0 (length b.places.items) then [] else codes "::error::" ++ message_line b
 
 abbrev pub annotation_line : Line → List ℕ
-annotation_line (line.total base totals unreached) = []
+annotation_line (line.total base totals counts) = []
 annotation_line (line.begin of_part) = []
 annotation_line (line.finish of_part) = []
 annotation_line (line.broken b) = broken_annotation b
@@ -32,5 +32,6 @@ annotation_line (line.place b p) = place_annotation b p
 annotation_line (line.more count) = []
 annotation_line (line.worst c) = []
 annotation_line (line.redirect r) = []
+annotation_line (line.external e) = []
 annotation_line (line.name of_part text) = []
 annotation_line line.last = []

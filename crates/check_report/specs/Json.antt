@@ -3,9 +3,11 @@ use Rattle.std.specs.Prelude.{ℕ, Bool, true, false, List, [], ◌∷◌, ◌++
 use Rattle.std.specs.Option.{option_map}
 use Rattle.json.specs.Json.{Json, null, string, number, object, Members, no_members, member}
 use Rattle.json.specs.Print.{print}
+use Rattle.json.specs.Token.{Token}
 use Rattle.json.specs.Tree.{json_tokens}
 use Rattle.check_report.specs.Rows as line
 use Rattle.check_report.specs.Rows.{Line}
+use Rattle.check_report.specs.declared.row.Counts.{Counts}
 use Rattle.check_report.specs.declared.row.Part.{Part}
 use Rattle.check_report.specs.declared.row.Part.TheVariants as part
 use Rattle.check_report.specs.declared.value.Broken.{Broken}
@@ -20,6 +22,16 @@ text_at key text rest = member key (string text) rest
 
 abbrev pub count_at : List ℕ → ℕ → Members → Members
 count_at key count rest = member key (number (decimal count)) rest
+
+-- a count, where there is one
+abbrev pub count_if_at : List ℕ → Option ℕ → Members → Members
+count_if_at key None rest = rest
+count_if_at key (Some count) rest = count_at key count rest
+
+-- its tokens
+abbrev pub count_tokens : List ℕ → Option ℕ → List Token
+count_tokens name None = []
+count_tokens name (Some count) = Token.key name ∷ Token.number (decimal count) ∷ []
 
 -- a text, or `null` where there is none
 abbrev pub text_or_null : Option (List ℕ) → Json
@@ -46,19 +58,24 @@ row_kind part.Broken = codes "broken"
 row_kind part.Worst = codes "worst"
 row_kind part.Redirects = codes "redirect"
 row_kind part.Unreached = codes "unreached"
+row_kind part.External = codes "external"
 row_kind part.Unused = codes "unused"
 
 -- the counts of what is broken
 abbrev pub broken_counts : Totals → Members
 broken_counts t = count_at (codes "broken") t.broken_links (count_at (codes "missing_pages") t.broken_urls (count_at (codes "missing_anchors") t.broken_anchors no_members))
 
-abbrev pub total_members : List ℕ → Totals → ℕ → Members
-total_members base t unreached =
+-- the counts that are told, and those of what is broken
+abbrev pub told_counts : Totals → Counts → Members
+told_counts t c = count_if_at (codes "unreached") c.unreached (count_if_at (codes "external") c.external (broken_counts t))
+
+abbrev pub total_members : List ℕ → Totals → Counts → Members
+total_members base t c =
     kind (codes "total") (text_at (codes "base") base (count_at (codes "pages") t.pages (count_at (codes "links") t.links
-    (count_at (codes "redirects") t.moved (count_at (codes "unreached") unreached (broken_counts t))))))
+    (count_at (codes "redirects") t.moved (told_counts t c)))))
 
 abbrev pub members_of : Line → Members
-members_of (line.total base totals unreached) = total_members base totals unreached
+members_of (line.total base totals counts) = total_members base totals counts
 members_of (line.begin of_part) = no_members
 members_of (line.finish of_part) = no_members
 members_of (line.broken b) =
@@ -69,12 +86,13 @@ members_of (line.more count) = kind (codes "more") (count_at (codes "places") co
 members_of (line.worst c) = kind (codes "worst") (text_at (codes "file") (string_bytes c.file) (count_at (codes "links") c.links no_members))
 members_of (line.redirect r) =
     kind (codes "redirect") (text_at (codes "page") (string_bytes r.page) (member (codes "to") (text_or_null (option_map string_bytes r.target)) (count_at (codes "pages") r.pages no_members)))
+members_of (line.external e) = kind (codes "external") (text_at (codes "url") (string_bytes e.url) (count_at (codes "links") e.links no_members))
 members_of (line.name of_part text) = kind (row_kind of_part) (text_at (codes "name") text no_members)
 members_of line.last = no_members
 
 -- the row is an object
 abbrev pub is_object : Line → Bool
-is_object (line.total base totals unreached) = true
+is_object (line.total base totals counts) = true
 is_object (line.begin of_part) = false
 is_object (line.finish of_part) = false
 is_object (line.broken b) = true
@@ -82,6 +100,7 @@ is_object (line.place b p) = true
 is_object (line.more count) = true
 is_object (line.worst c) = true
 is_object (line.redirect r) = true
+is_object (line.external e) = true
 is_object (line.name of_part text) = true
 is_object line.last = false
 

@@ -1,5 +1,5 @@
 -- A row in the HTML page. What is a text of others stands in an element, escaped.
-use Rattle.std.specs.Prelude.{ℕ, List, ◌++◌, codes, decimal, nat_lt, string_bytes, if◌then◌else◌}
+use Rattle.std.specs.Prelude.{ℕ, List, [], ◌++◌, codes, decimal, nat_lt, string_bytes, if◌then◌else◌, Option, None, Some}
 use Rattle.std.specs.Option.{option_map}
 use Rattle.check_report.specs.Escape.{escaped}
 use Rattle.check_report.specs.Rows as line
@@ -7,9 +7,11 @@ use Rattle.check_report.specs.Rows.{Line}
 use Rattle.check_report.specs.Text.{counted, redirect_target, wrong_of}
 use Rattle.check_report.specs.declared.as_page.parts.TheConstants.{HEAD, SCRIPT, STYLE, TAIL, TOOLS}
 use Rattle.check_report.specs.declared.escape.Escape.TheVariants as escape
+use Rattle.check_report.specs.declared.row.Counts.{Counts}
 use Rattle.check_report.specs.declared.row.Part.{Part}
 use Rattle.check_report.specs.declared.row.Part.TheVariants as part
 use Rattle.check_report.specs.declared.value.Broken.{Broken}
+use Rattle.check_report.specs.declared.value.External.{External}
 use Rattle.check_report.specs.declared.value.FileCount.{FileCount}
 use Rattle.check_report.specs.declared.value.Place.{Place}
 use Rattle.check_report.specs.declared.value.Redirect.{Redirect}
@@ -54,12 +56,22 @@ total_item word n = counted word n ++ codes "</b></li>\n"
 abbrev pub site_items : Totals → List ℕ
 site_items t = total_item (codes "<li>pages <b>") t.pages ++ total_item (codes "<li>links <b>") t.links ++ total_item (codes "<li>redirects <b>") t.moved
 
-abbrev pub broken_items : Totals → ℕ → List ℕ
-broken_items t unreached =
-    total_item (codes "<li>missing pages <b>") t.broken_urls ++ total_item (codes "<li>missing anchors <b>") t.broken_anchors ++ total_item (codes "<li>unreached <b>") unreached
+abbrev pub broken_items : Totals → List ℕ
+broken_items t = total_item (codes "<li>missing pages <b>") t.broken_urls ++ total_item (codes "<li>missing anchors <b>") t.broken_anchors
 
-unfoldable pub page_total : List ℕ → Totals → ℕ → List ℕ
-page_total base t unreached = page_start base t ++ page_heading base t ++ site_items t ++ broken_items t unreached ++ tools_part
+-- a count, where there is one
+abbrev pub item_if : List ℕ → Option ℕ → List ℕ
+item_if word None = []
+item_if word (Some n) = total_item word n
+
+abbrev pub told_items : Counts → List ℕ
+told_items c = item_if (codes "<li>unreached <b>") c.unreached ++ item_if (codes "<li>external <b>") c.external
+
+abbrev pub count_items : Totals → Counts → List ℕ
+count_items t c = site_items t ++ broken_items t ++ told_items c
+
+unfoldable pub page_total : List ℕ → Totals → Counts → List ℕ
+page_total base t c = page_start base t ++ page_heading base t ++ count_items t c ++ tools_part
 
 -- ---- parts
 
@@ -68,6 +80,7 @@ section_start part.Broken = codes "<section id=broken aria-labelledby=h-broken>\
 section_start part.Worst = codes "<section id=worst aria-labelledby=h-worst>\n<h2 id=h-worst>Files with most broken links</h2>\n<pre>\n"
 section_start part.Redirects = codes "<section id=redirects aria-labelledby=h-redirects>\n<h2 id=h-redirects>Redirects to mend</h2>\n<pre>\n"
 section_start part.Unreached = codes "<section id=unreached aria-labelledby=h-unreached>\n<h2 id=h-unreached>Pages that no link leads to</h2>\n<pre>\n"
+section_start part.External = codes "<section id=external aria-labelledby=h-external>\n<h2 id=h-external>Links to other hosts, not looked at</h2>\n<pre>\n"
 section_start part.Unused = codes "<section id=unused aria-labelledby=h-unused>\n<h2 id=h-unused>Ignored, but not found</h2>\n<pre>\n"
 
 -- ---- rows
@@ -88,8 +101,11 @@ abbrev pub redirect_row : Redirect → List ℕ
 redirect_row r =
     html (string_bytes r.page) ++ codes "\tto " ++ redirect_target escape.Html (option_map string_bytes r.target) ++ counted (codes "\tlinked from ") r.pages ++ codes "\n"
 
+abbrev pub external_row : External → List ℕ
+external_row e = html (string_bytes e.url) ++ counted (codes "\t") e.links ++ codes "\n"
+
 abbrev pub page_line : Line → List ℕ
-page_line (line.total base totals unreached) = page_total base totals unreached
+page_line (line.total base totals counts) = page_total base totals counts
 page_line (line.begin of_part) = section_start of_part
 page_line (line.finish of_part) = codes "</pre>\n</section>\n"
 page_line (line.broken b) = broken_row b
@@ -97,5 +113,6 @@ page_line (line.place b p) = place_row p
 page_line (line.more count) = more_row count
 page_line (line.worst c) = worst_row c
 page_line (line.redirect r) = redirect_row r
+page_line (line.external e) = external_row e
 page_line (line.name of_part text) = html text ++ codes "\n"
 page_line line.last = tail_part

@@ -9,6 +9,7 @@ use Rattle.check_report.specs.Text.{text_line}
 use Rattle.check_report.specs.declared.form.Form.{Form}
 use Rattle.check_report.specs.declared.form.Form.TheVariants as form
 use Rattle.check_report.specs.declared.value.Findings.{Findings}
+use Rattle.check_report.specs.declared.value.Told.{Told}
 
 abbrev pub bytes_of : Form → Line → List ℕ
 bytes_of (form.Text colour) line = text_line colour line
@@ -21,21 +22,21 @@ abbrev pub Adds : Form → List ℕ → List ℕ → List Line → Type 0
 Adds how out more lines = more ≡ out ++ flat_map (bytes_of how) lines
 
 -- the bytes of a report
-abbrev pub printed : Form → Bool → Findings → List ℕ
-printed how all f = flat_map (bytes_of how) (rows_of all f)
+abbrev pub printed : Form → Bool → Told → Findings → List ℕ
+printed how all told f = flat_map (bytes_of how) (rows_of all told f)
 
 -- as text for people, with three places of each target or with all, and with colour or without
-abbrev pub printed_text : Bool → Bool → Findings → List ℕ
-printed_text all colour f = printed (form.Text colour) all f
+abbrev pub printed_text : Bool → Bool → Told → Findings → List ℕ
+printed_text all colour told f = printed (form.Text colour) all told f
 
 -- as JSON, with all places
-abbrev pub printed_json : Findings → List ℕ
-printed_json f = printed form.Json true f
+abbrev pub printed_json : Told → Findings → List ℕ
+printed_json told f = printed form.Json true told f
 
 -- as commands that GitHub's jobs show beside files, with all places
-abbrev pub printed_annotations : Findings → List ℕ
-printed_annotations f = printed form.Annotations true f
+abbrev pub printed_annotations : Told → Findings → List ℕ
+printed_annotations told f = printed form.Annotations true told f
 
 -- as one HTML page, with all places
-abbrev pub printed_page : Findings → List ℕ
-printed_page f = printed form.Page true f
+abbrev pub printed_page : Told → Findings → List ℕ
+printed_page told f = printed form.Page true told f

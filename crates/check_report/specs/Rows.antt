@@ -1,13 +1,17 @@
 -- Which rows a report has, in which order.
-use Rattle.std.specs.Prelude.{ℕ, ◌-◌, Bool, true, false, List, [], ◌∷◌, ◌++◌, length, map, take, nat_lt, String, string_bytes, if◌then◌else◌}
+use Rattle.std.specs.Prelude.{ℕ, ◌-◌, Bool, true, false, List, [], ◌∷◌, ◌++◌, length, map, take, nat_lt, String, string_bytes, if◌then◌else◌, Option, None, Some}
 use Rattle.std.specs.List.{flat_map}
+use Rattle.std.specs.Option.{option_map}
 use Rattle.std.specs.declared.alloc.Global.{Global}
 use Rattle.check_report.specs.declared.value.Broken.{Broken}
+use Rattle.check_report.specs.declared.value.External.{External}
 use Rattle.check_report.specs.declared.value.FileCount.{FileCount}
 use Rattle.check_report.specs.declared.value.Findings.{Findings}
 use Rattle.check_report.specs.declared.value.Place.{Place}
 use Rattle.check_report.specs.declared.value.Redirect.{Redirect}
+use Rattle.check_report.specs.declared.value.Told.{Told}
 use Rattle.check_report.specs.declared.value.Totals.{Totals}
+use Rattle.check_report.specs.declared.row.Counts.{Counts}
 use Rattle.check_report.specs.declared.row.Part.{Part}
 use Rattle.check_report.specs.declared.row.Part.TheVariants as part
 use Rattle.check_report.specs.declared.row.Row.{Row}
@@ -15,8 +19,8 @@ use Rattle.check_report.specs.declared.row.Row.TheVariants as row
 
 -- what a row says
 pub data Line : Type 0 where
-  -- the site, what was counted, and how many pages are unreached
-  total : List ℕ → Totals → ℕ → Line
+  -- the site, and what was counted
+  total : List ℕ → Totals → Counts → Line
   -- a part of the report, which has rows, begins and ends
   begin : Part → Line
   finish : Part → Line
@@ -27,13 +31,14 @@ pub data Line : Type 0 where
   more : ℕ → Line
   worst : FileCount → Line
   redirect : Redirect → Line
+  external : External → Line
   -- a text that is a row of the part
   name : Part → List ℕ → Line
   last : Line
 
 -- what a row of the program says
 abbrev pub line_of : Row → Line
-line_of (row.Total base totals unreached) = total base.now totals unreached
+line_of (row.Total base totals counts) = total base.now totals counts
 line_of (row.Begin of_part) = begin of_part
 line_of (row.Finish of_part) = finish of_part
 line_of (row.Broken target) = broken target.now
@@ -41,6 +46,7 @@ line_of (row.Place target at) = place target.now at.now
 line_of (row.More count) = more count
 line_of (row.Worst count) = worst count.now
 line_of (row.Redirect page) = redirect page.now
+line_of (row.External url) = external url.now
 line_of (row.Name of_part text) = name of_part text.now
 line_of row.Last = last
 
@@ -87,7 +93,30 @@ redirect_part pages = in_part part.Redirects (length pages) (map redirect pages)
 abbrev pub name_part : Part → List (String Global) → List Line
 name_part of_part texts = in_part of_part (length texts) (map (λ text. name of_part (string_bytes text)) texts)
 
-abbrev pub rows_of : Bool → Findings → List Line
-rows_of all f =
-    total f.base.now f.totals (length f.unreached.now) ∷ broken_part all f.broken.now ++ worst_part f.worst.now ++ redirect_part f.redirects.now
-    ++ name_part part.Unreached f.unreached.now ++ name_part part.Unused f.unused_ignores.now ++ last ∷ []
+abbrev pub external_part : List External → List Line
+external_part urls = in_part part.External (length urls) (map external urls)
+
+-- the names, where they are told
+abbrev pub if_told : Bool → List (String Global) → List (String Global)
+if_told true names = names
+if_told false names = []
+
+abbrev pub count_if : Bool → ℕ → Option ℕ
+count_if true count = Some count
+count_if false count = None
+
+-- what is counted beside the totals is what is told
+abbrev pub counts_of : Told → Findings → Counts
+counts_of told f = record { unreached = count_if told.unreached (length f.unreached.now); external = option_map (λ urls. length urls.now) told.external }
+
+abbrev pub or_none : Option (List External) → List External
+or_none None = []
+or_none (Some urls) = urls
+
+abbrev pub external_of : Told → List External
+external_of told = or_none (option_map (λ urls. urls.now) told.external)
+
+abbrev pub rows_of : Bool → Told → Findings → List Line
+rows_of all told f =
+    total f.base.now f.totals (counts_of told f) ∷ broken_part all f.broken.now ++ worst_part f.worst.now ++ redirect_part f.redirects.now
+    ++ name_part part.Unreached (if_told told.unreached f.unreached.now) ++ external_part (external_of told) ++ name_part part.Unused f.unused_ignores.now ++ last ∷ []

@@ -6,9 +6,11 @@ use Rattle.check_report.specs.Rows as line
 use Rattle.check_report.specs.Rows.{Line}
 use Rattle.check_report.specs.declared.escape.Escape.{Escape}
 use Rattle.check_report.specs.declared.escape.Escape.TheVariants as escape
+use Rattle.check_report.specs.declared.row.Counts.{Counts}
 use Rattle.check_report.specs.declared.row.Part.{Part}
 use Rattle.check_report.specs.declared.row.Part.TheVariants as part
 use Rattle.check_report.specs.declared.value.Broken.{Broken}
+use Rattle.check_report.specs.declared.value.External.{External}
 use Rattle.check_report.specs.declared.value.FileCount.{FileCount}
 use Rattle.check_report.specs.declared.value.Kind.{Kind}
 use Rattle.check_report.specs.declared.value.Kind.TheVariants.{NoPage, NoAnchor}
@@ -62,6 +64,11 @@ wrong_of how b = message b.kind ++ same_name_text how (option_map string_bytes b
 abbrev pub counted : List ℕ → ℕ → List ℕ
 counted word n = word ++ decimal n
 
+-- the same, where there is a count
+abbrev pub counted_if : List ℕ → Option ℕ → List ℕ
+counted_if word None = []
+counted_if word (Some n) = counted word n
+
 -- what is wrong
 abbrev pub wrong_text : Bool → Kind → List ℕ
 wrong_text colour kind = code colour red ++ message kind ++ code colour plain
@@ -91,18 +98,21 @@ broken_total colour t =
     code colour (verdict t) ++ counted (codes "broken links ") t.broken_links ++ code colour plain
     ++ counted (codes ", missing pages ") t.broken_urls ++ counted (codes ", missing anchors ") t.broken_anchors
 
-abbrev pub site_total : Totals → ℕ → List ℕ
-site_total t unreached =
-    counted (codes "pages ") t.pages ++ counted (codes ", links ") t.links ++ counted (codes ", redirects ") t.moved ++ counted (codes ", unreached ") unreached
+-- the first line of the totals
+abbrev pub site_total : Totals → Counts → List ℕ
+site_total t c =
+    counted (codes "pages ") t.pages ++ counted (codes ", links ") t.links ++ counted (codes ", redirects ") t.moved
+    ++ counted_if (codes ", unreached ") c.unreached ++ counted_if (codes ", external ") c.external
 
-abbrev pub total_text : Bool → Totals → ℕ → List ℕ
-total_text colour t unreached = site_total t unreached ++ codes "\n" ++ broken_total colour t ++ codes "\n"
+abbrev pub total_text : Bool → Totals → Counts → List ℕ
+total_text colour t c = site_total t c ++ codes "\n" ++ broken_total colour t ++ codes "\n"
 
 abbrev pub title : Part → List ℕ
 title part.Broken = []
 title part.Worst = codes "files with most broken links:\n"
 title part.Redirects = codes "redirects to mend:\n"
 title part.Unreached = codes "pages that no link leads to:\n"
+title part.External = codes "links to other hosts, not looked at:\n"
 title part.Unused = codes "ignored, but not found:\n"
 
 -- an empty line, and the title
@@ -119,6 +129,10 @@ moves_text r = codes "  " ++ shown (string_bytes r.page) ++ codes " -> " ++ redi
 abbrev pub redirect_text : Redirect → List ℕ
 redirect_text r = moves_text r ++ counted (codes " (linked from ") r.pages ++ codes ")\n"
 
+-- how many links lead to a URL of another host
+abbrev pub external_text : External → List ℕ
+external_text e = counted (codes "  ") e.links ++ codes " " ++ shown (string_bytes e.url) ++ codes "\n"
+
 abbrev pub more_text : ℕ → List ℕ
 more_text count = counted (codes "  and ") count ++ codes " more\n"
 
@@ -126,7 +140,7 @@ abbrev pub name_text : List ℕ → List ℕ
 name_text text = codes "  " ++ shown text ++ codes "\n"
 
 abbrev pub text_line : Bool → Line → List ℕ
-text_line colour (line.total base totals unreached) = total_text colour totals unreached
+text_line colour (line.total base totals counts) = total_text colour totals counts
 text_line colour (line.begin of_part) = begin_text colour of_part
 text_line colour (line.finish of_part) = []
 text_line colour (line.broken b) = broken_text colour b
@@ -134,5 +148,6 @@ text_line colour (line.place b p) = place_text colour b p
 text_line colour (line.more count) = more_text count
 text_line colour (line.worst c) = worst_text c
 text_line colour (line.redirect r) = redirect_text r
+text_line colour (line.external e) = external_text e
 text_line colour (line.name of_part text) = name_text text
 text_line colour line.last = []

@@ -21,6 +21,7 @@ pub fn put_annotation(out: &mut Vec<u8>, row: Row<'_>) -> Result<(), NoMemory>
         | Row::More(_)
         | Row::Worst(_)
         | Row::Redirect(_)
+        | Row::External(_)
         | Row::Name(_, _)
         | Row::Last => Ok(()),
     }

@@ -3,14 +3,14 @@ ghost use Rattle.std.specs.Prelude.{◌≡◌, ◌++◌, ◌∷◌, [], OnOk, If
 ghost use Rattle.std.specs.Option.{option_map};
 ghost use Rattle.json.specs.Json.{object};
 ghost use Rattle.json.specs.Token.{begin_object, end_object, key, string, number};
-ghost use Rattle.json.specs.Tree.{json_tokens};
-ghost use Rattle.check_report.specs.Json.{is_object, json_line, members_of, missing, object_line, row_kind, text_or_null};
+ghost use Rattle.json.specs.Tree.{json_tokens, members_tokens};
+ghost use Rattle.check_report.specs.Json.{count_tokens, is_object, json_line, members_of, missing, object_line, row_kind, text_or_null, told_counts};
 ghost use Rattle.check_report.specs.Rows as line;
 ghost use Rattle.check_report.specs.Rows.{line_of};
 
 use crate::put::NoMemory;
-use crate::row::{Part, Row};
-use crate::value::{Broken, FileCount, Kind, Place, Redirect, Totals};
+use crate::row::{Counts, Part, Row};
+use crate::value::{Broken, External, FileCount, Kind, Place, Redirect, Totals};
 use json::Writer;
 
 /// The bytes, and behind them the row's object with no space, ended by LF, if the row is one.
@@ -35,6 +35,7 @@ fn is_object(row: Row<'_>) -> bool
         | Row::More(_)
         | Row::Worst(_)
         | Row::Redirect(_)
+        | Row::External(_)
         | Row::Name(_, _) => true,
     }
 }
@@ -61,21 +62,22 @@ fn put_row(out: &mut Writer, row: Row<'_>) -> Result<(), NoMemory>
         Row::Total {
             base,
             totals,
-            unreached,
-        } => put_total(out, base, totals, unreached as u64),
+            counts,
+        } => put_total(out, base, totals, counts),
         Row::Broken(broken) => put_broken(out, broken),
         Row::Place(broken, place) => put_place(out, broken, place),
         Row::More(places) => put_more(out, places as u64),
         Row::Worst(count) => put_worst(out, count),
         Row::Redirect(page) => put_redirect(out, page),
+        Row::External(url) => put_external(out, url),
         Row::Name(part, text) => put_name(out, part, text),
         Row::Begin(_) | Row::Finish(_) | Row::Last => Ok(()),
     }
 }
 
-fn put_total(out: &mut Writer, base: &str, totals: Totals, unreached: u64) -> Result<(), NoMemory>
+fn put_total(out: &mut Writer, base: &str, totals: Totals, counts: Counts) -> Result<(), NoMemory>
     requires { out.old.tokens ≡ begin_object ∷ [] }
-    ensures tokens { OnOk result (out.new.tokens ++ end_object ∷ [] ≡ json_tokens (object (members_of (line.total base.now totals unreached)))) }
+    ensures tokens { OnOk result (out.new.tokens ++ end_object ∷ [] ≡ json_tokens (object (members_of (line.total base.now totals counts)))) }
     ensures before { out.new.before ≡ out.old.before }
 {
     put_text(out, "kind", "total")?;
@@ -83,7 +85,16 @@ fn put_total(out: &mut Writer, base: &str, totals: Totals, unreached: u64) -> Re
     put_count(out, "pages", totals.pages)?;
     put_count(out, "links", totals.links)?;
     put_count(out, "redirects", totals.moved)?;
-    put_count(out, "unreached", unreached)?;
+    put_told_counts(out, totals, counts)
+}
+
+// The counts that are told, and those of what is broken, which are the last.
+fn put_told_counts(out: &mut Writer, totals: Totals, counts: Counts) -> Result<(), NoMemory>
+    ensures tokens { OnOk result (out.new.tokens ++ end_object ∷ [] ≡ out.old.tokens ++ members_tokens (told_counts totals counts)) }
+    ensures before { out.new.before ≡ out.old.before }
+{
+    put_count_if(out, "unreached", counts.unreached)?;
+    put_count_if(out, "external", counts.external)?;
     put_broken_counts(out, totals)
 }
 
@@ -147,6 +158,16 @@ fn put_redirect(out: &mut Writer, page: &Redirect) -> Result<(), NoMemory>
     put_count(out, "pages", page.pages)
 }
 
+fn put_external(out: &mut Writer, url: &External) -> Result<(), NoMemory>
+    requires { out.old.tokens ≡ begin_object ∷ [] }
+    ensures tokens { OnOk result (out.new.tokens ++ end_object ∷ [] ≡ json_tokens (object (members_of (line.external url.now)))) }
+    ensures before { out.new.before ≡ out.old.before }
+{
+    put_text(out, "kind", "external")?;
+    put_text(out, "url", url.url.as_str())?;
+    put_count(out, "links", url.links)
+}
+
 fn put_name(out: &mut Writer, part: Part, text: &str) -> Result<(), NoMemory>
     requires { out.old.tokens ≡ begin_object ∷ [] }
     ensures tokens { OnOk result (out.new.tokens ++ end_object ∷ [] ≡ json_tokens (object (members_of (line.name part text.now)))) }
@@ -164,6 +185,7 @@ fn row_kind(part: Part) -> &'static str
         Part::Worst => "worst",
         Part::Redirects => "redirect",
         Part::Unreached => "unreached",
+        Part::External => "external",
         Part::Unused => "unused",
     }
 }
@@ -212,4 +234,14 @@ fn put_count(out: &mut Writer, name: &str, count: u64) -> Result<(), NoMemory>
 {
     out.key(name)?;
     out.u64(count)
+}
+
+fn put_count_if(out: &mut Writer, name: &str, count: Option<usize>) -> Result<(), NoMemory>
+    ensures tokens { OnOk result (out.new.tokens ≡ out.old.tokens ++ count_tokens name.now count) }
+    ensures before { out.new.before ≡ out.old.before }
+{
+    match count {
+        Some(count) => put_count(out, name, count as u64),
+        None => Ok(()),
+    }
 }

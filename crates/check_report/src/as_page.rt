@@ -1,6 +1,6 @@
 //! A row in the HTML page.
 ghost use Rattle.std.specs.Prelude.{◌≡◌, ◌++◌, OnOk, codes};
-ghost use Rattle.check_report.specs.Page.{broken_items, broken_row, head_part, html, more_row, page_heading, page_line, page_start, page_total, place_row, redirect_row, script_part, section_start, site_items, style_part, tail_part, tools_part, total_item, verdict_start, worst_row};
+ghost use Rattle.check_report.specs.Page.{broken_items, broken_row, count_items, external_row, head_part, html, item_if, more_row, page_heading, page_line, page_start, page_total, place_row, redirect_row, script_part, section_start, site_items, style_part, tail_part, told_items, tools_part, total_item, verdict_start, worst_row};
 ghost use Rattle.check_report.specs.Rows.{line_of};
 
 mod parts;
@@ -8,8 +8,8 @@ mod parts;
 use crate::as_text::{put_redirect_target, put_wrong_of};
 use crate::escape::{Escape, put_escaped};
 use crate::put::{NoMemory, put, put_count, put_counted};
-use crate::row::{Part, Row};
-use crate::value::{Broken, FileCount, Place, Redirect, Totals};
+use crate::row::{Counts, Part, Row};
+use crate::value::{Broken, External, FileCount, Place, Redirect, Totals};
 use parts::{HEAD, SCRIPT, STYLE, TAIL, TOOLS};
 
 pub fn put_page(out: &mut Vec<u8>, row: Row<'_>) -> Result<(), NoMemory>
@@ -19,8 +19,8 @@ pub fn put_page(out: &mut Vec<u8>, row: Row<'_>) -> Result<(), NoMemory>
         Row::Total {
             base,
             totals,
-            unreached,
-        } => put_total(out, base, totals, unreached as u64),
+            counts,
+        } => put_total(out, base, totals, counts),
         Row::Begin(part) => put(out, section_start(part)),
         Row::Finish(_) => put(out, "</pre>\n</section>\n"),
         Row::Broken(broken) => put_broken(out, broken),
@@ -28,6 +28,7 @@ pub fn put_page(out: &mut Vec<u8>, row: Row<'_>) -> Result<(), NoMemory>
         Row::More(count) => put_more(out, count as u64),
         Row::Worst(count) => put_worst(out, count),
         Row::Redirect(page) => put_redirect(out, page),
+        Row::External(url) => put_external(out, url),
         Row::Name(_, text) => put_name(out, text),
         Row::Last => put(out, tail_part()),
     }
@@ -77,6 +78,8 @@ fn section_start(part: Part) -> &'static str
             "<section id=redirects aria-labelledby=h-redirects>\n<h2 id=h-redirects>Redirects to mend</h2>\n<pre>\n",
         Part::Unreached =>
             "<section id=unreached aria-labelledby=h-unreached>\n<h2 id=h-unreached>Pages that no link leads to</h2>\n<pre>\n",
+        Part::External =>
+            "<section id=external aria-labelledby=h-external>\n<h2 id=h-external>Links to other hosts, not looked at</h2>\n<pre>\n",
         Part::Unused =>
             "<section id=unused aria-labelledby=h-unused>\n<h2 id=h-unused>Ignored, but not found</h2>\n<pre>\n",
     }
@@ -84,13 +87,12 @@ fn section_start(part: Part) -> &'static str
 
 // ---- totals
 
-fn put_total(out: &mut Vec<u8>, base: &str, totals: Totals, unreached: u64) -> Result<(), NoMemory>
-    ensures { OnOk result (out.new.items ≡ out.old.items ++ page_total base.now totals unreached) }
+fn put_total(out: &mut Vec<u8>, base: &str, totals: Totals, counts: Counts) -> Result<(), NoMemory>
+    ensures { OnOk result (out.new.items ≡ out.old.items ++ page_total base.now totals counts) }
 {
     put_start(out, base, totals)?;
     put_heading(out, base, totals)?;
-    put_site_items(out, totals)?;
-    put_broken_items(out, totals, unreached)?;
+    put_count_items(out, totals, counts)?;
     put(out, tools_part())
 }
 
@@ -124,6 +126,14 @@ fn verdict_start(totals: Totals) -> &'static str
     }
 }
 
+fn put_count_items(out: &mut Vec<u8>, totals: Totals, counts: Counts) -> Result<(), NoMemory>
+    ensures { OnOk result (out.new.items ≡ out.old.items ++ count_items totals counts) }
+{
+    put_site_items(out, totals)?;
+    put_broken_items(out, totals)?;
+    put_told_items(out, counts)
+}
+
 fn put_site_items(out: &mut Vec<u8>, totals: Totals) -> Result<(), NoMemory>
     ensures { OnOk result (out.new.items ≡ out.old.items ++ site_items totals) }
 {
@@ -132,12 +142,27 @@ fn put_site_items(out: &mut Vec<u8>, totals: Totals) -> Result<(), NoMemory>
     put_item(out, "<li>redirects <b>", totals.moved)
 }
 
-fn put_broken_items(out: &mut Vec<u8>, totals: Totals, unreached: u64) -> Result<(), NoMemory>
-    ensures { OnOk result (out.new.items ≡ out.old.items ++ broken_items totals unreached) }
+fn put_broken_items(out: &mut Vec<u8>, totals: Totals) -> Result<(), NoMemory>
+    ensures { OnOk result (out.new.items ≡ out.old.items ++ broken_items totals) }
 {
     put_item(out, "<li>missing pages <b>", totals.broken_urls)?;
-    put_item(out, "<li>missing anchors <b>", totals.broken_anchors)?;
-    put_item(out, "<li>unreached <b>", unreached)
+    put_item(out, "<li>missing anchors <b>", totals.broken_anchors)
+}
+
+fn put_told_items(out: &mut Vec<u8>, counts: Counts) -> Result<(), NoMemory>
+    ensures { OnOk result (out.new.items ≡ out.old.items ++ told_items counts) }
+{
+    put_item_if(out, "<li>unreached <b>", counts.unreached)?;
+    put_item_if(out, "<li>external <b>", counts.external)
+}
+
+fn put_item_if(out: &mut Vec<u8>, word: &str, count: Option<usize>) -> Result<(), NoMemory>
+    ensures { OnOk result (out.new.items ≡ out.old.items ++ item_if word.now count) }
+{
+    match count {
+        Some(count) => put_item(out, word, count as u64),
+        None => Ok(()),
+    }
 }
 
 fn put_item(out: &mut Vec<u8>, word: &str, count: u64) -> Result<(), NoMemory>
@@ -197,6 +222,14 @@ fn put_redirect(out: &mut Vec<u8>, page: &Redirect) -> Result<(), NoMemory>
     put(out, "\tto ")?;
     put_redirect_target(out, Escape::Html, &page.target)?;
     put_counted(out, "\tlinked from ", page.pages)?;
+    put(out, "\n")
+}
+
+fn put_external(out: &mut Vec<u8>, url: &External) -> Result<(), NoMemory>
+    ensures { OnOk result (out.new.items ≡ out.old.items ++ external_row url.now) }
+{
+    put_html(out, url.url.as_str())?;
+    put_counted(out, "\t", url.links)?;
     put(out, "\n")
 }
 

@@ -2,12 +2,12 @@
 ghost use Rattle.std.specs.Prelude.{◌≡◌, ◌++◌, OnOk, string_bytes};
 ghost use Rattle.std.specs.Option.{option_map};
 ghost use Rattle.check_report.specs.Rows.{line_of};
-ghost use Rattle.check_report.specs.Text.{begin_text, broken_text, broken_total, message, more_text, moves_text, name_text, place_start, place_text, redirect_target, redirect_text, same_name_text, site_total, target_text, text_line, title, total_text, verdict, worst_text, wrong_of, wrong_text};
+ghost use Rattle.check_report.specs.Text.{begin_text, broken_text, broken_total, external_text, message, more_text, moves_text, name_text, place_start, place_text, redirect_target, redirect_text, same_name_text, site_total, target_text, text_line, title, total_text, verdict, worst_text, wrong_of, wrong_text};
 
 use crate::escape::{Escape, put_escaped, put_shown};
-use crate::put::{NoMemory, put, put_code, put_counted};
-use crate::row::{Part, Row};
-use crate::value::{Broken, FileCount, Kind, Place, Redirect, Totals};
+use crate::put::{NoMemory, put, put_code, put_counted, put_counted_if};
+use crate::row::{Counts, Part, Row};
+use crate::value::{Broken, External, FileCount, Kind, Place, Redirect, Totals};
 
 const BOLD: &str = "\x1b[1m";
 
@@ -21,17 +21,14 @@ pub fn put_text(out: &mut Vec<u8>, row: Row<'_>, colour: bool) -> Result<(), NoM
     ensures { OnOk result (out.new.items ≡ out.old.items ++ text_line colour (line_of row.entry)) }
 {
     match row {
-        Row::Total {
-            totals,
-            unreached,
-            ..
-        } => put_total(out, totals, unreached as u64, colour),
+        Row::Total { totals, counts, .. } => put_total(out, totals, counts, colour),
         Row::Begin(part) => put_begin(out, part, colour),
         Row::Broken(broken) => put_broken(out, broken, colour),
         Row::Place(broken, place) => put_place(out, broken, place, colour),
         Row::More(count) => put_more(out, count as u64),
         Row::Worst(count) => put_worst(out, count),
         Row::Redirect(redirect) => put_redirect(out, redirect),
+        Row::External(url) => put_external(out, url),
         Row::Name(_, text) => put_name(out, text),
         Row::Finish(_) | Row::Last => Ok(()),
     }
@@ -40,24 +37,25 @@ pub fn put_text(out: &mut Vec<u8>, row: Row<'_>, colour: bool) -> Result<(), NoM
 fn put_total(
     out: &mut Vec<u8>,
     totals: Totals,
-    unreached: u64,
+    counts: Counts,
     colour: bool,
 ) -> Result<(), NoMemory>
-    ensures { OnOk result (out.new.items ≡ out.old.items ++ total_text colour totals unreached) }
+    ensures { OnOk result (out.new.items ≡ out.old.items ++ total_text colour totals counts) }
 {
-    put_site_total(out, totals, unreached)?;
+    put_site_total(out, totals, counts)?;
     put(out, "\n")?;
     put_broken_total(out, totals, colour)?;
     put(out, "\n")
 }
 
-fn put_site_total(out: &mut Vec<u8>, totals: Totals, unreached: u64) -> Result<(), NoMemory>
-    ensures { OnOk result (out.new.items ≡ out.old.items ++ site_total totals unreached) }
+fn put_site_total(out: &mut Vec<u8>, totals: Totals, counts: Counts) -> Result<(), NoMemory>
+    ensures { OnOk result (out.new.items ≡ out.old.items ++ site_total totals counts) }
 {
     put_counted(out, "pages ", totals.pages)?;
     put_counted(out, ", links ", totals.links)?;
     put_counted(out, ", redirects ", totals.moved)?;
-    put_counted(out, ", unreached ", unreached)
+    put_counted_if(out, ", unreached ", counts.unreached)?;
+    put_counted_if(out, ", external ", counts.external)
 }
 
 fn put_broken_total(out: &mut Vec<u8>, totals: Totals, colour: bool) -> Result<(), NoMemory>
@@ -94,6 +92,7 @@ fn title(part: Part) -> &'static str
         Part::Worst => "files with most broken links:\n",
         Part::Redirects => "redirects to mend:\n",
         Part::Unreached => "pages that no link leads to:\n",
+        Part::External => "links to other hosts, not looked at:\n",
         Part::Unused => "ignored, but not found:\n",
     }
 }
@@ -224,6 +223,15 @@ pub fn put_redirect_target(
         Some(page) => put_escaped(out, how, page.as_str()),
         None => put(out, "-"),
     }
+}
+
+fn put_external(out: &mut Vec<u8>, url: &External) -> Result<(), NoMemory>
+    ensures { OnOk result (out.new.items ≡ out.old.items ++ external_text url.now) }
+{
+    put_counted(out, "  ", url.links)?;
+    put(out, " ")?;
+    put_shown(out, url.url.as_str())?;
+    put(out, "\n")
 }
 
 fn put_name(out: &mut Vec<u8>, text: &str) -> Result<(), NoMemory>

@@ -16,4 +16,4 @@ mod value;
 
 pub use printing::{print_annotations, print_json, print_page, print_text};
 pub use put::NoMemory;
-pub use value::{Broken, FileCount, Findings, Kind, Place, Redirect, Totals};
+pub use value::{Broken, External, FileCount, Findings, Kind, Place, Redirect, Told, Totals};

@@ -2,7 +2,7 @@
 ghost use Rattle.std.specs.Prelude.{◌≡◌, [], ◌∷◌, IfOk, length, map, string_bytes};
 ghost use Rattle.check_report.specs.Printing.{Adds, printed, printed_annotations, printed_json, printed_page, printed_text};
 ghost use Rattle.check_report.specs.Rows as line;
-ghost use Rattle.check_report.specs.Rows.{line_of, broken_lines, broken_part, edge, left_out, name_part, place_lines, redirect_part, shown_places, target_lines, worst_part};
+ghost use Rattle.check_report.specs.Rows.{line_of, broken_lines, broken_part, counts_of, edge, external_of, external_part, if_told, left_out, name_part, place_lines, redirect_part, shown_places, target_lines, worst_part};
 
 use crate::as_annotations::put_annotation;
 use crate::as_json::with_json;
@@ -10,8 +10,8 @@ use crate::as_page::put_page;
 use crate::as_text::put_text;
 use crate::form::Form;
 use crate::put::NoMemory;
-use crate::row::{Part, Row};
-use crate::value::{Broken, FileCount, Findings, Place, Redirect};
+use crate::row::{Counts, Part, Row};
+use crate::value::{Broken, External, FileCount, Findings, Place, Redirect, Told};
 use std::alloc::Global;
 
 /// For people: the totals, each broken target with its places, the worst files, and the other parts that have rows.
@@ -22,32 +22,41 @@ use std::alloc::Global;
 pub fn print_text(
     alloc: Global,
     findings: &Findings<'_>,
+    told: Told<'_>,
     all: bool,
     colour: bool,
 ) -> Result<Vec<u8>, NoMemory>
-    ensures { IfOk result (λ text. text.items ≡ printed_text all colour findings.now) }
+    ensures { IfOk result (λ text. text.items ≡ printed_text all colour told.entry findings.now) }
 {
-    print(alloc, findings, all, Form::Text(colour))
+    print(alloc, findings, told, all, Form::Text(colour))
 }
 
 /// For programs: a JSON object for each row, one a line.
 ///
 /// # Errors
 /// Out of memory alone.
-pub fn print_json(alloc: Global, findings: &Findings<'_>) -> Result<Vec<u8>, NoMemory>
-    ensures { IfOk result (λ text. text.items ≡ printed_json findings.now) }
+pub fn print_json(
+    alloc: Global,
+    findings: &Findings<'_>,
+    told: Told<'_>,
+) -> Result<Vec<u8>, NoMemory>
+    ensures { IfOk result (λ text. text.items ≡ printed_json told.entry findings.now) }
 {
-    print(alloc, findings, true, Form::Json)
+    print(alloc, findings, told, true, Form::Json)
 }
 
 /// For GitHub's jobs: an `::error` command for each place of a broken link.
 ///
 /// # Errors
 /// Out of memory alone.
-pub fn print_annotations(alloc: Global, findings: &Findings<'_>) -> Result<Vec<u8>, NoMemory>
-    ensures { IfOk result (λ text. text.items ≡ printed_annotations findings.now) }
+pub fn print_annotations(
+    alloc: Global,
+    findings: &Findings<'_>,
+    told: Told<'_>,
+) -> Result<Vec<u8>, NoMemory>
+    ensures { IfOk result (λ text. text.items ≡ printed_annotations told.entry findings.now) }
 {
-    print(alloc, findings, true, Form::Annotations)
+    print(alloc, findings, told, true, Form::Annotations)
 }
 
 /// One HTML page that needs no network. Without script it shows every row; its script draws broken links by target or by page,
@@ -55,32 +64,77 @@ pub fn print_annotations(alloc: Global, findings: &Findings<'_>) -> Result<Vec<u
 ///
 /// # Errors
 /// Out of memory alone.
-pub fn print_page(alloc: Global, findings: &Findings<'_>) -> Result<Vec<u8>, NoMemory>
-    ensures { IfOk result (λ text. text.items ≡ printed_page findings.now) }
+pub fn print_page(
+    alloc: Global,
+    findings: &Findings<'_>,
+    told: Told<'_>,
+) -> Result<Vec<u8>, NoMemory>
+    ensures { IfOk result (λ text. text.items ≡ printed_page told.entry findings.now) }
 {
-    print(alloc, findings, true, Form::Page)
+    print(alloc, findings, told, true, Form::Page)
 }
 
-fn print(alloc: Global, findings: &Findings<'_>, all: bool, form: Form) -> Result<Vec<u8>, NoMemory>
-    ensures { IfOk result (λ text. text.items ≡ printed form all findings.now) }
+fn print(
+    alloc: Global,
+    findings: &Findings<'_>,
+    told: Told<'_>,
+    all: bool,
+    form: Form,
+) -> Result<Vec<u8>, NoMemory>
+    ensures { IfOk result (λ text. text.items ≡ printed form all told.entry findings.now) }
 {
-    let begun = with(Vec::new(alloc), form, total_of(findings))?;
+    let begun = with(Vec::new(alloc), form, total_of(findings, told))?;
     let broken = with_broken(begun, form, findings.broken, all)?;
     let worst = with_worst(broken, form, findings.worst)?;
     let redirects = with_redirects(worst, form, findings.redirects)?;
-    let unreached = with_names(redirects, form, Part::Unreached, findings.unreached)?;
-    let unused = with_names(unreached, form, Part::Unused, findings.unused_ignores)?;
+    let names = if_told(told.unreached, findings.unreached);
+    let unreached = with_names(redirects, form, Part::Unreached, names)?;
+    let external = with_external(unreached, form, external_of(told))?;
+    let unused = with_names(external, form, Part::Unused, findings.unused_ignores)?;
     let all = with(unused, form, Row::Last)?;
     Ok(all)
 }
 
-fn total_of<'r>(findings: &Findings<'r>) -> Row<'r>
-    ensures { line_of result ≡ line.total findings.now.base.now findings.now.totals (length findings.now.unreached.now) }
+fn total_of<'r>(findings: &Findings<'r>, told: Told<'_>) -> Row<'r>
+    ensures { line_of result ≡ line.total findings.now.base.now findings.now.totals (counts_of told.entry findings.now) }
 {
     Row::Total {
         base: findings.base,
         totals: findings.totals,
-        unreached: findings.unreached.len(),
+        counts: counts_of(findings, told),
+    }
+}
+
+/// What is counted beside the totals is what is told.
+fn counts_of(findings: &Findings<'_>, told: Told<'_>) -> Counts
+    ensures { result ≡ counts_of told.entry findings.now }
+{
+    Counts {
+        unreached: if told.unreached {
+            Some(findings.unreached.len())
+        } else {
+            None
+        },
+        external: match told.external {
+            Some(urls) => Some(urls.len()),
+            None => None,
+        },
+    }
+}
+
+/// The names, where they are told.
+fn if_told(told: bool, names: &[String]) -> &[String]
+    ensures { result.now ≡ if_told told names.now }
+{
+    if told { names } else { &[] }
+}
+
+fn external_of(told: Told<'_>) -> &[External]
+    ensures { result.now ≡ external_of told.entry }
+{
+    match told.external {
+        Some(urls) => urls,
+        None => &[],
     }
 }
 
@@ -215,6 +269,24 @@ fn with_moved(mut out: Vec<u8>, form: Form, pages: &[Redirect]) -> Result<Vec<u8
 {
     for page in pages {
         out = with(out, form, Row::Redirect(page))?;
+    }
+    Ok(out)
+}
+
+fn with_external(out: Vec<u8>, form: Form, urls: &[External]) -> Result<Vec<u8>, NoMemory>
+    ensures { IfOk result (λ more. Adds form out.items more.items (external_part urls.now)) }
+{
+    let rows = urls.len();
+    let begun = with_edge(out, form, Row::Begin(Part::External), rows)?;
+    let told = with_urls(begun, form, urls)?;
+    with_edge(told, form, Row::Finish(Part::External), rows)
+}
+
+fn with_urls(mut out: Vec<u8>, form: Form, urls: &[External]) -> Result<Vec<u8>, NoMemory>
+    ensures { IfOk result (λ more. Adds form out.items more.items (map line.external urls.now)) }
+{
+    for url in urls {
+        out = with(out, form, Row::External(url))?;
     }
     Ok(out)
 }

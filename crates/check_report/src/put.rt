@@ -1,6 +1,6 @@
 //! Bytes behind bytes.
 ghost use Rattle.std.specs.Prelude.{◌≡◌, ◌++◌, OnOk, decimal};
-ghost use Rattle.check_report.specs.Text.{code, counted};
+ghost use Rattle.check_report.specs.Text.{code, counted, counted_if};
 
 use itoa::Buffer;
 use std::alloc::AllocError;
@@ -28,6 +28,16 @@ pub fn put_counted(out: &mut Vec<u8>, word: &str, count: u64) -> Result<(), NoMe
 {
     put(out, word)?;
     put_count(out, count)
+}
+
+/// The word, and a count behind it, where there is one.
+pub fn put_counted_if(out: &mut Vec<u8>, word: &str, count: Option<usize>) -> Result<(), NoMemory>
+    ensures { OnOk result (out.new.items ≡ out.old.items ++ counted_if word.now count) }
+{
+    match count {
+        Some(count) => put_counted(out, word, count as u64),
+        None => Ok(()),
+    }
 }
 
 /// The code, where colour is asked for.

@@ -1,6 +1,6 @@
 //! A row of a report, whatever prints it.
 
-use crate::value::{Broken, FileCount, Place, Redirect, Totals};
+use crate::value::{Broken, External, FileCount, Place, Redirect, Totals};
 
 /// A part of a report, which is printed where it has rows.
 #[derive(Clone, Copy)]
@@ -9,17 +9,25 @@ pub enum Part {
     Worst,
     Redirects,
     Unreached,
+    External,
     Unused,
+}
+
+/// What is counted beside the totals, where it is told.
+#[derive(Clone, Copy)]
+pub struct Counts {
+    pub unreached: Option<usize>,
+    pub external: Option<usize>,
 }
 
 /// What a row says.
 #[derive(Clone, Copy)]
 pub enum Row<'r> {
-    /// The site, what was counted, and how many pages are unreached.
+    /// The site, and what was counted.
     Total {
         base: &'r str,
         totals: Totals,
-        unreached: usize,
+        counts: Counts,
     },
     Begin(Part),
     Finish(Part),
@@ -30,6 +38,7 @@ pub enum Row<'r> {
     More(usize),
     Worst(&'r FileCount),
     Redirect(&'r Redirect),
+    External(&'r External),
     /// A text that is a row of the part.
     Name(Part, &'r str),
     Last,

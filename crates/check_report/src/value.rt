@@ -18,6 +18,15 @@ pub struct Findings<'a> {
     pub unused_ignores: &'a [String],
 }
 
+/// What is told beside what is broken, where it is asked for.
+#[derive(Clone, Copy)]
+pub struct Told<'a> {
+    /// Whether unreached pages are counted and told.
+    pub unreached: bool,
+    /// Where links to other hosts lead, if that is counted and told.
+    pub external: Option<&'a [External]>,
+}
+
 /// How many there are of each.
 #[derive(Clone, Copy)]
 pub struct Totals {
@@ -76,6 +85,14 @@ pub struct Redirect {
     pub target: Option<String>,
     /// How many pages link to it.
     pub pages: u64,
+}
+
+/// A URL of another host.
+#[derive(Drop)]
+pub struct External {
+    pub url: String,
+    /// How many links lead to it.
+    pub links: u64,
 }
 
 /// A file, and how many broken links stand in it.

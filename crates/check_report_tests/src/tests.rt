@@ -1,7 +1,7 @@
 //! What is printed, in each form. The expected bytes are written by hand.
 use check_report::{
-    Broken, FileCount, Findings, Kind, Place, Redirect, Totals, print_annotations, print_json,
-    print_page, print_text,
+    Broken, External, FileCount, Findings, Kind, Place, Redirect, Told, Totals, print_annotations,
+    print_json, print_page, print_text,
 };
 use std::alloc::Global;
 
@@ -44,7 +44,7 @@ const TOTALS: Totals = Totals {
 };
 
 /// For people, three places of each target, without colour.
-const TEXT: &str = "pages 4, links 20, redirects 2, unreached 1
+const TEXT: &str = "pages 4, links 20, redirects 2, unreached 1, external 2
 broken links 5, missing pages 2, missing anchors 1
 
 a.html:41:12: down.html: no such page (same name: lib/down.html)
@@ -64,12 +64,16 @@ redirects to mend:
 pages that no link leads to:
   x␉.html
 
+links to other hosts, not looked at:
+  3 http://o.test/?a&b
+  1 https://p.test/
+
 ignored, but not found:
   http://a.test/
 ";
 
 const JSON: &str =
-    "{\"kind\":\"total\",\"base\":\"http://s.test\",\"pages\":4,\"links\":20,\"redirects\":2,\"unreached\":1,\"broken\":5,\"missing_pages\":2,\"missing_anchors\":1}
+    "{\"kind\":\"total\",\"base\":\"http://s.test\",\"pages\":4,\"links\":20,\"redirects\":2,\"unreached\":1,\"external\":2,\"broken\":5,\"missing_pages\":2,\"missing_anchors\":1}
 {\"kind\":\"broken\",\"target\":\"down.html\",\"missing\":\"page\",\"pages\":3,\"same_name\":\"lib/down.html\"}
 {\"kind\":\"place\",\"target\":\"down.html\",\"missing\":\"page\",\"file\":\"a.html\",\"line\":41,\"column\":12}
 {\"kind\":\"place\",\"target\":\"down.html\",\"missing\":\"page\",\"file\":\"b.html\",\"line\":3,\"column\":1}
@@ -82,6 +86,8 @@ const JSON: &str =
 {\"kind\":\"redirect\",\"page\":\"guide\",\"to\":\"guide/\",\"pages\":7}
 {\"kind\":\"redirect\",\"page\":\"old.html\",\"to\":null,\"pages\":1}
 {\"kind\":\"unreached\",\"name\":\"x\\t.html\"}
+{\"kind\":\"external\",\"url\":\"http://o.test/?a&b\",\"links\":3}
+{\"kind\":\"external\",\"url\":\"https://p.test/\",\"links\":1}
 {\"kind\":\"unused\",\"name\":\"http://a.test/\"}
 ";
 
@@ -128,6 +134,13 @@ old.html\tto -\tlinked from 1
 x␉.html
 </pre>
 </section>
+<section id=external aria-labelledby=h-external>
+<h2 id=h-external>Links to other hosts, not looked at</h2>
+<pre>
+http://o.test/?a&amp;b\t3
+https://p.test/\t1
+</pre>
+</section>
 <section id=unused aria-labelledby=h-unused>
 <h2 id=h-unused>Ignored, but not found</h2>
 <pre>
@@ -141,7 +154,7 @@ http://a.test/
 ";
 
 /// Without a row, and with colour: the totals alone.
-const NOTHING: &str = "pages 4, links 20, redirects 2, unreached 0
+const NOTHING: &str = "pages 4, links 20, redirects 2
 \x1b[31mbroken links 5\x1b[0m, missing pages 2, missing anchors 1
 ";
 
@@ -202,23 +215,32 @@ fn redirect(alloc: Global, page: &str, target: &str, pages: u64) -> Option<Redir
     })
 }
 
+fn external(alloc: Global, url: &str, links: u64) -> Option<External> {
+    let url = text(alloc, url)?;
+    Some(External { url, links })
+}
+
 fn count(alloc: Global, file: &str, links: u64) -> Option<FileCount> {
     let file = text(alloc, file)?;
     Some(FileCount { file, links })
 }
 
 /// The number of the first form that is not printed as expected, or how many there are.
-fn forms(alloc: Global, findings: &Findings<'_>) -> Option<usize> {
-    if print_text(alloc, findings, false, false).ok()?.as_slice() != TEXT.as_bytes() {
+fn forms(alloc: Global, findings: &Findings<'_>, told: Told<'_>) -> Option<usize> {
+    if print_text(alloc, findings, told, false, false)
+        .ok()?
+        .as_slice()
+        != TEXT.as_bytes()
+    {
         return Some(0);
     }
-    if print_json(alloc, findings).ok()?.as_slice() != JSON.as_bytes() {
+    if print_json(alloc, findings, told).ok()?.as_slice() != JSON.as_bytes() {
         return Some(1);
     }
-    if print_annotations(alloc, findings).ok()?.as_slice() != ANNOTATIONS.as_bytes() {
+    if print_annotations(alloc, findings, told).ok()?.as_slice() != ANNOTATIONS.as_bytes() {
         return Some(2);
     }
-    if !print_page(alloc, findings)
+    if !print_page(alloc, findings, told)
         .ok()?
         .as_slice()
         .ends_with(PAGE.as_bytes())
@@ -237,6 +259,10 @@ fn printed(alloc: Global) -> Option<usize> {
     ];
     let unreached = [text(alloc, "x\t.html")?];
     let unused = [text(alloc, "http://a.test/")?];
+    let others = [
+        external(alloc, "http://o.test/?a&b", 3)?,
+        external(alloc, "https://p.test/", 1)?,
+    ];
     forms(
         alloc,
         &Findings {
@@ -248,20 +274,30 @@ fn printed(alloc: Global) -> Option<usize> {
             unreached: &unreached,
             unused_ignores: &unused,
         },
+        Told {
+            unreached: true,
+            external: Some(&others),
+        },
     )
 }
 
+/// What is not asked for is neither counted nor told.
 fn nothing(alloc: Global) -> Option<bool> {
+    let unreached = [text(alloc, "x.html")?];
     let findings = Findings {
         base: "",
         totals: TOTALS,
         broken: &[],
         worst: &[],
         redirects: &[],
-        unreached: &[],
+        unreached: &unreached,
         unused_ignores: &[],
     };
-    let text = print_text(alloc, &findings, false, true).ok()?;
+    let told = Told {
+        unreached: false,
+        external: None,
+    };
+    let text = print_text(alloc, &findings, told, false, true).ok()?;
     Some(text.as_slice() == NOTHING.as_bytes())
 }
 

@@ -14,3 +14,6 @@ pub mod OneCulprit
 pub mod Indices
 pub mod Certificates
 pub mod Together
+pub mod EightBytes
+pub mod SortedParts
+pub mod Means

@@ -2,6 +2,7 @@ pub mod AccountEntries
 pub mod CertFaults
 pub mod Certificate
 pub mod Culprits
+pub mod Eights
 pub mod Least
 pub mod Lookups
 pub mod Marks
@@ -9,3 +10,4 @@ pub mod Queues
 pub mod Reachable
 pub mod ResultPages
 pub mod SmallRuns
+pub mod Sorting

@@ -22,11 +22,11 @@ use crate::least::lesser;
 use crate::lookups::{Accepted, url_set};
 use crate::marks::{Marks, Told, marks_of};
 use crate::missing::{least_missing, least_unmarked};
+use crate::sorting::{in_order, in_order_by_threads};
 use crate::threads::marks_in_threads;
 use crawl_frontier::Account;
 use crawl_keys::{CanonUrl, Filter};
 use crawl_web::PageResult;
-use rayon::slice::par_sort_by;
 use std::alloc::{AllocError, Global};
 use std::marker::Model;
 use std::thread::Threads;
@@ -111,7 +111,7 @@ pub fn certify_moved(
 {
     let accepted = Accepted::of(alloc, account)?;
     find_fault(alloc, filter, seeds, &accepted, &results)?;
-    let pages = in_order(results)?;
+    let pages = in_order(alloc, results)?;
     Ok(CrawlResult { pages })
 }
 
@@ -231,30 +231,6 @@ fn verdict(
         return Err(Culprit::new(CertError::Twice, url));
     }
     Ok(())
-}
-
-/// The results in ascending order of the bytes of their URLs.
-fn in_order(results: Vec<PageResult>) -> Result<Vec<PageResult>, AllocError>
-    ensures same { IfOk result (λ pages. IsPermutation results.items pages.items) }
-    ensures sorted { IfOk result (λ pages. IsSortedByKey (λ r. r.url) (slice_cmp nat_cmp) pages.items) }
-{
-    let mut pages = results;
-    pages.sort_by(|a, b| a.url.cmp(&b.url))?;
-    Ok(pages)
-}
-
-/// As [`in_order`], by threads.
-fn in_order_by_threads<R: Threads + Sync>(
-    rt: &R,
-    alloc: Global,
-    results: Vec<PageResult>,
-) -> Result<Vec<PageResult>, AllocError>
-    ensures same { IfOk result (λ pages. IsPermutation results.items pages.items) }
-    ensures sorted { IfOk result (λ pages. IsSortedByKey (λ r. r.url) (slice_cmp nat_cmp) pages.items) }
-{
-    let mut pages = results;
-    par_sort_by(rt, alloc, pages.as_mut_slice(), |a, b| a.url.cmp(&b.url))?;
-    Ok(pages)
 }
 
 fn copies(alloc: Global, results: &[PageResult]) -> Result<Vec<PageResult>, AllocError>

@@ -14,6 +14,7 @@ mod least;
 mod lookups;
 mod marks;
 mod missing;
+mod sorting;
 mod threads;
 
 pub use certificate::{CrawlResult, certify, certify_in_threads, certify_moved};

@@ -17,12 +17,12 @@ use Rattle.url.proofs.TextLemmas.{All-concat, All_one, body_bytes, is_body_byte,
 use Rattle.crawl_keys.specs.Bases.{IsBase}
 use Rattle.crawl_keys.specs.CanonicalText.{IsCanonical, IsPage, resolve}
 use Rattle.crawl_keys.specs.Folders.{folder_text, is_of_folder, root_text}
-use Rattle.crawl_keys.specs.Links.{IsInFolder, folder_above, is_query, is_rooted, is_same}
+use Rattle.crawl_keys.specs.Links.{IsInFolder, above, folder_above, is_query, is_rooted, is_same}
 use Rattle.crawl_keys.specs.Plain.{is_other}
 use Rattle.crawl_keys.specs.Spelled.{IsSpelled}
 use Rattle.crawl_keys.proofs.FolderLemmas.{IsWeb, cut_path, folder_text-root, front_of_last, path_text, resolve-beside, web_url}
 use Rattle.crawl_keys.proofs.PlainLemmas.{query_text}
-use Rattle.crawl_keys.proofs.PlainLinks.{in_folder, up, resolve-in_folder, resolve-query, resolve-rooted, resolve-same, spelled_query, spelled_in_folder, spelled_rooted}
+use Rattle.crawl_keys.proofs.PlainLinks.{in_folder, resolve-in_folder, resolve-query, resolve-rooted, resolve-same, spelled_query, spelled_in_folder, spelled_rooted}
 use Rattle.crawl_keys.proofs.SpelledLemmas.{parse_spelled, resolve-spelled}
 
 -- a slice from the front
@@ -203,10 +203,10 @@ front_up page root folder path k =
     nonempty [] slash = absurd (omega arith)
     nonempty (b ∷ path) slash = omega arith
 
-front_above : (page root : List ℕ) (folder : ℕ) (path : List ℕ) (n : ℕ) → IsFront page root folder path → IsFront page root (folder_above page (length root) folder n) (up n path)
+front_above : (page root : List ℕ) (folder : ℕ) (path : List ℕ) (n : ℕ) → IsFront page root folder path → IsFront page root (folder_above page (length root) folder n) (above n path)
 front_above page root folder path zero k = k
 front_above page root folder path (suc n) k =
-    front_up page root (folder_above page (length root) folder n) (up n path) (front_above page root folder path n k)
+    front_up page root (folder_above page (length root) folder n) (above n path) (front_above page root folder path n k)
 
 front_text : (page root : List ℕ) (folder : ℕ) (path : List ℕ) → IsFront page root folder path → take folder page ≡ root ++ (path ++ 47 ∷ [])
 front_text page root folder path k =
@@ -244,7 +244,7 @@ front_root text root folder k b =
     (λ i. take (sym (b.before_path url k.parses) i) (all i)) ∙ take_at (root_text url) (url.path ++ query_text url.query) (length (root_text url)) refl
 
 -- the folder that is so many above the page's
-own_above : (text : List ℕ) (root folder n : ℕ) (k : IsCanonical text) → IsBase text root folder → take (folder_above text root folder n) text ≡ root_text k.url ++ (up n (without_last_segment k.url.path) ++ 47 ∷ [])
+own_above : (text : List ℕ) (root folder n : ℕ) (k : IsCanonical text) → IsBase text root folder → take (folder_above text root folder n) text ≡ root_text k.url ++ (above n (without_last_segment k.url.path) ++ 47 ∷ [])
 own_above text root folder n k b =
     let url = k.url in
     let web = web_url url k.valid k.web in
@@ -255,8 +255,8 @@ own_above text root folder n k b =
 
 own_text : (text : List ℕ) (root folder n : ℕ) (rest : List ℕ) (k : IsCanonical text) → IsBase text root folder → take (folder_above text root folder n) text ++ rest ≡ root_text k.url ++ in_folder k.url n rest
 own_text text root folder n rest k b =
-    ap (λ f. f ++ rest) (own_above text root folder n k b) ∙ append_assoc (root_text k.url) (up n (without_last_segment k.url.path) ++ 47 ∷ []) rest
-    ∙ ap (λ t. root_text k.url ++ t) (append_assoc (up n (without_last_segment k.url.path)) (47 ∷ []) rest)
+    ap (λ f. f ++ rest) (own_above text root folder n k b) ∙ append_assoc (root_text k.url) (above n (without_last_segment k.url.path) ++ 47 ∷ []) rest
+    ∙ ap (λ t. root_text k.url ++ t) (append_assoc (above n (without_last_segment k.url.path)) (47 ∷ []) rest)
 
 front_folder : (text : List ℕ) (root folder : ℕ) (k : IsCanonical text) → IsBase text root folder → take folder text ≡ folder_text k.url ++ 47 ∷ []
 front_folder text root folder k b =

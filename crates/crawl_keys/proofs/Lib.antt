@@ -9,5 +9,8 @@ pub mod MarkLemmas
 pub mod PlainLemmas
 pub mod SpelledLemmas
 pub mod PlainLinks
+pub mod HostLinks
 pub mod BaseLemmas
 pub mod LaneLemmas
+pub mod OpaqueLinks
+pub mod DotLinks

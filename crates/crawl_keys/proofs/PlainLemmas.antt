@@ -4,6 +4,8 @@ use Rattle.std.specs.Prelude.{Option, is_some, unwrap_or}
 use Rattle.std.proofs.lemmas.Bool.{agree_below, agree_below_at, and_from, and_parts, cases_eq, cond-true, cond_both, eq-eqb, eqb-true, ne_eqb, true≢false}
 use Rattle.std.proofs.lemmas.Bool.Decides.{nat_tests}
 use Rattle.std.proofs.lemmas.List.Elements.{All-nil, All-cons, All-head, All-tail, All-weaker}
+use Rattle.std.specs.List.{after_first, before_first, position_or_len}
+use Rattle.std.proofs.lemmas.List.Sums.{passes_at_first, split_at_first}
 use Rattle.percent_encoding.specs.Percent.{IsKept}
 use Rattle.url.specs.declared.sets.TheConstants.{PATH, SPECIAL_QUERY}
 use Rattle.url.specs.declared.scheme.SchemeType.TheVariants.{SpecialNotFile}
@@ -77,6 +79,30 @@ begins_segment b segment begins =
     let no_dot : (b == 46) ≡ false = grind (arith, nat_tests) in
     let no_escape : (b == 37) ≡ false = grind (arith, nat_tests) in
     dots_none (b ∷ segment) (rw (no_dot, no_escape) refl)
+
+dots_none_of : (segment : List ℕ) → is_plain 47 segment ≡ true → dot_count segment ≡ 0
+dots_none_of [] plain = dots_none [] refl
+dots_none_of (b ∷ segment) plain = begins_segment b segment (behind_slash 47 b (and_parts _ _ plain).0 refl)
+
+whole_bytes : (segment : List ℕ) → All (Passes is_kept) segment → All (IsNot 47) segment → All (IsNoSlash SpecialNotFile) segment
+whole_bytes [] kept none = All-nil (IsNoSlash SpecialNotFile)
+whole_bytes (b ∷ segment) kept none =
+    All-cons (IsNoSlash SpecialNotFile) b segment (no_slash_byte b (All-head (Passes is_kept) b segment kept) (All-head (IsNot 47) b segment none))
+    (whole_bytes segment (All-tail (Passes is_kept) b segment kept) (All-tail (IsNot 47) b segment none))
+
+path_bytes : (segment : List ℕ) → All (Passes is_kept) segment → All (IsNot 63) segment → All (IsKept PATH) segment
+path_bytes [] kept none = All-nil (IsKept PATH)
+path_bytes (b ∷ segment) kept none =
+    All-cons (IsKept PATH) b segment (path_byte b (All-head (Passes is_kept) b segment kept) (All-head (IsNot 63) b segment none))
+    (path_bytes segment (All-tail (Passes is_kept) b segment kept) (All-tail (IsNot 63) b segment none))
+
+-- a plain text with no slash and no query is a segment
+pub plain_segment : (segment : List ℕ) → is_plain 47 segment ≡ true → All (IsNot 63) segment → All (IsNot 47) segment → IsSegment SpecialNotFile segment
+plain_segment segment plain no_query no_slash = record {
+  escaped = path_bytes segment (all_kept 47 segment plain) no_query;
+  whole = whole_bytes segment (all_kept 47 segment plain) no_slash;
+  resolved = dots_none_of segment plain;
+}
 
 -- the text goes on with the segment that this byte stands in or begins, and has whole segments behind it
 pub record IsRun (last : ℕ) (text : List ℕ) : Type 0 where
@@ -182,6 +208,13 @@ splits last (b ∷ text) plain =
       kept = later.kept;
       whole = ap (λ l. b ∷ l) later.whole;
     }
+
+-- ---- a text that is cut at a byte
+
+pub cut_at : (s : ℕ) (text : List ℕ) → position_or_len (λ b. b == s) text < length text → text ≡ before_first (λ b. b == s) text ++ s ∷ after_first (λ b. b == s) text
+cut_at s text inside =
+    let here = eqb-true (get_or text (position_or_len (λ b. b == s) text) 0) s (passes_at_first (λ b. b == s) text 0 inside) in
+    split_at_first (λ b. b == s) text 0 inside ∙ ap (λ b. before_first (λ c. c == s) text ++ b ∷ after_first (λ c. c == s) text) here
 
 -- ---- the table of bytes
 

@@ -1,8 +1,8 @@
 -- Where plain links lead: the parser's relative state on texts that it leaves as they are.
-use Rattle.std.proofs.Common.{◌≡◌, ℕ, zero, suc, ◌+◌, ◌<◌, ◌==◌, true, false, not, List, [], ◌∷◌, ◌++◌, length, get_or, drop, reverse, refl, ap, sym, subst, ◌∙◌, inl, All, Some, None, Ok, IfSome, arith, append_assoc, append-nil, length-append, take_all, add-one}
+use Rattle.std.proofs.Common.{◌≡◌, ℕ, zero, suc, ◌+◌, ◌<◌, ◌==◌, true, false, not, List, [], ◌∷◌, ◌++◌, length, get_or, drop, reverse, refl, ap, sym, subst, ◌∙◌, ⊎_elim, inl, All, Some, None, Ok, IfSome, arith, append_assoc, append-nil, length-append, take_all, add-one}
 use Rattle.std.specs.Prelude.{Option, if◌then◌else◌}
 use Rattle.std.specs.List.{prefix_len}
-use Rattle.std.proofs.lemmas.Bool.{and_left, and_parts, cond-false, eqb-true, lt-leb, true≢false}
+use Rattle.std.proofs.lemmas.Bool.{and_left, and_parts, cond-false, cond_both, eqb-true, lt-leb, or_cases, true≢false}
 use Rattle.std.proofs.lemmas.Bool.Decides.{nat_tests}
 use Rattle.std.proofs.lemmas.Grind.{flat_map-append}
 use Rattle.std.proofs.lemmas.List.{get_or-reverse, length-reverse}
@@ -18,15 +18,15 @@ use Rattle.url.specs.Parser.{Parsed, after_double_slash, after_slashes, and_then
 use Rattle.url.specs.Parts.{Parts, IsValid, kind_of, offset, query_set, serialize}
 use Rattle.url.specs.Path.{IsSegment, IsSegmentList, dot_count, join_segments, parse_path, push_segment, shorten_path, without_last_segment}
 use Rattle.url.specs.Scheme.{is_file, is_slash, is_special, scheme_len}
-use Rattle.url.proofs.InputLemmas.{IsNot, Passes, StopsAt, filter_all, split_once_none}
+use Rattle.url.proofs.InputLemmas.{All_from_list_all, IsNot, Passes, StopsAt, filter_all, list_all_from_All, split_once_none}
 use Rattle.url.proofs.ParsedCanonical.{before_special}
 use Rattle.url.proofs.PathLemmas.{IsNoSlash, parse_path_more, without_last_valid}
 use Rattle.url.proofs.RoundTrip.{parse_after_slash, parse_own_segments, stays_unless_file}
 use Rattle.url.proofs.ValidLemmas.{base_from_authority, option_unchanged}
 use Rattle.crawl_keys.specs.CanonicalText.{IsPage, resolve, resolve_from, text_of, text_of_parse}
 use Rattle.crawl_keys.specs.Folders.{is_of_folder, root_text}
-use Rattle.crawl_keys.specs.Links.{IsInFolder, behind_ups, has_no_scheme, is_query, is_rooted, is_same}
-use Rattle.crawl_keys.specs.Plain.{is_kept, is_plain, may_follow}
+use Rattle.crawl_keys.specs.Links.{IsInFolder, above, behind_ups, has_no_scheme, is_query, is_rooted, is_same}
+use Rattle.crawl_keys.specs.Plain.{first_is_slash, is_kept, is_plain, may_follow}
 use Rattle.crawl_keys.specs.Spelled.{IsSpelled}
 use Rattle.crawl_keys.proofs.CanonicalLemmas.{text_of-web}
 use Rattle.crawl_keys.proofs.FolderLemmas.{IsWeb, NoScheme, begins-split, begins-strip, begins-trim, no_scheme, parse_body-web, parse_without_scheme-web, plain_text, shorten_web, web_url}
@@ -57,7 +57,7 @@ unstripped xs all =
     filter_all _ xs (All-weaker Visible (Passes (λ b. not (is_tab_or_new_line b))) (λ b above. grind (arith, nat_tests)) xs all)
 
 -- the whole text is left
-uncut : (text : List ℕ) → All (Passes is_kept) text → split_once 35 (strip_tabs_and_new_lines (trim_c0_control_and_space text)) ≡ (text, None)
+pub uncut : (text : List ℕ) → All (Passes is_kept) text → split_once 35 (strip_tabs_and_new_lines (trim_c0_control_and_space text)) ≡ (text, None)
 uncut text kept =
     let visible = All-weaker (Passes is_kept) Visible visible_byte text kept in
     ap (λ t. split_once 35 (strip_tabs_and_new_lines t)) (untrimmed text visible)
@@ -68,7 +68,7 @@ abbrev Split : Type 0
 Split = List ℕ × Option (List ℕ)
 
 -- what the parser makes of a kept text with no scheme
-parse_url-kept : (base : Parts) (text body : List ℕ) (query : Option (List ℕ)) → All (Passes is_kept) text → split_once 63 text ≡ (body, query) → split_scheme body ≡ None
+pub parse_url-kept : (base : Parts) (text body : List ℕ) (query : Option (List ℕ)) → All (Passes is_kept) text → split_once 63 text ≡ (body, query) → split_scheme body ≡ None
     → parse_url (Some base) text ≡ parse_without_scheme (Some base) body query None
 unfolding parse_url
 parse_url-kept base text body query kept split none =
@@ -99,7 +99,7 @@ parse_url-path base text body path query web kept split none some own relative =
 -- ---- `/path`
 
 -- no scheme ends in front of a slash
-rooted_scheme : (more : List ℕ) → split_scheme (47 ∷ more) ≡ None
+pub rooted_scheme : (more : List ℕ) → split_scheme (47 ∷ more) ≡ None
 rooted_scheme more =
     no_scheme 47 (47 ∷ more) (record { rest = more; is = refl; all = λ n d inside. inl refl })
 
@@ -172,32 +172,17 @@ spelled_rooted base root text start end valid page rooted is first last =
 
 -- ---- `path`, and `../path`
 
-no_slashes : (kind : SchemeType) (body : List ℕ) → StopsAt (is_slash kind) body → leading_slashes kind body ≡ 0
+pub no_slashes : (kind : SchemeType) (body : List ℕ) → StopsAt (is_slash kind) body → leading_slashes kind body ≡ 0
 unfolding leading_slashes
 no_slashes kind [] stops = refl
 no_slashes kind (b ∷ body) stops = rw stops refl
 
-stops_ups : (n : ℕ) (body : List ℕ) → StopsAt (is_slash SpecialNotFile) body → StopsAt (is_slash SpecialNotFile) (behind_ups n body)
-stops_ups zero body stops = stops
-stops_ups (suc n) body stops = refl
-
-kept_ups : (n : ℕ) (text : List ℕ) → All (Passes is_kept) text → All (Passes is_kept) (behind_ups n text)
-kept_ups zero text kept = kept
-kept_ups (suc n) text kept =
-    let P = Passes is_kept in
-    All-cons P 46 (46 ∷ 47 ∷ behind_ups n text) refl (All-cons P 46 (47 ∷ behind_ups n text) refl (All-cons P 47 (behind_ups n text) refl (kept_ups n text kept)))
-
-split_ups : (n : ℕ) (text : List ℕ) → split_once 63 (behind_ups n text) ≡ (behind_ups n (split_once 63 text).0, (split_once 63 text).1)
+pub split_ups : (n : ℕ) (text : List ℕ) → split_once 63 (behind_ups n text) ≡ (behind_ups n (split_once 63 text).0, (split_once 63 text).1)
 unfolding split_once
 split_ups zero text = refl
 split_ups (suc n) text = ap (λ (r : Split). (46 ∷ 46 ∷ 47 ∷ r.0, r.1)) (split_ups n text)
 
--- so many folders above
-abbrev pub up : ℕ → List ℕ → List ℕ
-up zero path = path
-up (suc n) path = without_last_segment (up n path)
-
-up_last : (n : ℕ) (path : List ℕ) → up n (without_last_segment path) ≡ without_last_segment (up n path)
+up_last : (n : ℕ) (path : List ℕ) → above n (without_last_segment path) ≡ without_last_segment (above n path)
 up_last zero path = refl
 up_last (suc n) path = ap without_last_segment (up_last n path)
 
@@ -205,7 +190,7 @@ push_up : (path : List ℕ) → push_segment SpecialNotFile path (46 ∷ 46 ∷ 
 unfolding push_segment dot_count shorten_path
 push_up path = append-nil (without_last_segment path)
 
-parse_ups : (path : List ℕ) (n : ℕ) (body : List ℕ) → parse_path SpecialNotFile path (behind_ups n body) ≡ parse_path SpecialNotFile (up n path) body
+pub parse_ups : (path : List ℕ) (n : ℕ) (body : List ℕ) → parse_path SpecialNotFile path (behind_ups n body) ≡ parse_path SpecialNotFile (above n path) body
 parse_ups path zero body = refl
 parse_ups path (suc n) body =
     let P = IsNoSlash SpecialNotFile in
@@ -216,7 +201,7 @@ parse_ups path (suc n) body =
 
 -- the page's folder, or one above it, and a path behind it
 abbrev pub in_folder : Parts → ℕ → List ℕ → List ℕ
-in_folder base n body = up n (without_last_segment base.path) ++ 47 ∷ body
+in_folder base n body = above n (without_last_segment base.path) ++ 47 ∷ body
 
 parse_run : (path body : List ℕ) → is_plain 47 body ≡ true → All (IsNot 63) body → parse_path SpecialNotFile path body ≡ path ++ 47 ∷ body
 parse_run path body plain none =
@@ -225,16 +210,17 @@ parse_run path body plain none =
     ∙ parse_own_segments SpecialNotFile path run.first run.others (stays_unless_file SpecialNotFile path run.first refl) (run_segment body run) run.each
     ∙ ap (λ b. path ++ 47 ∷ b) (sym run.is)
 
-folder_relative : (base : Parts) (n : ℕ) (body : List ℕ) → IsWeb base → is_plain 47 body ≡ true → All (IsNot 63) body
-    → parse_relative base (behind_ups n body) ≡ Ok (with_path (head_only base) (in_folder base n body))
+-- the parser's relative state, on a path that it reads as this one, so many folders above
+folder_relative : (base : Parts) (n : ℕ) (text body : List ℕ) → IsWeb base → StopsAt (is_slash SpecialNotFile) text
+    → ((front : List ℕ) → parse_path SpecialNotFile front text ≡ parse_path SpecialNotFile (above n front) body) → is_plain 47 body ≡ true → All (IsNot 63) body
+    → parse_relative base text ≡ Ok (with_path (head_only base) (in_folder base n body))
 unfolding parse_relative
-folder_relative base n body web plain none =
+folder_relative base n text body web stops reads plain none =
     let kind = kind_of base in
-    let text = behind_ups n body in
-    let stops = subst (λ k. StopsAt (is_slash k) text) (sym web.kind) (stops_ups n body (stops_plain body plain)) in
+    let own = subst (λ k. StopsAt (is_slash k) text) (sym web.kind) stops in
     let short = ap (λ k. shorten_path k base.path) web.kind ∙ shorten_web base.path in
-    let path = (λ i. parse_path (web.kind i) (short i) text) ∙ parse_ups (without_last_segment base.path) n body ∙ parse_run (up n (without_last_segment base.path)) body plain none in
-    ap (relative_by base text) (no_slashes kind text stops)
+    let path = (λ i. parse_path (web.kind i) (short i) text) ∙ reads (without_last_segment base.path) ∙ parse_run (above n (without_last_segment base.path)) body plain none in
+    ap (relative_by base text) (no_slashes kind text own)
     ∙ ap (λ p. Ok (with_path (head_only base) p)) path
 
 append_list : (kind : SchemeType) (path : List ℕ) (segments : List (List ℕ)) → IsSegmentList kind path → All (IsSegment kind) segments → IsSegmentList kind (path ++ join_segments segments)
@@ -244,23 +230,23 @@ append_list kind path segments list each = record {
   each = All-append (IsSegment kind) list.segments segments list.each each;
 }
 
-up_list : (kind : SchemeType) (n : ℕ) (path : List ℕ) → IsSegmentList kind path → IsSegmentList kind (up n path)
+up_list : (kind : SchemeType) (n : ℕ) (path : List ℕ) → IsSegmentList kind path → IsSegmentList kind (above n path)
 up_list kind zero path list = list
-up_list kind (suc n) path list = without_last_valid kind (up n path) (up_list kind n path list)
+up_list kind (suc n) path list = without_last_valid kind (above n path) (up_list kind n path list)
 
 folder_list : (base : Parts) (n : ℕ) (body : List ℕ) → IsWeb base → is_plain 47 body ≡ true → All (IsNot 63) body → IsSegmentList SpecialNotFile (in_folder base n body)
 folder_list base n body web plain none =
     let run = runs 47 body plain none in
     let own = without_last_segment base.path in
     let front = up_list SpecialNotFile n own (without_last_valid SpecialNotFile base.path (subst (λ k. IsSegmentList k base.path) web.kind web.list)) in
-    subst (λ b. IsSegmentList SpecialNotFile (up n own ++ 47 ∷ b)) (sym run.is)
-    (append_list SpecialNotFile (up n own) (run.first ∷ run.others) front
+    subst (λ b. IsSegmentList SpecialNotFile (above n own ++ 47 ∷ b)) (sym run.is)
+    (append_list SpecialNotFile (above n own) (run.first ∷ run.others) front
     (All-cons (IsSegment SpecialNotFile) run.first run.others (run_segment body run) run.each))
 
 folder_rest : (base : Parts) (n : ℕ) (rest : List ℕ) → IsWeb base → is_plain 47 rest ≡ true → IsRest (in_folder base n rest) (in_folder base n (split_once 63 rest).0) (split_once 63 rest).1
 folder_rest base n rest web plain =
     let split = splits 47 rest plain in
-    let front = up n (without_last_segment base.path) in
+    let front = above n (without_last_segment base.path) in
     let body = (split_once 63 rest).0 in
     record {
       list = folder_list base n body web split.plain split.none;
@@ -285,35 +271,53 @@ no_up_scheme : (text : List ℕ) → split_scheme (46 ∷ text) ≡ None
 unfolding split_scheme scheme_len
 no_up_scheme text = refl
 
-has_path_behind : (n : ℕ) (rest : List ℕ) → has_no_scheme n (behind_ups n rest) ≡ true → HasPath (behind_ups n rest)
-has_path_behind zero rest test = has_path rest test
-has_path_behind (suc n) rest test =
-    let at = split_ups (suc n) rest in
-    record {
-      none = ap (λ (r : Split). split_scheme r.0) at ∙ no_up_scheme (46 ∷ 47 ∷ behind_ups n (split_once 63 rest).0);
-      some = subst (λ (r : Split). 0 < length r.0) (sym at) (omega arith);
-    }
+-- so has one that begins with a dot
+dot_path : (text : List ℕ) → HasPath (46 ∷ text)
+unfolding split_once
+dot_path text = record { none = no_up_scheme (split_once 63 text).0; some = omega arith }
 
-parse_url-folder : (base : Parts) (n : ℕ) (rest : List ℕ) → IsWeb base → is_plain 47 rest ≡ true → has_no_scheme n (behind_ups n rest) ≡ true
-    → parse_url (Some base) (behind_ups n rest) ≡ Ok (with_rest base (in_folder base n (split_once 63 rest).0) (split_once 63 rest).1)
-parse_url-folder base n rest web plain test =
-    let text = behind_ups n rest in
-    let split = splits 47 rest plain in
-    let body = (split_once 63 rest).0 in
-    let path = has_path_behind n rest test in
-    let at = split_ups n rest in
-    let none = subst (λ (r : Split). split_scheme r.0 ≡ None) at path.none in
-    let some = subst (λ (r : Split). 0 < length r.0) at path.some in
-    parse_url-path base text (behind_ups n body) (in_folder base n body) (split_once 63 rest).1 web (kept_ups n rest (all_kept 47 rest plain)) at none some split.kept
-    (folder_relative base n body web split.plain split.none)
+path_of : (text : List ℕ) → has_no_scheme text ≡ true → HasPath text
+path_of [] test = absurd (true≢false (sym test))
+path_of (b ∷ text) test =
+    ⊎_elim (λ dot. subst (λ x. HasPath (x ∷ text)) (sym (eqb-true b 46 dot)) (dot_path text)) (λ folder. has_path (b ∷ text) folder) (or_cases _ _ test)
+
+kept_slash : (b : ℕ) → Passes is_kept b → (b == 47) ≡ false → is_slash SpecialNotFile b ≡ false
+kept_slash b kept other = grind (arith, nat_tests)
+
+stops_kept : (text : List ℕ) → All (Passes is_kept) text → first_is_slash text ≡ false → StopsAt (is_slash SpecialNotFile) (split_once 63 text).0
+unfolding split_once
+stops_kept [] kept rootless = tt
+stops_kept (b ∷ text) kept rootless =
+    cond_both {A = Split} (b == 63) ([], Some text) (b ∷ (split_once 63 text).0, (split_once 63 text).1) (λ (r : Split). StopsAt (is_slash SpecialNotFile) r.0)
+    (λ _. tt) (λ _. kept_slash b (All-head (Passes is_kept) b text kept) rootless)
+
+begins_other : (b : ℕ) → may_follow 47 b ≡ true → (b == 47) ≡ false
+begins_other b test = grind (arith, nat_tests)
+
+pub rootless_plain : (rest : List ℕ) → is_plain 47 rest ≡ true → first_is_slash rest ≡ false
+rootless_plain [] plain = refl
+rootless_plain (b ∷ rest) plain = begins_other b (and_parts _ _ plain).0
+
+parse_url-folder : (base : Parts) (text : List ℕ) (n : ℕ) (rest : List ℕ) → IsWeb base → IsInFolder text n rest
+    → parse_url (Some base) text ≡ Ok (with_rest base (in_folder base n (split_once 63 rest).0) (split_once 63 rest).1)
+parse_url-folder base text n rest web k =
+    let body = (split_once 63 text).0 in
+    let query = (split_once 63 text).1 in
+    let own = (split_once 63 rest).0 in
+    let split = splits 47 rest k.plain in
+    let path = path_of text k.no_scheme in
+    let reads = k.behind.reads in
+    let kept = All_from_list_all is_kept text (k.behind.kept (list_all_from_All is_kept rest (all_kept 47 rest k.plain))) in
+    let stops = stops_kept text kept (k.behind.rootless (rootless_plain rest k.plain)) in
+    parse_url-path base text body (in_folder base n own) query web kept refl path.none path.some (subst (λ q. IfSome q (All (IsKept SPECIAL_QUERY))) (sym reads.query) split.kept)
+    (folder_relative base n body own web stops reads.path split.plain split.none)
+    ∙ ap (λ q. Ok (with_rest base (in_folder base n own) q)) reads.query
 
 -- where a link to a path in the page's folder, or in one above it, leads
 pub resolve-in_folder : (base : Parts) (text : List ℕ) (n : ℕ) (rest : List ℕ) → IsValid base → IsPage base → IsInFolder text n rest → resolve (serialize base) text ≡ Ok (root_text base ++ in_folder base n rest)
 resolve-in_folder base text n rest valid page link =
     let web = web_url base valid page.web in
-    let test = subst (λ t. has_no_scheme n t ≡ true) link.is link.no_scheme in
-    ap (resolve (serialize base)) link.is
-    ∙ resolve-rest base (behind_ups n rest) (in_folder base n rest) _ _ valid page (folder_rest base n rest web link.plain) (parse_url-folder base n rest web link.plain test)
+    resolve-rest base text (in_folder base n rest) _ _ valid page (folder_rest base n rest web link.plain) (parse_url-folder base text n rest web link)
 
 pub spelled_in_folder : (base : Parts) (text : List ℕ) (n : ℕ) (rest own : List ℕ) (start end : ℕ) → IsValid base → IsPage base → IsInFolder text n rest → own ≡ root_text base ++ in_folder base n rest → start ≡ offset base BeforeHost → end ≡ offset base AfterHost → IsSpelled own start end
 spelled_in_folder base text n rest own start end valid page link is first last =

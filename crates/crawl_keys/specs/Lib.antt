@@ -14,3 +14,4 @@ pub mod Links
 pub mod Bases
 pub mod Spelled
 pub mod Lanes
+pub mod Opaque

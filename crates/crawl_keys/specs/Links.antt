@@ -1,12 +1,23 @@
 -- Links that are resolved without a parse.
-use Rattle.std.specs.Prelude.{◌≡◌, ◌+◌, ◌-◌, ℕ, zero, suc, Bool, true, ◌&&◌, ◌||◌, ◌==◌, nat_lt, List, [], ◌∷◌, length, slice_index, slice_range, ⊤}
+use Rattle.std.specs.Prelude.{◌≡◌, ◌≤◌, ◌+◌, ◌-◌, ℕ, zero, suc, Bool, true, false, ◌&&◌, ◌||◌, ◌==◌, List, [], ◌∷◌, length, slice_index, slice_range, ⊤}
+use Rattle.std.specs.List.{list_all}
+use Rattle.url.specs.declared.scheme.SchemeType.TheVariants.{SpecialNotFile}
 use Rattle.url.specs.Ascii.{dot, number_sign, question_mark, slash}
-use Rattle.url.specs.Path.{without_last_segment}
+use Rattle.url.specs.Input.{split_once}
+use Rattle.url.specs.Path.{parse_path, without_last_segment}
 use Rattle.crawl_keys.specs.declared.plain.PlainLink.{PlainLink}
-use Rattle.crawl_keys.specs.declared.plain.PlainLink.TheVariants.{Absolute, Rooted, Query, Same, Other}
+use Rattle.crawl_keys.specs.declared.plain.PlainLink.TheVariants.{Absolute, ByHost, Rooted, Query, Same, Other}
 use Rattle.crawl_keys.specs.Folders.{is_of_folder}
-use Rattle.crawl_keys.specs.Plain.{first_is_slash, is_plain}
+use Rattle.crawl_keys.specs.Plain.{first_is_slash, host_len, is_kept, is_plain, is_plain_host}
 use Rattle.crawl_keys.specs.Spelled.{IsSpelled}
+
+-- two slashes, and a plain host that is so long, with a path and a query
+pub record IsByHost (text : List ℕ) (len : ℕ) : Type 0 where
+  pub rest : List ℕ
+  pub is : text ≡ slash ∷ slash ∷ rest
+  pub plain : is_plain_host rest ≡ true
+  pub host : len ≡ host_len rest
+  pub within : len ≤ length rest
 
 -- a path that begins with one slash, and a query
 abbrev pub is_rooted : List ℕ → Bool
@@ -21,15 +32,32 @@ abbrev pub behind_ups : ℕ → List ℕ → List ℕ
 behind_ups zero text = text
 behind_ups (suc n) text = dot ∷ dot ∷ slash ∷ behind_ups n text
 
--- behind `../` so many times, or with none of them, the text has no scheme
-abbrev pub has_no_scheme : ℕ → List ℕ → Bool
-has_no_scheme ups text = nat_lt 0 ups || is_of_folder text
+-- the path of the folder that is so many above the one with this path
+abbrev pub above : ℕ → List ℕ → List ℕ
+above zero path = path
+above (suc n) path = without_last_segment (above n path)
 
--- the text is `../` so many times, a path that begins with a segment, and a query; and it has no scheme
+-- What the parser makes of the text's path behind any other, it makes of the rest's behind one so many folders above; and both
+-- have one query.
+pub record ReadsAs (text : List ℕ) (ups : ℕ) (rest : List ℕ) : Type 0 where
+  pub path : (front : List ℕ) → parse_path SpecialNotFile front (split_once question_mark text).0 ≡ parse_path SpecialNotFile (above ups front) (split_once question_mark rest).0
+  pub query : (split_once question_mark text).1 ≡ (split_once question_mark rest).1
+
+-- behind dot segments of the text, and segments that they take back, stands the rest
+pub record IsBehind (text : List ℕ) (ups : ℕ) (rest : List ℕ) : Type 0 where
+  pub reads : ReadsAs text ups rest
+  pub kept : list_all is_kept rest ≡ true → list_all is_kept text ≡ true
+  pub rootless : first_is_slash rest ≡ false → first_is_slash text ≡ false
+
+-- no scheme begins with a dot
+abbrev pub has_no_scheme : List ℕ → Bool
+has_no_scheme text = slice_index text 0 == dot || is_of_folder text
+
+-- the text leads to the folder so many above the page's, and from there by a path that begins with a segment, and a query
 pub record IsInFolder (text : List ℕ) (ups : ℕ) (rest : List ℕ) : Type 0 where
-  pub is : text ≡ behind_ups ups rest
+  pub behind : IsBehind text ups rest
   pub plain : is_plain slash rest ≡ true
-  pub no_scheme : has_no_scheme ups text ≡ true
+  pub no_scheme : has_no_scheme text ≡ true
 
 -- Where so many folders above a folder end in the text of a page, whose path begins at the root. A folder ends behind its slash,
 -- and above the first one there is none.
@@ -45,6 +73,7 @@ is_same (b ∷ text) = b == number_sign
 -- the text is a link of this kind
 abbrev pub IsLink : List ℕ → PlainLink → Type 0
 IsLink text (Absolute host) = IsSpelled text host.start host.end
+IsLink text (ByHost len) = IsByHost text len
 IsLink text Rooted = is_rooted text ≡ true
 IsLink text Query = is_query text ≡ true
 IsLink text Same = is_same text ≡ true

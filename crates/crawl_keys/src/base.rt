@@ -1,14 +1,17 @@
 //! A page whose links are resolved.
 ghost use Rattle.std.specs.Prelude.{◌≡◌, ◌≤◌, ◌+◌, ℕ, List, Ok, Some, length, true, IfSome};
-ghost use Rattle.crawl_keys.specs.Bases.{IsBase};
+ghost use Rattle.crawl_keys.specs.Bases.{IsBase, IsSchemeOf};
+ghost use Rattle.crawl_keys.specs.CanonicalText.{IsCanonical};
 ghost use Rattle.crawl_keys.specs.CanonicalText as spec;
 ghost use Rattle.crawl_keys.specs.Folders.{is_of_folder};
-ghost use Rattle.crawl_keys.specs.Links.{IsInFolder, is_query, is_rooted, is_same};
+ghost use Rattle.crawl_keys.specs.Links.{IsByHost, IsInFolder, is_query, is_rooted, is_same};
 ghost use Rattle.crawl_keys.specs.Outcome.{Gives};
 ghost use Rattle.crawl_keys.specs.Spelled.{IsSpelled};
 ghost use Rattle.url.specs.Parser.{parse_url};
 
+use crate::dots::behind_dots;
 use crate::folder::{folder_above, folder_len, has_no_scheme};
+use crate::opaque::is_opaque;
 use crate::parsed::Parsed;
 use crate::plain::{HostPlace, PlainLink, behind_ups, is_plain, len_before, plain_link};
 use crate::{CanonUrl, KeyError, before_fragment};
@@ -105,6 +108,7 @@ impl Base {
     {
         match plain_link(text) {
             PlainLink::Absolute(host) => Some(self.absolute(alloc, text, host)),
+            PlainLink::ByHost(len) => Some(self.by_host(alloc, text, len)),
             PlainLink::Rooted => Some(self.rooted(alloc, text)),
             PlainLink::Query => Some(self.query(alloc, text)),
             PlainLink::Same => Some(self.same(text)),
@@ -118,11 +122,11 @@ impl Base {
     {
         let front = before_fragment(text);
         if front.len() == text.len() {
-            return self.parsed(alloc, text);
+            return self.not_plain(alloc, text);
         }
         match self.known(alloc, front) {
             Some(answer) => answer,
-            None => self.parsed(alloc, front),
+            None => self.not_plain(alloc, front),
         }
     }
 
@@ -134,6 +138,32 @@ impl Base {
         // For the proof: the page's URL has a text that parses.
         let _ = self.url.as_str();
         CanonUrl::join(alloc, text, "", host)
+    }
+
+    /// The canonical URL of a link that stands behind the page's scheme, with a host that is so long.
+    fn by_host(&self, alloc: Global, text: &str, len: usize) -> Result<CanonUrl, KeyError>
+        requires { IsByHost text.now len }
+        ensures { Gives KeyError.NoMemory (λ url. url) result (spec.resolve self.now text.now) }
+    {
+        let scheme = self.scheme();
+        let start = scheme.len() + 2;
+        let host = HostPlace {
+            start,
+            end: start + len,
+        };
+        CanonUrl::join(alloc, scheme, text, host)
+    }
+
+    /// The page's scheme, with its colon.
+    fn scheme(&self) -> &'static str
+        ensures value { IsSchemeOf self.now result.now }
+        ensures canonical { IsCanonical self.now }
+        ensures short { length result.now ≤ 6 }
+    {
+        match self.url.as_str().as_bytes() {
+            [_, _, _, _, b's', ..] => "https:",
+            _ => "http:",
+        }
     }
 
     /// The canonical URL of a link that stands behind the page's root.
@@ -161,10 +191,36 @@ impl Base {
         ensures { IfSome result (λ answer. Gives KeyError.NoMemory (λ url. url) answer (spec.resolve self.now text.now)) }
     {
         let (ups, rest) = behind_ups(text);
-        if is_plain(b'/', rest.as_bytes()) && has_no_scheme(ups, text) {
+        if is_plain(b'/', rest.as_bytes()) && has_no_scheme(text) {
             return Some(self.in_folder(alloc, text, ups, rest));
         }
         None
+    }
+
+    /// What a link leads to that begins with dot segments and segments that they take back. `None` says nothing.
+    fn dotted(&self, alloc: Global, text: &str) -> Option<Result<CanonUrl, KeyError>>
+        ensures { IfSome result (λ answer. Gives KeyError.NoMemory (λ url. url) answer (spec.resolve self.now text.now)) }
+    {
+        let (ups, rest) = behind_dots(text);
+        if is_plain(b'/', rest.as_bytes()) && has_no_scheme(text) {
+            return Some(self.in_folder(alloc, text, ups, rest));
+        }
+        None
+    }
+
+    /// The canonical URL of a link that is not plain and has no fragment to be cut.
+    fn not_plain(&self, alloc: Global, text: &str) -> Result<CanonUrl, KeyError>
+        ensures { Gives KeyError.NoMemory (λ url. url) result (spec.resolve self.now text.now) }
+    {
+        if let Some(answer) = self.dotted(alloc, text) {
+            return answer;
+        }
+        // For the proof: the page's URL has a text that parses.
+        let _ = self.url.as_str();
+        if is_opaque(text) {
+            return Err(KeyError::NotHttp);
+        }
+        self.parsed(alloc, text)
     }
 
     /// The canonical URL of a link that has to be parsed.
@@ -177,7 +233,7 @@ impl Base {
         }
     }
 
-    /// The canonical URL of a link that is `../` so many times and this rest.
+    /// The canonical URL of a link to the folder so many above the page's, and from there to this rest.
     fn in_folder(
         &self,
         alloc: Global,

@@ -23,11 +23,11 @@ pub fn is_of_folder(text: &str) -> bool
     }
 }
 
-/// Whether a text that begins with `../` so many times is seen to have no scheme.
-pub fn has_no_scheme(ups: usize, text: &str) -> bool
-    ensures { result ≡ links.has_no_scheme ups text.now }
+/// Whether a text is seen to have no scheme, and to be more than a query or a fragment.
+pub fn has_no_scheme(text: &str) -> bool
+    ensures { result ≡ links.has_no_scheme text.now }
 {
-    ups > 0 || is_of_folder(text)
+    matches!(text.as_bytes(), [b'.', ..]) || is_of_folder(text)
 }
 
 fn has_colon(text: &str) -> bool

@@ -4,11 +4,13 @@
 mod assignment;
 mod base;
 mod canon_url;
+mod dots;
 mod error;
 mod filter;
 mod folder;
 mod fragment;
 mod lanes;
+mod opaque;
 mod parsed;
 mod plain;
 mod read;

@@ -23,6 +23,8 @@ pub struct HostPlace {
 pub enum PlainLink {
     /// It is a canonical URL as it is.
     Absolute(HostPlace),
+    /// It stands behind the page's scheme; its host, behind two slashes, is so long.
+    ByHost(usize),
     /// It stands behind what the page's text has before its path.
     Rooted,
     /// It stands behind the page's path.
@@ -39,6 +41,10 @@ pub fn plain_link(text: &str) -> PlainLink
 {
     match text.as_bytes() {
         [] | [b'#', ..] => PlainLink::Same,
+        [b'/', b'/', rest @ ..] => match plain_host_len(rest) {
+            Some(len) => PlainLink::ByHost(len),
+            None => PlainLink::Other,
+        },
         [b'/', ..] if is_plain(0, text.as_bytes()) => PlainLink::Rooted,
         [b'?', ..] if is_plain(0, text.as_bytes()) => PlainLink::Query,
         [b'h', ..] => match host_place(text) {
@@ -129,7 +135,8 @@ pub fn len_before(bytes: &[u8], mark: u8) -> usize
     bytes.len()
 }
 
-fn begins_path(tail: &[u8]) -> bool
+/// Whether the bytes begin with a slash.
+pub fn begins_path(tail: &[u8]) -> bool
     ensures { result ≡ (spec.first_is_slash tail.now) }
 {
     matches!(tail, [b'/', ..])

@@ -1,13 +1,13 @@
 -- The lines of bytes, by their first line, and when a line is a text.
 use Rattle.std.proofs.Common.{◌≡◌, ℕ, zero, suc, ◌+◌, ◌<◌, ◌≤◌, ◌-◌, ◌==◌, Bool, true, false, cond, List, [], ◌∷◌, ◌++◌, length, take, drop, nat_lt, get_or, Option, Some, None, Ok, Err, refl, sym, ap, subst, ◌∙◌, arith, append_assoc, append-nil, length-append, ltb-true, ltb-false, le-ltb, lt-ltb, ne_eqb}
-use Rattle.std.specs.List.{position, position_or_len, before_first, after_first, slice_split}
+use Rattle.std.specs.List.{position, position_or_len, before_first, after_first, slice_split, onto_first}
 use Rattle.std.specs.Str.{is_utf8, IsUtf8}
 use Rattle.std.specs.Str.Lines.{lines, lines_of_parts, strip_carriage_return}
 use Rattle.std.specs.Bool.{if◌then◌else◌}
 use Rattle.std.proofs.lemmas.Bool.{eqb-true}
 use Rattle.std.proofs.lemmas.Str.{is_utf8-from_IsUtf8, IsUtf8-from_is_utf8, IsUtf8-nil, IsUtf8-append, IsUtf8-from_ascii}
 use Rattle.std.proofs.lemmas.Str.Ascii.{IsAscii-from_all}
-use Rattle.std.proofs.lemmas.List.{take_all, take_at, take_more, take-append-drop, drop_at, get_or-take, length-take}
+use Rattle.std.proofs.lemmas.List.{take_all, take_at, take_more, take-append-drop, drop_at, drop_more, get_or-take, get_or-drop, length-take, length-drop}
 use Rattle.std.proofs.Math.ListN.{get_or-append}
 use Rattle.std.proofs.Math.Seq.{get_or-append_seam}
 use Rattle.std.proofs.lemmas.List.Elements.{All-nil, All-push}
@@ -19,7 +19,7 @@ use Rattle.crawl_limits.specs.Limits.{line_limit}
 use Rattle.crawl_web.specs.Lines.{text_of}
 use Rattle.crawl_web.specs.LineEnds.{EndsLine}
 
-abbrev is_lf : ℕ → Bool
+abbrev pub is_lf : ℕ → Bool
 is_lf b = b == 10
 
 found : (b : Bool) (n i : ℕ) → cond b (Some n) None ≡ Some i → (b ≡ true) × (n ≡ i)
@@ -156,3 +156,53 @@ ends_at text end e =
 
 pub ends_all : (text : List ℕ) → EndsLine text text []
 ends_all text = record { front = text; split = sym (append-nil text); ends = λ none other. absurd (omega (arith, none)) }
+
+-- ---- bytes that are cut at the end of a line
+
+strips : List (List ℕ) → List (List ℕ) → List (List ℕ)
+strips [] more = more
+strips (part ∷ parts) more = strip_carriage_return part ∷ strips parts more
+
+strips-lines : (parts more : List (List ℕ)) → 0 < length more → lines_of_parts (parts ++ more) ≡ strips parts (lines_of_parts more)
+unfolding strips
+strips-lines [] more some = refl
+strips-lines (part ∷ parts) more some =
+    before_others part (parts ++ more) (omega (arith, some, length-append parts more)) ∙ ap (λ ls. strip_carriage_return part ∷ ls) (strips-lines parts more some)
+
+strips-append : (parts more : List (List ℕ)) → strips parts more ≡ strips parts [] ++ more
+unfolding strips
+strips-append [] more = refl
+strips-append (part ∷ parts) more = ap (λ ls. strip_carriage_return part ∷ ls) (strips-append parts more)
+
+split_there : (front back : List ℕ) → slice_split is_lf (front ++ 10 ∷ back) ≡ slice_split is_lf front ++ slice_split is_lf back
+split_there [] back = refl
+split_there (b ∷ front) back = by_byte (is_lf b) (slice_split is_lf front) (slice_split is_lf (front ++ 10 ∷ back)) (split_there front back) (omega (arith, length-slice_split is_lf front))
+  where
+    by_byte : (lf : Bool) (parts all : List (List ℕ)) → all ≡ parts ++ slice_split is_lf back → 0 < length parts → cond lf ([] ∷ all) (onto_first b all) ≡ cond lf ([] ∷ parts) (onto_first b parts) ++ slice_split is_lf back
+    by_byte true parts all same some = ap (λ ls. [] ∷ ls) same
+    by_byte false [] all same some = absurd (omega (arith, some))
+    by_byte false (part ∷ parts) all same some = ap (onto_first b) same
+
+pub lines_cut : (front back : List ℕ) → lines (front ++ 10 ∷ back) ≡ lines (front ++ 10 ∷ []) ++ lines back
+lines_cut front back =
+    let parts = slice_split is_lf front in
+    let whole : lines (front ++ 10 ∷ back) ≡ strips parts (lines back) =
+    ap lines_of_parts (split_there front back) ∙ strips-lines parts (slice_split is_lf back) (omega (arith, length-slice_split is_lf back)) in
+    let first : lines (front ++ 10 ∷ []) ≡ strips parts [] = ap lines_of_parts (split_there front []) ∙ strips-lines parts ([] ∷ []) (omega arith) in
+    whole ∙ strips-append parts (lines back) ∙ ap (λ ls. ls ++ lines back) (sym first)
+
+pub cut_behind : (bytes : List ℕ) (at : ℕ) → at < length bytes → get_or bytes at 0 ≡ 10 → lines bytes ≡ lines (take (at + 1) bytes) ++ lines (drop (at + 1) bytes)
+cut_behind bytes at below is =
+    let back = drop (at + 1) bytes in
+    let whole : bytes ≡ take at bytes ++ 10 ∷ back = sym (take-append-drop at bytes) ∙ ap (λ l. take at bytes ++ l) (drop_more bytes at 0 below ∙ ap (λ b. b ∷ back) is) in
+    let first : take (at + 1) bytes ≡ take at bytes ++ 10 ∷ [] = take_more bytes at 0 below ∙ ap (λ b. take at bytes ++ b ∷ []) is in
+    ap lines whole ∙ lines_cut (take at bytes) back ∙ ap (λ l. lines l ++ lines back) (sym first)
+
+-- the first LF from a place on
+pub newline_from : (bytes : List ℕ) (from k : ℕ) → position is_lf (drop from bytes) ≡ Some k → (from + k < length bytes) × (get_or bytes (from + k) 0 ≡ 10)
+newline_from bytes from k e =
+    let rest = drop from bytes in
+    let place = found (nat_lt (position_or_len is_lf rest) (length rest)) (position_or_len is_lf rest) k e in
+    let below : position_or_len is_lf rest < length rest = ltb-true _ _ place.0 in
+    let byte : get_or rest (position_or_len is_lf rest) 0 ≡ 10 = eqb-true _ _ (passes_at_first is_lf rest 0 below) in
+    (omega (arith, below, place.1, length-drop from bytes), sym (get_or-drop from bytes k 0) ∙ ap (λ n. get_or rest n 0) (sym place.1) ∙ byte)

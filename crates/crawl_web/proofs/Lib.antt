@@ -1,10 +1,12 @@
 pub mod CutLines
 pub mod FirstVersion
+pub mod JoinedParts
 pub mod LeastLine
 pub mod LinkIndex
 pub mod OwnLines
 pub mod PageIndex
 pub mod PageLinks
+pub mod PartPages
 pub mod PassedLines
 pub mod ReadWeb
 pub mod ReportLaws

@@ -1,5 +1,5 @@
 -- The lines under a page, cut where the next page begins.
-use Rattle.std.proofs.Common.{◌≡◌, ◌⊎◌, inl, inr, Ok, ℕ, ◌+◌, ◌-◌, ◌<◌, ◌≤◌, ◌==◌, Bool, true, false, ◌||◌, not, List, [], ◌∷◌, ◌++◌, length, take, get_or, Option, Some, None, is_some, refl, sym, ap, subst, ◌∙◌, arith, append_assoc, append-nil, length-append}
+use Rattle.std.proofs.Common.{◌≡◌, ◌⊎◌, inl, inr, Result, Ok, Err, IfOk, IfErr, ℕ, ◌+◌, ◌-◌, ◌<◌, ◌≤◌, ◌==◌, Bool, true, false, not, List, [], ◌∷◌, ◌++◌, length, take, get_or, Option, Some, None, is_some, refl, sym, ap, subst, ◌∙◌, arith, append_assoc, append-nil, length-append}
 use Rattle.std.specs.Bool.{if◌then◌else◌}
 use Rattle.std.specs.List.{list_any}
 use Rattle.std.specs.Option.{option_map, option_or, option_map_or}
@@ -13,14 +13,16 @@ use Rattle.crawl_web.specs.OwnLines.{IsCut, known_own, LastBehind, Ended, EndsBe
 use Rattle.crawl_web.specs.PageLists.{PageRead, page_with, has}
 use Rattle.crawl_web.specs.KnownPages.{KnownPages, has_some, known_page, kept_before, Adds, Follows}
 use Rattle.crawl_web.specs.SavedWeb.{lines_behind, put_link, put_moved, link_texts, moved_text, page_behind, page_with as page_of_texts, page_of, up_to_page}
-use Rattle.crawl_web.specs.WebChecks.{line_fault}
-use Rattle.crawl_web.specs.WebFaults.{checked}
-use Rattle.crawl_web.specs.WebLines.{line_of, says_page, is_page, is_moved_line, page_url}
+use Rattle.crawl_web.specs.Reading.{ReadTo, AllFound, FoundTo, AreRead}
+use Rattle.crawl_web.specs.LeastFault.{SoundAfter}
+use Rattle.crawl_web.specs.WebChecks.{line_fault, fault_after}
+use Rattle.crawl_web.specs.WebFaults.{IsSound, IsWebRefusal, checked}
+use Rattle.crawl_web.specs.WebLines.{line_of, says_page, is_page, is_page_at, page_url}
 use Rattle.crawl_web.specs.declared.saved_web.add.Above.{Above}
+use Rattle.crawl_web.specs.declared.saved_web.error.WebError.{WebError}
 use Rattle.crawl_web.specs.declared.saved_web.line.Line.{Line}
 use Rattle.crawl_web.specs.declared.saved_web.line.Line.TheVariants as says
-use Rattle.crawl_web.proofs.FirstVersion.{text_nowhere}
-use Rattle.crawl_web.proofs.ReadWeb.{ReadTo, page_with-push, any_more, read_more}
+use Rattle.crawl_web.proofs.ReadWeb.{page_with-push, read_more, nothing_read}
 use Rattle.crawl_web.proofs.Unmixed.{up_to_page-page, up_to_page-other}
 
 -- ---- what stands under the last page, as far as it was read
@@ -118,11 +120,6 @@ left_up url (Some ls) = page_up url ls
 abbrev told_own : Option PageRead → Option (List (List ℕ))
 told_own o = option_map (λ page. up_to_page (lines page.behind)) o
 
--- each page of the lines is known, or stands among those that are left
-abbrev pub AllFound : List ℕ → List ℕ → KnownPages → Type 0
-AllFound text rest pages =
-    (url : List ℕ) → option_map up_to_page (lines_behind (lines text) url) ≡ option_or (known_own pages url) (option_map up_to_page (lines_behind (lines rest) url))
-
 put_own : (b : Bool) (o : Option PageRead) (page : PageRead) (more : Option (List (List ℕ))) → option_or (told_own o) (option_map up_to_page (if b then Some (lines page.behind) else more)) ≡ option_or (told_own (option_or o (if b then Some page else None))) (option_map up_to_page more)
 put_own b (Some old) page more = refl
 put_own true None page more = refl
@@ -135,8 +132,8 @@ adds_own old new (Some url) bytes more adds q =
     put_own (bytes_eq url q) (page_with old q) page more
     ∙ ap (λ o. option_or (told_own o) (option_map up_to_page more)) (sym (ap (λ ps. page_with ps q) adds.1 ∙ page_with-push old page q))
 
-pub found_more : (text rest : List ℕ) (pages : KnownPages) (line more : List ℕ) (new : KnownPages) → lines rest ≡ line ∷ lines more → Adds pages new (page_url line) more → AllFound text rest pages → AllFound text more new
-found_more text rest pages line more new first adds found url =
+pub found_more : (all : List (List ℕ)) (rest : List ℕ) (pages : KnownPages) (line more : List ℕ) (new : KnownPages) → lines rest ≡ line ∷ lines more → Adds pages new (page_url line) more → AllFound all (lines rest) pages → AllFound all (lines more) new
+found_more all rest pages line more new first adds found url =
     found url ∙ ap (λ ls. option_or (known_own pages url) (option_map up_to_page (lines_behind ls url))) first
     ∙ adds_own pages new (page_url line) more (lines_behind (lines more) url) adds url
 
@@ -149,11 +146,11 @@ or_none None = refl
 or_none (Some ls) = refl
 
 -- at the end all pages are known
-pub found_all : (text rest : List ℕ) (pages : KnownPages) → lines rest ≡ [] → AllFound text rest pages → (url : List ℕ) → known_page pages url ≡ page_of (lines text) url
-found_all text rest pages none found url =
-    let all : option_map up_to_page (lines_behind (lines text) url) ≡ known_own pages url =
+pub found_all : (all : List (List ℕ)) (rest : List ℕ) (pages : KnownPages) → lines rest ≡ [] → AllFound all (lines rest) pages → (url : List ℕ) → known_page pages url ≡ page_of all url
+found_all all rest pages none found url =
+    let own : option_map up_to_page (lines_behind all url) ≡ known_own pages url =
     found url ∙ ap (λ ls. option_or (known_own pages url) (option_map up_to_page (lines_behind ls url))) none ∙ or_none (known_own pages url) in
-    known_up url (page_with pages url) ∙ ap (page_behind url) (sym all) ∙ sym (left_up url (lines_behind (lines text) url))
+    known_up url (page_with pages url) ∙ ap (page_behind url) (sym own) ∙ sym (left_up url (lines_behind all url))
 
 -- ---- the last page is ended
 
@@ -201,11 +198,11 @@ ended old new start bytes last same none some = elim (last_or_none old) [
       (end_last front page put refl (same ∙ ap (λ b. up_to_page (lines b)) (sym behind))))
 ]
 
-pub found_ended : (text rest : List ℕ) (old new : KnownPages) → Ended old new → AllFound text rest old → AllFound text rest new
-found_ended text rest old new e found url = found url ∙ ap (λ o. option_or o (option_map up_to_page (lines_behind (lines rest) url))) (sym (e.own url))
+pub found_ended : (all rest : List (List ℕ)) (old new : KnownPages) → Ended old new → AllFound all rest old → AllFound all rest new
+found_ended all rest old new e found url = found url ∙ ap (λ o. option_or o (option_map up_to_page (lines_behind rest url))) (sym (e.own url))
 
-pub read_ended : (text rest : List ℕ) (number : ℕ) (above : Above) (old new : KnownPages) → Ended old new → ReadTo text rest number above old → ReadTo text rest number above new
-read_ended text rest number above old new e k = record {
+pub read_ended : (all rest : List (List ℕ)) (number : ℕ) (above : Above) (old new : KnownPages) → Ended old new → ReadTo all rest number above old → ReadTo all rest number above new
+read_ended all rest number above old new e k = record {
   earlier = k.earlier;
   cut = k.cut;
   numbered = k.numbered;
@@ -219,22 +216,17 @@ read_ended text rest number above old new e k = record {
 
 -- ---- line by line
 
-pub record ReadPages (text rest start : List ℕ) (number : ℕ) (above : Above) (pages : KnownPages) : Type 0 where
-  pub read : ReadTo text rest number above pages
+-- what was read since the last page's line
+pub record UnderLast (rest start : List ℕ) (pages : KnownPages) : Type 0 where
   pub own : List (List ℕ)
   pub cut : IsCut start rest own
-  pub moved : above.moved ≡ list_any is_moved_line own
   pub last : LastBehind pages start
-  pub found : AllFound text rest pages
 
-pub read_none : (text : List ℕ) → ReadPages text text text 0 (record { second = false; link = false; moved = false }) []
-read_none text = record {
-  read = record { earlier = []; cut = refl; numbered = refl; sound = tt; second = refl; link = refl; moved = refl; some_page = refl; known = λ url. refl };
+pub under_none : (text : List ℕ) → UnderLast text text []
+under_none text = record {
   own = [];
   cut = cut_none text;
-  moved = refl;
   last = λ front page is. absurd (omega (arith, ap length is, length-append front (page ∷ [])));
-  found = λ url. refl;
 }
 
 last_same : (xs ys : KnownPages) (x y : PageRead) → xs ++ x ∷ [] ≡ ys ++ y ∷ [] → x ≡ y
@@ -253,55 +245,47 @@ none_put : (old new : KnownPages) (own : Option (List ℕ)) (bytes : List ℕ) �
 none_put old new None bytes none adds = adds
 none_put old new (Some url) bytes none adds = absurd (cc)
 
-pub mid_read : (text rest start : List ℕ) (number : ℕ) (above : Above) (old mid : KnownPages) (line more next : List ℕ) → EndsBefore line old mid start more next → ReadPages text rest start number above old → ReadTo text rest number above mid
-mid_read text rest start number above old mid line more next e k = by (is_page line) refl
+-- before a line is added the last page is ended, or stays as it is
+pub ended_before : (old mid : KnownPages) (start line more next : List ℕ) → EndsBefore line old mid start more next → Ended old mid
+ended_before old mid start line more next e = by (is_page line) refl
   where
-    by : (b : Bool) → is_page line ≡ b → ReadTo text rest number above mid
-    by true is = read_ended text rest number above old mid (e.page is).0 k.read
-    by false is = subst (ReadTo text rest number above) (sym (e.other is).0) k.read
-
-reads_page : (text rest start : List ℕ) (number : ℕ) (above : Above) (old mid : KnownPages) (line more : List ℕ) (after : Above) (new : KnownPages) → is_page line ≡ true → Ended old mid → lines rest ≡ line ∷ lines more → checked (line_fault (kept_before (number + 1) mid above) line) ≡ Ok tt → Adds mid new (page_url line) more → is_page line ≡ is_some (page_url line) → Follows (number + 1) line above after → ReadPages text rest start number above old → ReadPages text more more (number + 1) after new
-reads_page text rest start number above old mid line more after new is e first passes adds page follows k =
-    record {
-      read = read_more text rest number above mid line more more after new first passes adds page follows (read_ended text rest number above old mid e k.read);
-      own = [];
-      cut = cut_none more;
-      moved = follows.moved ∙ ap (λ b. if b then false else above.moved || is_moved_line line) is;
-      last = last_put mid new (page_url line) more (sym page ∙ is) adds;
-      found = found_more text rest mid line more new first adds (found_ended text rest old mid e k.found);
-    }
-
-reads_other : (text rest start : List ℕ) (number : ℕ) (above : Above) (old : KnownPages) (line more : List ℕ) (after : Above) (new : KnownPages) → is_page line ≡ false → lines rest ≡ line ∷ lines more → EndsLine rest line more → length more < length rest → checked (line_fault (kept_before (number + 1) old above) line) ≡ Ok tt → Adds old new (page_url line) more → is_page line ≡ is_some (page_url line) → Follows (number + 1) line above after → ReadPages text rest start number above old → ReadPages text more start (number + 1) after new
-reads_other text rest start number above old line more after new is first ends shorter passes adds page follows k =
-    let same : new ≡ old = none_put old new (page_url line) more (sym page ∙ is) adds in
-    record {
-      read = read_more text rest number above old line more more after new first passes adds page follows k.read;
-      own = k.own ++ line ∷ [];
-      cut = cut_more start rest line more k.own first ends (omega (arith, shorter)) k.cut;
-      moved =
-          follows.moved ∙ ap (λ b. if b then false else above.moved || is_moved_line line) is
-          ∙ ap (λ b. b || is_moved_line line) k.moved ∙ any_more is_moved_line (is_moved_line line) k.own line refl;
-      last = subst (λ ps. LastBehind ps start) (sym same) k.last;
-      found = found_more text rest old line more new first adds k.found;
-    }
-
-pub reads_on : (text rest start : List ℕ) (number : ℕ) (above : Above) (old mid : KnownPages) (line more next : List ℕ) (after : Above) (new : KnownPages) → EndsBefore line old mid start more next → lines rest ≡ line ∷ lines more → EndsLine rest line more → length more < length rest → checked (line_fault (kept_before (number + 1) mid above) line) ≡ Ok tt → Adds mid new (page_url line) more → is_page line ≡ is_some (page_url line) → Follows (number + 1) line above after → ReadPages text rest start number above old → ReadPages text more next (number + 1) after new
-reads_on text rest start number above old mid line more next after new e first ends shorter passes adds page follows k = by (is_page line) refl
-  where
-    by : (b : Bool) → is_page line ≡ b → ReadPages text more next (number + 1) after new
-    by true is =
-        subst (λ s. ReadPages text more s (number + 1) after new) (sym (e.page is).1)
-        (reads_page text rest start number above old mid line more after new is (e.page is).0 first passes adds page follows k)
+    by : (b : Bool) → is_page line ≡ b → Ended old mid
+    by true is = (e.page is).0
     by false is =
         let same = (e.other is).0 in
-        subst (λ s. ReadPages text more s (number + 1) after new) (sym (e.other is).1)
-        (reads_other text rest start number above old line more after new is first ends shorter
-        (subst (λ ps. checked (line_fault (kept_before (number + 1) ps above) line) ≡ Ok tt) same passes)
-        (subst (λ ps. Adds ps new (page_url line) more) same adds) page follows k)
+        record { own = λ url. ap (λ ps. known_own ps url) same; known = λ url. ap (λ ps. has ps url) same; some = ap has_some same }
 
--- own lines without a moved line have none
-pub none_moved : (start rest : List ℕ) (own : List (List ℕ)) (moved : Bool) → IsCut start rest own → moved ≡ list_any is_moved_line own → moved ≡ false → moved_text (lines (take (length start - length rest) start)) ≡ None
-none_moved start rest own moved k is off = ap moved_text (own_lines start rest own k) ∙ text_nowhere own (sym is ∙ off)
+pub under_next : (rest start : List ℕ) (old mid : KnownPages) (line more next : List ℕ) (new : KnownPages) → EndsBefore line old mid start more next → lines rest ≡ line ∷ lines more → EndsLine rest line more → length more < length rest → Adds mid new (page_url line) more → is_page line ≡ is_some (page_url line) → UnderLast rest start old → UnderLast more next new
+under_next rest start old mid line more next new e first ends shorter adds page k = by (is_page line) refl
+  where
+    by : (b : Bool) → is_page line ≡ b → UnderLast more next new
+    by true is =
+        subst (λ s. UnderLast more s new) (sym (e.page is).1)
+        (record { own = []; cut = cut_none more; last = last_put mid new (page_url line) more (sym page ∙ is) adds })
+    by false is =
+        let same : new ≡ old = none_put mid new (page_url line) more (sym page ∙ is) adds ∙ (e.other is).0 in
+        subst (λ s. UnderLast more s new) (sym (e.other is).1)
+        (record {
+          own = k.own ++ line ∷ [];
+          cut = cut_more start rest line more k.own first ends (omega (arith, shorter)) k.cut;
+          last = subst (λ ps. LastBehind ps start) (sym same) k.last;
+        })
+
+pub found_on : (all : List (List ℕ)) (rest : List ℕ) (number : ℕ) (above : Above) (old mid : KnownPages) (line more : List ℕ) (after : Above) (new : KnownPages) → Ended old mid → lines rest ≡ line ∷ lines more → checked (line_fault (kept_before (number + 1) mid above) line) ≡ Ok tt → Adds mid new (page_url line) more → is_page line ≡ is_some (page_url line) → Follows (number + 1) line above after → FoundTo all (lines rest) number above old → FoundTo all (lines more) (number + 1) after new
+found_on all rest number above old mid line more after new e first passes adds page follows k = record {
+  read = read_more all rest number above mid line more more after new first passes adds page follows (read_ended all (lines rest) number above old mid e k.read);
+  found = found_more all rest mid line more new first adds (found_ended all (lines rest) old mid e k.found);
+}
+
+-- behind the last line, once the last page is ended
+pub all_read : (all : List (List ℕ)) (rest : List ℕ) (number : ℕ) (above : Above) (old new : KnownPages) → lines rest ≡ [] → Ended old new → FoundTo all (lines rest) number above old → AreRead all new
+all_read all rest number above old new none e k =
+    let same : k.read.earlier ≡ all = sym (append-nil k.read.earlier) ∙ ap (λ ls. k.read.earlier ++ ls) (sym none) ∙ sym k.read.cut in
+    record {
+      sound = subst (SoundAfter fault_after []) same k.read.sound;
+      known = λ url. e.known url ∙ k.read.known url ∙ ap (list_any (is_page_at url)) same;
+      found = found_all all rest new none (found_ended all (lines rest) old new e k.found);
+    }
 
 -- the own lines are those up to the next page, where that is the next line, or where nothing is left
 pub own_up_page : (start rest line more : List ℕ) (own : List (List ℕ)) → IsCut start rest own → lines rest ≡ line ∷ lines more → is_page line ≡ true → up_to_page (lines start) ≡ up_to_page own
@@ -310,3 +294,17 @@ own_up_page start rest line more own k first page =
 
 pub own_up_all : (start rest : List ℕ) (own : List (List ℕ)) → IsCut start rest own → lines rest ≡ [] → up_to_page (lines start) ≡ up_to_page own
 own_up_all start rest own k none = ap up_to_page (k.whole ∙ ap (λ ls. own ++ ls) none ∙ append-nil own)
+
+-- ---- all lines
+
+pub read_sound : (all : List (List ℕ)) (read : Result KnownPages WebError) → 0 < length all → IfOk read (λ pages. (ls : List (List ℕ)) → FoundTo ls all 0 (record { second = false; link = false; moved = false }) [] → AreRead ls pages) → IfOk read (λ _. IsSound all)
+read_sound all (Err e) some read = tt
+read_sound all (Ok pages) some read = record { some = some; sound = (read all (nothing_read all)).sound }
+
+pub read_found : (all : List (List ℕ)) (read : Result KnownPages WebError) → IfOk read (λ pages. (ls : List (List ℕ)) → FoundTo ls all 0 (record { second = false; link = false; moved = false }) [] → AreRead ls pages) → IfOk read (λ pages. (url : List ℕ) → known_page pages url ≡ page_of all url)
+read_found all (Err e) read = tt
+read_found all (Ok pages) read = (read all (nothing_read all)).found
+
+pub read_refused : (all : List (List ℕ)) (read : Result KnownPages WebError) → IfErr read (λ told. (ls : List (List ℕ)) → FoundTo ls all 0 (record { second = false; link = false; moved = false }) [] → IsWebRefusal ls told) → IfErr read (λ told. IsWebRefusal all told)
+read_refused all (Err e) read = read all (nothing_read all)
+read_refused all (Ok pages) read = tt

@@ -1,14 +1,18 @@
 -- What is known of a saved web while its lines are read one by one.
-use Rattle.std.proofs.Common.{◌≡◌, inl, inr, ℕ, ◌+◌, ◌==◌, Bool, true, false, ◌||◌, not, List, [], ◌∷◌, ◌++◌, length, Option, Some, None, Ok, Err, codes, is_some, refl, sym, ap, subst, ◌∙◌, arith, append_assoc, append-nil, length-append, ne_eqb}
+use Rattle.std.proofs.Common.{◌≡◌, inl, inr, ℕ, ◌+◌, ◌<◌, ◌==◌, Bool, true, false, ◌||◌, not, List, [], ◌∷◌, ◌++◌, length, Option, Some, None, Ok, Err, codes, is_some, refl, sym, ap, subst, ◌∙◌, arith, append_assoc, append-nil, length-append, ne_eqb}
 use Rattle.std.specs.Bool.{if◌then◌else◌}
-use Rattle.std.specs.List.{list_any}
-use Rattle.std.specs.Option.{option_or, option_map_or}
+use Rattle.std.specs.List.{list_any, position}
+use Rattle.std.specs.Option.{option_map, option_or, option_map_or}
 use Rattle.std.specs.Str.{bytes_eq}
 use Rattle.std.specs.Str.Lines.{lines}
+use Rattle.std.proofs.lemmas.Bool.{cond-false}
 use Rattle.std.proofs.lemmas.List.Folds.{list_any-append}
 use Rattle.crawl_keys.specs.Outcome.{IsRefusal}
+use Rattle.crawl_web.proofs.CutLines.{is_lf, lines_at, lines_only}
 use Rattle.crawl_web.specs.LeastFault.{SoundAfter, IsLeastFault}
-use Rattle.crawl_web.specs.WebLines.{is_page, is_link, is_moved_line, is_page_at, page_url}
+use Rattle.crawl_web.specs.Reading.{ReadTo, FoundTo, IsHeader}
+use Rattle.crawl_web.specs.SavedWeb.{up_to_page}
+use Rattle.crawl_web.specs.WebLines.{says_page, says_link, says_moved, url_said, is_page, is_link, is_moved_line, is_page_at, page_url}
 use Rattle.crawl_web.specs.WebChecks.{is_second, under_last_page, line_fault, fault_after}
 use Rattle.crawl_web.specs.KnownPages.{KnownPages, has_some, kept_before, Adds, Follows}
 use Rattle.crawl_web.specs.PageLists.{PageRead, page_with, has}
@@ -16,18 +20,6 @@ use Rattle.crawl_web.specs.WebFaults.{IsWebFault, IsWebRefusal, checked}
 use Rattle.crawl_web.specs.declared.saved_web.add.Above.{Above}
 use Rattle.crawl_web.specs.declared.saved_web.error.WebError.{WebError}
 use Rattle.crawl_web.specs.declared.saved_web.error.WebError.TheVariants as wrong
-
--- the earlier lines are sound, and what the checks ask of them is known; what is left holds the others
-pub record ReadTo (bytes rest : List ℕ) (number : ℕ) (above : Above) (pages : KnownPages) : Type 0 where
-  pub earlier : List (List ℕ)
-  pub cut : lines bytes ≡ earlier ++ lines rest
-  pub numbered : number ≡ length earlier
-  pub sound : SoundAfter fault_after [] earlier
-  pub second : above.second ≡ is_second earlier
-  pub link : above.link ≡ list_any is_link (under_last_page earlier)
-  pub moved : above.moved ≡ list_any is_moved_line (under_last_page earlier)
-  pub some_page : has_some pages ≡ list_any is_page earlier
-  pub known : (url : List ℕ) → has pages url ≡ list_any (is_page_at url) earlier
 
 or_false : (b : Bool) → b ≡ (b || false)
 or_false true = refl
@@ -73,8 +65,8 @@ adds_has old new (Some url) bytes adds q =
 -- ---- one more line
 
 -- what is known of the pages says which check a line fails
-fault_known : (bytes rest : List ℕ) (number : ℕ) (above : Above) (pages : KnownPages) (line : List ℕ) → (k : ReadTo bytes rest number above pages) → line_fault (kept_before (number + 1) pages above) line ≡ fault_after k.earlier line
-fault_known bytes rest number above pages line k =
+fault_known : (all rest : List (List ℕ)) (number : ℕ) (above : Above) (pages : KnownPages) (line : List ℕ) → (k : ReadTo all rest number above pages) → line_fault (kept_before (number + 1) pages above) line ≡ fault_after k.earlier line
+fault_known all rest number above pages line k =
     λ i. line_fault (record {
       number = k.numbered i + 1;
       second = k.second i;
@@ -134,12 +126,12 @@ some_expected : (expected : Option WebError) (fault : WebError) → checked expe
 some_expected None fault e = absurd (cc)
 some_expected (Some other) fault e = cc
 
-pub read_more : (bytes rest : List ℕ) (number : ℕ) (above : Above) (pages : KnownPages) (line more behind : List ℕ) (after : Above) (new : KnownPages) → lines rest ≡ line ∷ lines more → checked (line_fault (kept_before (number + 1) pages above) line) ≡ Ok tt → Adds pages new (page_url line) behind → is_page line ≡ is_some (page_url line) → Follows (number + 1) line above after → ReadTo bytes rest number above pages → ReadTo bytes more (number + 1) after new
-read_more bytes rest number above pages line more behind after new first passes adds page follows k = record {
+pub read_more : (all : List (List ℕ)) (rest : List ℕ) (number : ℕ) (above : Above) (pages : KnownPages) (line more behind : List ℕ) (after : Above) (new : KnownPages) → lines rest ≡ line ∷ lines more → checked (line_fault (kept_before (number + 1) pages above) line) ≡ Ok tt → Adds pages new (page_url line) behind → is_page line ≡ is_some (page_url line) → Follows (number + 1) line above after → ReadTo all (lines rest) number above pages → ReadTo all (lines more) (number + 1) after new
+read_more all rest number above pages line more behind after new first passes adds page follows k = record {
   earlier = k.earlier ++ line ∷ [];
   cut = k.cut ∙ ap (λ ls. k.earlier ++ ls) first ∙ sym (append_assoc k.earlier (line ∷ []) (lines more));
   numbered = ap (λ n. n + 1) k.numbered ∙ sym (length-append k.earlier (line ∷ []));
-  sound = sound_more [] k.earlier line k.sound (sym (fault_known bytes rest number above pages line k) ∙ none_expected _ passes);
+  sound = sound_more [] k.earlier line k.sound (sym (fault_known all (lines rest) number above pages line k) ∙ none_expected _ passes);
   second = follows.second ∙ second_more number above.second k.earlier line k.numbered k.second;
   link = follows.link ∙ any_under is_link above.link k.earlier line k.link;
   moved = follows.moved ∙ any_under is_moved_line above.moved k.earlier line k.moved;
@@ -157,13 +149,52 @@ is_fault : (all : List (List ℕ)) (fault : WebError) → IsLeastFault fault_aft
 is_fault [] fault least = absurd (omega (arith, ap length least.split, length-append least.front (least.line ∷ least.rest)))
 is_fault (line ∷ more) fault least = least
 
-pub read_fault : (bytes rest : List ℕ) (number : ℕ) (above : Above) (pages : KnownPages) (line more : List ℕ) (fault : WebError) → lines rest ≡ line ∷ lines more → IsRefusal wrong.NoMemory (checked (line_fault (kept_before (number + 1) pages above) line)) fault → ReadTo bytes rest number above pages → IsWebRefusal (lines bytes) fault
-read_fault bytes rest number above pages line more fault first (inr e) k = inr e
-read_fault bytes rest number above pages line more fault first (inl fails) k = inl (is_fault (lines bytes) fault (record {
+pub read_fault : (all : List (List ℕ)) (rest : List ℕ) (number : ℕ) (above : Above) (pages : KnownPages) (line more : List ℕ) (fault : WebError) → lines rest ≡ line ∷ lines more → IsRefusal wrong.NoMemory (checked (line_fault (kept_before (number + 1) pages above) line)) fault → ReadTo all (lines rest) number above pages → IsWebRefusal all fault
+read_fault all rest number above pages line more fault first (inr e) k = inr e
+read_fault all rest number above pages line more fault first (inl fails) k = inl (is_fault all fault (record {
   front = k.earlier;
   line = line;
   rest = lines more;
   split = k.cut ∙ ap (λ ls. k.earlier ++ ls) first;
   sound = k.sound;
-  fails = sym (fault_known bytes rest number above pages line k) ∙ some_expected _ fault fails;
+  fails = sym (fault_known all (lines rest) number above pages line k) ∙ some_expected _ fault fails;
 }))
+
+-- ---- all lines of bytes
+
+pub some_lines : (bytes : List ℕ) → 0 < length bytes → 0 < length (lines bytes)
+some_lines bytes some = by_first (position is_lf bytes) refl
+  where
+    by_first : (first : Option ℕ) → position is_lf bytes ≡ first → 0 < length (lines bytes)
+    by_first (Some end) is = omega (arith, ap length (lines_at bytes end is))
+    by_first None is = omega (arith, ap length (lines_only bytes is some))
+
+-- ---- where reading begins
+
+-- before the first line
+pub nothing_read : (all : List (List ℕ)) → FoundTo all all 0 (record { second = false; link = false; moved = false }) []
+nothing_read all = record {
+  read = record { earlier = []; cut = refl; numbered = refl; sound = tt; second = refl; link = refl; moved = refl; some_page = refl; known = λ url. refl };
+  found = λ url. refl;
+}
+
+-- behind the header
+pub header_read : (second : Bool) (header : List ℕ) (behind : List (List ℕ)) → IsHeader second header → FoundTo (header ∷ behind) behind 1 (record { second = second; link = false; moved = false }) []
+header_read second header behind h =
+    let no_page : list_any is_page (header ∷ []) ≡ false = ap (λ said. says_page said || false) h.other in
+    let under : under_last_page (header ∷ []) ≡ header ∷ [] = cond-false _ _ _ no_page in
+    let no_page_at : (url : List ℕ) → is_page_at url header ≡ false = λ url. ap (λ said. at (url_said said) url) h.other in
+    record {
+      read = record {
+        earlier = header ∷ [];
+        cut = refl;
+        numbered = refl;
+        sound = (h.sound, tt);
+        second = sym h.version;
+        link = sym (ap (list_any is_link) under ∙ ap (λ said. says_link said || false) h.other);
+        moved = sym (ap (list_any is_moved_line) under ∙ ap (λ said. says_moved said || false) h.other);
+        some_page = sym no_page;
+        known = λ url. sym (ap (λ b. b || false) (no_page_at url));
+      };
+      found = λ url. ap (option_map up_to_page) (cond-false _ _ _ (no_page_at url));
+    }

@@ -5,8 +5,10 @@ pub mod LineEnds
 pub mod Lines
 pub mod OwnLines
 pub mod PageLists
+pub mod PageUrls
 pub mod Pages
 pub mod Parts
+pub mod Reading
 pub mod ReportText
 pub mod SavedWeb
 pub mod WebChecks

@@ -1,5 +1,5 @@
 //! Lines: bytes cut at each LF, and the text of a line.
-ghost use Rattle.std.specs.Prelude.{◌≡◌, ◌==◌, ◌∷◌, ◌<◌, [], length, position, IfSome, IsUtf8, MatchOption};
+ghost use Rattle.std.specs.Prelude.{◌≡◌, ◌==◌, ◌∷◌, ◌++◌, ◌<◌, ◌≤◌, [], length, position, IfSome, IsUtf8, MatchOption};
 ghost use Rattle.std.specs.Str.Lines.{lines, strip_carriage_return};
 ghost use Rattle.crawl_web.specs.Lines.{text_of, bytes_at};
 ghost use Rattle.crawl_web.specs.LineEnds.{EndsLine};
@@ -43,6 +43,16 @@ pub fn first_text(text: &str) -> Option<(&str, &str)>
         None if text.is_empty() => None,
         None => Some((text, "")),
     }
+}
+
+/// The text, cut behind the first LF from here on; nothing where there is none.
+pub fn cut_line(text: &str, from: usize) -> Option<(&str, &str)>
+    requires { from ≤ length text.now }
+    ensures cut { IfSome result (λ x. lines text.now ≡ lines x.0.now ++ lines x.1.now) }
+    ensures within { IfSome result (λ x. (from < length x.0.now) × (length x.0.now ≤ length text.now)) }
+{
+    let end = from + newline_in(&text.as_bytes()[from..])? + 1;
+    Some((&text[..end], &text[end..]))
 }
 
 fn newline_in(bytes: &[u8]) -> Option<usize>

@@ -1,11 +1,8 @@
 //! Saved webs: pages and their links, written down in lines.
-ghost use Rattle.std.specs.Prelude.{◌≡◌, ◌∷◌, ℕ, List, Ok, Err, IfOk, IfErr, IsUtf8};
+ghost use Rattle.std.specs.Prelude.{◌≡◌, ℕ, List, Ok, Err, IfOk, IfErr, IsUtf8};
 ghost use Rattle.crawl_keys.specs.Outcome.{Gives};
 ghost use Rattle.std.specs.Str.Lines.{lines};
-ghost use Rattle.std.specs.List.{list_any};
-ghost use Rattle.crawl_web.specs.OwnLines.{Ended, EndsBefore, IsCut, LastBehind};
-ghost use Rattle.crawl_web.specs.SavedWeb.{page_of, up_to_page};
-ghost use Rattle.crawl_web.specs.WebLines.{is_moved_line};
+ghost use Rattle.crawl_web.specs.SavedWeb.{page_of};
 ghost use Rattle.crawl_web.specs.KnownPages.{known_page, page_at};
 ghost use Rattle.crawl_web.specs.WebFaults.{IsSound, IsWebFault, IsWebRefusal};
 
@@ -19,27 +16,34 @@ mod line;
 mod link_cache;
 mod link_text;
 mod links;
+mod page_url;
 mod pages;
+mod reader;
+mod threads;
+mod web_pages;
 
 use crate::fetch::{Fetch, FetchError};
-use crate::lines::{first_line, first_text};
+use crate::lines::first_line;
 use crate::page::Page;
 use crate::session::SessionFetch;
-use add::{Above, add_line, check_line};
-use crawl_keys::CanonUrl;
+use add::{Above, check_line};
+use crawl_keys::{Base, CanonUrl};
 pub use error::WebError;
-use line::is_page;
 use link_cache::LinkCache;
 use links::page_behind;
 use pages::Pages;
+use reader::pages_behind;
 use simdutf8::compat::from_utf8;
 use std::alloc::Global;
+use std::thread::Threads;
+use threads::pages_in_threads;
+use web_pages::WebPages;
 
 /// The pages of a saved web, each with its links. It borrows the bytes that it was read from.
 #[derive(Drop)]
 pub struct SavedWeb<'a> {
     /// Each page with its own lines.
-    pages: Pages<'a>,
+    pages: WebPages<'a>,
 }
 
 impl<'a> SavedWeb<'a> {
@@ -58,9 +62,35 @@ impl<'a> SavedWeb<'a> {
         ensures reads { IsSound (lines bytes.now) → Gives WebError.NoMemory page_at result (Ok (page_of (lines bytes.now))) }
         ensures tells { (fault : WebError) → IsWebFault (lines bytes.now) fault → Gives WebError.NoMemory page_at result (Err fault) }
     {
+        let pages = known_pages(alloc, bytes)?;
         Ok(SavedWeb {
-            pages: known_pages(alloc, bytes)?,
+            pages: WebPages::one(alloc, pages)?,
         })
+    }
+
+    /// As [`SavedWeb::read`], by four threads where there is enough to read. Bytes with a fault are then read once more by one
+    /// thread, which tells it.
+    ///
+    /// # Errors
+    /// Those of [`SavedWeb::read`]. A thread that cannot be started is none: its part is read by the thread that wanted it.
+    pub fn read_in_threads<R: Threads + Sync>(
+        rt: &R,
+        alloc: Global,
+        bytes: &'a [u8],
+    ) -> Result<SavedWeb<'a>, WebError>
+        ensures sound { IfOk result (λ web. IsSound (lines bytes.now)) }
+        // At every URL it has the page that the lines say.
+        ensures pages { IfOk result (λ web. (url : List ℕ) → page_at web url ≡ page_of (lines bytes.now) url) }
+        // An error is the fault of the first line that has one, unless a growth was refused.
+        ensures fault { IfErr result (λ told. IsWebRefusal (lines bytes.now) told) }
+        // The other way round: sound lines are read, and lines with a fault are refused for it.
+        ensures reads { IsSound (lines bytes.now) → Gives WebError.NoMemory page_at result (Ok (page_of (lines bytes.now))) }
+        ensures tells { (fault : WebError) → IsWebFault (lines bytes.now) fault → Gives WebError.NoMemory page_at result (Err fault) }
+    {
+        match pages_in_threads(rt, alloc, bytes) {
+            Some(pages) => Ok(SavedWeb { pages }),
+            None => SavedWeb::read(alloc, bytes),
+        }
     }
 }
 
@@ -82,54 +112,10 @@ fn pages_in(alloc: Global, text: &str) -> Result<Pages<'_>, WebError>
     ensures pages { IfOk result (λ pages. (url : List ℕ) → known_page pages url ≡ page_of (lines text.now) url) }
     ensures fault { IfErr result (λ told. IsWebRefusal (lines text.now) told) }
 {
-    let mut pages = Pages::new(alloc);
-    let mut rest = text;
-    // What stands behind the last page's line, or all where there is no page.
-    let mut start = text;
-    let mut number: u64 = 0;
-    let mut above = Above::nothing();
-    while let Some((line, more)) = first_text(rest) {
-        start = next_start(&mut pages, start, rest, line, more, above.moved);
-        rest = more;
-        number += 1;
-        above = add_line(alloc, &mut pages, number, above, line, more)?;
-    }
-    if number == 0 {
+    if text.is_empty() {
         return Err(WebError::BadHeader);
     }
-    end_page(&mut pages, start, rest, above.moved);
-    Ok(pages)
-}
-
-/// Ends the last page where this line, the first of the rest, is the next one. Answers what stands behind the last page's line
-/// then.
-fn next_start<'a>(
-    pages: &mut Pages<'a>,
-    start: &'a str,
-    rest: &'a str,
-    line: &str,
-    more: &'a str,
-    moved: bool,
-) -> &'a str
-    requires last { LastBehind pages.old start.now }
-    requires first { lines rest.now ≡ line.now ∷ lines more.now }
-    requires cut { (own : List (List ℕ)) × IsCut start.now rest.now own × (moved ≡ list_any is_moved_line own) }
-    ensures { EndsBefore line.now pages.old pages.new start.now more.now result.now }
-{
-    if !is_page(line) {
-        return start;
-    }
-    end_page(pages, start, rest, moved);
-    more
-}
-
-/// Ends the last page, if there is one, where the rest begins: its own lines are those before.
-fn end_page<'a>(pages: &mut Pages<'a>, start: &'a str, rest: &str, moved: bool)
-    requires last { LastBehind pages.old start.now }
-    requires cut { (own : List (List ℕ)) × IsCut start.now rest.now own × (moved ≡ list_any is_moved_line own) × (up_to_page (lines start.now) ≡ up_to_page own) }
-    ensures { Ended pages.old pages.new }
-{
-    pages.end_last(&start[..start.len() - rest.len()], moved);
+    pages_behind(alloc, text, 0, Above::nothing())
 }
 
 /// The fault of bytes that are not UTF-8.
@@ -192,14 +178,19 @@ impl<'a> SessionFetch for SavedWeb<'a> {
         ensures refused { IfErr result (λ e. e ≡ FetchError.NoMemory) }
     {
         match self.pages.get(url) {
-            Some(page) => page_behind(
-                alloc,
-                session,
-                page.base()?,
-                page.behind(),
-                page.has_moved(),
-            ),
+            Some(page) => page_behind(alloc, session, base_of(alloc, url)?, page.behind()),
             None => Ok(Page::Missing),
         }
+    }
+}
+
+/// The base for the links of the page at this URL.
+fn base_of(alloc: Global, url: &CanonUrl) -> Result<Base, FetchError>
+    ensures base { IfOk result (λ base. base ≡ url.now) }
+    ensures refused { IfErr result (λ e. e ≡ FetchError.NoMemory) }
+{
+    match Base::new(alloc, url) {
+        Ok(base) => Ok(base),
+        Err(_) => Err(FetchError::NoMemory),
     }
 }

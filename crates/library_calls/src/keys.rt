@@ -19,6 +19,7 @@ fn work(name: &str) -> Option<Work> {
         "plain" => Some(Work::Plain),
         "links" => Some(Work::Links),
         "joined" => Some(Work::Joined),
+        "by_host" => Some(Work::Link("//host-001.crawl.test/section/page-000001?view=full")),
         "rooted" => Some(Work::Link("/section/page-000001?view=full")),
         "beside" => Some(Work::Link("page-000001?view=full")),
         "part" => Some(Work::Link("#part")),

@@ -3,7 +3,8 @@
 
 use mercator::{BAD_COMMAND_LINE, Fault, run_words_with};
 use mercator_site::run_site_words;
-use std::io::{ErrorKind, Write};
+use std::env::VarError;
+use std::io::{ErrorKind, IsTerminal, Write};
 use std::process::ExitCode;
 use std::rt::Env;
 use std::{env, io};
@@ -17,6 +18,7 @@ fn main(rt: HostRuntime) -> ExitCode {
         &rt,
         rt.alloc(),
         &words,
+        has_colour(&rt, rt.stdout().is_terminal()),
         &mut io::writer(&rt),
         &mut rt.stderr(),
     );
@@ -32,6 +34,16 @@ fn main(rt: HostRuntime) -> ExitCode {
         &mut io::writer(&rt),
         &mut rt.stderr(),
     ))
+}
+
+/// Whether texts may have colour: on a terminal, where `NO_COLOR` is not in the environment or is empty.
+fn has_colour(rt: &(impl Env + AllocGlobal), is_terminal: bool) -> bool {
+    is_terminal
+        && match env::var(rt, "NO_COLOR") {
+            Ok(text) => text.is_empty(),
+            Err(VarError::NotPresent) => true,
+            Err(_) => false,
+        }
 }
 
 /// The words after the program's name.

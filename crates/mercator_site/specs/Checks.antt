@@ -1,44 +1,75 @@
 -- What a check of a folder's links tells.
-use Rattle.std.specs.Prelude.{◌≡◌, ◌==◌, ℕ, Bool, false, not, List, [], ◌∷◌, length, map, Ok}
+use Rattle.std.specs.Prelude.{◌≡◌, ◌==◌, ℕ, Bool, true, false, not, List, [], ◌∷◌, length, map, Ok, Option, Some, None, ⊤}
+use Rattle.std.specs.Option.{option_map}
 use Rattle.check_report.specs.Printing.{printed_text, printed_json, printed_annotations, printed_page}
 use Rattle.check_report.specs.declared.value.Findings.{Findings}
-use Rattle.crawl_keys.specs.CanonicalText.{canonical}
+use Rattle.check_report.specs.declared.value.Told.{Told}
+use Rattle.crawl_keys.specs.CanonicalText.{canonical, resolve}
 use Rattle.crawl_keys.specs.HostKey.{host_key}
 use Rattle.crawl_web.specs.declared.page.PageResult.{PageResult}
 use Rattle.mercator.specs.WebCrawl.{IsSiteCrawl}
+use Rattle.mercator_site.specs.Asks.{Asks}
+use Rattle.mercator_site.specs.External.{AreExternal, Row, row_of}
 use Rattle.mercator_site.specs.declared.asked.CheckForm.{CheckForm}
 use Rattle.mercator_site.specs.declared.asked.CheckForm.TheVariants as form
 use Rattle.saved_site.specs.Meaning.{IsSiteWeb}
 use Rattle.site_check.specs.Broken.{broken_of, redirects_of}
 use Rattle.site_check.specs.Told.{rows_in, way_of}
 
--- the findings in a form
-abbrev pub printed_check : CheckForm → Bool → Findings → List ℕ
-printed_check form.Text all f = printed_text all false f
-printed_check form.Json all f = printed_json f
-printed_check form.Annotations all f = printed_annotations f
-printed_check form.Page all f = printed_page f
+-- the findings in a form, and what is told beside them
+abbrev pub printed_check : CheckForm → Bool → Told → Findings → List ℕ
+printed_check (form.Text colour) all told f = printed_text all colour told f
+printed_check form.Json all told f = printed_json told f
+printed_check form.Annotations all told f = printed_annotations told f
+printed_check form.Page all told f = printed_page told f
 
--- these pages were crawled of the web from the site's top, within the top's host
-pub record IsTopCrawl (top web : List ℕ) (pages : List PageResult) : Type 0 where
+-- the empty link leads to the top itself
+abbrev pub starts : List (List ℕ) → List (List ℕ)
+starts [] = [] ∷ []
+starts (link ∷ links) = link ∷ links
+
+-- these pages were crawled of the web from the starts on the site's top, within the top's host
+pub record IsTopCrawl (top web : List ℕ) (links : List (List ℕ)) (pages : List PageResult) : Type 0 where
   pub url : List ℕ
   pub canon : canonical top ≡ Ok url
-  pub crawl : IsSiteCrawl web [] (top ∷ []) (host_key url ∷ []) pages
+  pub begun : List (List ℕ)
+  pub resolved : map (resolve url) (starts links) ≡ map Ok begun
+  pub crawl : IsSiteCrawl web [] begun (host_key url ∷ []) pages
+
+-- these are the rows of the pages' links to hosts outside that of the site's top
+pub record AreOther (top : List ℕ) (pages : List PageResult) (rows : List Row) : Type 0 where
+  pub url : List ℕ
+  pub canon : canonical top ≡ Ok url
+  pub told : AreExternal (host_key url ∷ []) pages rows
+
+-- the same, where they are asked for
+abbrev pub AreOthersAsked : Bool → List ℕ → List PageResult → Option (List Row) → Type 0
+AreOthersAsked true top pages (Some rows) = AreOther top pages rows
+AreOthersAsked true top pages None = ⊥
+AreOthersAsked false top pages (Some rows) = ⊥
+AreOthersAsked false top pages None = ⊤
+
+-- the rows of what is told beside findings
+abbrev pub other_rows : Told → Option (List Row)
+other_rows told = option_map (λ urls. map row_of urls.now) told.external
 
 -- the text tells the missing and the moved pages of such a crawl, each with how many pages link to it; it tells that something is
 -- broken where there is such a row
-pub record IsCheck (top web : List ℕ) (how : CheckForm) (all : Bool) (front : List ℕ) (entries : List (List ℕ)) (broken : Bool) (text : List ℕ) : Type 0 where
+pub record IsCheck (top web : List ℕ) (asks : Asks) (broken : Bool) (text : List ℕ) : Type 0 where
   pub pages : List PageResult
-  pub crawled : IsTopCrawl top web pages
+  pub crawled : IsTopCrawl top web asks.seeds pages
   pub found : Findings
-  pub rows : rows_in found.broken.now ≡ broken_of front entries pages
-  pub ways : map way_of found.redirects.now ≡ redirects_of front pages
+  pub rows : rows_in found.broken.now ≡ broken_of asks.front asks.entries pages
+  pub ways : map way_of found.redirects.now ≡ redirects_of asks.front pages
   pub is_broken : broken ≡ not (length found.broken.now == 0)
-  pub written : text ≡ printed_check how all found
+  pub told : Told
+  pub unreached : told.unreached ≡ asks.unreached
+  pub others : AreOthersAsked asks.external top pages (other_rows told)
+  pub written : text ≡ printed_check asks.form asks.all told found
 
 -- the same of the saved web of a site
-pub record IsSiteCheck (how : CheckForm) (all : Bool) (front : List ℕ) (entries : List (List ℕ)) (broken : Bool) (text : List ℕ) : Type 0 where
+pub record IsSiteCheck (asks : Asks) (broken : Bool) (text : List ℕ) : Type 0 where
   pub top : List ℕ
   pub web : List ℕ
   pub made : IsSiteWeb web
-  pub checked : IsCheck top web how all front entries broken text
+  pub checked : IsCheck top web asks broken text

@@ -1,6 +1,7 @@
 -- What the output gains of a command over a folder.
 use Rattle.std.specs.Prelude.{◌≡◌, ℕ, Bool, false, List, Option}
 use Rattle.std.specs.Io.KnownBytes.{Appends}
+use Rattle.mercator_site.specs.Asks.{asks_of}
 use Rattle.mercator_site.specs.Checks.{IsSiteCheck}
 use Rattle.mercator_site.specs.declared.asked.CheckAsked.{CheckAsked}
 use Rattle.mercator_site.specs.declared.asked.SitePlan.{SitePlan}
@@ -18,7 +19,7 @@ pub record GainsCheck (asked : CheckAsked) (broken : Bool) (old new : Option (Li
   pub text : List ℕ
   pub front : List ℕ
   pub entries : List (List ℕ)
-  pub told : IsSiteCheck asked.form asked.all front entries broken text
+  pub told : IsSiteCheck (asks_of asked front entries) broken text
   pub gained : Appends old new text
 
 abbrev pub GainsPlan : SitePlan → Bool → Option (List ℕ) → Option (List ℕ) → Type 0

@@ -1,2 +1,4 @@
+pub mod Asks
 pub mod Checks
 pub mod Ends
+pub mod External

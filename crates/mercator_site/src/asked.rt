@@ -9,8 +9,11 @@ const LOCAL: &str = "http://localhost/";
 /// How what is found is told.
 #[derive(Clone, Copy, Debug, PartialEq, Eq)]
 pub enum CheckForm {
-    /// For people.
-    Text,
+    /// For people, with colour or without.
+    Text {
+        /// Whether ANSI codes colour it.
+        colour: bool,
+    },
     /// A JSON object a line.
     Json,
     /// Lines that GitHub's jobs show beside the file.
@@ -46,6 +49,10 @@ pub struct CheckAsked {
     pub anchors: bool,
     /// Whether files that no link leads to are told.
     pub unreached: bool,
+    /// Whether it is told where links to other hosts lead.
+    pub external: bool,
+    /// Where the crawl begins, as links of the top; at the top itself where there is none.
+    pub seeds: Vec<String>,
     /// The file of what is known to be broken.
     pub known: Option<String>,
 }
@@ -57,17 +64,21 @@ pub enum SitePlan {
     Check(CheckAsked),
 }
 
-/// What the words ask for that `clap` read, where they ask for one of these commands.
+/// What the words ask for that `clap` read, where they ask for one of these commands; a text for people may have colour.
 ///
 /// # Errors
 /// Where a growth was refused.
-pub fn site_plan(alloc: Global, matches: &ArgMatches<'_>) -> Result<Option<SitePlan>, AllocError> {
+pub fn site_plan(
+    alloc: Global,
+    matches: &ArgMatches<'_>,
+    colour: bool,
+) -> Result<Option<SitePlan>, AllocError> {
     match matches.subcommand() {
         Some(("site", found)) => match found.get_str("base") {
             Some(base) => Ok(Some(SitePlan::Site(site_of(alloc, found, base)?))),
             None => Ok(None),
         },
-        Some(("check", found)) => Ok(Some(SitePlan::Check(check_of(alloc, found)?))),
+        Some(("check", found)) => Ok(Some(SitePlan::Check(check_of(alloc, found, colour)?))),
         _ => Ok(None),
     }
 }
@@ -81,16 +92,18 @@ fn site_of(alloc: Global, found: &ArgMatches<'_>, base: &str) -> Result<SiteAske
     })
 }
 
-fn check_of(alloc: Global, found: &ArgMatches<'_>) -> Result<CheckAsked, AllocError> {
+fn check_of(alloc: Global, found: &ArgMatches<'_>, colour: bool) -> Result<CheckAsked, AllocError> {
     let base = found.get_str("base");
     Ok(CheckAsked {
         site: site_of(alloc, found, base.unwrap_or(LOCAL))?,
         paths: base.is_none(),
         workers: workers_of(found),
-        form: form_of(found),
+        form: form_of(found, colour),
         all: found.get_flag("all-sources"),
         anchors: !found.get_flag("no-anchors"),
         unreached: found.get_flag("unreached"),
+        external: found.get_flag("external"),
+        seeds: seeds_of(alloc, found)?,
         known: known_of(alloc, found)?,
     })
 }
@@ -102,6 +115,16 @@ fn known_of(alloc: Global, found: &ArgMatches<'_>) -> Result<Option<String>, All
     }
 }
 
+fn seeds_of(alloc: Global, found: &ArgMatches<'_>) -> Result<Vec<String>, AllocError> {
+    let mut seeds = Vec::new(alloc);
+    if let Some(texts) = found.get_strs("seed") {
+        for text in texts {
+            seeds.push(String::from_str(alloc, text)?)?;
+        }
+    }
+    Ok(seeds)
+}
+
 fn workers_of(found: &ArgMatches<'_>) -> u32 {
     match found.get_one::<u32>("workers") {
         Some(workers) => workers.max(1).min(WORKER_LIMIT),
@@ -109,7 +132,7 @@ fn workers_of(found: &ArgMatches<'_>) -> u32 {
     }
 }
 
-fn form_of(found: &ArgMatches<'_>) -> CheckForm {
+fn form_of(found: &ArgMatches<'_>, colour: bool) -> CheckForm {
     if found.get_flag("json") {
         CheckForm::Json
     } else if found.get_flag("annotations") {
@@ -117,6 +140,6 @@ fn form_of(found: &ArgMatches<'_>) -> CheckForm {
     } else if found.get_flag("html") {
         CheckForm::Page
     } else {
-        CheckForm::Text
+        CheckForm::Text { colour }
     }
 }

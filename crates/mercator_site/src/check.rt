@@ -1,17 +1,24 @@
 //! A check of a site, from its files to the report.
 ghost use Rattle.std.specs.Prelude.{◌≡◌, ◌∷◌, [], IfOk, map, string_bytes, Ok};
+ghost use Rattle.std.specs.Option.{option_map};
 ghost use Rattle.crawl_keys.specs.CanonicalText.{canonical};
-ghost use Rattle.mercator_site.specs.Checks.{IsCheck, IsSiteCheck, IsTopCrawl};
+ghost use Rattle.mercator_site.specs.Asks.{asks_in};
+ghost use Rattle.mercator_site.specs.Checks.{AreOthersAsked, IsCheck, IsSiteCheck, IsTopCrawl};
+ghost use Rattle.mercator_site.specs.External.{row_of};
 
 use crate::asked::CheckForm;
 use crate::bodies::{Files, InMemory};
+use crate::external::external_links;
 use crate::fault::SiteFault;
 use crate::print::print_check;
+use crate::start::starts;
+use check_report::{External, Told};
 use crawl_keys::{CanonUrl, Filter, KeyError, canonical};
 use crawl_limits::PENDING_LIMIT;
+use crawl_web::PageResult;
 use mercator::{CrawlSettings, Crawled, Fault, Mode, crawl_saved_web};
 use saved_site::{Rules, SiteFiles, SiteNames, Web, site_web};
-use site_check::{Asked, Bodies, check_results};
+use site_check::{Asked, Bodies, check_site};
 use std::alloc::Global;
 use std::sync::Wait;
 use std::thread::Threads;
@@ -29,6 +36,10 @@ pub struct CheckSettings<'a> {
     pub ignores: &'a [String],
     /// Whether files that no link leads to are told.
     pub unreached: bool,
+    /// Whether it is told where links to other hosts lead.
+    pub external: bool,
+    /// Where the crawl begins, as links of the site's top; at the top itself where there is none.
+    pub seeds: &'a [String],
     pub form: CheckForm,
     /// Whether all places of a link are told, and not three.
     pub all: bool,
@@ -45,7 +56,7 @@ pub struct CheckReport {
 /// The report of a check of the site whose files have these names and bytes.
 ///
 /// # Errors
-/// `BadBase`, `NoFiles`, `TooLarge`; `Crawl` where the crawl is incomplete; `NoMemory`.
+/// `BadBase`, `NoFiles`, `TooLarge`, `BadSeed`; `Crawl` where the crawl is incomplete; `NoMemory`.
 pub fn report_of_files<R: Threads + Wait + Sync>(
     rt: &R,
     alloc: Global,
@@ -54,7 +65,7 @@ pub fn report_of_files<R: Threads + Wait + Sync>(
     rules: &Rules,
     settings: CheckSettings<'_>,
 ) -> Result<CheckReport, SiteFault>
-    ensures { IfOk result (λ report. IsSiteCheck settings.entry.form settings.entry.all settings.entry.front.now (map string_bytes settings.entry.ignores.now) report.is_broken report.text.items) }
+    ensures { IfOk result (λ report. IsSiteCheck (asks_in settings.entry) report.is_broken report.text.items) }
 {
     let input = SiteNames {
         names: files.names,
@@ -67,10 +78,10 @@ pub fn report_of_files<R: Threads + Wait + Sync>(
     report_of_site(rt, alloc, &web, &pages, &mut bodies, settings)
 }
 
-/// The report of a check of a site by its saved web: of the crawl of that web from the URL of its top, within the top's host.
+/// The report of a check of a site by its saved web: of the crawl of that web from its top or the seeds, within the top's host.
 ///
 /// # Errors
-/// `Crawl` where the crawl is incomplete; `NoMemory`.
+/// `BadSeed`; `Crawl` where the crawl is incomplete; `NoMemory`.
 pub fn report_of_site<R: Threads + Wait + Sync, B: Bodies>(
     rt: &R,
     alloc: Global,
@@ -79,44 +90,50 @@ pub fn report_of_site<R: Threads + Wait + Sync, B: Bodies>(
     bodies: &mut B,
     settings: CheckSettings<'_>,
 ) -> Result<CheckReport, SiteFault>
-    ensures { IfOk result (λ report. IsCheck (string_bytes files.now.site.top) web.now.bytes.items settings.entry.form settings.entry.all settings.entry.front.now (map string_bytes settings.entry.ignores.now) report.is_broken report.text.items) }
+    ensures { IfOk result (λ report. IsCheck (string_bytes files.now.site.top) web.now.bytes.items (asks_in settings.entry) report.is_broken report.text.items) }
 {
     let found = crawl_site(
         rt,
         alloc,
         web.bytes.as_slice(),
         files.top(),
+        settings.seeds,
         settings.workers,
     )?;
+    let others = others_asked(alloc, settings.external, files.top(), found.result.pages())?;
+    let told = Told {
+        unreached: settings.unreached,
+        external: slice_of(&others),
+    };
     let asked = Asked {
         front: settings.front,
         ignores: settings.ignores,
         anchors: web.anchors.as_slice(),
         unreached: settings.unreached,
     };
-    let checked = check_results(alloc, found.result.pages(), files, bodies, asked)?;
+    let checked = check_site(rt, alloc, found.result.pages(), files, bodies, asked)?;
     let findings = checked.findings(settings.name);
-    let text = print_check(alloc, &findings, settings.form, settings.all)?;
+    let text = print_check(alloc, &findings, told, settings.form, settings.all)?;
     Ok(CheckReport {
         text,
         is_broken: checked.is_broken(),
     })
 }
 
-/// What a crawl of a site's web finds from its top, within the top's host.
+/// What a crawl of a site's web finds from the links of its top, within the top's host.
 fn crawl_site<R: Threads + Wait + Sync>(
     rt: &R,
     alloc: Global,
     web: &[u8],
     top: &str,
+    links: &[String],
     workers: u32,
 ) -> Result<Crawled, SiteFault>
-    ensures { IfOk result (λ found. IsTopCrawl top.now web.now found.result) }
+    ensures { IfOk result (λ found. IsTopCrawl top.now web.now (map string_bytes links.now) found.result) }
 {
     let host = host_of(alloc, top)?;
     let filter = host_filter(alloc, host.host_key())?;
-    let mut seeds = Vec::new(alloc);
-    seeds.push(String::from_str(alloc, top)?)?;
+    let seeds = starts(alloc, &host, &filter, links)?;
     let settings = CrawlSettings {
         workers,
         max_pending: PENDING_LIMIT,
@@ -143,5 +160,31 @@ fn host_filter(alloc: Global, host: &str) -> Result<Filter, SiteFault>
     match Filter::new(alloc, &[host]) {
         Ok(filter) => Ok(filter),
         Err(refused) => Err(SiteFault::from(Fault::from(refused))),
+    }
+}
+
+/// Where links of the pages to hosts outside that of the top lead, where that is asked for.
+fn others_asked(
+    alloc: Global,
+    asked: bool,
+    top: &str,
+    pages: &[PageResult],
+) -> Result<Option<Vec<External>>, SiteFault>
+    ensures { IfOk result (λ others. AreOthersAsked asked top.now pages.now (option_map (λ urls. map row_of urls.items) others)) }
+{
+    if !asked {
+        return Ok(None);
+    }
+    let host = host_of(alloc, top)?;
+    let filter = host_filter(alloc, host.host_key())?;
+    Ok(Some(external_links(alloc, &filter, pages)?))
+}
+
+fn slice_of(others: &Option<Vec<External>>) -> Option<&[External]>
+    ensures { option_map (λ urls. map row_of urls.now) result ≡ option_map (λ urls. map row_of urls.items) others.now }
+{
+    match others {
+        Some(urls) => Some(urls.as_slice()),
+        None => None,
     }
 }

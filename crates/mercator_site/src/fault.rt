@@ -15,6 +15,8 @@ pub enum SiteFault {
     BadBase,
     /// The folder has no file.
     NoFiles,
+    /// A seed leads to no http or https URL of the top's host.
+    BadSeed,
     /// The web has more bytes than a crawl takes.
     TooLarge,
     /// The crawl of the site's web ended so.
@@ -84,6 +86,7 @@ impl fmt::Display for SiteFaultText<'_> {
             }
             SiteFault::BadBase => f.write_str("BASE: no http or https URL without a query"),
             SiteFault::NoFiles => write!(f, "{name}: no files"),
+            SiteFault::BadSeed => f.write_str("LINK: no http or https URL of the host of BASE"),
             SiteFault::TooLarge => write!(f, "{name}: more than 1073741824 bytes of links"),
             SiteFault::Crawl(_) => f.write_str("incomplete"),
             SiteFault::CannotWrite => f.write_str("cannot write"),

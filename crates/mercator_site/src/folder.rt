@@ -1,5 +1,6 @@
 //! The commands over a folder, from its files to their texts.
-ghost use Rattle.std.specs.Prelude.{◌≡◌, ℕ, List, IfOk};
+ghost use Rattle.std.specs.Prelude.{◌≡◌, ℕ, List, IfOk, map, string_bytes};
+ghost use Rattle.mercator_site.specs.Asks.{asks_in, asks_of};
 ghost use Rattle.mercator_site.specs.Checks.{IsSiteCheck};
 ghost use Rattle.saved_site.specs.Meaning.{IsSiteWeb};
 
@@ -59,14 +60,14 @@ pub fn web_of_folder<R: Files + Threads + Sync, E: Write>(
 /// The report of a check of a folder. What is not read as it was found is told to `err`.
 ///
 /// # Errors
-/// `CannotReadKnown`, `CannotReadFolder`, `BadBase`, `NoFiles`, `TooLarge`; `Crawl` where the crawl is incomplete; `NoMemory`.
+/// `CannotReadKnown`, `CannotReadFolder`, `BadBase`, `NoFiles`, `TooLarge`, `BadSeed`; `Crawl` where the crawl is incomplete; `NoMemory`.
 pub fn report_of_folder<R: Files + Threads + Wait + Sync, E: Write>(
     rt: &R,
     alloc: Global,
     asked: &CheckAsked,
     err: &mut E,
 ) -> Result<CheckReport, SiteFault>
-    ensures { IfOk result (λ report. (front : List ℕ) × (entries : List (List ℕ)) × IsSiteCheck asked.now.form asked.now.all front entries report.is_broken report.text.items) }
+    ensures { IfOk result (λ report. (front : List ℕ) × (entries : List (List ℕ)) × IsSiteCheck (asks_of asked.now front entries) report.is_broken report.text.items) }
 {
     let known = known_entries(rt, alloc, &asked.known)?;
     let rules = rules_of(alloc, &asked.site, asked.anchors)?;
@@ -88,7 +89,7 @@ fn report_of_names<R: Files + Threads + Wait + Sync, E: Write>(
     known: &[String],
     err: &mut E,
 ) -> Result<CheckReport, SiteFault>
-    ensures { IfOk result (λ report. (front : List ℕ) × (entries : List (List ℕ)) × IsSiteCheck asked.now.form asked.now.all front entries report.is_broken report.text.items) }
+    ensures { IfOk result (λ report. (front : List ℕ) × (entries : List (List ℕ)) × IsSiteCheck (asks_of asked.now front entries) report.is_broken report.text.items) }
 {
     let folder = asked.site.folder.as_str();
     let web = folder_web_of(rt, alloc, folder, input, Vec::new(alloc))?;
@@ -101,8 +102,7 @@ fn report_of_names<R: Files + Threads + Wait + Sync, E: Write>(
 
 /// How the check is made and told: without BASE the folder names the site, and what is behind the top's URL is told.
 fn settings_of<'a>(asked: &'a CheckAsked, top: &'a str, known: &'a [String]) -> CheckSettings<'a>
-    ensures form { result.form ≡ asked.now.form }
-    ensures all { result.all ≡ asked.now.all }
+    ensures { asks_in result ≡ asks_of asked.now result.front.now (map string_bytes known.now) }
 {
     CheckSettings {
         workers: asked.workers,
@@ -114,6 +114,8 @@ fn settings_of<'a>(asked: &'a CheckAsked, top: &'a str, known: &'a [String]) -> 
         front: if asked.paths { top } else { "" },
         ignores: known,
         unreached: asked.unreached,
+        external: asked.external,
+        seeds: asked.seeds.as_slice(),
         form: asked.form,
         all: asked.all,
     }

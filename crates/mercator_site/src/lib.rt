@@ -4,10 +4,12 @@
 mod asked;
 mod bodies;
 mod check;
+mod external;
 mod fault;
 mod folder;
 mod print;
 mod program;
+mod start;
 mod writing;
 
 pub use asked::{CheckAsked, CheckForm, SiteAsked, SitePlan, site_plan};

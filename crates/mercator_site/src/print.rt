@@ -3,25 +3,26 @@ ghost use Rattle.std.specs.Prelude.{◌≡◌, IfOk};
 ghost use Rattle.mercator_site.specs.Checks.{printed_check};
 
 use crate::asked::CheckForm;
-use check_report::{Findings, print_annotations, print_json, print_page, print_text};
+use check_report::{Findings, Told, print_annotations, print_json, print_page, print_text};
 use std::alloc::{AllocError, Global};
 
-/// The text of the findings, with all places of a link or three.
+/// The text of the findings and of what is told beside them, with all places of a link or three.
 ///
 /// # Errors
 /// Where a growth was refused.
 pub(crate) fn print_check(
     alloc: Global,
     findings: &Findings<'_>,
+    told: Told<'_>,
     form: CheckForm,
     all: bool,
 ) -> Result<Vec<u8>, AllocError>
-    ensures { IfOk result (λ text. text.items ≡ printed_check form all findings.now) }
+    ensures { IfOk result (λ text. text.items ≡ printed_check form all told.entry findings.now) }
 {
     match form {
-        CheckForm::Text => print_text(alloc, findings, all, false),
-        CheckForm::Json => print_json(alloc, findings),
-        CheckForm::Annotations => print_annotations(alloc, findings),
-        CheckForm::Page => print_page(alloc, findings),
+        CheckForm::Text { colour } => print_text(alloc, findings, told, all, colour),
+        CheckForm::Json => print_json(alloc, findings, told),
+        CheckForm::Annotations => print_annotations(alloc, findings, told),
+        CheckForm::Page => print_page(alloc, findings, told),
     }
 }

@@ -28,15 +28,16 @@ enum Asked {
 }
 
 /// Runs the program's words where they are those of a command over a folder, and answers its status; nothing where they are not,
-/// and then nothing is written. Statuses are 0 done, 1 a fault, 2 an incomplete crawl, 3 a bad command line, 4 something is broken.
+/// and then nothing is written. `colour` says whether a text for people may have it. Statuses are 0 done, 1 a fault, 2 an incomplete crawl, 3 a bad command line, 4 something is broken.
 pub fn run_site_words<R: Files + Threads + Wait + Sync, O: Write, E: Write>(
     rt: &R,
     alloc: Global,
     words: &[String],
+    colour: bool,
     out: &mut O,
     err: &mut E,
 ) -> Option<u8> {
-    match asked_of(alloc, words) {
+    match asked_of(alloc, words, colour) {
         Ok(Asked::Plan(plan)) => Some(run_site_plan(rt, alloc, &plan, out, err)),
         Ok(Asked::Shown(text, status)) => Some(show(text.as_bytes(), status, out, err)),
         Ok(Asked::Other) => None,
@@ -60,7 +61,7 @@ fn show<O: Write, E: Write>(text: &[u8], status: u8, out: &mut O, err: &mut E) -
 }
 
 /// What the words ask for.
-fn asked_of(alloc: Global, words: &[String]) -> Result<Asked, AllocError> {
+fn asked_of(alloc: Global, words: &[String], colour: bool) -> Result<Asked, AllocError> {
     let is_ours = match words.first() {
         Some(word) => word.as_str() == "site" || word.as_str() == "check",
         None => false,
@@ -74,7 +75,7 @@ fn asked_of(alloc: Global, words: &[String]) -> Result<Asked, AllocError> {
         named.push(word.as_str())?;
     }
     match whole_command(alloc)?.try_get_matches_from(named.as_slice()) {
-        Ok(matches) => match site_plan(alloc, &matches)? {
+        Ok(matches) => match site_plan(alloc, &matches, colour)? {
             Some(plan) => Ok(Asked::Plan(plan)),
             None => Ok(Asked::Other),
         },

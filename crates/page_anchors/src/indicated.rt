@@ -44,7 +44,7 @@ fn before_directive(text: &[u8]) -> &[u8]
 fn begins_directive(text: &[u8]) -> bool
     ensures { result ≡ begins_directive text.now }
 {
-    text.starts_with(b":~:")
+    matches!(text, [b':', b'~', b':', ..])
 }
 
 /// Whether an id is the text as a URL has it, or what its escapes stand for, or that is `top`.

@@ -1,18 +1,18 @@
 //! The parts of documents, and links to parts.
-use crate::base_href::{base_of, resolved};
 use crate::cleaning::{has_breaks, push_without_breaks, trimmed};
+use crate::targets::Targets;
 use crate::texts::Texts;
-use crawl_keys::{Base, CanonUrl};
+use crawl_keys::CanonUrl;
 use memchr::memchr;
 use std::alloc::{AllocError, Global};
 
-/// A link to a part of a page.
+/// Links of a document to parts of a page.
 #[derive(Drop)]
-pub struct AnchorLink {
+pub struct AnchorLinks {
     /// The page.
     pub url: CanonUrl,
-    /// What is behind the first `#`.
-    pub fragment: Vec<u8>,
+    /// What is behind the first `#` of each.
+    pub fragments: Vec<Vec<u8>>,
 }
 
 /// The parts that a document has, and its links to parts of pages.
@@ -20,8 +20,8 @@ pub struct AnchorLink {
 pub struct Anchors {
     /// Each `id`, and each `name` of an `a`, in ascending order of their bytes.
     pub ids: Vec<Vec<u8>>,
-    /// Links with a `#` that have a canonical URL, in order.
-    pub links: Vec<AnchorLink>,
+    /// Links with a `#` that have a canonical URL; those with the same text before it stand together, in order.
+    pub links: Vec<AnchorLinks>,
 }
 
 /// The anchors of a document at a URL, by its ids and the texts of its links; `texts` says what these mean.
@@ -32,35 +32,52 @@ pub(crate) fn anchors_of(
     alloc: Global,
     ids: Vec<Vec<u8>>,
     found: &[Vec<u8>],
-    texts: &mut Texts,
+    texts: Texts,
     url: &CanonUrl,
 ) -> Result<Anchors, AllocError> {
     let mut ids = ids;
     ids.sort()?;
-    let base = base_of(alloc, url)?;
+    let mut targets = Targets::new(alloc, texts, url)?;
+    let parts = parts_by_target(alloc, found, &mut targets)?;
     let mut links = Vec::new(alloc);
-    for link in found {
-        if let Some(fragment) = fragment_of(alloc, link.as_slice())?
-            && let Some(url) = url_of(alloc, texts, &base, link.as_slice())?
-        {
-            links.push(AnchorLink { url, fragment })?;
+    for (url, fragments) in targets.into_urls().into_iter().zip(parts) {
+        if let Some(url) = url {
+            links.push(AnchorLinks { url, fragments })?;
         }
     }
     Ok(Anchors { ids, links })
 }
 
-/// What a link leads to, by the line that is written of it.
-pub(crate) fn url_of(
+/// What is behind the `#` of links that have one, by the numbers of their targets.
+fn parts_by_target<'t>(
     alloc: Global,
-    texts: &mut Texts,
-    base: &Base,
-    link: &[u8],
-) -> Result<Option<CanonUrl>, AllocError> {
-    let lines = texts.line_of(link)?;
-    match lines.as_bytes().strip_prefix(b"link ") {
-        Some([text @ .., b'\n']) => resolved(alloc, base, text),
-        _ => Ok(None),
+    found: &'t [Vec<u8>],
+    targets: &mut Targets<'t>,
+) -> Result<Vec<Vec<Vec<u8>>>, AllocError> {
+    let mut parts = Vec::new(alloc);
+    for link in found {
+        if let Some(fragment) = fragment_of(alloc, link.as_slice())? {
+            let number = targets.number_of(link.as_slice())?;
+            push_at(alloc, &mut parts, number, fragment)?;
+        }
     }
+    Ok(parts)
+}
+
+/// Appends to the list with this number, which is the next one where it is not there.
+pub(crate) fn push_at<T: Drop>(
+    alloc: Global,
+    lists: &mut Vec<Vec<T>>,
+    number: usize,
+    item: T,
+) -> Result<(), AllocError> {
+    if number >= lists.len() {
+        lists.push(Vec::new(alloc))?;
+    }
+    if let Some(list) = lists.get_mut(number) {
+        list.push(item)?;
+    }
+    Ok(())
 }
 
 /// What is behind the first `#` of a link.

@@ -3,7 +3,7 @@ ghost use Rattle.std.specs.Prelude.{◌≡◌, string_bytes};
 
 use crate::error::SiteError;
 use crate::kinds::{is_document, kind_of};
-use crate::located::{LinkAt, located_links};
+use crate::located::{LinksTo, located_links};
 use crate::site::{Rules, Site, Source, split_name};
 use crate::spellings::plain_of;
 use crate::web::SiteNames;
@@ -91,7 +91,8 @@ impl<'a> SiteFiles<'a> {
         }
     }
 
-    /// The links of the page at a URL, whose file with this index has these bytes.
+    /// The links of the page at a URL, whose file with this index has these bytes. Those with the same text before a `#` stand
+    /// together.
     ///
     /// # Errors
     /// Where a growth was refused.
@@ -101,12 +102,17 @@ impl<'a> SiteFiles<'a> {
         index: usize,
         body: &[u8],
         url: &CanonUrl,
-    ) -> Result<Vec<LinkAt>, AllocError> {
+    ) -> Result<Vec<LinksTo>, AllocError> {
         if self.is_document(index, body) {
             located_links(alloc, body, url)
         } else {
             Ok(Vec::new(alloc))
         }
+    }
+
+    /// By how many threads its pages are made.
+    pub fn threads(&self) -> usize {
+        self.rules.threads
     }
 
     fn is_document(&self, index: usize, body: &[u8]) -> bool {

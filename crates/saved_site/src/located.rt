@@ -1,29 +1,34 @@
 //! The links of a document as the reader of the web takes them, and where they stand.
 ghost use Rattle.std.specs.Prelude.{◌≡◌, map};
 
-use crate::anchors::{fragment_of, url_of};
-use crate::base_href::base_of;
+use crate::anchors::{fragment_of, push_at};
 use crate::charset::{Charset, charset_of};
 use crate::document::{made_text, without_mark};
+use crate::targets::Targets;
 use crate::texts::Texts;
 use crawl_keys::CanonUrl;
 use html_links::{Links, PlacedLinks, read_places};
 use std::alloc::{AllocError, Global};
 
+/// Links of a document to a URL.
+#[derive(Drop)]
+pub struct LinksTo {
+    /// What they lead to.
+    pub url: CanonUrl,
+    /// The links, in order.
+    pub links: Vec<LinkAt>,
+}
+
 /// A link of a document.
 #[derive(Drop)]
 pub struct LinkAt {
-    /// What it leads to.
-    pub url: CanonUrl,
     /// What is behind its first `#`, if it has one.
     pub fragment: Option<Vec<u8>>,
-    /// Where the attribute's value begins: the line from 1, which a line feed ends.
-    pub line: u64,
-    /// The character in that line, from 1.
-    pub column: u64,
+    /// The index in the document's text at which the attribute's value begins.
+    pub index: usize,
 }
 
-/// The links of a document at a URL that have a canonical URL, in order.
+/// The links of a document at a URL that have a canonical URL. Those with the same text before a `#` stand together.
 ///
 /// # Errors
 /// Where a growth was refused.
@@ -31,7 +36,7 @@ pub(crate) fn located_links(
     alloc: Global,
     body: &[u8],
     url: &CanonUrl,
-) -> Result<Vec<LinkAt>, AllocError> {
+) -> Result<Vec<LinksTo>, AllocError> {
     let charset = charset_of(body);
     match made_text(alloc, body, charset)? {
         Some(text) => links_in(alloc, text.as_slice(), charset, url),
@@ -44,7 +49,7 @@ fn links_in(
     text: &[u8],
     charset: Charset,
     url: &CanonUrl,
-) -> Result<Vec<LinkAt>, AllocError> {
+) -> Result<Vec<LinksTo>, AllocError> {
     let mut found = Found {
         alloc,
         index: 0,
@@ -52,20 +57,30 @@ fn links_in(
         indices: Vec::new(alloc),
     };
     let given = read_places(alloc, text, &mut found)?;
-    let mut texts = Texts::under(alloc, charset, given, url)?;
-    let base = base_of(alloc, url)?;
-    let ends = line_ends(alloc, text)?;
-    let mut links = Vec::new(alloc);
-    for (link, index) in found.texts.iter().zip(found.indices.iter()) {
-        if let Some(url) = url_of(alloc, &mut texts, &base, link.as_slice())? {
-            let (line, column) = place_of(text, ends.as_slice(), *index);
-            links.push(LinkAt {
-                url,
-                fragment: fragment_of(alloc, link.as_slice())?,
-                line,
-                column,
-            })?;
+    let texts = Texts::under(alloc, charset, given, url)?;
+    let mut targets = Targets::new(alloc, texts, url)?;
+    let links = links_by_target(alloc, &found, &mut targets)?;
+    let mut all = Vec::new(alloc);
+    for (url, links) in targets.into_urls().into_iter().zip(links) {
+        if let Some(url) = url {
+            all.push(LinksTo { url, links })?;
         }
+    }
+    Ok(all)
+}
+
+/// The links by the numbers of their targets.
+fn links_by_target<'t>(
+    alloc: Global,
+    found: &'t Found,
+    targets: &mut Targets<'t>,
+) -> Result<Vec<Vec<LinkAt>>, AllocError> {
+    let mut links = Vec::new(alloc);
+    for (text, index) in found.texts.iter().zip(found.indices.iter()) {
+        let number = targets.number_of(text.as_slice())?;
+        let fragment = fragment_of(alloc, text.as_slice())?;
+        let index = *index;
+        push_at(alloc, &mut links, number, LinkAt { fragment, index })?;
     }
     Ok(links)
 }
@@ -93,32 +108,4 @@ impl PlacedLinks for Found {
     fn begin_at(&mut self, index: usize) {
         self.index = index;
     }
-}
-
-/// The indices of the line feeds.
-fn line_ends(alloc: Global, text: &[u8]) -> Result<Vec<usize>, AllocError> {
-    let mut ends = Vec::new(alloc);
-    for (index, byte) in text.iter().enumerate() {
-        if *byte == b'\n' {
-            ends.push(index)?;
-        }
-    }
-    Ok(ends)
-}
-
-/// The line and the character of an index, each from 1.
-fn place_of(text: &[u8], ends: &[usize], index: usize) -> (u64, u64) {
-    let before = ends.partition_point(|end| *end < index);
-    let begin = match ends.get(..before).unwrap_or(&[]).last() {
-        Some(end) => end.saturating_add(1),
-        None => 0,
-    };
-    let front = text.get(begin..index).unwrap_or(&[]);
-    let line = (before as u64).saturating_add(1);
-    (line, (characters(front) as u64).saturating_add(1))
-}
-
-/// How many characters of UTF-8 begin in the bytes.
-fn characters(bytes: &[u8]) -> usize {
-    bytes.iter().filter(|byte| **byte & 0xc0 != 0x80).count()
 }

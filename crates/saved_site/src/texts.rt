@@ -80,7 +80,7 @@ pub(crate) fn links_at(
     let counts = texts.counts;
     let Found { texts: ids, .. } = ids;
     let anchors = if wants_anchors {
-        Some(anchors_of(alloc, ids, found.texts.as_slice(), &mut texts, url)?)
+        Some(anchors_of(alloc, ids, found.texts.as_slice(), texts, url)?)
     } else {
         None
     };

@@ -84,42 +84,69 @@ fn is_found(page: &Page) -> bool {
     matches!(page, Page::Found { .. })
 }
 
-/// The parts that documents lack, with how many results link to each; and of each result whether it links to one.
-pub(crate) fn lacking(
-    alloc: Global,
-    pages: Pages<'_>,
-) -> Result<(LackedParts, Vec<bool>), NoMemory> {
-    let mut lacking = BTreeMap::new(alloc);
-    let mut leading = Vec::new(alloc);
-    for (source, result) in pages.results.iter().enumerate() {
-        let leads = match pages.anchors_of(result) {
-            Some(anchors) => add_all(alloc, pages, source, anchors, &mut lacking)?,
-            None => false,
-        };
-        leading.push(leads)?;
-    }
-    Ok((lacking, leading))
+/// A part that a document lacks, and the number of a result that links to it.
+#[derive(Drop)]
+pub(crate) struct Lacked {
+    part: Part,
+    source: usize,
 }
 
-/// Adds the parts that a result links to and documents lack, and answers whether there is one.
-fn add_all(
+/// The parts that documents lack and that a result links to whose number leaves this rest by `of`, result by result.
+pub(crate) fn every_lacked(
+    alloc: Global,
+    pages: Pages<'_>,
+    rest: usize,
+    of: usize,
+) -> Result<Vec<Lacked>, NoMemory> {
+    let mut all = Vec::new(alloc);
+    for (source, result) in pages.results.iter().enumerate() {
+        if source.checked_rem(of) == Some(rest)
+            && let Some(anchors) = pages.anchors_of(result)
+        {
+            push_lacked(alloc, pages, source, anchors, &mut all)?;
+        }
+    }
+    Ok(all)
+}
+
+/// Appends the parts that a result links to and documents lack.
+fn push_lacked(
     alloc: Global,
     pages: Pages<'_>,
     source: usize,
     anchors: &Anchors,
-    lacking: &mut LackedParts,
-) -> Result<bool, NoMemory> {
-    let mut leads = false;
-    for link in &anchors.links {
-        if let Some(page) = pages.find(link.url.as_str())
-            && !pages.has_part(alloc, page, link.fragment.as_slice())?
-        {
-            let fragment = link.fragment.clone()?;
-            count_part(lacking, Part { page, fragment }, source)?;
-            leads = true;
+    all: &mut Vec<Lacked>,
+) -> Result<(), NoMemory> {
+    for links in &anchors.links {
+        if let Some(page) = pages.find(links.url.as_str()) {
+            for fragment in &links.fragments {
+                if !pages.has_part(alloc, page, fragment.as_slice())? {
+                    let fragment = fragment.clone()?;
+                    let part = Part { page, fragment };
+                    all.push(Lacked { part, source })?;
+                }
+            }
         }
     }
-    Ok(leads)
+    Ok(())
+}
+
+/// The parts that documents lack, with how many results link to each; and of each of so many results whether it links to one.
+pub(crate) fn lacking(
+    alloc: Global,
+    all: Vec<Lacked>,
+    results: usize,
+) -> Result<(LackedParts, Vec<bool>), NoMemory> {
+    let mut lacking = BTreeMap::new(alloc);
+    let mut leading = vec![in alloc; false; results]?;
+    for lacked in all {
+        let Lacked { part, source } = lacked;
+        count_part(&mut lacking, part, source)?;
+        if let Some(leads) = leading.get_mut(source) {
+            *leads = true;
+        }
+    }
+    Ok((lacking, leading))
 }
 
 /// Counts a result for a part, once.

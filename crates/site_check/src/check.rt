@@ -1,22 +1,26 @@
 //! A check of the results of a crawl of a folder's saved web.
 ghost use Rattle.std.specs.Prelude.{◌≡◌, ◌==◌, [], IfOk, map, not, string_bytes, length};
 ghost use Rattle.std.specs.List.{flat_map};
-ghost use Rattle.site_check.specs.Broken.{broken_of, linked_at, redirects_of, rows_with};
+ghost use Rattle.site_check.specs.Broken.{broken_of, linked_at, redirects_of, rows_with, ways_with};
 ghost use Rattle.site_check.specs.Told.{rows_in, way_of};
 
-use crate::anchors::{Pages, anchor_rows, lacking, part_texts};
+use crate::anchors::{Lacked, LackedParts, Pages, anchor_rows, every_lacked, lacking, part_texts};
 use crate::ignored::unused;
 use crate::linked::{Linked, linked_results};
-use crate::located::{Wanted, locate_all, none_located, targets};
+use crate::located::{
+    PlaceOf, TargetNumbers, Wanted, add_places, locate_all, none_located, targets, with_wanted,
+};
 use crate::names::name_all;
 use crate::rows::{broken_rows, redirect_rows};
 use crate::shown::shown;
+use crate::threads::{lacked_by, locate_by};
 use crate::unreached::unreached;
 use crate::worst::{place_count, worst};
 use check_report::{Broken, FileCount, Findings, Kind, Redirect, Totals};
 use crawl_web::{NoMemory, Page, PageResult};
 use saved_site::{PageAnchors, SiteFiles};
 use std::alloc::Global;
+use std::thread::Threads;
 
 /// Gives the bytes of a site's files.
 pub trait Bodies {
@@ -93,16 +97,132 @@ pub fn check_results<'f, B: Bodies>(
     // Those of redirects are the moved results that are linked to.
     ensures redirects { IfOk result (λ checked. map way_of checked.redirects.items ≡ redirects_of asked.entry.front.now results.now) }
 {
-    let pages = Pages {
-        results,
-        anchors: asked.anchors,
-    };
+    let site = site_of(results, files, asked);
     let linked = linked_results(alloc, results)?;
-    let (broken, texts) = broken_all(alloc, pages, files, bodies, asked, linked.as_slice())?;
-    let redirects = redirect_rows(alloc, asked.front, linked.as_slice())?;
-    let unused_ignores = unused_entries(alloc, asked, linked.as_slice(), texts.as_slice())?;
+    let all = linked.as_slice();
+    let lacked = every_lacked(alloc, site.pages, 0, 1)?;
+    let sought = sought_of(alloc, asked, site, all, lacked)?;
+    let places = locate_all(
+        alloc,
+        wanted(site, &sought, all.len()),
+        sought.pages.as_slice(),
+        bodies,
+    )?;
+    let checked = told(alloc, asked, site, all, &sought, places)?;
+    Ok(checked)
+}
+
+/// What `check_results` answers. As many threads as make the pages of the site look for parts, and read pages again.
+///
+/// # Errors
+/// Where a growth was refused.
+pub fn check_site<'f, R: Threads + Sync, B: Bodies>(
+    rt: &R,
+    alloc: Global,
+    results: &[PageResult],
+    files: &'f SiteFiles<'f>,
+    bodies: &mut B,
+    asked: Asked<'_>,
+) -> Result<Checked, NoMemory>
+    ensures broken { IfOk result (λ checked. rows_in checked.broken.items ≡ broken_of asked.entry.front.now (map string_bytes asked.entry.ignores.now) results.now) }
+    ensures redirects { IfOk result (λ checked. map way_of checked.redirects.items ≡ redirects_of asked.entry.front.now results.now) }
+{
+    let site = site_of(results, files, asked);
+    let linked = linked_results(alloc, results)?;
+    let all = linked.as_slice();
+    let lacked = lacked_by(rt, alloc, site.pages, files.threads().max(1))?;
+    let sought = sought_of(alloc, asked, site, all, lacked)?;
+    let places = locate_by(
+        rt,
+        alloc,
+        wanted(site, &sought, all.len()),
+        sought.pages.as_slice(),
+        bodies,
+    )?;
+    let checked = told(alloc, asked, site, all, &sought, places)?;
+    Ok(checked)
+}
+
+/// The results of a crawl of a site, and its files.
+#[derive(Clone, Copy)]
+struct Site<'p, 'f> {
+    pages: Pages<'p>,
+    files: &'f SiteFiles<'f>,
+}
+
+fn site_of<'p, 'f>(
+    results: &'p [PageResult],
+    files: &'f SiteFiles<'f>,
+    asked: Asked<'p>,
+) -> Site<'p, 'f> {
+    Site {
+        pages: Pages {
+            results,
+            anchors: asked.anchors,
+        },
+        files,
+    }
+}
+
+/// What is looked for in pages that are read again.
+#[derive(Drop)]
+struct Sought<'p> {
+    targets: TargetNumbers<'p>,
+    lacking: LackedParts,
+    /// The results that have such a link.
+    pages: Vec<&'p PageResult>,
+}
+
+fn sought_of<'p>(
+    alloc: Global,
+    asked: Asked<'_>,
+    site: Site<'p, '_>,
+    linked: &[Linked<'p>],
+    lacked: Vec<Lacked>,
+) -> Result<Sought<'p>, NoMemory> {
+    let (lacking, leading) = lacking(alloc, lacked, site.pages.results.len())?;
+    let targets = targets(alloc, asked.front, asked.ignores, linked)?;
+    let pages = with_wanted(alloc, site.pages.results, &targets, leading.as_slice())?;
+    Ok(Sought {
+        targets,
+        lacking,
+        pages,
+    })
+}
+
+/// What is looked for, where the numbers of parts come behind so many others.
+fn wanted<'p, 'f, 's>(
+    site: Site<'p, 'f>,
+    sought: &'s Sought<'p>,
+    before: usize,
+) -> Wanted<'p, 'f, 'p, 's> {
+    Wanted {
+        pages: site.pages,
+        files: site.files,
+        targets: &sought.targets,
+        lacking: &sought.lacking,
+        before,
+    }
+}
+
+/// What a check tells where the links that were sought stand at these places.
+fn told(
+    alloc: Global,
+    asked: Asked<'_>,
+    site: Site<'_, '_>,
+    linked: &[Linked<'_>],
+    sought: &Sought<'_>,
+    places: Vec<PlaceOf>,
+) -> Result<Checked, NoMemory>
+    ensures broken { IfOk result (λ checked. rows_in checked.broken.items ≡ flat_map (rows_with asked.entry.front.now (map string_bytes asked.entry.ignores.now)) (map linked_at linked.now)) }
+    ensures redirects { IfOk result (λ checked. map way_of checked.redirects.items ≡ flat_map (ways_with asked.entry.front.now) (map linked_at linked.now)) }
+{
+    let results = site.pages.results;
+    let (broken, texts) = broken_all(alloc, asked, site, linked, &sought.lacking, places)?;
+    let redirects = redirect_rows(alloc, asked.front, linked)?;
+    let unused_ignores = unused_entries(alloc, asked, linked, texts.as_slice())?;
     let unreached = if asked.unreached {
-        unreached(alloc, asked.front, results, files)?
+        unreached(alloc, asked.front, results, site.files)?
     } else {
         Vec::new(alloc)
     };
@@ -120,31 +240,22 @@ pub fn check_results<'f, B: Bodies>(
 
 /// The rows of the pages that are not there and of the parts that pages lack, with where links to them stand; and the texts of
 /// all such parts.
-fn broken_all<'f, B: Bodies>(
+fn broken_all(
     alloc: Global,
-    pages: Pages<'_>,
-    files: &'f SiteFiles<'f>,
-    bodies: &mut B,
     asked: Asked<'_>,
+    site: Site<'_, '_>,
     linked: &[Linked<'_>],
+    lacking: &LackedParts,
+    places: Vec<PlaceOf>,
 ) -> Result<(Vec<Broken>, Vec<String>), NoMemory>
     ensures { IfOk result (λ r. rows_in r.0.items ≡ flat_map (rows_with asked.entry.front.now (map string_bytes asked.entry.ignores.now)) (map linked_at linked.now)) }
 {
-    let (lacking, leading) = lacking(alloc, pages)?;
-    let targets = targets(alloc, asked.front, asked.ignores, linked)?;
-    let wanted = Wanted {
-        pages,
-        files,
-        targets: &targets,
-        lacking: &lacking,
-        before: linked.len(),
-    };
     let mut found = none_located(alloc, linked.len(), lacking.len())?;
-    locate_all(alloc, wanted, leading.as_slice(), bodies, &mut found)?;
-    name_all(alloc, asked.front, linked, files, found.as_mut_slice())?;
-    let texts = part_texts(alloc, asked.front, pages, &lacking)?;
+    add_places(places, found.as_mut_slice())?;
+    name_all(alloc, asked.front, linked, site.files, found.as_mut_slice())?;
+    let texts = part_texts(alloc, asked.front, site.pages, lacking)?;
     let rows = broken_rows(alloc, asked, linked, found.as_mut_slice())?;
-    let parts = anchor_rows(alloc, asked.ignores, texts.as_slice(), &lacking, &mut found)?;
+    let parts = anchor_rows(alloc, asked.ignores, texts.as_slice(), lacking, &mut found)?;
     Ok((with_parts(rows, parts)?, texts))
 }
 

@@ -10,8 +10,9 @@ mod names;
 mod rows;
 mod shown;
 mod tally;
+mod threads;
 mod unreached;
 mod worst;
 
-pub use check::{Asked, Bodies, Checked, check_results};
+pub use check::{Asked, Bodies, Checked, check_results, check_site};
 pub use ignored::read_ignores;

@@ -6,10 +6,13 @@ use crate::linked::Linked;
 use crate::shown::shown;
 use check_report::Place;
 use crawl_web::{NoMemory, Page, PageResult};
-use saved_site::{LinkAt, SiteFiles};
+use saved_site::{LinkAt, LinksTo, SiteFiles, text_places};
 use std::alloc::Global;
 use std::collections::BTreeMap;
 use std::mem;
+
+/// About how many bytes of pages are read before they are looked at.
+const READ_LENGTH: usize = 1 << 25;
 
 /// What is found of a page that is not there.
 #[derive(Drop)]
@@ -93,25 +96,54 @@ pub(crate) struct Wanted<'p, 'f, 'n, 't> {
     pub(crate) before: usize,
 }
 
-/// Adds the places of the links of all results that are wanted, where `lead_to_parts` says which have links to parts that pages
-/// lack.
+/// A page that was read again.
+#[derive(Drop)]
+pub(crate) struct ReadPage<'p, 'f> {
+    one: &'p PageResult,
+    /// The index of its file among the names, and its name.
+    file: usize,
+    name: &'f str,
+    body: Vec<u8>,
+}
+
+/// Where a link stands, and the number of what it leads to.
+#[derive(Drop)]
+pub(crate) struct PlaceOf {
+    number: usize,
+    place: Place,
+}
+
+/// Where the links of these results stand that are wanted.
 pub(crate) fn locate_all<B: Bodies>(
     alloc: Global,
     wanted: Wanted<'_, '_, '_, '_>,
-    lead_to_parts: &[bool],
+    pages: &[&PageResult],
     bodies: &mut B,
-    found: &mut [Located],
-) -> Result<(), NoMemory> {
-    for (number, one) in wanted.pages.results.iter().enumerate() {
-        let to_part = lead_to_parts.get(number).copied().unwrap_or(false);
-        if to_part || leads_to(wanted.targets, &one.page) {
-            locate(alloc, wanted, one, bodies, found)?;
+) -> Result<Vec<PlaceOf>, NoMemory> {
+    let mut all = Vec::new(alloc);
+    for one in pages {
+        if let Some(page) = read_page(alloc, wanted.files, *one, bodies)? {
+            push_places(alloc, wanted, &page, &mut all)?;
         }
     }
-    for located in found.iter_mut() {
-        in_order(&mut located.places)?;
+    Ok(all)
+}
+
+/// The results that have a link that is wanted, where `lead_to_parts` says which have one to a part that a page lacks.
+pub(crate) fn with_wanted<'p>(
+    alloc: Global,
+    results: &'p [PageResult],
+    targets: &TargetNumbers<'_>,
+    lead_to_parts: &[bool],
+) -> Result<Vec<&'p PageResult>, NoMemory> {
+    let mut pages = Vec::new(alloc);
+    for (number, one) in results.iter().enumerate() {
+        let to_part = lead_to_parts.get(number).copied().unwrap_or(false);
+        if to_part || leads_to(targets, &one.page) {
+            pages.push(one)?;
+        }
     }
-    Ok(())
+    Ok(pages)
 }
 
 /// Whether a link of a page leads to a target.
@@ -128,50 +160,147 @@ fn leads_to(targets: &TargetNumbers<'_>, page: &Page) -> bool {
     }
 }
 
-fn locate<B: Bodies>(
+/// Reads the first of these pages, and answers how many.
+pub(crate) fn read_some<'p, 'f, B: Bodies>(
     alloc: Global,
-    wanted: Wanted<'_, '_, '_, '_>,
-    one: &PageResult,
+    files: &'f SiteFiles<'f>,
+    pages: &[&'p PageResult],
     bodies: &mut B,
-    found: &mut [Located],
-) -> Result<(), NoMemory> {
-    let Some(index) = wanted.files.file_of(alloc, one.url.as_str())? else {
-        return Ok(());
+) -> Result<(Vec<ReadPage<'p, 'f>>, usize), NoMemory> {
+    let mut read = Vec::new(alloc);
+    let mut length: usize = 0;
+    for (number, one) in pages.iter().enumerate() {
+        if length > READ_LENGTH {
+            return Ok((read, number));
+        }
+        if let Some(page) = read_page(alloc, files, *one, bodies)? {
+            length = length.saturating_add(page.body.len());
+            read.push(page)?;
+        }
+    }
+    Ok((read, pages.len()))
+}
+
+fn read_page<'p, 'f, B: Bodies>(
+    alloc: Global,
+    files: &'f SiteFiles<'f>,
+    one: &'p PageResult,
+    bodies: &mut B,
+) -> Result<Option<ReadPage<'p, 'f>>, NoMemory> {
+    let Some(file) = files.file_of(alloc, one.url.as_str())? else {
+        return Ok(None);
     };
-    let Some(name) = wanted.files.name(index) else {
-        return Ok(());
+    let Some(name) = files.name(file) else {
+        return Ok(None);
     };
     let Some(body) = bodies.body(name)? else {
-        return Ok(());
+        return Ok(None);
     };
-    for link in wanted.files.links(alloc, index, body.as_slice(), &one.url)? {
-        let (line, column) = (link.line, link.column);
-        if let Some(number) = number_of(wanted, link)
-            && let Some(located) = found.get_mut(number)
-        {
-            located.places.push(Place {
-                file: String::from_str(alloc, name)?,
-                line,
-                column,
-            })?;
+    Ok(Some(ReadPage {
+        one,
+        file,
+        name,
+        body,
+    }))
+}
+
+/// Where the links stand that are wanted, in each page whose number leaves this rest by `of`.
+pub(crate) fn every_place(
+    alloc: Global,
+    wanted: Wanted<'_, '_, '_, '_>,
+    read: &[ReadPage<'_, '_>],
+    rest: usize,
+    of: usize,
+) -> Result<Vec<PlaceOf>, NoMemory> {
+    let mut all = Vec::new(alloc);
+    for (number, page) in read.iter().enumerate() {
+        if number.checked_rem(of) == Some(rest) {
+            push_places(alloc, wanted, page, &mut all)?;
+        }
+    }
+    Ok(all)
+}
+
+fn push_places(
+    alloc: Global,
+    wanted: Wanted<'_, '_, '_, '_>,
+    page: &ReadPage<'_, '_>,
+    all: &mut Vec<PlaceOf>,
+) -> Result<(), NoMemory> {
+    let body = page.body.as_slice();
+    let mut numbers = Vec::new(alloc);
+    let mut indices = Vec::new(alloc);
+    for links in wanted.files.links(alloc, page.file, body, &page.one.url)? {
+        push_wanted(wanted, links, &mut numbers, &mut indices)?;
+    }
+    let places = text_places(alloc, body, indices.as_slice())?;
+    for (number, place) in numbers.iter().zip(places.iter()) {
+        let place = Place {
+            file: String::from_str(alloc, page.name)?,
+            line: place.line,
+            column: place.column,
+        };
+        let number = *number;
+        all.push(PlaceOf { number, place })?;
+    }
+    Ok(())
+}
+
+/// Appends the numbers of what these links lead to where that is wanted, and the indices of those links.
+fn push_wanted(
+    wanted: Wanted<'_, '_, '_, '_>,
+    links: LinksTo,
+    numbers: &mut Vec<usize>,
+    indices: &mut Vec<usize>,
+) -> Result<(), NoMemory> {
+    let LinksTo { url, links } = links;
+    let target = wanted.targets.get(url.as_str()).copied();
+    let page = wanted.page_with_parts(url.as_str());
+    for link in links {
+        let LinkAt { fragment, index } = link;
+        if let Some(number) = target.or(number_of(wanted, page, fragment)) {
+            numbers.push(number)?;
+            indices.push(index)?;
         }
     }
     Ok(())
 }
 
-/// The number of what a link leads to, where it is wanted.
-fn number_of(wanted: Wanted<'_, '_, '_, '_>, link: LinkAt) -> Option<usize> {
-    let LinkAt { url, fragment, .. } = link;
-    if let Some(number) = wanted.targets.get(url.as_str()) {
-        return Some(*number);
+impl Wanted<'_, '_, '_, '_> {
+    /// The number of the document at a URL, where any document lacks a part.
+    fn page_with_parts(&self, url: &str) -> Option<usize> {
+        if self.lacking.is_empty() {
+            None
+        } else {
+            self.pages.find(url)
+        }
     }
+}
+
+/// The number of a part of a document, where the document lacks it.
+fn number_of(
+    wanted: Wanted<'_, '_, '_, '_>,
+    page: Option<usize>,
+    fragment: Option<Vec<u8>>,
+) -> Option<usize> {
+    let page = page?;
     let fragment = fragment?;
-    if wanted.lacking.is_empty() {
-        return None;
-    }
-    let page = wanted.pages.find(url.as_str())?;
     let count = wanted.lacking.get(&Part { page, fragment })?;
     Some(wanted.before.saturating_add(count.number))
+}
+
+/// Adds these places to what is found, in order.
+pub(crate) fn add_places(places: Vec<PlaceOf>, found: &mut [Located]) -> Result<(), NoMemory> {
+    for one in places {
+        let PlaceOf { number, place } = one;
+        if let Some(located) = found.get_mut(number) {
+            located.places.push(place)?;
+        }
+    }
+    for located in found.iter_mut() {
+        in_order(&mut located.places)?;
+    }
+    Ok(())
 }
 
 /// The places by file, line and column, each once.

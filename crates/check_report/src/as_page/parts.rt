@@ -9,7 +9,7 @@ pub static HEAD: &str = r#"<!doctype html>
 <meta name=color-scheme content="light dark">
 <meta name=format-detection content="telephone=no">
 <meta name=referrer content=no-referrer>
-<meta http-equiv=Content-Security-Policy content="default-src 'none'; style-src 'unsafe-inline'; script-src 'sha256-5Kt2OB0iGRIIezCrkFtdEPhqKUoheJQUTUqgr64LpBU='; base-uri 'none'; form-action 'none'">
+<meta http-equiv=Content-Security-Policy content="default-src 'none'; style-src 'unsafe-inline'; script-src 'sha256-bZT25PNxnOZHlKNwcdoFYwITII5Y5JfpDex5TdaFlK8='; base-uri 'none'; form-action 'none'">
 <title>"#;
 
 /// From the title to the script.
@@ -52,6 +52,7 @@ thead th { font: .8125rem/1.4 system-ui, sans-serif; color: var(--mute); border:
 tbody th { font-weight: 600; }
 td ul { list-style: none; margin: 0; padding: 0; }
 li, .aside { unicode-bidi: isolate; }
+.bar { height: .35rem; min-width: 1px; margin-top: .2rem; background: var(--edge); border-radius: 2px; }
 .aside { color: var(--mute); font-weight: 400; }
 a, summary { color: var(--link); }
 summary { cursor: pointer; }
@@ -74,14 +75,33 @@ function start() {
 const STEP = 200, FEW = 5; // rows drawn at once; a longer list of places is folded
 const $ = (id) => document.getElementById(id);
 if (!$('end')) $('cut').hidden = false;
-const part = $('broken');
-if (!part) return;
 function make(tag, attributes, ...children) {
   const node = document.createElement(tag);
   Object.assign(node, attributes);
   node.append(...children);
   return node;
 }
+// A bar for each other host: how many links lead to it.
+function bar(links, most) {
+  const node = make('div', { className: 'bar', ariaHidden: 'true' });
+  node.style.width = 100 * links / most + '%';
+  return node;
+}
+const hosts = new Map(), other = $('external');
+if (other) {
+  for (const line of other.querySelector('pre').textContent.split('\n')) {
+    const [url, links] = line.split('\t'), host = url.split('/')[2];
+    if (links) hosts.set(host, (hosts.get(host) || 0) + Number(links));
+  }
+  const all = [...hosts].sort((a, b) => b[1] - a[1]);
+  const table = make('table', {}, make('thead', {}, make('tr', {}, make('th', { scope: 'col', className: 'n' }, 'Links'), make('th', { scope: 'col' }, 'Host'))));
+  table.setAttribute('aria-labelledby', 'h-external');
+  table.append(make('tbody', {}, ...all.slice(0, STEP).map(([host, links]) =>
+    make('tr', {}, make('td', { className: 'n' }, links), make('th', { scope: 'row' }, host, bar(links, all[0][1]))))));
+  other.querySelector('pre').before(table);
+}
+const part = $('broken');
+if (!part) return;
 const targets = [], pages = new Map();
 for (const line of part.querySelector('pre').textContent.split('\n')) {
   if (line[0] === '\t') {

@@ -13,8 +13,9 @@ ghost use Rattle.crawl_web.specs.PageLists.{has};
 use crate::lines::{short_text, text_of};
 use crate::saved_web::error::WebError;
 use crate::saved_web::line::{Line, line_of_text};
+use crate::saved_web::page_url::PageUrl;
 use crate::saved_web::pages::Pages;
-use crawl_keys::{Base, KeyError};
+use crawl_keys::{KeyError, canonical};
 use std::alloc::Global;
 
 /// What the checks of a line ask of the lines above it, besides their pages and how many they are.
@@ -88,7 +89,7 @@ pub fn add_line<'a>(
     pages: &mut Pages<'a>,
     number: u64,
     above: Above,
-    line: &str,
+    line: &'a str,
     behind: &'a str,
 ) -> Result<Above, WebError>
     ensures tells { Tells result (line_fault (kept_before number pages.old above) line.now) }
@@ -102,12 +103,12 @@ pub fn add_line<'a>(
 }
 
 /// The same of a line that may be no text, for its fault: its page is added with no text behind it.
-pub fn check_line(
+pub fn check_line<'a>(
     alloc: Global,
-    pages: &mut Pages<'_>,
+    pages: &mut Pages<'a>,
     number: u64,
     above: Above,
-    line: &[u8],
+    line: &'a [u8],
 ) -> Result<Above, WebError>
     ensures tells { Tells result (line_fault (kept_before number pages.old above) line.now) }
     ensures adds { OnOk result (Adds pages.old pages.new (page_url line.now) []) }
@@ -125,7 +126,7 @@ fn add_text<'a>(
     pages: &mut Pages<'a>,
     number: u64,
     above: Above,
-    text: &str,
+    text: &'a str,
     behind: &'a str,
 ) -> Result<Above, WebError>
     requires { text_of number text.now ≡ Ok text.now }
@@ -157,7 +158,7 @@ fn add_text<'a>(
 }
 
 /// Whether the first line says version 2.
-fn header(text: &str) -> Result<bool, WebError>
+pub fn header(text: &str) -> Result<bool, WebError>
     ensures { Gives WebError.NoMemory (λ second. second) result (header_of text.now) }
 {
     match text {
@@ -171,18 +172,18 @@ fn add_page<'a>(
     alloc: Global,
     pages: &mut Pages<'a>,
     number: u64,
-    text: &str,
+    text: &'a str,
     behind: &'a str,
 ) -> Result<(), WebError>
     ensures tells { Tells result (page_fault number (has pages.old) (canonical text.now)) }
     ensures adds { OnOk result (Adds pages.old pages.new (result_ok (canonical text.now)) behind.now) }
 {
-    let page = match Base::canonical(alloc, text) {
-        Ok(page) => page,
+    let url = match canonical(alloc, text) {
+        Ok(url) => url,
         Err(KeyError::NoMemory) => return Err(WebError::NoMemory),
         Err(KeyError::NotUrl | KeyError::NotHttp) => return Err(WebError::BadPageUrl(number)),
     };
-    if pages.add(page, behind)? {
+    if pages.add(PageUrl::new(url, text), behind)? {
         Ok(())
     } else {
         Err(WebError::PageTwice(number))

@@ -2,7 +2,7 @@
 ghost use Rattle.std.specs.Prelude.{◌≡◌, ◌≤◌, ◌<◌};
 
 use crate::saved_web::folder::Folder;
-use crawl_keys::Base;
+use crawl_keys::{Base, CanonUrl};
 use hash_order::hash_of;
 use std::alloc::{AllocError, Global};
 use std::mem;
@@ -27,6 +27,8 @@ const FOLDER_LIMIT: usize = 512;
 /// Folders, each in the slot that its text picks. A folder keeps of itself that what it knows is right, so a slot may hold any.
 #[derive(Drop)]
 pub struct LinkCache<'a> {
+    /// Room for the links of a page, until they are all found.
+    pub links: Vec<CanonUrl>,
     slots: Vec<Option<Folder<'a>>>,
     // A folder was put out since there are so many slots.
     crowded: bool,
@@ -41,6 +43,7 @@ impl<'a> LinkCache<'a> {
     pub fn new(alloc: Global, among: u32) -> LinkCache<'a> {
         let among = among.max(1) as usize;
         LinkCache {
+            links: Vec::new(alloc),
             slots: Vec::new(alloc),
             crowded: false,
             texts: 0,
@@ -52,6 +55,7 @@ impl<'a> LinkCache<'a> {
     /// A cache that remembers nothing.
     pub fn without_slots(alloc: Global) -> LinkCache<'a> {
         LinkCache {
+            links: Vec::new(alloc),
             slots: Vec::new(alloc),
             crowded: false,
             texts: 0,

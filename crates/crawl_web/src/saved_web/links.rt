@@ -1,5 +1,6 @@
 //! What stands under a page of a saved web, read from the text behind the page's line.
-ghost use Rattle.std.specs.Prelude.{◌≡◌, ◌<◌, ℕ, List, ◌∷◌, [], false, None, Some, length, IfOk, IfErr, IfSome, MatchOption};
+ghost use Rattle.std.specs.Prelude.{◌≡◌, ◌<◌, ℕ, List, ◌∷◌, [], None, Some, length, OnOk, IfOk, IfErr, IfSome, MatchOption, count_by, is_none};
+ghost use Rattle.std.specs.List.{filter_map};
 ghost use Rattle.std.specs.Option.{option_map};
 ghost use Rattle.std.specs.Str.Lines.{lines};
 ghost use Rattle.crawl_web.specs.KnownLinks.{AreLinks};
@@ -16,36 +17,26 @@ use crate::saved_web::line::{Line, line_of};
 use crate::saved_web::link_cache::{LinkCache, folder_hash};
 use crate::saved_web::link_text::LinkText;
 use crawl_keys::{Base, CanonUrl, is_of_folder};
-use std::alloc::Global;
+use std::alloc::{AllocError, Global};
+use std::mem;
 
-/// The page with this base, and these lines under its own, up to the next page or to the end; where no moved line is among
-/// them, `moved` may say so.
+/// A list of so many links, or fewer, has room for just these.
+const FEW_LINKS: usize = 1_024;
+
+/// The page with this base, and these lines under its own, up to the next page or to the end.
 pub fn page_behind<'a>(
     alloc: Global,
     cache: &mut LinkCache<'a>,
     base: Base,
     behind: &'a str,
-    moved: bool,
 ) -> Result<Page, FetchError>
-    requires { moved ≡ false → moved_text (lines behind.now) ≡ None }
     ensures page { IfOk result (λ page. page ≡ page_behind base (Some (lines behind.now))) }
     ensures refused { IfErr result (λ e. e ≡ FetchError.NoMemory) }
 {
-    match moved_line(behind, moved) {
+    match moved_text(behind) {
         Some(text) => moved_page(alloc, &base, text),
         None => remembering(alloc, cache, base, behind),
     }
-}
-
-/// The text of the moved line among these, if there is one. Most pages have none, and then none is looked for.
-fn moved_line(behind: &str, moved: bool) -> Option<&str>
-    requires { moved ≡ false → moved_text (lines behind.now) ≡ None }
-    ensures { option_map (λ text. text.now) result ≡ moved_text (lines behind.now) }
-{
-    if !moved {
-        return None;
-    }
-    moved_text(behind)
 }
 
 /// The page that has moved to where this text leads.
@@ -69,22 +60,42 @@ fn remembering<'a>(
 {
     let hash = folder_hash(base.as_str());
     let mut folder = cache.take(alloc, hash, base);
-    let page = found_page(alloc, &mut folder, behind)?;
+    let page = found_page(alloc, &mut folder, &mut cache.links, behind)?;
     cache.put(alloc, hash, folder);
     Ok(page)
 }
 
-/// The page with the links among these lines, up to the next page.
+/// The page with the links among these lines, up to the next page. The buffer has them until they are all found.
 fn found_page<'a>(
     alloc: Global,
     folder: &mut Folder<'a>,
+    buffer: &mut Vec<CanonUrl>,
     behind: &'a str,
 ) -> Result<Page, FetchError>
     ensures page { IfOk result (λ page. page ≡ found_page folder.old (link_texts (lines behind.now))) }
     ensures refused { IfErr result (λ e. e ≡ FetchError.NoMemory) }
 {
+    let skipped = find_links(alloc, folder, buffer, behind)?;
+    let urls = take_links(alloc, buffer)?;
+    Ok(Page::Found {
+        links: Links::from(urls),
+        skipped,
+    })
+}
+
+/// Puts the links among these lines, up to the next page, in place of those before, and tells how many lead to no URL.
+fn find_links<'a>(
+    alloc: Global,
+    folder: &mut Folder<'a>,
+    links: &mut Vec<CanonUrl>,
+    behind: &'a str,
+) -> Result<u64, FetchError>
+    ensures links { OnOk result (links.new.items ≡ filter_map (link_url folder.old) (link_texts (lines behind.now))) }
+    ensures skipped { IfOk result (λ skipped. skipped ≡ count_by (λ text. is_none (link_url folder.old text)) (link_texts (lines behind.now))) }
+    ensures refused { IfErr result (λ e. e ≡ FetchError.NoMemory) }
+{
+    links.clear();
     let mut known = KnownLinks::new(alloc);
-    let mut links = Vec::new(alloc);
     let mut skipped: u64 = 0;
     let mut rest = behind;
     while let Some((text, more)) = next_link(rest) {
@@ -94,10 +105,19 @@ fn found_page<'a>(
             None => skipped += 1,
         }
     }
-    Ok(Page::Found {
-        links: Links::from(links),
-        skipped,
-    })
+    Ok(skipped)
+}
+
+/// All links of the buffer. Few are moved to a list with room for just these; of many the buffer itself is the list.
+fn take_links(alloc: Global, buffer: &mut Vec<CanonUrl>) -> Result<Vec<CanonUrl>, AllocError>
+    ensures { IfOk result (λ links. links.items ≡ buffer.old.items) }
+{
+    if buffer.len() > FEW_LINKS {
+        return Ok(mem::replace(buffer, Vec::new(alloc)));
+    }
+    let mut links = Vec::with_capacity(alloc, buffer.len())?;
+    links.append(buffer)?;
+    Ok(links)
 }
 
 /// Where a link with this text leads: what is of the folder is known to it from now on, and what is not to this page.

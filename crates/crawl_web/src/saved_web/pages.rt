@@ -1,12 +1,11 @@
 //! The pages of a saved web, found by their URLs.
-ghost use Rattle.std.specs.Prelude.{◌≡◌, ◌==◌, ◌++◌, ◌∷◌, [], List, None, false, not, length, IfOk, IfSome, if◌then◌else◌};
+ghost use Rattle.std.specs.Prelude.{◌≡◌, ◌==◌, ◌++◌, ◌∷◌, [], ℕ, List, true, false, not, length, IfOk, IfSome, if◌then◌else◌};
 ghost use Rattle.std.specs.Option.{option_map};
-ghost use Rattle.std.specs.Str.Lines.{lines};
 ghost use Rattle.crawl_web.specs.PageLists.{PageRead, page_with, has};
-ghost use Rattle.crawl_web.specs.SavedWeb.{moved_text};
 
 use crate::saved_web::known_page::KnownPage;
-use crawl_keys::{Base, CanonUrl};
+use crate::saved_web::page_url::PageUrl;
+use crawl_keys::CanonUrl;
 use hash_index::HashIndex;
 use std::alloc::{AllocError, Global};
 use std::marker::Model;
@@ -55,11 +54,11 @@ impl<'a> Pages<'a> {
 
     /// Adds a page, unless there is one with its URL, and tells whether it did.
     #[tactic(auto, using(crate::proofs::PageIndex::has_index_there))]
-    pub fn add(&mut self, page: Base, behind: &'a str) -> Result<bool, AllocError>
-        ensures added { IfOk result (λ added. added ≡ not (has self.old page)) }
-        ensures pages { IfOk result (λ added. self.new ≡ (if added then self.old ++ record { url = page; behind = behind.now } ∷ [] else self.old)) }
+    pub fn add(&mut self, url: PageUrl<'a>, behind: &'a str) -> Result<bool, AllocError>
+        ensures added { IfOk result (λ added. added ≡ not (has self.old url.entry)) }
+        ensures pages { IfOk result (λ added. self.new ≡ (if added then self.old ++ record { url = url.entry; behind = behind.now } ∷ [] else self.old)) }
     {
-        let page = KnownPage::new(page, behind);
+        let page = KnownPage::new(url, behind);
         let found = self.index.find_or_insert(&self.list, &page)?;
         if found.is_some() {
             return Ok(false);
@@ -68,15 +67,14 @@ impl<'a> Pages<'a> {
         Ok(true)
     }
 
-    /// Says that these are the own lines of the last page, if there is a page, and whether a moved line is among them.
-    pub fn end_last(&mut self, own: &'a str, moved: bool)
-        requires { moved ≡ false → moved_text (lines own.now) ≡ None }
+    /// Says that these are the own lines of the last page, if there is a page.
+    pub fn end_last(&mut self, own: &'a str)
         ensures none { self.old ≡ [] → self.new ≡ [] }
         ensures ended { (front : List PageRead) (page : PageRead) → self.old ≡ front ++ page ∷ [] → self.new ≡ front ++ record { url = page.url; behind = own.now } ∷ [] }
     {
         let count = self.list.len();
         if count > 0 {
-            self.list[count - 1].end(own, moved);
+            self.list[count - 1].end(own);
         }
     }
 
@@ -90,4 +88,31 @@ impl<'a> Pages<'a> {
             None => None,
         }
     }
+    /// Whether a page of each has one URL.
+    pub fn shares_url(&self, others: &Pages<'_>) -> bool
+        ensures { result ≡ false → (url : List ℕ) → has others.now url ≡ true → has self.now url ≡ false }
+    {
+        shares_url(self, &others.list)
+    }
+
+    /// Whether there is a page with the URL of this one.
+    #[tactic(auto, using(crate::proofs::PageIndex::has_index_there))]
+    fn has(&self, page: &KnownPage<'_>) -> bool
+        ensures { result ≡ has self.now page.now.url }
+    {
+        let found = self.index.find(&self.list, page);
+        found.is_some()
+    }
+}
+
+/// Whether one of the pages in the list has the URL of a page.
+fn shares_url(pages: &Pages<'_>, list: &[KnownPage<'_>]) -> bool
+    ensures { result ≡ false → (url : List ℕ) → has list.now url ≡ true → has pages.now url ≡ false }
+{
+    for page in list {
+        if pages.has(page) {
+            return true;
+        }
+    }
+    false
 }

@@ -1,5 +1,5 @@
 use Rattle.std.proofs.Common.{◌≡◌, ℕ, List, ◌++◌, OnOk, subst}
-use Rattle.check_report.specs.Page.{broken_items, page_heading, page_start, page_total, site_items}
+use Rattle.check_report.specs.Page.{count_items, page_heading, page_start, page_total}
 use Rattle.check_report.proofs.Adding.{behind, last_behind}
 use Rattle.check_report.proofs.as_page.put_total.Goals as goal
 
@@ -10,11 +10,9 @@ returns c =
     let old = c.args.out.now.items in
     let start = page_start c.args.base.now t in
     let heading = page_heading c.args.base.now t in
-    let site = site_items t in
-    let broken = broken_items t c.args.unreached in
+    let counts = count_items t c.args.counts in
     let new = c.put.new.out.items in
     let second = behind old c.put_start.new.out.items c.put_heading.new.out.items start heading c.in_ok-put_start.ensures c.in_ok-put_heading.ensures in
-    let third = behind old c.put_heading.new.out.items c.put_site_items.new.out.items (start ++ heading) site second c.in_ok-put_site_items.ensures in
-    let fourth = behind old c.put_site_items.new.out.items c.put_broken_items.new.out.items (start ++ heading ++ site) broken third c.in_ok-put_broken_items.ensures in
-    subst (λ (tools : List ℕ). OnOk c.put.result (new ≡ old ++ (start ++ heading ++ site ++ broken ++ tools))) c.tools_part.ensures
-    (last_behind c.put.result old c.put_broken_items.new.out.items new (start ++ heading ++ site ++ broken) c.tools_part.result.now fourth c.put.ensures)
+    let third = behind old c.put_heading.new.out.items c.put_count_items.new.out.items (start ++ heading) counts second c.in_ok-put_count_items.ensures in
+    subst (λ (tools : List ℕ). OnOk c.put.result (new ≡ old ++ (start ++ heading ++ counts ++ tools))) c.tools_part.ensures
+    (last_behind c.put.result old c.put_count_items.new.out.items new (start ++ heading ++ counts) c.tools_part.result.now third c.put.ensures)

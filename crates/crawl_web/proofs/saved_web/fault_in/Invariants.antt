@@ -1,12 +1,13 @@
 use Rattle.std.proofs.Common.{◌+◌, ◌≤◌, length}
 use Rattle.std.specs.Str.{IsUtf8}
-use Rattle.crawl_web.proofs.ReadWeb.{ReadTo}
+use Rattle.std.specs.Str.Lines.{lines}
+use Rattle.crawl_web.specs.Reading.{ReadTo}
 use Rattle.crawl_web.proofs.saved_web.fault_in.Given as goal
 
 abbrev pub invariant-loop-line : goal.invariant-loop-line
 invariant-loop-line l = record {
   few : l.number + length l.rest ≤ length l.bytes;
-  read : ReadTo l.bytes l.rest l.number l.above l.pages;
+  read : ReadTo (lines l.bytes) (lines l.rest) l.number l.above l.pages;
   utf8 : IsUtf8 l.rest → IsUtf8 l.bytes;
 }
 

@@ -8,13 +8,13 @@ pub returns-clause-broken : goal.returns-clause-broken
 returns-clause-broken g c =
     let front = c.args.asked.front.now in
     let entries = map string_bytes c.args.asked.ignores.now in
-    c.in_ok-broken.ensures
-    ∙ ap (λ ls. flat_map (rows_with front entries) ls) (ap (map linked_at) c.as_slice.ensures.value ∙ c.in_ok-linked.ensures)
+    c.in_ok-checked.ensures.broken
+    ∙ ap (λ ls. flat_map (rows_with front entries) ls) (ap (map linked_at) c.as_slice-all.ensures.value ∙ c.in_ok-linked.ensures)
     ∙ rows_of_all front entries c.args.results.now
 
 pub returns-clause-redirects : goal.returns-clause-redirects
 returns-clause-redirects g c =
     let front = c.args.asked.front.now in
-    c.in_ok-redirects.ensures
-    ∙ ap (λ ls. flat_map (ways_with front) ls) (ap (map linked_at) c.as_slice-2.ensures.value ∙ c.in_ok-linked.ensures)
+    c.in_ok-checked.ensures.redirects
+    ∙ ap (λ ls. flat_map (ways_with front) ls) (ap (map linked_at) c.as_slice-all.ensures.value ∙ c.in_ok-linked.ensures)
     ∙ ways_of_all front c.args.results.now

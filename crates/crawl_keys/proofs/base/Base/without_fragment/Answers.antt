@@ -7,4 +7,4 @@ pub returns-in-Some : goal.returns-in-Some
 returns-in-Some c = subst (Gives NoMemory (λ url. url) c.in-Some.answer) (c.before_fragment-front.ensures.target c.args.self.now) c.in-Some.ensures
 
 pub returns-in-None : goal.returns-in-None
-returns-in-None c = subst (Gives NoMemory (λ url. url) c.parsed-in-None.result) (c.before_fragment-front.ensures.target c.args.self.now) c.parsed-in-None.ensures
+returns-in-None c = subst (Gives NoMemory (λ url. url) c.not_plain-in-None.result) (c.before_fragment-front.ensures.target c.args.self.now) c.not_plain-in-None.ensures

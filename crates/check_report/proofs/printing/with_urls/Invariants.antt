@@ -1,0 +1,7 @@
+use Rattle.std.proofs.Common.{take, map}
+use Rattle.check_report.specs.Printing.{Adds}
+use Rattle.check_report.specs.Rows.{external}
+use Rattle.check_report.proofs.printing.with_urls.Given as goal
+
+abbrev pub invariant-loop-url : goal.invariant-loop-url
+invariant-loop-url l = Adds l.form l.fn.out.items l.out.items (map external (take l.url-index l.urls))

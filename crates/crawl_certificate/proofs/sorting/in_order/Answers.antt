@@ -1,0 +1,15 @@
+use Rattle.std.proofs.Common.{sym, subst, ap, ◌∙◌, arith}
+use Rattle.std.specs.Cmp.Lexicographic.{slice_cmp}
+use Rattle.std.specs.Ordering.{nat_cmp}
+use Rattle.std.specs.List.Sorted.{IsSortedByKey}
+use Rattle.crawl_web.specs.declared.page.PageResult.{PageResult}
+use Rattle.crawl_certificate.specs.Sorting.{pages_of}
+use Rattle.crawl_certificate.proofs.Places.{take_front}
+use Rattle.crawl_certificate.proofs.SortedParts.{pages_in_order}
+use Rattle.crawl_certificate.proofs.sorting.in_order.Goals as goal
+
+pub returns-clause-sorted : goal.returns-clause-sorted
+returns-clause-sorted c =
+    subst (IsSortedByKey (λ (r : PageResult). r.url) (slice_cmp nat_cmp))
+    (sym (c.in_ok-sorted.ensures ∙ ap pages_of (take_front c.in_ok-pages.pages.len c.sort_from.new.pages _ (omega arith))))
+    (pages_in_order c.sort_from.new.pages c.sort_from.ensures.sorted)

@@ -1,0 +1,6 @@
+use Rattle.std.proofs.Common.{◌≡◌}
+use Rattle.crawl_certificate.specs.Sorting.{pages_of}
+use Rattle.crawl_certificate.proofs.sorting.with_numbers.Given as goal
+
+abbrev pub invariant-loop-page : goal.invariant-loop-page
+invariant-loop-page l = pages_of l.pages.items ≡ l.yielded

@@ -1,0 +1,17 @@
+-- Eight bytes of a text as a number.
+use Rattle.std.specs.Prelude.{◌≡◌, ℕ, zero, suc, ◌<◌, List, [], ◌∷◌, slice_index}
+use Rattle.std.specs.Int.Digits.{number_from_digits, AllBelowBase}
+
+-- the first so many bytes of two texts are the same; behind the end of a text stand zeros
+abbrev pub BeginAlike : ℕ → List ℕ → List ℕ → Type 0
+BeginAlike count a b = (k : ℕ) → k < count → slice_index a k ≡ slice_index b k
+
+-- so many bytes of a text from an index on
+abbrev pub bytes_from : List ℕ → ℕ → ℕ → List ℕ
+bytes_from text from zero = []
+bytes_from text from (suc count) = slice_index text from ∷ bytes_from text (suc from) count
+
+-- the number has the eight bytes of a text from an index on, of which the first weighs most
+pub record IsEight (text : List ℕ) (from number : ℕ) : Type 0 where
+  pub bytes : AllBelowBase 256 (bytes_from text from 8)
+  pub value : number ≡ number_from_digits 256 (bytes_from text from 8)

@@ -1,0 +1,42 @@
+-- Results in the order of their URLs, and the numbers that they are sorted by.
+use Rattle.std.specs.Prelude.{◌≡◌, ℕ, ◌+◌, ◌*◌, ◌<◌, ◌≤◌, List, map, length, take, drop}
+use Rattle.std.specs.List.{All, Contains}
+use Rattle.std.specs.List.Sorted.{IsNonDecreasingBy, IsSortedByKey}
+use Rattle.std.specs.Cmp.Lexicographic.{slice_cmp}
+use Rattle.std.specs.Ordering.{nat_cmp}
+use Rattle.crawl_web.specs.declared.page.PageResult.{PageResult}
+use Rattle.crawl_certificate.specs.declared.sorting.Numbered.{Numbered}
+use Rattle.crawl_certificate.specs.Eights.{BeginAlike, IsEight}
+
+-- the results without their numbers
+abbrev pub pages_of : List Numbered → List PageResult
+pages_of pages = map (λ p. p.page) pages
+
+-- the first so many bytes of all URLs are the same
+abbrev pub AllBeginAlike : ℕ → List PageResult → Type 0
+AllBeginAlike count pages = (a b : PageResult) → Contains pages a → Contains pages b → BeginAlike count a.url b.url
+
+-- the number has the eight bytes of the URL from an index on
+abbrev pub IsNumbered : ℕ → Numbered → Type 0
+IsNumbered from numbered = IsEight numbered.page.url from numbered.number
+
+-- no URL is above the next one, byte by byte
+abbrev pub AreInOrder : List Numbered → Type 0
+AreInOrder pages = IsSortedByKey (λ p. p.page.url) (slice_cmp nat_cmp) pages
+
+-- results that begin alike up to an index, in the order of their numbers, which have the eight bytes from there on
+pub record ArePrepared (from levels : ℕ) (pages : List Numbered) : Type 0 where
+  pub alike : AllBeginAlike from (pages_of pages)
+  pub room : from + 8 * levels ≤ 4088
+  pub numbered : All (IsNumbered from) pages
+  pub rising : IsNonDecreasingBy (λ p. p.number) pages
+
+-- all have one number
+abbrev pub AllEqual : List Numbered → Type 0
+AllEqual pages = (a b : Numbered) → Contains pages a → Contains pages b → a.number ≡ b.number
+
+-- some stand before the index and some behind it, and the numbers of those are less than the numbers of these
+pub record ArePartedAt (pages : List Numbered) (index : ℕ) : Type 0 where
+  pub some : 0 < index
+  pub more : index < length pages
+  pub less : (a b : Numbered) → Contains (take index pages) a → Contains (drop index pages) b → a.number < b.number

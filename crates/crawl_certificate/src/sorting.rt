@@ -1,0 +1,157 @@
+//! Results in the order of their URLs, by a sort that mostly compares numbers: eight bytes of each URL, beside the result.
+//!
+//! To compare two texts, both are looked for in memory; a number is at hand. Those that have the same number are sorted by
+//! the next eight bytes, and so on. Few, and those that begin alike for long, are sorted by their texts.
+ghost use Rattle.std.specs.Prelude.{◌≡◌, ◌+◌, ◌*◌, ◌≤◌, slice_index, IfOk, IfSome, IsNone};
+ghost use Rattle.std.specs.List.{All};
+ghost use Rattle.std.specs.List.Sorted.{IsPermutation, IsNonDecreasingBy, IsSortedByKey};
+ghost use Rattle.std.specs.Cmp.Lexicographic.{slice_cmp};
+ghost use Rattle.std.specs.Ordering.{nat_cmp};
+ghost use Rattle.crawl_certificate.specs.Eights.{IsEight};
+ghost use Rattle.crawl_certificate.specs.Sorting.{AllBeginAlike, AllEqual, AreInOrder, ArePartedAt, ArePrepared, IsNumbered, pages_of};
+
+use crawl_web::PageResult;
+use std::alloc::{AllocError, Global};
+
+mod threads;
+
+pub use threads::in_order_by_threads;
+
+/// How many bytes a number has.
+const BYTES: usize = 8;
+
+/// How many numbers of a URL are compared before its text is.
+const LEVELS: usize = 32;
+
+/// Fewer than these are sorted by their texts.
+const FEW: usize = 12;
+
+/// A result, and eight bytes of its URL as a number.
+#[derive(Drop)]
+struct Numbered {
+    number: u64,
+    page: PageResult,
+}
+
+/// The results in ascending order of the bytes of their URLs.
+pub fn in_order(alloc: Global, results: Vec<PageResult>) -> Result<Vec<PageResult>, AllocError>
+    ensures same { IfOk result (λ pages. IsPermutation results.items pages.items) }
+    ensures sorted { IfOk result (λ pages. IsSortedByKey (λ r. r.url) (slice_cmp nat_cmp) pages.items) }
+{
+    let mut pages = with_numbers(alloc, results)?;
+    sort_from(pages.as_mut_slice(), 0, LEVELS);
+    let sorted = without_numbers(alloc, pages)?;
+    Ok(sorted)
+}
+
+/// The results, each beside a number that says nothing yet.
+fn with_numbers(alloc: Global, results: Vec<PageResult>) -> Result<Vec<Numbered>, AllocError>
+    ensures { IfOk result (λ pages. pages_of pages.items ≡ results.items) }
+{
+    let mut pages = Vec::with_capacity(alloc, results.len())?;
+    for page in results {
+        pages.push(Numbered { number: 0, page })?;
+    }
+    Ok(pages)
+}
+
+/// The results without their numbers.
+fn without_numbers(alloc: Global, pages: Vec<Numbered>) -> Result<Vec<PageResult>, AllocError>
+    ensures { IfOk result (λ results. results.items ≡ pages_of pages.items) }
+{
+    let mut results = Vec::with_capacity(alloc, pages.len())?;
+    for Numbered { page, .. } in pages {
+        results.push(page)?;
+    }
+    Ok(results)
+}
+
+/// Sorts results whose URLs begin alike for so many bytes, by this many numbers at most before by their texts.
+#[cycle(sort)]
+fn sort_from(pages: &mut [Numbered], from: usize, levels: usize)
+    requires alike { AllBeginAlike from (pages_of pages.old) }
+    requires room { from + 8 * levels ≤ 4096 }
+    ensures same { IsPermutation (pages_of pages.old) (pages_of pages.new) }
+    ensures sorted { AreInOrder pages.new }
+{
+    if pages.len() < FEW || levels == 0 {
+        pages.sort_unstable_by(|a, b| a.page.url.cmp(&b.page.url));
+        return;
+    }
+    set_numbers(pages, from);
+    pages.sort_unstable_by_key(|one| one.number);
+    sort_runs(pages, from, levels - 1);
+}
+
+/// Sorts results that are in the order of their numbers, which have the eight bytes from this index on.
+#[cycle(sort)]
+fn sort_runs(pages: &mut [Numbered], from: usize, levels: usize)
+    requires { ArePrepared from levels pages.old }
+    ensures same { IsPermutation (pages_of pages.old) (pages_of pages.new) }
+    ensures sorted { AreInOrder pages.new }
+{
+    match middle(pages) {
+        None => sort_from(pages, from + BYTES, levels),
+        Some(index) => {
+            let (low, high) = pages.split_at_mut(index);
+            sort_runs(low, from, levels);
+            sort_runs(high, from, levels);
+        }
+    }
+}
+
+/// Where the numbers, which rise, exceed the mean of the least and the greatest; `None` where all are equal.
+fn middle(pages: &[Numbered]) -> Option<usize>
+    requires { IsNonDecreasingBy (λ p. p.number) pages.now }
+    ensures none { IsNone result → AllEqual pages.now }
+    ensures some { IfSome result (ArePartedAt pages.now) }
+{
+    let (Some(first), Some(last)) = (pages.first(), pages.last()) else {
+        return None;
+    };
+    let least = first.number;
+    let most = last.number;
+    if least == most {
+        return None;
+    }
+    let mean = least.midpoint(most);
+    Some(pages.partition_point(|one| one.number <= mean))
+}
+
+/// Sets each number to the eight bytes of the URL from this index on.
+fn set_numbers(pages: &mut [Numbered], from: usize)
+    requires { from + 8 ≤ 4096 }
+    ensures same { pages_of pages.new ≡ pages_of pages.old }
+    ensures numbered { All (IsNumbered from) pages.new }
+{
+    for numbered in pages.iter_mut() {
+        numbered.number = number_at(numbered.page.url.as_str().as_bytes(), from);
+    }
+}
+
+/// Eight bytes of a text as a number, the first of which weighs most. Behind the text's end stand zeros.
+fn number_at(text: &[u8], from: usize) -> u64
+    requires { from + 8 ≤ 4096 }
+    ensures { IsEight text.now from result }
+{
+    u64::from_be_bytes([
+        byte_at(text, from),
+        byte_at(text, from + 1),
+        byte_at(text, from + 2),
+        byte_at(text, from + 3),
+        byte_at(text, from + 4),
+        byte_at(text, from + 5),
+        byte_at(text, from + 6),
+        byte_at(text, from + 7),
+    ])
+}
+
+/// The byte at an index, and 0 behind the end.
+fn byte_at(text: &[u8], index: usize) -> u8
+    ensures { result ≡ slice_index text.now index }
+{
+    match text.get(index) {
+        Some(byte) => *byte,
+        None => 0,
+    }
+}

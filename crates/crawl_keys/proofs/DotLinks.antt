@@ -1,0 +1,142 @@
+-- What the parser makes of dot segments that a text begins with, and of segments that they take back.
+use Rattle.std.proofs.Common.{◌≡◌, ℕ, zero, suc, ◌+◌, ◌<◌, ◌==◌, true, false, List, [], ◌∷◌, ◌++◌, length, refl, ap, sym, subst, ◌∙◌, All, arith, append-nil, take_all}
+use Rattle.std.specs.Prelude.{Option, unwrap_or}
+use Rattle.std.specs.List.{before_first, list_all, position_or_len, prefix_len}
+use Rattle.std.proofs.lemmas.Bool.{and_from, eq-eqb, true≢false}
+use Rattle.std.proofs.lemmas.Bool.Decides.{nat_tests}
+use Rattle.std.proofs.lemmas.List.Elements.{All-nil, All-cons, All-weaker}
+use Rattle.std.proofs.lemmas.List.Folds.{list_all-append}
+use Rattle.std.proofs.lemmas.List.Sums.{fails_before_first}
+use Rattle.percent_encoding.proofs.PercentLemmas.{percent_encode_unchanged}
+use Rattle.url.specs.declared.scheme.SchemeType.TheVariants.{SpecialNotFile}
+use Rattle.url.specs.declared.sets.TheConstants.{PATH}
+use Rattle.url.specs.Input.{split_once}
+use Rattle.url.specs.Path.{IsSegment, dot_count, parse_path, push_segment, without_last_segment}
+use Rattle.url.proofs.InputLemmas.{All-take-prefix_len, All-take_from_reads, IsNot, Passes, list_all_from_All, rsplit_once_at}
+use Rattle.url.proofs.PathLemmas.{IsNoSlash, parse_path_more}
+use Rattle.crawl_keys.specs.Links.{IsBehind, IsInFolder, above, behind_ups, has_no_scheme}
+use Rattle.crawl_keys.specs.Plain.{first_is_slash, is_kept, is_other, is_plain}
+use Rattle.crawl_keys.proofs.HostLinks.{split_behind}
+use Rattle.crawl_keys.proofs.PlainLemmas.{all_kept, plain_segment}
+use Rattle.crawl_keys.proofs.PlainLinks.{parse_ups, rootless_plain, split_ups}
+
+abbrev Split : Type 0
+Split = List ℕ × Option (List ℕ)
+
+-- ---- nothing, and one step behind another
+
+pub whole_behind : (text : List ℕ) → IsBehind text 0 text
+whole_behind text = record {
+  reads = record { path = λ front. refl; query = refl };
+  kept = λ kept. kept;
+  rootless = λ rootless. rootless;
+}
+
+above_more : (n m : ℕ) (path : List ℕ) → above m (above n path) ≡ above (n + m) path
+above_more n zero path = ap (λ k. above k path) (let same : n ≡ n + 0 = omega arith in same)
+above_more n (suc m) path =
+    let next : suc (n + m) ≡ n + suc m = omega arith in
+    ap without_last_segment (above_more n m path) ∙ ap (λ k. above k path) next
+
+pub behind_then : (text mid rest : List ℕ) (n m : ℕ) → IsBehind text n mid → IsBehind mid m rest → IsBehind text (n + m) rest
+behind_then text mid rest n m one other = record {
+  reads = record {
+    path = λ front. one.reads.path front ∙ other.reads.path (above n front) ∙ ap (λ p. parse_path SpecialNotFile p (split_once 63 rest).0) (above_more n m front);
+    query = one.reads.query ∙ other.reads.query;
+  };
+  kept = λ kept. one.kept (other.kept kept);
+  rootless = λ rootless. one.rootless (other.rootless rootless);
+}
+
+-- ---- `../`
+
+keeps_ups : (n : ℕ) (rest : List ℕ) → list_all is_kept rest ≡ true → list_all is_kept (behind_ups n rest) ≡ true
+keeps_ups zero rest kept = kept
+keeps_ups (suc n) rest kept = keeps_ups n rest kept
+
+rootless_ups : (n : ℕ) (rest : List ℕ) → first_is_slash rest ≡ false → first_is_slash (behind_ups n rest) ≡ false
+rootless_ups zero rest rootless = rootless
+rootless_ups (suc n) rest rootless = refl
+
+pub ups_behind : (n : ℕ) (rest : List ℕ) → IsBehind (behind_ups n rest) n rest
+ups_behind n rest = record {
+  reads = record {
+    path = λ front. ap (λ (r : Split). parse_path SpecialNotFile front r.0) (split_ups n rest) ∙ parse_ups front n (split_once 63 rest).0;
+    query = ap (λ (r : Split). r.1) (split_ups n rest);
+  };
+  kept = keeps_ups n rest;
+  rootless = rootless_ups n rest;
+}
+
+pub in_folder_ups : (text : List ℕ) (n : ℕ) (rest : List ℕ) → text ≡ behind_ups n rest → is_plain 47 rest ≡ true → has_no_scheme text ≡ true → IsInFolder text n rest
+in_folder_ups text n rest is plain none = record {
+  behind = subst (λ t. IsBehind t n rest) (sym is) (ups_behind n rest);
+  plain = plain;
+  no_scheme = none;
+}
+
+-- ---- `./`
+
+push_same : (path : List ℕ) → push_segment SpecialNotFile path (46 ∷ []) false ≡ path
+unfolding push_segment dot_count
+push_same path = append-nil path
+
+pub same_behind : (rest : List ℕ) → IsBehind (46 ∷ 47 ∷ rest) 0 rest
+unfolding split_once
+same_behind rest =
+    let P = IsNoSlash SpecialNotFile in
+    let body = (split_once 63 rest).0 in
+    record {
+      reads = record {
+        path = λ front. parse_path_more SpecialNotFile front (46 ∷ []) 47 body (All-cons P 46 [] refl (All-nil P)) refl ∙ ap (λ p. parse_path SpecialNotFile p body) (push_same front);
+        query = refl;
+      };
+      kept = λ kept. kept;
+      rootless = λ rootless. refl;
+    }
+
+-- ---- a segment and `../`
+
+push_plain : (path segment : List ℕ) → IsSegment SpecialNotFile segment → push_segment SpecialNotFile path segment false ≡ path ++ 47 ∷ segment
+unfolding push_segment
+push_plain path segment k = rw k.resolved (ap (λ t. path ++ 47 ∷ t) (percent_encode_unchanged PATH segment k.escaped))
+
+last_off : (path segment : List ℕ) → All (IsNot 47) segment → without_last_segment (path ++ 47 ∷ segment) ≡ path
+last_off path segment none = ap (λ (r : Option (List ℕ) × List ℕ). unwrap_or r.0 []) (rsplit_once_at 47 path segment none)
+
+rootless_segment : (segment rest : List ℕ) → is_plain 47 segment ≡ true → 0 < length segment → first_is_slash (segment ++ rest) ≡ false
+rootless_segment [] rest plain some = absurd (omega arith)
+rootless_segment (b ∷ segment) rest plain some = rootless_plain (b ∷ segment) plain
+
+pub pair_behind : (segment rest : List ℕ) → is_plain 47 segment ≡ true → All (IsNot 63) segment → All (IsNot 47) segment → 0 < length segment → IsBehind (segment ++ 47 ∷ 46 ∷ 46 ∷ 47 ∷ rest) 0 rest
+unfolding split_once
+pair_behind segment rest plain no_query no_slash some =
+    let body = (split_once 63 rest).0 in
+    let k = plain_segment segment plain no_query no_slash in
+    let split = split_behind segment (47 ∷ 46 ∷ 46 ∷ 47 ∷ rest) no_query in
+    record {
+      reads = record {
+        path = λ front.
+            ap (λ (r : Split). parse_path SpecialNotFile front r.0) split
+            ∙ parse_path_more SpecialNotFile front segment 47 (46 ∷ 46 ∷ 47 ∷ body) k.whole refl
+            ∙ ap (λ p. parse_path SpecialNotFile p (46 ∷ 46 ∷ 47 ∷ body)) (push_plain front segment k)
+            ∙ parse_ups (front ++ 47 ∷ segment) 1 body
+            ∙ ap (λ p. parse_path SpecialNotFile p body) (last_off front segment no_slash);
+        query = ap (λ (r : Split). r.1) split;
+      };
+      kept = λ kept. list_all-append is_kept segment (47 ∷ 46 ∷ 46 ∷ 47 ∷ rest) ∙ and_from _ _ (list_all_from_All is_kept segment (all_kept 47 segment plain)) kept;
+      rootless = λ rootless. rootless_segment segment (47 ∷ 46 ∷ 46 ∷ 47 ∷ rest) plain some;
+    }
+
+pub no_slash_before : (text : List ℕ) → position_or_len (λ b. b == 47) text < length text → All (IsNot 47) (before_first (λ b. b == 47) text)
+no_slash_before text inside =
+    All-take_from_reads (IsNot 47) text (position_or_len (λ b. b == 47) text) (omega (arith, inside))
+    (λ n below same. true≢false (sym (eq-eqb _ 47 same) ∙ fails_before_first (λ b. b == 47) text n 0 below))
+
+other_byte : (b : ℕ) → Passes (is_other 63) b → IsNot 63 b
+other_byte b passes same = grind (arith, nat_tests)
+
+pub no_query_in : (segment : List ℕ) → prefix_len (is_other 63) segment ≡ length segment → All (IsNot 63) segment
+no_query_in segment len =
+    let all = subst (All (Passes (is_other 63))) (take_all (prefix_len (is_other 63) segment) segment (omega (arith, len))) (All-take-prefix_len (is_other 63) segment) in
+    All-weaker (Passes (is_other 63)) (IsNot 63) other_byte segment all

@@ -1,0 +1,150 @@
+-- Where links that begin with two slashes lead: the page's scheme stands before them.
+use Rattle.std.proofs.Common.{◌≡◌, ◌⊎◌, ℕ, ◌+◌, ◌==◌, Bool, true, not, ◌&&◌, ◌≢◌, List, [], ◌∷◌, ◌++◌, length, get_or, take, drop, refl, ap, sym, subst, ◌∙◌, ⊎_elim, inl, inr, All, Some, None, Ok, arith, append_assoc, length-append, take-append-drop}
+use Rattle.std.specs.Prelude.{Option, codes}
+use Rattle.std.specs.List.{concat}
+use Rattle.std.proofs.lemmas.Bool.{and_from, and_left, and_parts, cond-false, cond-true, ne_eqb, or_cases}
+use Rattle.std.proofs.lemmas.Bool.Decides.{nat_tests}
+use Rattle.std.proofs.lemmas.List.Elements.{All-append, All-cons, All-head, All-tail, All-weaker}
+use Rattle.std.proofs.lemmas.Slice.Eq.{bytes_eq-Decides}
+use Rattle.url.specs.Input.{split_once}
+use Rattle.url.specs.Parser.{base_for_scheme, parse_by_scheme, parse_parts, parse_url, split_scheme}
+use Rattle.url.specs.Parts.{Parts, IsValid, pieces, serialize}
+use Rattle.url.specs.Scheme.{IsScheme, is_special}
+use Rattle.url.proofs.InputLemmas.{All-take-prefix_len, All_from_list_all, IsNot, Passes}
+use Rattle.url.proofs.RoundTrip.{split_own_scheme}
+use Rattle.url.proofs.ValidLemmas.{base_from_authority}
+use Rattle.crawl_keys.specs.Bases.{IsSchemeOf}
+use Rattle.crawl_keys.specs.CanonicalText.{IsCanonical, IsPage, is_web, resolve, resolve_from, text_of_parse}
+use Rattle.crawl_keys.specs.Links.{IsByHost}
+use Rattle.crawl_keys.specs.Plain.{host_len, is_host_byte, is_kept, is_plain_host}
+use Rattle.crawl_keys.specs.Spelled.{IsSpelled}
+use Rattle.crawl_keys.proofs.BaseLemmas.{one_url, page_of}
+use Rattle.crawl_keys.proofs.FolderLemmas.{IsWeb, web_url}
+use Rattle.crawl_keys.proofs.PlainLemmas.{all_kept}
+use Rattle.crawl_keys.proofs.PlainLinks.{parse_url-kept, rooted_scheme, uncut}
+use Rattle.crawl_keys.proofs.SpelledLemmas.{IsWebScheme, resolve-spelled, spelled_at, spelled_host}
+
+-- ---- the scheme of a page
+
+-- the byte stands in a text before its query as it is
+abbrev stands : ℕ → Bool
+stands b = is_kept b && not (b == 63)
+
+http_or_https : (base : Parts) → is_web base ≡ true → (base.scheme ≡ codes "http") ⊎ (base.scheme ≡ codes "https")
+http_or_https base web =
+    ⊎_elim (λ http. inl ((bytes_eq-Decides base.scheme (codes "http")).0 http)) (λ https. inr ((bytes_eq-Decides base.scheme (codes "https")).0 https))
+    (or_cases _ _ web)
+
+scheme_bytes : (base : Parts) → is_web base ≡ true → All (Passes stands) base.scheme
+scheme_bytes base web =
+    ⊎_elim (λ http. subst (All (Passes stands)) (sym http) (All_from_list_all stands (codes "http") refl))
+    (λ https. subst (All (Passes stands)) (sym https) (All_from_list_all stands (codes "https") refl))
+    (http_or_https base web)
+
+abbrev behind_scheme : Parts → List ℕ
+behind_scheme url = concat (drop 1 (pieces url))
+
+fifth : (url : Parts) (scheme : List ℕ) (b : ℕ) → url.scheme ≡ scheme → get_or (scheme ++ behind_scheme url) 4 0 ≡ b → get_or (serialize url) 4 0 ≡ b
+fifth url scheme b is at = ap (λ s. get_or (s ++ behind_scheme url) 4 0) is ∙ at
+
+-- the fifth byte of the text tells the scheme
+pub https_scheme : (text : List ℕ) → IsCanonical text → get_or text 4 0 ≡ 115 → IsSchemeOf text (codes "https:")
+https_scheme text k at url parses =
+    let own = one_url text k.url url k.parses parses in
+    let authority = (web_url k.url k.valid k.web).authority in
+    ⊎_elim
+    (λ http. absurd (let colon = fifth k.url (codes "http") 58 http (rw authority refl) in omega (arith, at, colon, ap (λ t. get_or t 4 0) k.spelled)))
+    (λ https. ap (λ s. s ++ 58 ∷ []) (sym https ∙ ap (λ (u : Parts). u.scheme) own))
+    (http_or_https k.url k.web)
+
+pub http_scheme : (text : List ℕ) → IsCanonical text → get_or text 4 0 ≢ 115 → IsSchemeOf text (codes "http:")
+http_scheme text k other url parses =
+    let own = one_url text k.url url k.parses parses in
+    ⊎_elim
+    (λ http. ap (λ s. s ++ 58 ∷ []) (sym http ∙ ap (λ (u : Parts). u.scheme) own))
+    (λ https. absurd (other (ap (λ t. get_or t 4 0) (sym k.spelled) ∙ fifth k.url (codes "https") 115 https refl)))
+    (http_or_https k.url k.web)
+
+-- ---- the parser reads a link behind the page's scheme as it reads the link
+
+abbrev Split : Type 0
+Split = List ℕ × Option (List ℕ)
+
+pub split_behind : (front rest : List ℕ) → All (IsNot 63) front → split_once 63 (front ++ rest) ≡ (front ++ (split_once 63 rest).0, (split_once 63 rest).1)
+unfolding split_once
+split_behind [] rest none = refl
+split_behind (b ∷ front) rest none =
+    cond-false _ _ _ (ne_eqb b 63 (All-head (IsNot 63) b front none)) ∙ ap (λ (r : Split). (b ∷ r.0, r.1)) (split_behind front rest (All-tail (IsNot 63) b front none))
+
+-- what the parser makes of a kept text with a scheme
+pub parse_url-scheme : (base : Option Parts) (scheme rest body : List ℕ) (query : Option (List ℕ)) → IsScheme scheme → All (Passes is_kept) (scheme ++ 58 ∷ rest)
+    → split_once 63 (scheme ++ 58 ∷ rest) ≡ (scheme ++ 58 ∷ body, query) → parse_url base (scheme ++ 58 ∷ rest) ≡ parse_parts scheme (base_for_scheme base scheme) body query None
+unfolding parse_url
+parse_url-scheme base scheme rest body query valid kept split =
+    let parsed = λ (hash : Split). let question = split_once 63 hash.0 in parse_by_scheme (split_scheme question.0) base question.0 question.1 hash.1 in
+    ap parsed (uncut (scheme ++ 58 ∷ rest) kept)
+    ∙ ap (λ (q : Split). parse_by_scheme (split_scheme q.0) base q.0 q.1 None) split
+    ∙ ap (λ s. parse_by_scheme s base (scheme ++ 58 ∷ body) query None) (split_own_scheme scheme body valid)
+    ∙ ap (λ s. parse_parts s (base_for_scheme base s) body query None) valid.lower
+
+own_base : (base : Parts) → IsWeb base → base_for_scheme (Some base) base.scheme ≡ Some base
+own_base base web = cond-true _ _ _ (and_from _ _ (ap is_special web.kind) ((bytes_eq-Decides base.scheme base.scheme).1 refl))
+
+parse_url-by_scheme : (base : Parts) (more : List ℕ) → IsWeb base → is_web base ≡ true → All (Passes is_kept) (47 ∷ more) → parse_url (Some base) (47 ∷ more) ≡ parse_url (Some base) (base.scheme ++ 58 ∷ 47 ∷ more)
+unfolding split_once
+parse_url-by_scheme base more page web kept =
+    let body = 47 ∷ (split_once 63 more).0 in
+    let query = (split_once 63 more).1 in
+    let bytes = scheme_bytes base web in
+    let front = All-weaker (Passes stands) (Passes is_kept) (λ b test. (and_parts _ _ test).0) base.scheme bytes in
+    let none = All-weaker (Passes stands) (IsNot 63) (λ b test same. grind (arith, nat_tests)) base.scheme bytes in
+    let all = All-append (Passes is_kept) base.scheme (58 ∷ 47 ∷ more) front (All-cons (Passes is_kept) 58 (47 ∷ more) refl kept) in
+    parse_url-kept base (47 ∷ more) body query kept refl (rooted_scheme (split_once 63 more).0)
+    ∙ cond-false _ _ _ (and_left _ _ (base_from_authority base page.authority))
+    ∙ ap (λ b. parse_parts base.scheme b body query None) (sym (own_base base page))
+    ∙ sym (parse_url-scheme (Some base) base.scheme (47 ∷ more) body query page.valid.head.scheme all (split_behind base.scheme (58 ∷ 47 ∷ more) none))
+
+-- ---- where it leads
+
+web_scheme : (base : Parts) → IsValid base → is_web base ≡ true → IsWebScheme base.scheme
+web_scheme base valid web = record { is = valid.head.scheme; web = web }
+
+spelled_behind : (base : Parts) (rest : List ℕ) → IsValid base → is_web base ≡ true → is_plain_host rest ≡ true → IsSpelled (base.scheme ++ 58 ∷ 47 ∷ 47 ∷ rest) (length base.scheme + 3) (length base.scheme + 3 + host_len rest)
+spelled_behind base rest valid web plain = spelled_host base.scheme rest (web_scheme base valid web) plain
+
+host_byte_kept : (b : ℕ) → Passes is_host_byte b → Passes is_kept b
+host_byte_kept b host = grind (arith, nat_tests)
+
+kept_behind : (rest : List ℕ) → is_plain_host rest ≡ true → All (Passes is_kept) rest
+kept_behind rest plain =
+    let n = host_len rest in
+    let host = All-weaker (Passes is_host_byte) (Passes is_kept) host_byte_kept (take n rest) (All-take-prefix_len is_host_byte rest) in
+    let tail = all_kept 0 (drop n rest) (and_parts _ _ plain).1 in
+    subst (All (Passes is_kept)) (take-append-drop n rest) (All-append (Passes is_kept) (take n rest) (drop n rest) host tail)
+
+resolve-behind : (base : Parts) (rest : List ℕ) → IsValid base → IsPage base → is_plain_host rest ≡ true → resolve (serialize base) (47 ∷ 47 ∷ rest) ≡ Ok (base.scheme ++ 58 ∷ 47 ∷ 47 ∷ rest)
+resolve-behind base rest valid page plain =
+    let P = Passes is_kept in
+    let k = spelled_behind base rest valid page.web plain in
+    let text = base.scheme ++ 58 ∷ 47 ∷ 47 ∷ rest in
+    let kept = All-cons P 47 (47 ∷ rest) refl (All-cons P 47 rest refl (kept_behind rest plain)) in
+    ap (λ p. resolve_from p (47 ∷ 47 ∷ rest)) page.parses
+    ∙ ap text_of_parse (parse_url-by_scheme base (47 ∷ rest) (web_url base valid page.web) page.web kept)
+    ∙ ap (λ p. resolve_from p text) (sym page.parses)
+    ∙ resolve-spelled base (serialize base) text _ _ page.parses k
+
+-- the two texts are that of the URL that the link leads to
+front_scheme : (text scheme : List ℕ) (k : IsCanonical text) → IsSchemeOf text scheme → (rest : List ℕ) → scheme ++ rest ≡ k.url.scheme ++ 58 ∷ rest
+front_scheme text scheme k own rest = ap (λ s. s ++ rest) (own k.url k.parses) ∙ append_assoc k.url.scheme (58 ∷ []) rest
+
+pub leads_by_host : (text link scheme : List ℕ) (len : ℕ) (k : IsCanonical text) → IsSchemeOf text scheme → IsByHost link len → resolve text link ≡ Ok (scheme ++ link)
+leads_by_host text link scheme len k own by =
+    (λ i. resolve (sym k.spelled i) (by.is i)) ∙ resolve-behind k.url by.rest k.valid (page_of text k) by.plain
+    ∙ ap (λ t. Ok t) (sym (front_scheme text scheme k own (47 ∷ 47 ∷ by.rest)) ∙ ap (λ l. scheme ++ l) (sym by.is))
+
+pub spelled_by_host : (text link scheme : List ℕ) (len : ℕ) (k : IsCanonical text) → IsSchemeOf text scheme → IsByHost link len → IsSpelled (scheme ++ link) (length scheme + 2) (length scheme + 2 + len)
+spelled_by_host text link scheme len k own by =
+    let s = spelled_behind k.url by.rest k.valid k.web by.plain in
+    let size : length scheme ≡ length k.url.scheme + 1 = ap length (own k.url k.parses) ∙ length-append k.url.scheme (58 ∷ []) in
+    let whole = sym (front_scheme text scheme k own (47 ∷ 47 ∷ by.rest)) ∙ ap (λ l. scheme ++ l) (sym by.is) in
+    spelled_at (scheme ++ link) _ _ _ _ (subst (λ t. IsSpelled t (length k.url.scheme + 3) (length k.url.scheme + 3 + host_len by.rest)) whole s) (omega (arith, size)) (omega (arith, size, by.host))

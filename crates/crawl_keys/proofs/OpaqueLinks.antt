@@ -1,0 +1,148 @@
+-- URLs whose path is opaque have no canonical text.
+use Rattle.std.proofs.Common.{◌≡◌, ℕ, ◌==◌, Bool, true, false, not, ◌&&◌, ◌||◌, List, [], ◌∷◌, get_or, drop, refl, ap, sym, subst, ◌∙◌, ⊎_elim, All, Some, None, Ok, Err, arith, append-nil, take_all}
+use Rattle.std.specs.Prelude.{Option, bytes_eq, codes, is_some, if◌then◌else◌}
+use Rattle.std.specs.Char.{is_ascii_alphabetic, is_ascii_lowercase, to_ascii_lowercase}
+use Rattle.std.specs.List.{prefix_len}
+use Rattle.std.proofs.lemmas.Bool.{and_parts, and_right, cases_Bool, cond-true, cond_both, or_from, true≢false}
+use Rattle.std.proofs.lemmas.Bool.Decides.{nat_tests}
+use Rattle.std.proofs.lemmas.List.Elements.{All-weaker}
+use Rattle.std.proofs.lemmas.Slice.Eq.{bytes_eq-Decides}
+use Rattle.percent_encoding.specs.Percent.{percent_encode}
+use Rattle.url.specs.declared.scheme.SchemeType.{SchemeType}
+use Rattle.url.specs.declared.scheme.SchemeType.TheVariants.{NotSpecial, SpecialNotFile}
+use Rattle.url.specs.declared.sets.TheConstants.{OPAQUE_PATH}
+use Rattle.url.specs.Head.{scheme_only}
+use Rattle.url.specs.Input.{split_once}
+use Rattle.url.specs.Parser.{Parsed, after_double_slash, and_then, base_for_scheme, before_tail, parse_body, parse_file, parse_non_special, parse_parts, parse_url, skip_slashes, with_path, with_tail}
+use Rattle.url.specs.Parts.{Parts, kind_of}
+use Rattle.url.specs.Path.{escape_end, parse_path}
+use Rattle.url.specs.Scheme.{IsScheme, default_port, is_file, is_scheme_byte, is_slash, is_special, scheme_len, scheme_type}
+use Rattle.url.proofs.InputLemmas.{All-take-prefix_len, IsNot, Passes, StopsAt, lowercase_other, map_fixed, prefix_len_at}
+use Rattle.url.proofs.SchemeLemmas.{not_special_from}
+use Rattle.crawl_keys.specs.CanonicalText.{IsCanonical, is_web, resolve, resolve_from, text_of_parse}
+use Rattle.crawl_keys.specs.declared.error.KeyError.TheVariants.{NotHttp}
+use Rattle.crawl_keys.specs.Opaque.{IsOpaque, IsWord}
+use Rattle.crawl_keys.specs.Plain.{first_is_slash, is_kept, is_lower}
+use Rattle.crawl_keys.proofs.CanonicalLemmas.{text_of-other, web_kind}
+use Rattle.crawl_keys.proofs.HostLinks.{parse_url-scheme, split_behind}
+use Rattle.crawl_keys.proofs.PlainLemmas.{all_kept}
+use Rattle.crawl_keys.proofs.PlainLinks.{no_slashes}
+
+-- ---- the scheme
+
+letters : (scheme : List ℕ) → IsWord scheme → All (Passes is_lower) scheme
+letters scheme word =
+    subst (All (Passes is_lower)) (take_all (prefix_len is_lower scheme) scheme (omega (arith, word.1))) (All-take-prefix_len is_lower scheme)
+
+letter_byte : (b : ℕ) → Passes is_lower b → Passes is_scheme_byte b
+letter_byte b lower = grind (arith, nat_tests)
+
+letter_first : (b : ℕ) → Passes is_lower b → is_ascii_alphabetic b ≡ true
+letter_first b lower = grind (arith, nat_tests)
+
+letter_lower : (b : ℕ) → Passes is_lower b → to_ascii_lowercase b ≡ b
+letter_lower b lower = lowercase_other b (grind (arith, nat_tests))
+
+letter_other : (b : ℕ) → Passes is_lower b → IsNot 63 b
+letter_other b lower same = grind (arith, nat_tests)
+
+word_scheme : (scheme : List ℕ) → IsWord scheme → IsScheme scheme
+unfolding scheme_len
+word_scheme scheme word =
+    let all = letters scheme word in
+    let first = letter_first (get_or scheme 0 0) (all 0 0 word.0) in
+    let bytes = All-weaker (Passes is_lower) (Passes is_scheme_byte) letter_byte scheme all in
+    record {
+      nonempty = word.0;
+      whole = cond-true _ _ _ first ∙ ap (prefix_len is_scheme_byte) (sym (append-nil scheme)) ∙ prefix_len_at is_scheme_byte scheme [] bytes tt;
+      lower = map_fixed to_ascii_lowercase scheme (All-weaker (Passes is_lower) (λ b. to_ascii_lowercase b ≡ b) letter_lower scheme all);
+    }
+
+not_web : (url : Parts) → is_special (kind_of url) ≡ false → is_web url ≡ false
+not_web url other =
+    ⊎_elim (λ web. absurd (true≢false (sym (ap is_special (web_kind url web)) ∙ other))) (λ no. no) (cases_Bool (is_web url))
+
+-- a page of the web is no base for it
+other_base : (base : Parts) (scheme : List ℕ) → is_special (scheme_type scheme) ≡ false → base_for_scheme (Some base) scheme ≡ None
+other_base base scheme other =
+    cond_both {A = Option Parts} (is_special (kind_of base) && bytes_eq base.scheme scheme) (Some base) None (λ (b : Option Parts). b ≡ None)
+    (λ both. absurd (true≢false (special_twice base scheme (and_parts _ _ both) other)))
+    (λ _. refl)
+  where
+    special_twice : (base : Parts) (scheme : List ℕ) → (is_special (kind_of base) ≡ true) × (bytes_eq base.scheme scheme ≡ true) → is_special (scheme_type scheme) ≡ false → true ≡ false
+    special_twice base scheme both other =
+        sym both.0 ∙ ap (λ s. is_special (scheme_type s)) ((bytes_eq-Decides base.scheme scheme).0 both.1) ∙ other
+
+-- ---- the path
+
+abbrev Split : Type 0
+Split = List ℕ × Option (List ℕ)
+
+abbrev by_kind : List ℕ → List ℕ → SchemeType → Parsed Parts
+by_kind scheme body kind =
+    if is_file kind then parse_file None body
+    else (if is_special kind then after_double_slash scheme (skip_slashes body) else parse_non_special scheme body)
+
+abbrev opaque : List ℕ → List ℕ → Parts
+opaque scheme body = with_path (scheme_only scheme) (percent_encode OPAQUE_PATH body)
+
+abbrev by_slashes : List ℕ → List ℕ → ℕ → Parsed Parts
+by_slashes scheme body slashes =
+    if slashes == 2 then after_double_slash scheme (drop 2 body)
+    else (if slashes == 1 then Ok (with_path (scheme_only scheme) (parse_path NotSpecial [] (drop 1 body))) else Ok (opaque scheme body))
+
+opaque_body : (scheme body : List ℕ) → is_special (scheme_type scheme) ≡ false → StopsAt (is_slash NotSpecial) body → parse_body scheme None body ≡ Ok (opaque scheme body)
+unfolding parse_body parse_non_special
+opaque_body scheme body other stops =
+    ap (by_kind scheme body) (not_special_from (scheme_type scheme) other) ∙ ap (by_slashes scheme body) (no_slashes NotSpecial body stops)
+
+tail_scheme : (url : Parts) (query : Option (List ℕ)) → (before_tail url query None).scheme ≡ url.scheme
+tail_scheme url query =
+    cond_both {A = Parts} (not (is_special (kind_of url)) && (is_some query || false)) (with_path url (escape_end url.path)) url (λ (v : Parts). v.scheme ≡ url.scheme) (λ _. refl) (λ _. refl)
+
+opaque_refused : (scheme body : List ℕ) (query : Option (List ℕ)) → is_special (scheme_type scheme) ≡ false → StopsAt (is_slash NotSpecial) body
+    → text_of_parse (parse_parts scheme None body query None) ≡ Err NotHttp
+unfolding parse_parts
+opaque_refused scheme body query other stops =
+    let made = opaque scheme body in
+    ap (λ (r : Parsed Parts). text_of_parse (and_then r (λ u. Ok (with_tail (before_tail u query None) query None)))) (opaque_body scheme body other stops)
+    ∙ text_of-other (with_tail (before_tail made query None) query None) (not_web (with_tail (before_tail made query None) query None) (ap (λ s. is_special (scheme_type s)) (tail_scheme made query) ∙ other))
+
+before_query : (path : List ℕ) → first_is_slash path ≡ false → StopsAt (is_slash NotSpecial) (split_once 63 path).0
+unfolding split_once
+before_query [] rootless = tt
+before_query (b ∷ path) rootless =
+    cond_both {A = Split} (b == 63) ([], Some path) (b ∷ (split_once 63 path).0, (split_once 63 path).1) (λ (r : Split). StopsAt (is_slash NotSpecial) r.0)
+    (λ _. tt) (λ _. or_from _ _ rootless (and_right _ _ refl))
+
+-- a link of that kind is refused on each page
+pub refuses-opaque : (page text : List ℕ) → IsCanonical page → IsOpaque text → resolve page text ≡ Err NotHttp
+unfolding split_once
+refuses-opaque page text k o =
+    let base = k.url in
+    let body = (split_once 63 o.path).0 in
+    let query = (split_once 63 o.path).1 in
+    let none = All-weaker (Passes is_lower) (IsNot 63) letter_other o.scheme (letters o.scheme o.word) in
+    let kept = subst (All (Passes is_kept)) o.is (all_kept 0 text o.plain) in
+    ap (λ p. resolve_from p text) k.parses
+    ∙ ap (λ t. text_of_parse (parse_url (Some base) t)) o.is
+    ∙ ap text_of_parse (parse_url-scheme (Some base) o.scheme o.path body query (word_scheme o.scheme o.word) kept (split_behind o.scheme (58 ∷ o.path) none))
+    ∙ ap (λ b. text_of_parse (parse_parts o.scheme b body query None)) (other_base base o.scheme o.other)
+    ∙ opaque_refused o.scheme body query o.other (before_query o.path o.rootless)
+
+-- ---- special schemes
+
+pub file_special : (scheme : List ℕ) → bytes_eq scheme (codes "file") ≡ true → is_special (scheme_type scheme) ≡ true
+unfolding scheme_type
+file_special scheme file = rw file refl
+
+by_port : (port : Bool) → is_special (if port then SpecialNotFile else NotSpecial) ≡ port
+by_port true = refl
+by_port false = refl
+
+pub other_special : (scheme : List ℕ) → bytes_eq scheme (codes "file") ≡ false → is_special (scheme_type scheme) ≡ is_some (default_port scheme)
+unfolding scheme_type
+other_special scheme other = rw other (by_port (is_some (default_port scheme)))
+
+pub letter_test : (b : ℕ) → is_ascii_lowercase b ≡ is_lower b
+letter_test b = grind (arith, nat_tests)

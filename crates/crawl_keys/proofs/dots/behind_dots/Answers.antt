@@ -1,0 +1,17 @@
+use Rattle.std.proofs.Common.{arith, rules}
+use Rattle.crawl_keys.proofs.DotLinks.{behind_then, whole_behind}
+use Rattle.crawl_keys.proofs.dots.behind_dots.Goals as goal
+
+pub loop-up-init : goal.loop-up-init
+loop-up-init c = (
+  search rules,
+  whole_behind c.args.text.now,
+  omega arith,
+)
+
+pub loop-up-preserved : goal.loop-up-preserved
+loop-up-preserved c = (
+  search rules,
+  behind_then c.args.text.now c.loop-up.rest.now c.in-Some.more.now c.loop-up.ups c.in-Some.up c.loop-up.invariant.1 c.in-Some.ensures.behind,
+  omega (arith, c.in-Some.ensures.shorter, c.loop-up.invariant.2),
+)

@@ -1,0 +1,103 @@
+//! The pages of a saved web, in the parts in which they were read.
+ghost use Rattle.std.specs.Prelude.{◌≡◌, ◌++◌, ℕ, List, true, false, IfOk, IfSome};
+ghost use Rattle.std.specs.List.{flat_map};
+ghost use Rattle.std.specs.Option.{option_map};
+ghost use Rattle.crawl_web.specs.PageLists.{page_with, has};
+
+use crate::saved_web::known_page::KnownPage;
+use crate::saved_web::pages::Pages;
+use crawl_keys::CanonUrl;
+use std::alloc::{AllocError, Global};
+use std::marker::Model;
+
+/// The pages of a saved web: in one part, or in as many as threads have read, each with its own index.
+#[derive(Drop)]
+pub struct WebPages<'a> {
+    parts: Vec<Pages<'a>>,
+}
+
+// Contracts see the pages of all parts, in order.
+impl<'a> Model for WebPages<'a> {
+    ghost use Rattle.std.specs.Prelude.{List};
+    ghost use Rattle.std.specs.Coded.{coded_list};
+    ghost use Rattle.std.specs.List.{flat_map};
+    ghost use Rattle.crawl_web.specs.PageLists.{PageRead, page_read_code};
+
+    ghost Value = { List PageRead };
+
+    ghost coded = { coded_list page_read_code };
+
+    ghost view = { λ pages. flat_map (λ part. part) pages.parts.items };
+}
+
+impl<'a> WebPages<'a> {
+    /// Pages in one part.
+    pub fn one(alloc: Global, pages: Pages<'a>) -> Result<WebPages<'a>, AllocError>
+        ensures { IfOk result (λ web. web ≡ pages.entry) }
+    {
+        let mut parts = Vec::with_capacity(alloc, 1)?;
+        parts.push(pages)?;
+        Ok(WebPages { parts })
+    }
+
+    /// The page with the URL.
+    pub fn get(&self, url: &CanonUrl) -> Option<&KnownPage<'a>>
+        ensures page { option_map (λ page. page.now) result ≡ page_with self.now url.now }
+        ensures same { IfSome result (λ page. page.now.url ≡ url.now) }
+    {
+        first_with(&self.parts, url)
+    }
+
+    /// The pages of both, these first; nothing where a page of each has one URL, or there is no room.
+    pub fn and(self, more: WebPages<'a>) -> Option<WebPages<'a>>
+        ensures both { IfSome result (λ web. web ≡ self.entry ++ more.entry) }
+        ensures apart { IfSome result (λ _. (url : List ℕ) → has more.entry url ≡ true → has self.entry url ≡ false) }
+    {
+        if some_known(&self.parts, &more.parts) {
+            return None;
+        }
+        let WebPages { mut parts } = self;
+        let WebPages { parts: mut others } = more;
+        match parts.append(&mut others) {
+            Ok(()) => Some(WebPages { parts }),
+            Err(_) => None,
+        }
+    }
+}
+
+/// The page with the URL in the first part that has one.
+fn first_with<'p, 'a>(parts: &'p [Pages<'a>], url: &CanonUrl) -> Option<&'p KnownPage<'a>>
+    ensures page { option_map (λ page. page.now) result ≡ page_with (flat_map (λ part. part) parts.now) url.now }
+    ensures same { IfSome result (λ page. page.now.url ≡ url.now) }
+{
+    for part in parts {
+        if let Some(page) = part.get(url) {
+            return Some(page);
+        }
+    }
+    None
+}
+
+/// Whether a page of each has one URL.
+fn some_known(parts: &[Pages<'_>], others: &[Pages<'_>]) -> bool
+    ensures { result ≡ false → (url : List ℕ) → has (flat_map (λ part. part) others.now) url ≡ true → has (flat_map (λ part. part) parts.now) url ≡ false }
+{
+    for other in others {
+        if is_known(parts, other) {
+            return true;
+        }
+    }
+    false
+}
+
+/// Whether a page of the parts and one of the other have one URL.
+fn is_known(parts: &[Pages<'_>], other: &Pages<'_>) -> bool
+    ensures { result ≡ false → (url : List ℕ) → has other.now url ≡ true → has (flat_map (λ part. part) parts.now) url ≡ false }
+{
+    for part in parts {
+        if part.shares_url(other) {
+            return true;
+        }
+    }
+    false
+}

@@ -1,0 +1,7 @@
+use Rattle.std.proofs.Common.{◌≡◌, ◌++◌, take}
+use Rattle.crawl_report.specs.Tallies.{pointed}
+use Rattle.mercator_site.specs.External.{outside}
+use Rattle.mercator_site.proofs.external.push_outside.Given as goal
+
+abbrev pub invariant-loop-link : goal.invariant-loop-link
+invariant-loop-link l = pointed l.urls.items ≡ pointed l.fn.urls.items ++ outside l.filter (take l.link-index l.links)

@@ -1,0 +1,46 @@
+-- Where links to other hosts lead.
+use Rattle.std.specs.Prelude.{◌≡◌, ℕ, ◌+◌, not, List, [], ◌∷◌, if◌then◌else◌, filter, string_bytes}
+use Rattle.std.specs.Cmp.Lexicographic.{slice_cmp}
+use Rattle.std.specs.List.{flat_map}
+use Rattle.std.specs.List.Sorted.{IsPermutation, IsSortedByKey}
+use Rattle.std.specs.Ordering.{nat_cmp}
+use Rattle.std.specs.Str.{bytes_eq}
+use Rattle.check_report.specs.declared.value.External.{External}
+use Rattle.crawl_keys.specs.HostFilter.{allows}
+use Rattle.crawl_web.specs.Pages.{links_of}
+use Rattle.crawl_web.specs.declared.page.PageResult.{PageResult}
+
+-- the URLs that the filter with these suffixes does not allow
+abbrev pub outside : List (List ℕ) → List (List ℕ) → List (List ℕ)
+outside suffixes urls = filter (λ url. not (allows suffixes url)) urls
+
+-- those among the links of pages, each as often as it stands there
+abbrev pub outside_links : List (List ℕ) → List PageResult → List (List ℕ)
+outside_links suffixes pages = flat_map (λ r. outside suffixes (links_of r.page)) pages
+
+-- a URL, and how many links lead to it
+pub record Row : Type 0 where
+  pub url : List ℕ
+  pub links : ℕ
+
+abbrev pub row_of : External → Row
+row_of e = record { url = string_bytes e.url; links = e.links }
+
+abbrev pub row : List ℕ → ℕ → Row
+row url links = record { url = url; links = links }
+
+-- the rows of equal URLs that stand behind one another: so many of the URL, and then these
+abbrev pub runs_from : List ℕ → ℕ → List (List ℕ) → List Row
+runs_from url links [] = row url links ∷ []
+runs_from url links (next ∷ more) = if bytes_eq next url then runs_from url (links + 1) more else row url links ∷ runs_from next 1 more
+
+abbrev pub runs : List (List ℕ) → List Row
+runs [] = []
+runs (url ∷ more) = runs_from url 1 more
+
+-- these are the rows of the links that lead to hosts outside, in the order of their bytes
+pub record AreExternal (suffixes : List (List ℕ)) (pages : List PageResult) (rows : List Row) : Type 0 where
+  pub urls : List (List ℕ)
+  pub same : IsPermutation (outside_links suffixes pages) urls
+  pub ascends : IsSortedByKey (λ url. url) (slice_cmp nat_cmp) urls
+  pub counted : rows ≡ runs urls

@@ -1,0 +1,99 @@
+//! Where links to other hosts lead.
+ghost use Rattle.std.specs.Prelude.{◌≡◌, ◌≤◌, ◌++◌, ◌∷◌, [], OnOk, IfOk, map};
+ghost use Rattle.crawl_report.specs.Tallies.{pointed};
+ghost use Rattle.mercator_site.specs.External.{AreExternal, outside, outside_links, row, row_of, runs, runs_from};
+
+use check_report::External;
+use crawl_keys::{CanonUrl, Filter};
+use crawl_web::{NoMemory, PageResult, links_of};
+use std::alloc::Global;
+
+/// The URLs of hosts that the filter does not allow and that links of the pages lead to, ascending by their bytes, each with how
+/// many links lead to it. A link that stands twice in a page counts twice.
+///
+/// # Errors
+/// Where a growth was refused.
+pub(crate) fn external_links(
+    alloc: Global,
+    filter: &Filter,
+    pages: &[PageResult],
+) -> Result<Vec<External>, NoMemory>
+    ensures { IfOk result (λ all. AreExternal filter.now pages.now (map row_of all.items)) }
+{
+    let mut urls = outside_links(alloc, filter, pages)?;
+    urls.sort_by(|a, b| a.cmp(b))?;
+    runs(alloc, urls.as_slice())
+}
+
+/// The links that lead to hosts outside.
+fn outside_links<'r>(
+    alloc: Global,
+    filter: &Filter,
+    pages: &'r [PageResult],
+) -> Result<Vec<&'r CanonUrl>, NoMemory>
+    ensures { IfOk result (λ urls. pointed urls.items ≡ outside_links filter.now pages.now) }
+{
+    let mut urls = Vec::new(alloc);
+    for one in pages {
+        push_outside(filter, links_of(&one.page), &mut urls)?;
+    }
+    Ok(urls)
+}
+
+fn push_outside<'r>(
+    filter: &Filter,
+    links: &'r [CanonUrl],
+    urls: &mut Vec<&'r CanonUrl>,
+) -> Result<(), NoMemory>
+    ensures { OnOk result (pointed urls.new.items ≡ pointed urls.old.items ++ outside filter.now links.now) }
+{
+    for link in links {
+        if !filter.allows(link) {
+            urls.push(link)?;
+        }
+    }
+    Ok(())
+}
+
+/// A row for each run of equal URLs.
+fn runs(alloc: Global, urls: &[&CanonUrl]) -> Result<Vec<External>, NoMemory>
+    ensures { IfOk result (λ all. map row_of all.items ≡ runs (pointed urls.now)) }
+{
+    match urls.split_first() {
+        Some((first, more)) => runs_from(alloc, first, more),
+        None => Ok(Vec::new(alloc)),
+    }
+}
+
+/// The rows of the URL and of those behind it.
+fn runs_from(alloc: Global, first: &CanonUrl, more: &[&CanonUrl]) -> Result<Vec<External>, NoMemory>
+    ensures { IfOk result (λ all. map row_of all.items ≡ runs_from first.now 1 (pointed more.now)) }
+{
+    let mut all = Vec::new(alloc);
+    let mut url = first;
+    let mut links: u64 = 1;
+    for next in more {
+        if *next == url {
+            links += 1;
+        } else {
+            push_row(alloc, url, links, &mut all)?;
+            url = next;
+            links = 1;
+        }
+    }
+    push_row(alloc, url, links, &mut all)?;
+    Ok(all)
+}
+
+fn push_row(
+    alloc: Global,
+    url: &CanonUrl,
+    links: u64,
+    all: &mut Vec<External>,
+) -> Result<(), NoMemory>
+    ensures { OnOk result (map row_of all.new.items ≡ map row_of all.old.items ++ row url.now links ∷ []) }
+{
+    let url = String::from_str(alloc, url.as_str())?;
+    all.push(External { url, links })?;
+    Ok(())
+}
