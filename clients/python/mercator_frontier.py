@@ -35,7 +35,9 @@ import threading
 import time
 from functools import partial
 from types import TracebackType
-from typing import Dict, Iterable, Iterator, List, NamedTuple, NoReturn, Optional, Sequence, Type, Union
+from typing import (
+    Any, Dict, Iterable, Iterator, List, NamedTuple, NoReturn, Optional, Sequence, Type, Union,
+)
 
 __all__ = [
     "Accepted", "Channel", "Closed", "Frontier", "FrontierEnded", "FrontierError", "LogInUse",
@@ -522,8 +524,9 @@ def _accepted_in(answers: List[bytes]) -> Iterator[Accepted]:
     words = b" ".join(answers).split(b" ")
     if len(words) != 3 * len(answers) or set(words[::3]) != {b"accepted"}:
         _refuse(next(answer for answer in answers if not _ACCEPTED.fullmatch(answer)))
-    pairs = zip(map(int, words[1::3]), map(int, words[2::3]))
-    return map(partial(tuple.__new__, Accepted), pairs)
+    # As `Accepted` of each pair, without a call of Python's for it.
+    made: Any = partial(tuple.__new__, Accepted)
+    return map(made, zip(map(int, words[1::3]), map(int, words[2::3])))
 
 
 def _in_hand(answer: bytes) -> Optional[str]:
