@@ -6,17 +6,17 @@ ghost use Rattle.crawl_frontier.specs.Limits.{IsWorkers};
 ghost use Rattle.crawl_gate.specs.GateError.{IsMaximum};
 ghost use Rattle.crawl_web.specs.KnownPages.{page_at};
 ghost use Rattle.crawl_web.specs.SavedWeb.{page_of};
-ghost use Rattle.crawl_web.specs.WebFaults.{IsSound};
+ghost use Rattle.crawl_web.specs.WebFaults.{IsSound, IsWebRefusal};
 ghost use Rattle.crawl_web.specs.declared.page.PageResult.{PageResult};
 ghost use Rattle.mercator.specs.Crawls.{AreCounts};
 ghost use Rattle.mercator.specs.WebCrawl.{AreAllSeeds, AreSeeds, ComesOf, IsBegun, IsFound, IsSiteCrawl, IsCrawlReport, IsNamedAt, IsRefused, IsSeedFault, IsUnbegun, IsUnread};
 
 use crate::commands::failure::Failure;
 use crate::commands::fault::Fault;
-use crate::crawling::{CrawlSettings, Crawled, crawl_explained, crawl_with};
+use crate::crawling::{CrawlSettings, Crawled, Mode, crawl_explained, crawl_with};
 use crawl_keys::{CanonUrl, canonical};
 use crawl_sources::read_seeds;
-use crawl_web::{SavedWeb, report_text};
+use crawl_web::{SavedWeb, WebError, report_text};
 use std::alloc::Global;
 use std::sync::Wait;
 use std::thread::Threads;
@@ -79,7 +79,7 @@ pub fn crawl_saved_web<R: Threads + Wait + Sync>(
     ensures numbers { IfOk result (λ _. IsWorkers settings.now.workers × IsMaximum settings.now.max_pending) }
     ensures mode { IfErr result (ComesOf settings.now.mode) }
 {
-    let (web, urls) = read_site(alloc, bytes, listed, seeds)?;
+    let (web, urls) = read_site(rt, alloc, settings, bytes, listed, seeds)?;
     let found = crawl_with(rt, alloc, &web, settings, &urls)?;
     Ok(found)
 }
@@ -101,7 +101,7 @@ pub(in crate::commands) fn crawl_with_web<'a, R: Threads + Wait + Sync>(
     ensures refused { IfErr result (λ failure. IsUnbegun settings.now.workers settings.now.max_pending bytes.now listed.now (map string_bytes seeds.now) failure.fault) }
     ensures named { IfErr result (λ failure. IsNamedAt bytes.now listed.now (map string_bytes seeds.now) settings.now.filter.now failure.fault failure.culprit) }
 {
-    let (web, urls) = read_site(alloc, bytes, listed, seeds)?;
+    let (web, urls) = read_site(rt, alloc, settings, bytes, listed, seeds)?;
     if urls.is_empty() {
         return Err(Failure::from(Fault::NoSeed));
     }
@@ -110,8 +110,10 @@ pub(in crate::commands) fn crawl_with_web<'a, R: Threads + Wait + Sync>(
 }
 
 /// The saved web that the bytes are, and the seeds of the file with the bytes `listed` and then those given.
-fn read_site<'a>(
+fn read_site<'a, R: Threads + Sync>(
+    rt: &R,
     alloc: Global,
+    settings: &CrawlSettings<'_>,
     bytes: &'a [u8],
     listed: &[u8],
     seeds: &[String],
@@ -121,11 +123,29 @@ fn read_site<'a>(
     ensures named { IfOk result (λ r. AreAllSeeds listed.now (map string_bytes seeds.now) r.1.items) }
     ensures unread { IfErr result (λ fault. IsUnread bytes.now listed.now (map string_bytes seeds.now) fault) }
 {
-    let web = SavedWeb::read(alloc, bytes)?;
+    let web = web_of(rt, alloc, settings, bytes)?;
     let mut urls = read_seeds(alloc, listed)?;
     let mut others = seed_urls(alloc, seeds)?;
     urls.append(&mut others)?;
     Ok((web, urls))
+}
+
+/// The saved web that the bytes are, read by threads where several workers crawl it by threads.
+fn web_of<'a, R: Threads + Sync>(
+    rt: &R,
+    alloc: Global,
+    settings: &CrawlSettings<'_>,
+    bytes: &'a [u8],
+) -> Result<SavedWeb<'a>, WebError>
+    ensures sound { IfOk result (λ _. IsSound (lines bytes.now)) }
+    ensures pages { IfOk result (λ web. (url : List ℕ) → page_at web url ≡ page_of (lines bytes.now) url) }
+    ensures fault { IfErr result (λ told. IsWebRefusal (lines bytes.now) told) }
+{
+    if settings.workers > 1 && matches!(settings.mode, Mode::Threads) {
+        SavedWeb::read_in_threads(rt, alloc, bytes)
+    } else {
+        SavedWeb::read(alloc, bytes)
+    }
 }
 
 /// The seeds' canonical URLs.

@@ -1,7 +1,7 @@
 use Rattle.mercator.proofs.commands.web_crawl.read_site.Goals as goal
 
 pub returns-clause-named : goal.returns-clause-named
-returns-clause-named c = record {
+returns-clause-named g c = record {
   first = c.in_ok-urls.urls.items;
   others = c.in_ok-others.others.items;
   filed = c.in_ok-urls.ensures;
