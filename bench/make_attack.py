@@ -196,7 +196,8 @@ def long_base(links):
 
 
 def many_letters(links):
-    """Hosts of two labels of 600 letters outside of ASCII, all of which differ: Punycode looks at all of them for each."""
+    """Hosts of two labels of 600 letters outside of ASCII, all of which differ: Punycode looks at all of them for each, in the
+    kit's `idna`, which refuses labels above 1,000 letters."""
     yield f"{WEB}\npage {SEED}\n"
     for link in range(links):
         label = "".join(chr(0x4E00 + (letter * 7_919 + link) % 20_000) for letter in range(600))

@@ -2,15 +2,18 @@
 # Checks a folder of HTML by `mercator check` and by the tools that people use else, in turns: html-proofer on the folder too;
 # LinkChecker, wget and a spider of 12 lines for Scrapy over HTTP, from a server on the loopback. It prints a row for each:
 # what it tells of the folder, the least clock and processor time of RUNS runs, the peak memory of a process, and whether two
-# runs told the same bytes, but for times. Wants GNU time, and takes those tools that are there: Debian's ruby-html-proofer,
-# linkchecker, wget, python3-scrapy.
+# runs told the same bytes, but for times. A run that takes longer than 20 s is not repeated, and ends after LIMIT seconds.
+# Wants GNU time, and takes those tools that are there: Debian's ruby-html-proofer, linkchecker, wget, python3-scrapy.
 #
 # Usage: bench/others.sh [FOLDER ..]     examples/site where none is given
-# In the environment, PROGRAM is another program than the one built here, RUNS another number of runs than 3.
+# In the environment, PROGRAM is another program than the one built here, RUNS another number of runs than 3, LIMIT another
+# number than 300.
 set -euo pipefail
 cd "$(dirname "$0")/.."
 program=${PROGRAM:-$PWD/crates/mercator_cli/out/mercator_cli}
 runs=${RUNS:-3}
+limit=${LIMIT:-300}
+long_run=20
 scratch=$(mktemp -d)
 server=
 trap '[ -z "$server" ] || kill "$server"; rm -rf "$scratch"' EXIT
@@ -69,26 +72,47 @@ without_times() {
     sed -E 's/[0-9]{4}-[0-9]{2}-[0-9]{2} [0-9:+ ]+//g; s/[0-9.,]+ ?(ms|s|seconds|minutes?,? ?)\b//g; s/127\.0\.0\.1:[0-9]+/HOST/g'
 }
 
+# timed NAME FOLDER RUN: a run of a tool. Its clock and processor time and its peak memory go to a line of `rows`, its status to
+# `ended`.
+timed() {
+    local start=$EPOCHREALTIME user system peak
+    ended=0
+    : > "$scratch/requests"
+    program=$program scratch=$scratch env time -q -o "$scratch/time" -f '%U %S %M' timeout "$limit" \
+        bash -c "by_$1 \"\$@\"" by "$2" "$url" > "$scratch/told.$3" || ended=$?
+    read -r user system peak < <(tail -n 1 "$scratch/time")
+    awk -v a="$start" -v b="$EPOCHREALTIME" -v u="$user" -v s="$system" -v m="$peak" \
+        'BEGIN { printf "%.2f %.2f %d\n", b - a, u + s, m }' >> "$scratch/rows"
+}
+
+# same RUNS: whether these runs told the same.
+same() {
+    local run
+    if [ "$1" -eq 1 ]; then echo "one run"; return; fi
+    for ((run = 1; run < $1; run++)); do
+        cmp -s <(without_times < "$scratch/told.0") <(without_times < "$scratch/told.$run") || { echo no; return; }
+    done
+    echo yes
+}
+
 # row NAME FOLDER: the row of a tool, run as often as asked.
 row() {
-    local name=$1 folder=$2 run start user system peak
+    local name=$1 folder=$2 run clock processor
     export -f "by_$name"
+    : > "$scratch/rows"
     for ((run = 0; run < runs; run++)); do
-        : > "$scratch/requests"
-        start=$EPOCHREALTIME
-        program=$program scratch=$scratch env time -q -o "$scratch/time" -f '%U %S %M' \
-            bash -c "by_$name \"\$@\"" by "$folder" "$url" > "$scratch/told.$run" || true
-        read -r user system peak < <(tail -n 1 "$scratch/time")
-        awk -v a="$start" -v b="$EPOCHREALTIME" -v u="$user" -v s="$system" -v m="$peak" \
-            'BEGIN { printf "%.2f %.2f %d\n", b - a, u + s, m }'
-    done > "$scratch/rows"
-    local same=yes
-    for ((run = 1; run < runs; run++)); do
-        cmp -s <(without_times < "$scratch/told.0") <(without_times < "$scratch/told.$run") || same=no
+        timed "$name" "$folder" "$run"
+        if awk -v most="$long_run" '{ last = $1 } END { exit last <= most }' "$scratch/rows"; then run=$((run + 1)); break; fi
     done
-    printf '| %s | %s | %s s | %s s | %d MiB | %s | %d |\n' "$name" "$(summary "$name" < "$scratch/told.0")" \
-        "$(cut -d' ' -f1 "$scratch/rows" | sort -g | head -n 1)" "$(cut -d' ' -f2 "$scratch/rows" | sort -g | head -n 1)" \
-        $(($(cut -d' ' -f3 "$scratch/rows" | sort -g | tail -n 1) / 1024)) "$same" "$(grep -c 'HTTP/1' "$scratch/requests" || true)"
+    clock=$(cut -d' ' -f1 "$scratch/rows" | sort -g | head -n 1)
+    processor=$(cut -d' ' -f2 "$scratch/rows" | sort -g | head -n 1)
+    if [ "$ended" -eq 124 ]; then
+        printf '| %s | stopped | above %s s | | | | %d |\n' "$name" "$limit" "$(grep -c 'HTTP/1' "$scratch/requests" || true)"
+        return
+    fi
+    printf '| %s | %s | %s s | %s s | %d MiB | %s | %d |\n' "$name" "$(summary "$name" < "$scratch/told.0")" "$clock" "$processor" \
+        $(($(cut -d' ' -f3 "$scratch/rows" | sort -g | tail -n 1) / 1024)) "$(same "$run")" \
+        "$(grep -c 'HTTP/1' "$scratch/requests" || true)"
 }
 
 folders=("$@")

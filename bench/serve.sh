@@ -1,10 +1,10 @@
 #!/bin/bash
 # Measures `mercator serve` on pipes: new offers and offers that are seen, sent ahead of their answers; offers one by one,
-# each answer awaited; bytes that a URL keeps; the memory of a line of 10^9 bytes; and offers by the Python client. Beside
-# it, in the same run, what a crawler in Python would take else: a set and a queue with URLs normalised by urllib.parse,
-# and Scrapy's own scheduler with its fingerprints; and the scheduler for Scrapy over the frontier. It prints the rate by the
-# clock, and the program's own processor time and instructions, which other work on the machine changes less or not at
-# all. It fails where a target is missed. Wants a C compiler, valgrind and Python 3.9; Scrapy where it is there.
+# each answer awaited, and what bounds them; bytes that a URL keeps; the memory of a line of 10^9 bytes; and offers by the
+# Python client. Beside it, in the same run, what a crawler in Python would take else: a set and a queue with URLs normalised
+# by urllib.parse, and Scrapy's own scheduler with its fingerprints; and the scheduler for Scrapy over the frontier. It prints
+# the rate by the clock, and the program's own processor time and instructions, which other work on the machine changes less
+# or not at all. It fails where a target is missed. Wants a C compiler, valgrind and Python 3.9; Scrapy where it is there.
 #
 # usage: bench/serve.sh [--program PROGRAM] [URLS]      1000000 URLs where no number is given
 #
@@ -38,9 +38,9 @@ cc -O2 -std=c11 -Wall -o "$made/serve_client" bench/serve_client.c
 serve=("$program" serve --workers 4 --max-pending 1000000000)
 status=0
 
-# the fastest of some runs of the client in a mode: nanoseconds, those of the program's processor, its peak memory in bytes
-best() {
-    for _ in $(seq "$runs"); do "$made/serve_client" "$1" "$2" "${serve[@]}"; done | sort -n | head -n 1
+# the fastest of some runs of a client: nanoseconds, those of the program's processor, its peak memory in bytes
+fastest() {
+    for _ in $(seq "$runs"); do "$@"; done | sort -n | head -n 1
 }
 
 # a figure that a target bounds: what it is, the figure, `least` or `most`, the target
@@ -55,9 +55,17 @@ bounded() {
 # a rate of the program in a mode: what it is, the mode, how many, the target
 rate() {
     local spent worked
-    read -r spent worked _ < <(best "$2" "$3")
+    read -r spent worked _ < <(fastest "$made/serve_client" "$2" "$3" "${serve[@]}")
     bounded "$1, a second" $(($3 * 1000000000 / spent)) least "$4"
     echo "  processor time of the program: $((worked / $3)) ns each, $(($3 * 1000000000 / worked)) a second"
+}
+
+# a rate of offers one by one that no target bounds: what it is, the client's command
+awaited() {
+    local what=$1 spent
+    shift
+    read -r spent _ < <(fastest "$@")
+    echo "  $what: $((few * 1000000000 / spent)) a second"
 }
 
 # the instructions that the program takes for the requests of a file
@@ -69,6 +77,10 @@ instructions() {
 rate "new offers, ahead of their answers" new "$many" "$least_new"
 rate "offers that are seen, ahead of their answers" seen "$many" "$least_seen"
 rate "new offers, one by one" single "$few" "$least_single"
+client=$made/serve_client
+awaited "by a program that only answers, which the pipes and the system bound" "$client" single "$few" "$client" echo
+awaited "client and program on one processor" taskset -c 0 "$client" single "$few" "${serve[@]}"
+awaited "a client that asks until the answer is there" "$client" polled "$few" "${serve[@]}"
 
 "$made/serve_client" print "$counted" > "$made/new"
 : > "$made/none"

@@ -3,8 +3,10 @@
  *     serve_client new COUNT PROGRAM WORD..     offers COUNT URLs, ahead of their answers
  *     serve_client seen COUNT PROGRAM WORD..    offers them, and measures offering them again
  *     serve_client single COUNT PROGRAM WORD..  offers COUNT URLs, each once the last is answered
+ *     serve_client polled COUNT PROGRAM WORD..  the same, and asks for the answer until it is there
  *     serve_client line COUNT PROGRAM WORD..    sends a line of COUNT bytes
  *     serve_client print COUNT                  writes the requests of `new`
+ *     serve_client echo                         in place of PROGRAM for `single`: it only answers
  *
  * It writes the nanoseconds that passed, those of processor time that the program took meanwhile,
  * and the program's greatest resident memory at its end, in bytes. Every answer is read, and one
@@ -78,7 +80,7 @@ static void read_answer(int file, char *answer)
     size_t count = 0;
     while (count == 0 || answer[count - 1] != '\n') {
         ssize_t got = count < 79 ? read(file, answer + count, 79 - count) : 0;
-        if (got < 0 && errno == EINTR)
+        if (got < 0 && (errno == EINTR || errno == EAGAIN))
             continue;
         if (got <= 0)
             fail("no answer");
@@ -157,6 +159,18 @@ static void one_by_one(struct server *server, const char *lines, size_t count)
     }
 }
 
+/* Answers each read at once, with no work between: what remains of `single` is the pipes' and the
+ * system's. */
+static int echo(void)
+{
+    char line[LINE];
+    while (read(STDIN_FILENO, line, LINE) > 0) {
+        const char *answer = line[0] == 'o' ? "accepted 0 000000\n" : "refused nothing\n";
+        write_all(STDOUT_FILENO, answer, strlen(answer));
+    }
+    return 0;
+}
+
 static void long_line(struct server *server, size_t count)
 {
     static char bytes[CHUNK];
@@ -197,6 +211,8 @@ static void measure(struct server *server, const char *mode, const char *lines, 
         pipeline(server, lines, count, 's');
     else if (strcmp(mode, "single") == 0)
         one_by_one(server, lines, count);
+    else if (strcmp(mode, "polled") == 0 && fcntl(server->answers, F_SETFL, O_NONBLOCK) == 0)
+        one_by_one(server, lines, count);
     else if (strcmp(mode, "line") == 0)
         long_line(server, count);
     else
@@ -205,8 +221,10 @@ static void measure(struct server *server, const char *mode, const char *lines, 
 
 int main(int argc, char **argv)
 {
+    if (argc > 1 && strcmp(argv[1], "echo") == 0)
+        return echo();
     if (argc < 3 || (argc < 4 && strcmp(argv[1], "print") != 0))
-        fail("usage: serve_client new|seen|single|line|print COUNT PROGRAM WORD..");
+        fail("usage: serve_client new|seen|single|polled|line|print COUNT PROGRAM WORD.., or echo");
     const char *mode = argv[1];
     size_t count = strtoull(argv[2], NULL, 10);
     if (strcmp(mode, "print") == 0) {
