@@ -20,7 +20,7 @@ BY_HOST = re.compile(r"(https?:)?//([a-z0-9._-]*)(/.*)")
 
 
 def is_kept(text, before=""):
-    return bool(KEPT.fullmatch(text)) and not MARKS.search(text) and not ODD_SEGMENT.search(before + text)
+    return bool(KEPT.fullmatch(text)) and not MARKS.search(text) and not ODD_SEGMENT.search(before + text.split("?")[0])
 
 
 def kind(text):

@@ -38,7 +38,7 @@ SCHEMES = ["http:", "https:"]
 OTHER_SCHEMES = ["mailto", "javascript", "tel", "data", "a", "ftp", "ws", "wss", "file", "http", "https", "httpx", "x-y"]
 PORTS = ["", "", "", ":8080", ":80", ":443", ":1", ":65535"]
 SEGMENTS = ["a", "page-1.html", "~user", "x..", "a.b", "a%20b", "-", "with:colon", "1"]
-QUERIES = ["", "", "?", "?q", "?a=b&c=d/../e", "?x?y"]
+QUERIES = ["", "", "?", "?q", "?a=b&c=d/../e", "?x?y", "?q=http://b.test//x/.y?z"]
 FRAGMENTS = ["", "", "", "#", "#top", "#a?b/../c"]
 
 

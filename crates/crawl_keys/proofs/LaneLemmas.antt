@@ -1,13 +1,13 @@
 -- From the mask of 16 lanes to the bytes of a text.
-use Rattle.std.proofs.Common.{◌≡◌, ◌≢◌, ℕ, ◌+◌, ◌-◌, ◌%◌, ◌^◌, ◌<◌, ◌≤◌, Bool, true, false, not, ◌||◌, List, map, length, get_or, bit_and, bit_or, Fits, w8, replicate, sym, ap, ◌∙◌, subst, arith, inl, inr}
+use Rattle.std.proofs.Common.{◌≡◌, ◌≢◌, ℕ, ◌+◌, ◌-◌, ◌%◌, ◌^◌, ◌<◌, ◌≤◌, ◌==◌, Bool, true, false, not, ◌||◌, cond, refl, List, map, length, get_or, bit_and, bit_or, Fits, w8, replicate, sym, ap, ◌∙◌, subst, arith, inl, inr}
 use Rattle.std.proofs.lemmas.Bool.{agree_below, agree_below_at, cases_eq, cond-false, cond-true, eq-eqb, ne_eqb, not-false, not-true}
 use Rattle.std.proofs.lemmas.Simd.{first_set_mask_l, get_or-chunk, get_or-zip2, leading_from_mask_l, length-chunk, length-zip2, map-map, mask_l-mod, run_in_chunk_fails, run_in_chunk_le, run_in_chunk_stops, splat_is_map, zip2_of_maps}
 use Rattle.std.proofs.lemmas.List.{get_or-map, length-map}
 use Rattle.std.proofs.lemmas.List.Sums.{prefix_len_passes}
 use Rattle.std.specs.List.{prefix_len}
 use lib.Lanes.{chunk, mask_l, top, zip2}
-use Rattle.crawl_keys.specs.Lanes.{Follow, IsHostRun, first_set}
-use Rattle.crawl_keys.specs.Plain.{is_host_byte, is_kept, may_begin, may_follow}
+use Rattle.crawl_keys.specs.Lanes.{Follow, IsRun, first_set}
+use Rattle.crawl_keys.specs.Plain.{is_host_byte, is_kept, is_other, may_begin, may_follow}
 
 -- a splat, as computed lane by lane from v
 pub splat : (v : List ℕ) (y : ℕ) → length v ≡ 16 → replicate 16 y ≡ map (λ _. y) v
@@ -93,19 +93,36 @@ all_follow text at z own slashes begins room fits is other first later none k fr
     (subst (λ j. may_follow (get_or text (at + i) 0) (get_or text j 0) ≡ true) next
     (follows own slashes begins other first later (get_or text (at + i) 0) (get_or text (at + 1 + i) 0) (fits (at + 1 + i)).fits test))
 
--- a lane stops just where the byte may not stand in a host
-pub host_run : (text : List ℕ) (at r : ℕ) (z : List ℕ) (f : ℕ → ℕ) → at + 16 ≤ length text → ((k : ℕ) → Fits w8 (get_or text k 0))
+-- a lane stops just where the byte fails the test
+run_of : (test : ℕ → Bool) (text : List ℕ) (at r : ℕ) (z : List ℕ) (f : ℕ → ℕ) → at + 16 ≤ length text → ((k : ℕ) → Fits w8 (get_or text k 0))
     → r ≡ first_set (mask_l (map (top 7) z) % 2 ^ 64) → z ≡ map f (chunk at 16 text)
-    → agree_below (λ x. top 7 (f x)) (λ x. not (is_host_byte x)) 256 ≡ true → IsHostRun text at r
-host_run text at r z f room fits found lanes all =
+    → ((x : ℕ) → x < 256 → top 7 (f x) ≡ not (test x)) → IsRun test text at r
+run_of test text at r z f room fits found lanes told =
     let v = chunk at 16 text in
     let long = length-chunk at 16 text room in
     let stops = λ (x : ℕ). top 7 (f x) in
     let mask = ap (λ l. mask_l l % 2 ^ 64) (ap (map (top 7)) lanes ∙ map-map (top 7) f v) ∙ mask_l-mod (map stops v) 64 (omega (arith, length-map v stops, long)) in
     let counted : r ≡ prefix_len (λ x. not (stops x)) v = found ∙ ap first_set mask ∙ first_set_mask_l stops v 16 long (omega arith) in
-    let at_byte = λ (k : ℕ). agree_below_at stops (λ x. not (is_host_byte x)) 256 (get_or text k 0) all (fits k).fits in
+    let at_byte = λ (k : ℕ). told (get_or text k 0) (fits k).fits in
     record {
       few = run_in_chunk_le stops text at 16 r 0 room counted;
       pass = λ k from to. not-false _ (sym (at_byte k) ∙ run_in_chunk_fails stops text at 16 r 0 room counted k from to);
       stops = λ short. not-true _ (sym (at_byte (at + r)) ∙ run_in_chunk_stops stops text at 16 r 0 room counted short);
     }
+
+-- where the byte may not stand in a host
+pub host_run : (text : List ℕ) (at r : ℕ) (z : List ℕ) (f : ℕ → ℕ) → at + 16 ≤ length text → ((k : ℕ) → Fits w8 (get_or text k 0))
+    → r ≡ first_set (mask_l (map (top 7) z) % 2 ^ 64) → z ≡ map f (chunk at 16 text)
+    → agree_below (λ x. top 7 (f x)) (λ x. not (is_host_byte x)) 256 ≡ true → IsRun is_host_byte text at r
+host_run text at r z f room fits found lanes all =
+    run_of is_host_byte text at r z f room fits found lanes (λ x below. agree_below_at (λ y. top 7 (f y)) (λ y. not (is_host_byte y)) 256 x all below)
+
+-- where the byte is the mark
+pub other_run : (text : List ℕ) (at mark r : ℕ) (z : List ℕ) → at + 16 ≤ length text → ((k : ℕ) → Fits w8 (get_or text k 0))
+    → r ≡ first_set (mask_l (map (top 7) z) % 2 ^ 64) → z ≡ map (λ x. cond (x == mark) 255 0) (chunk at 16 text) → IsRun (is_other mark) text at r
+other_run text at mark r z room fits found lanes =
+    run_of (is_other mark) text at r z (λ x. cond (x == mark) 255 0) room fits found lanes (λ x _. by_flag (x == mark))
+  where
+    by_flag : (same : Bool) → top 7 (cond same 255 0) ≡ not (not same)
+    by_flag true = refl
+    by_flag false = refl

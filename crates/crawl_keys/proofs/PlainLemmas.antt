@@ -1,21 +1,22 @@
 -- What a plain text is made of: the segments of a path, and a query.
-use Rattle.std.proofs.Common.{◌≡◌, ◌≢◌, ℕ, suc, ◌+◌, ◌-◌, ◌<◌, ◌==◌, Bool, true, false, not, ◌&&◌, List, [], ◌∷◌, ◌++◌, length, get_or, refl, ap, sym, subst, ◌∙◌, ⊎_elim, All, Some, IfSome, arith, bit_and, nat_eq}
+use Rattle.std.proofs.Common.{◌≡◌, ◌≢◌, ℕ, suc, ◌+◌, ◌-◌, ◌<◌, ◌==◌, Bool, true, false, not, ◌&&◌, List, [], ◌∷◌, ◌++◌, length, take, drop, get_or, take-append-drop, refl, ap, sym, subst, ◌∙◌, ⊎_elim, All, Some, IfSome, arith, bit_and, nat_eq}
 use Rattle.std.specs.Prelude.{Option, is_some, unwrap_or}
-use Rattle.std.proofs.lemmas.Bool.{agree_below, agree_below_at, and_from, and_parts, cases_eq, cond-true, cond_both, eq-eqb, eqb-true, ne_eqb, true≢false}
+use Rattle.std.proofs.lemmas.Bool.{agree_below, agree_below_at, and_from, and_parts, cases_eq, cond-false, cond-true, cond_both, eq-eqb, eqb-true, ne_eqb, not-false, true≢false}
 use Rattle.std.proofs.lemmas.Bool.Decides.{nat_tests}
 use Rattle.std.proofs.lemmas.List.Elements.{All-nil, All-cons, All-head, All-tail, All-weaker}
-use Rattle.std.specs.List.{after_first, before_first, position_or_len}
+use Rattle.std.proofs.lemmas.List.Folds.{list_all-append}
+use Rattle.std.specs.List.{after_first, before_first, list_all, position_or_len, prefix_len}
 use Rattle.std.proofs.lemmas.List.Sums.{passes_at_first, split_at_first}
 use Rattle.percent_encoding.specs.Percent.{IsKept}
 use Rattle.url.specs.declared.sets.TheConstants.{PATH, SPECIAL_QUERY}
 use Rattle.url.specs.declared.scheme.SchemeType.TheVariants.{SpecialNotFile}
 use Rattle.url.specs.Input.{split_once, when}
 use Rattle.url.specs.Path.{dot_len, dot_count, IsSegment, IsSegmentList, join_segments}
-use Rattle.url.proofs.InputLemmas.{IsNot, Passes}
+use Rattle.url.proofs.InputLemmas.{All_from_list_all, IsNot, Passes, StopsAt, StopsAt-drop-prefix_len, list_all_from_All}
 use Rattle.url.proofs.PathLemmas.{IsNoSlash}
 use Rattle.url.proofs.SetLemmas.{kept_from_passes}
 use Rattle.crawl_keys.specs.Lanes.{Follow}
-use Rattle.crawl_keys.specs.Plain.{is_kept, is_plain, may_begin, may_follow}
+use Rattle.crawl_keys.specs.Plain.{is_kept, is_other, is_plain, may_begin, may_follow}
 
 -- ---- bytes
 
@@ -49,14 +50,27 @@ pub all_kept : (last : ℕ) (text : List ℕ) → is_plain last text ≡ true �
 all_kept last [] plain = All-nil (Passes is_kept)
 all_kept last (b ∷ text) plain =
     let parts = and_parts _ _ plain in
-    All-cons (Passes is_kept) b text (follows_kept last b parts.0) (all_kept b text parts.1)
+    let later = cond_both {A = Bool} (b == 63) (list_all is_kept text) (is_plain b text) (λ (v : Bool). v ≡ true → All (Passes is_kept) text)
+    (λ _ kept. All_from_list_all is_kept text kept) (λ _ more. all_kept b text more) parts.1 in
+    All-cons (Passes is_kept) b text (follows_kept last b parts.0) later
+
+-- a plain text is plain behind a byte that may stand there
+pub plain_then : (last b : ℕ) (text : List ℕ) → may_follow last b ≡ true → is_plain b text ≡ true → is_plain last (b ∷ text) ≡ true
+plain_then last b text first plain =
+    and_from _ _ first (cond_both {A = Bool} (b == 63) (list_all is_kept text) (is_plain b text) (λ (v : Bool). v ≡ true)
+    (λ _. list_all_from_All is_kept text (all_kept b text plain)) (λ _. plain))
+
+-- and what stands behind a byte of the path is plain
+plain_after : (last b : ℕ) (text : List ℕ) → is_plain last (b ∷ text) ≡ true → b ≢ 63 → is_plain b text ≡ true
+plain_after last b text plain other =
+    sym (cond-false (b == 63) (list_all is_kept text) (is_plain b text) (ne_eqb b 63 other)) ∙ (and_parts _ _ plain).1
 
 -- ---- bytes behind bytes
 
 plain_behind : (last b : ℕ) (text : List ℕ) → may_follow last b ≡ true → Follow (b ∷ text) 0 (length text) → is_plain last (b ∷ text) ≡ true
-plain_behind last b [] first each = and_from _ _ first refl
+plain_behind last b [] first each = plain_then last b [] first refl
 plain_behind last b (c ∷ text) first each =
-    and_from _ _ first (plain_behind b c text (each 0 (omega arith) (omega arith)) (λ k from to. later b c text k (each (suc k) (omega arith) (omega arith))))
+    plain_then last b (c ∷ text) first (plain_behind b c text (each 0 (omega arith) (omega arith)) (λ k from to. later b c text k (each (suc k) (omega arith) (omega arith))))
   where
     later : (b c : ℕ) (text : List ℕ) (k : ℕ) → may_follow (get_or (b ∷ c ∷ text) (suc k) 0) (get_or (b ∷ c ∷ text) (suc k + 1) 0) ≡ true → may_follow (get_or (c ∷ text) k 0) (get_or (c ∷ text) (k + 1) 0) ≡ true
     later b c text k each =
@@ -130,7 +144,7 @@ runs last [] plain none = record {
 }
 runs last (b ∷ text) plain none =
     let parts = and_parts _ _ plain in
-    let later = runs b text parts.1 (All-tail (IsNot 63) b text none) in
+    let later = runs b text (plain_after last b text plain (All-head (IsNot 63) b text none)) (All-tail (IsNot 63) b text none) in
     ⊎_elim (λ slash. after_slash last b text slash later)
     (λ other. in_segment last b text (follows_kept last b parts.0) (All-head (IsNot 63) b text none) other (behind_slash last b parts.0) later)
     (cases_eq b 47)
@@ -160,7 +174,7 @@ runs last (b ∷ text) plain none =
 -- a plain text with no query that begins with a slash is a list of segments
 pub rooted_path : (last b : ℕ) (text : List ℕ) → b ≡ 47 → is_plain last (b ∷ text) ≡ true → All (IsNot 63) (b ∷ text) → IsSegmentList SpecialNotFile (b ∷ text)
 rooted_path last b text slash plain none =
-    let run = runs b text (and_parts _ _ plain).1 (All-tail (IsNot 63) b text none) in
+    let run = runs b text (plain_after last b text plain (All-head (IsNot 63) b text none)) (All-tail (IsNot 63) b text none) in
     record {
       segments = run.first ∷ run.others;
       joined = (λ i. slash i ∷ run.is i);
@@ -188,26 +202,51 @@ unfolding split_once
 splits last [] plain = record { plain = refl; none = All-nil (IsNot 63); kept = tt; whole = refl }
 splits last (b ∷ text) plain =
     let parts = and_parts _ _ plain in
-    let later = splits b text parts.1 in
     cond_both {A = Split} (b == 63) ([], Some text) (b ∷ (split_once 63 text).0, (split_once 63 text).1) (λ (r : Split). IsSplit last (b ∷ text) r.0 r.1)
-    (λ mark. at_mark last b text (eqb-true b 63 mark) parts.1)
-    (λ other. before_mark last b text (split_once 63 text).0 (split_once 63 text).1 parts.0 (λ same. true≢false (sym (eq-eqb b 63 same) ∙ other)) later)
+    (λ mark. at_mark last b text (eqb-true b 63 mark) (sym (cond-true (b == 63) (list_all is_kept text) (is_plain b text) mark) ∙ parts.1))
+    (λ other. before_mark last b text (split_once 63 text).0 (split_once 63 text).1 parts.0 (λ same. true≢false (sym (eq-eqb b 63 same) ∙ other))
+    (splits b text (sym (cond-false (b == 63) (list_all is_kept text) (is_plain b text) other) ∙ parts.1)))
   where
-    at_mark : (last b : ℕ) (text : List ℕ) → b ≡ 63 → is_plain b text ≡ true → IsSplit last (b ∷ text) [] (Some text)
-    at_mark last b text mark plain = record {
+    at_mark : (last b : ℕ) (text : List ℕ) → b ≡ 63 → list_all is_kept text ≡ true → IsSplit last (b ∷ text) [] (Some text)
+    at_mark last b text mark kept = record {
       plain = refl;
       none = All-nil (IsNot 63);
-      kept = All-weaker (Passes is_kept) (IsKept SPECIAL_QUERY) query_byte text (all_kept b text plain);
+      kept = All-weaker (Passes is_kept) (IsKept SPECIAL_QUERY) query_byte text (All_from_list_all is_kept text kept);
       whole = ap (λ x. x ∷ text) mark;
     }
 
     before_mark : (last b : ℕ) (text path : List ℕ) (query : Option (List ℕ)) → may_follow last b ≡ true → b ≢ 63 → IsSplit b text path query → IsSplit last (b ∷ text) (b ∷ path) query
     before_mark last b text path query test other later = record {
-      plain = and_from _ _ test later.plain;
+      plain = plain_then last b path test later.plain;
       none = All-cons (IsNot 63) b path other later.none;
       kept = later.kept;
       whole = ap (λ l. b ∷ l) later.whole;
     }
+
+mark_follows : (last b : ℕ) → b ≡ 63 → may_follow last b ≡ true
+mark_follows last b mark =
+    ap (may_follow last) mark ∙ cond_both {A = Bool} (last == 47) (may_begin 63) (is_kept 63) (λ (v : Bool). v ≡ true) (λ _. refl) (λ _. refl)
+
+plain_mark : (last : ℕ) (query : List ℕ) → 0 < length query → StopsAt (is_other 63) query → list_all is_kept query ≡ true → is_plain last query ≡ true
+plain_mark last [] some stops kept = absurd (omega arith)
+plain_mark last (b ∷ query) some stops kept =
+    let mark = not-false (b == 63) stops in
+    and_from _ _ (mark_follows last b (eqb-true b 63 mark)) (cond-true (b == 63) (list_all is_kept query) (is_plain b query) mark ∙ (and_parts _ _ kept).1)
+
+plain_parts : (last : ℕ) (path query : List ℕ) → is_plain last path ≡ true → 0 < length query → StopsAt (is_other 63) query → list_all is_kept query ≡ true → is_plain last (path ++ query) ≡ true
+plain_parts last [] query plain some stops kept = plain_mark last query some stops kept
+plain_parts last (b ∷ path) query plain some stops kept =
+    let parts = and_parts _ _ plain in
+    and_from _ _ parts.0 (cond_both {A = Bool} (b == 63) (list_all is_kept (path ++ query)) (is_plain b (path ++ query)) (λ (v : Bool). v ≡ true)
+    (λ mark. list_all-append is_kept path query ∙ and_from _ _ (sym (cond-true (b == 63) (list_all is_kept path) (is_plain b path) mark) ∙ parts.1) kept)
+    (λ other. plain_parts b path query (sym (cond-false (b == 63) (list_all is_kept path) (is_plain b path) other) ∙ parts.1) some stops kept))
+
+-- a plain path and a query that is kept are a plain text
+pub plain_query : (last : ℕ) (text path query : List ℕ) (n : ℕ) → n ≡ prefix_len (is_other 63) text → path ≡ take n text → query ≡ drop n text
+    → is_plain last path ≡ true → 0 < length query → list_all is_kept query ≡ true → is_plain last text ≡ true
+plain_query last text path query n place front back plain some kept =
+    let stops = subst (StopsAt (is_other 63)) (ap (λ k. drop k text) (sym place) ∙ sym back) (StopsAt-drop-prefix_len (is_other 63) text) in
+    subst (λ t. is_plain last t ≡ true) ((λ i. front i ++ back i) ∙ take-append-drop n text) (plain_parts last path query plain some stops kept)
 
 -- ---- a text that is cut at a byte
 

@@ -1,17 +1,17 @@
 -- What is told of 16 bytes at once.
-use Rattle.std.specs.Prelude.{◌≡◌, ◌<◌, ◌≤◌, ◌+◌, ◌==◌, ℕ, true, false, List, slice_index, if◌then◌else◌}
+use Rattle.std.specs.Prelude.{◌≡◌, ◌<◌, ◌≤◌, ◌+◌, ◌==◌, ℕ, Bool, true, false, List, slice_index, if◌then◌else◌}
 use Rattle.std.specs.Int.{w64, trailing_zeros}
-use Rattle.crawl_keys.specs.Plain.{is_host_byte, may_follow}
+use Rattle.crawl_keys.specs.Plain.{may_follow}
 
 -- behind each of these places stands a byte that may follow the one there
 abbrev pub Follow : List ℕ → ℕ → ℕ → Type 0
 Follow text at end = (k : ℕ) → at ≤ k → k < end → may_follow (slice_index text k) (slice_index text (k + 1)) ≡ true
 
--- so many of the 16 bytes from this place on, from the first, may stand in a host
-pub record IsHostRun (text : List ℕ) (at run : ℕ) : Type 0 where
+-- so many of the 16 bytes from this place on, from the first, pass the test
+pub record IsRun (test : ℕ → Bool) (text : List ℕ) (at run : ℕ) : Type 0 where
   pub few : run ≤ 16
-  pub pass : (k : ℕ) → at ≤ k → k < at + run → is_host_byte (slice_index text k) ≡ true
-  pub stops : run < 16 → is_host_byte (slice_index text (at + run)) ≡ false
+  pub pass : (k : ℕ) → at ≤ k → k < at + run → test (slice_index text k) ≡ true
+  pub stops : run < 16 → test (slice_index text (at + run)) ≡ false
 
 -- the place of the lowest bit that is set, or 16
 abbrev pub first_set : ℕ → ℕ

@@ -6,7 +6,7 @@ use Rattle.url.specs.Ascii.{dot, number_sign, question_mark, slash}
 use Rattle.url.specs.Input.{split_once}
 use Rattle.url.specs.Path.{parse_path, without_last_segment}
 use Rattle.crawl_keys.specs.declared.plain.PlainLink.{PlainLink}
-use Rattle.crawl_keys.specs.declared.plain.PlainLink.TheVariants.{Absolute, ByHost, Rooted, Query, Same, Other}
+use Rattle.crawl_keys.specs.declared.plain.PlainLink.TheVariants.{Absolute, ByHost, Rooted, Query, Same, Relative, Other}
 use Rattle.crawl_keys.specs.Folders.{is_of_folder}
 use Rattle.crawl_keys.specs.Plain.{first_is_slash, host_len, is_kept, is_plain, is_plain_host}
 use Rattle.crawl_keys.specs.Spelled.{IsSpelled}
@@ -77,4 +77,5 @@ IsLink text (ByHost len) = IsByHost text len
 IsLink text Rooted = is_rooted text ≡ true
 IsLink text Query = is_query text ≡ true
 IsLink text Same = is_same text ≡ true
+IsLink text Relative = ⊤
 IsLink text Other = ⊤

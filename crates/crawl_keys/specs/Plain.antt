@@ -1,7 +1,7 @@
 -- Texts of paths and queries that the parser of URLs leaves as they are.
 use Rattle.std.specs.Prelude.{ℕ, Bool, true, not, ◌&&◌, ◌||◌, ◌==◌, nat_le, nat_lt, List, [], ◌∷◌, take, drop, slice_index, if◌then◌else◌}
-use Rattle.std.specs.List.{prefix_len}
-use Rattle.url.specs.Ascii.{backslash, dot, hyphen, percent_sign, slash, space}
+use Rattle.std.specs.List.{list_all, prefix_len}
+use Rattle.url.specs.Ascii.{backslash, dot, hyphen, percent_sign, question_mark, slash, space}
 use Rattle.url.specs.Input.{rsplit_once}
 
 -- one of `"`, `#`, `'`, `<`, `>`, `\`, `^`, the backtick, `{` and `}`, which the parser escapes in a path or in a query, ends
@@ -21,10 +21,10 @@ may_begin b = is_kept b && not (b == slash || b == dot || b == percent_sign)
 abbrev pub may_follow : ℕ → ℕ → Bool
 may_follow last b = if last == slash then may_begin b else is_kept b
 
--- each byte of the text may follow the one before it, and the first one this
+-- up to the first `?` each byte of the text may follow the one before it, and the first one this; behind it each is kept
 abbrev pub is_plain : ℕ → List ℕ → Bool
 is_plain last [] = true
-is_plain last (b ∷ text) = may_follow last b && is_plain b text
+is_plain last (b ∷ text) = may_follow last b && (if b == question_mark then list_all is_kept text else is_plain b text)
 
 -- `a` to `z`
 abbrev pub is_lower : ℕ → Bool

@@ -13,7 +13,9 @@ use crate::dots::behind_dots;
 use crate::folder::{folder_above, folder_len, has_no_scheme};
 use crate::opaque::is_opaque;
 use crate::parsed::Parsed;
-use crate::plain::{HostPlace, PlainLink, behind_ups, is_plain, len_before, plain_link};
+use crate::plain::{
+    HostPlace, PlainLink, begins_path, behind_ups, is_plain, len_before, plain_link,
+};
 use crate::{CanonUrl, KeyError, before_fragment};
 use std::alloc::{AllocError, Global};
 use std::marker::Model;
@@ -112,7 +114,8 @@ impl Base {
             PlainLink::Rooted => Some(self.rooted(alloc, text)),
             PlainLink::Query => Some(self.query(alloc, text)),
             PlainLink::Same => Some(self.same(text)),
-            PlainLink::Other => self.beside(alloc, text),
+            PlainLink::Relative => self.beside(alloc, text),
+            PlainLink::Other => None,
         }
     }
 
@@ -202,7 +205,8 @@ impl Base {
         ensures { IfSome result (λ answer. Gives KeyError.NoMemory (λ url. url) answer (spec.resolve self.now text.now)) }
     {
         let (ups, rest) = behind_dots(text);
-        if is_plain(b'/', rest.as_bytes()) && has_no_scheme(text) {
+        // A text that begins with no dot segment was looked at before.
+        if rest.len() < text.len() && is_plain(b'/', rest.as_bytes()) && has_no_scheme(text) {
             return Some(self.in_folder(alloc, text, ups, rest));
         }
         None
@@ -212,6 +216,10 @@ impl Base {
     fn not_plain(&self, alloc: Global, text: &str) -> Result<CanonUrl, KeyError>
         ensures { Gives KeyError.NoMemory (λ url. url) result (spec.resolve self.now text.now) }
     {
+        // Neither a dot segment nor a scheme begins so.
+        if begins_path(text.as_bytes()) {
+            return self.parsed(alloc, text);
+        }
         if let Some(answer) = self.dotted(alloc, text) {
             return answer;
         }

@@ -1,7 +1,8 @@
 //! Bytes of texts, looked at 16 at a time.
 ghost use Rattle.std.specs.Prelude.{◌≡◌, ◌+◌, ◌≤◌, length, true};
-ghost use Rattle.crawl_keys.specs.Lanes.{Follow, IsHostRun};
+ghost use Rattle.crawl_keys.specs.Lanes.{Follow, IsRun};
 ghost use Rattle.crawl_keys.specs.Lanes as spec;
+ghost use Rattle.crawl_keys.specs.Plain.{is_host_byte, is_other};
 
 use std::simd::prelude::*;
 
@@ -32,7 +33,7 @@ pub fn follow(text: &[u8], at: usize) -> bool
 #[inline(always)]
 pub fn host_run(text: &[u8], at: usize) -> usize
     requires { at + LANES ≤ length text.now }
-    ensures { IsHostRun text.now at result }
+    ensures { IsRun is_host_byte text.now at result }
 {
     let byte = u8x16::from_slice(&text[at..]);
     let no_letter = (byte - u8x16::splat(b'a')).simd_ge(u8x16::splat(26));
@@ -40,6 +41,16 @@ pub fn host_run(text: &[u8], at: usize) -> usize
     let no_point = (byte - u8x16::splat(b'-')).simd_ge(u8x16::splat(2));
     let stops = no_letter & no_digit & no_point & byte.simd_ne(u8x16::splat(b'_'));
     first_set(stops.to_bitmask())
+}
+
+/// How many of the 16 bytes from this place on, from the first, are another than this.
+#[inline(always)]
+pub fn other_run(text: &[u8], at: usize, mark: u8) -> usize
+    requires { at + LANES ≤ length text.now }
+    ensures { IsRun (is_other mark) text.now at result }
+{
+    let byte = u8x16::from_slice(&text[at..]);
+    first_set(byte.simd_eq(u8x16::splat(mark)).to_bitmask())
 }
 
 /// The place of the lowest bit that is set, or 16.

@@ -11,6 +11,16 @@ use crate::plain::{begins_path, is_plain};
 pub fn is_opaque(text: &str) -> bool
     ensures { result ≡ true → IsOpaque text.now }
 {
+    match text.as_bytes() {
+        [b'a'..=b'z', ..] => has_opaque_path(text),
+        _ => false,
+    }
+}
+
+/// The same of a text that begins with a letter.
+fn has_opaque_path(text: &str) -> bool
+    ensures { result ≡ true → IsOpaque text.now }
+{
     match text.split_once(':') {
         Some((scheme, path)) if is_other_scheme(scheme) => {
             !begins_path(path.as_bytes()) && is_plain(0, text.as_bytes())

@@ -1,13 +1,13 @@
 //! Texts that the parser of URLs leaves as they are, told by a look at each byte.
 ghost use Rattle.std.specs.Prelude.{◌≡◌, ◌-◌, ◌<◌, ◌≤◌, ℕ, length, true, IfSome};
-ghost use Rattle.std.specs.List.{prefix_len};
+ghost use Rattle.std.specs.List.{list_all, prefix_len};
 ghost use Rattle.crawl_keys.specs.Lanes.{Follow};
 ghost use Rattle.crawl_keys.specs.Links.{IsLink};
 ghost use Rattle.crawl_keys.specs.Links as links;
 ghost use Rattle.crawl_keys.specs.Plain as spec;
 ghost use Rattle.crawl_keys.specs.Spelled.{IsSpelled};
 
-use crate::lanes::{LANES, follow, host_run};
+use crate::lanes::{LANES, follow, host_run, other_run};
 
 /// Where the host stands in the text of a URL.
 #[derive(Clone, Copy)]
@@ -31,6 +31,8 @@ pub enum PlainLink {
     Query,
     /// It leads to the page.
     Same,
+    /// It may lead to the page's folder, or to one above it.
+    Relative,
     /// It is another one.
     Other,
 }
@@ -47,11 +49,12 @@ pub fn plain_link(text: &str) -> PlainLink
         },
         [b'/', ..] if is_plain(0, text.as_bytes()) => PlainLink::Rooted,
         [b'?', ..] if is_plain(0, text.as_bytes()) => PlainLink::Query,
+        [b'/' | b'?', ..] => PlainLink::Other,
         [b'h', ..] => match host_place(text) {
             Some(host) => PlainLink::Absolute(host),
-            None => PlainLink::Other,
+            None => PlainLink::Relative,
         },
-        _ => PlainLink::Other,
+        _ => PlainLink::Relative,
     }
 }
 
@@ -127,6 +130,27 @@ pub fn len_before(bytes: &[u8], mark: u8) -> usize
     ensures value { result ≡ prefix_len (spec.is_other mark) bytes.now }
     ensures within { result ≤ length bytes.now }
 {
+    if bytes.len() < LANES {
+        return len_before_short(bytes, mark);
+    }
+    let last = bytes.len() - LANES;
+    let mut at = 0;
+    while at < last {
+        let run = other_run(bytes, at, mark);
+        if run < LANES {
+            return at + run;
+        }
+        at += LANES;
+    }
+    // These may overlap those before.
+    last + other_run(bytes, last, mark)
+}
+
+/// The same, a byte at a time.
+fn len_before_short(bytes: &[u8], mark: u8) -> usize
+    ensures value { result ≡ prefix_len (spec.is_other mark) bytes.now }
+    ensures within { result ≤ length bytes.now }
+{
     for (place, byte) in bytes.iter().enumerate() {
         if *byte == mark {
             return place;
@@ -165,6 +189,13 @@ fn last_label(host: &[u8]) -> &[u8]
 pub fn is_plain(last: u8, text: &[u8]) -> bool
     ensures { result ≡ true → spec.is_plain last text.now ≡ true }
 {
+    is_plain_path(last, text) || has_plain_query(last, text)
+}
+
+/// Whether it stays by the rule for a path, whether there is a query in it or not. `false` says nothing.
+fn is_plain_path(last: u8, text: &[u8]) -> bool
+    ensures { result ≡ true → spec.is_plain last text.now ≡ true }
+{
     if text.len() <= LANES {
         return is_plain_short(last, text);
     }
@@ -188,9 +219,24 @@ fn all_follow(text: &[u8]) -> bool
     follow(text, last)
 }
 
-/// The same, a byte at a time.
+/// Whether it stays where the rule for a path ends at the first `?`. `false` says nothing.
+fn has_plain_query(last: u8, text: &[u8]) -> bool
+    ensures { result ≡ true → spec.is_plain last text.now ≡ true }
+{
+    let (path, query) = text.split_at(len_before(text, b'?'));
+    !query.is_empty() && is_plain_path(last, path) && are_kept(query)
+}
+
+/// Whether a query keeps each byte as it is.
+fn are_kept(bytes: &[u8]) -> bool
+    ensures { result ≡ list_all spec.is_kept bytes.now }
+{
+    bytes.iter().all(|byte| is_kept(*byte))
+}
+
+/// Whether each byte may follow the one before it, a byte at a time. `false` says nothing.
 fn is_plain_short(last: u8, text: &[u8]) -> bool
-    ensures { result ≡ spec.is_plain last text.now }
+    ensures { result ≡ true → spec.is_plain last text.now ≡ true }
 {
     let mut before = last;
     for &byte in text {

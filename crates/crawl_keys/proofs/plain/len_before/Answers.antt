@@ -1,12 +1,25 @@
-use Rattle.std.proofs.Common.{ap, eq-eqb, not, sym, arith}
+use Rattle.std.proofs.Common.{◌+◌, sym, arith, inl, inr}
+use Rattle.std.proofs.lemmas.Bool.{cases_lt}
 use Rattle.url.proofs.InputLemmas.{prefix_len_is}
 use Rattle.crawl_keys.specs.Plain.{is_other}
 use Rattle.crawl_keys.proofs.plain.len_before.Goals as goal
 
-pub returns-then-byte-mark-clause-value : goal.returns-then-byte-mark-clause-value
-returns-then-byte-mark-clause-value c =
-    sym (prefix_len_is (is_other c.args.mark) c.args.bytes.now c.loop-place.place (omega arith) c.loop-place.invariant (λ _. ap not (eq-eqb _ _ c.if-byte-mark.true)))
+pub returns-then-run-lt-LANES-clause-value : goal.returns-then-run-lt-LANES-clause-value
+returns-then-run-lt-LANES-clause-value c =
+    let run = c.other_run-run.ensures in
+    sym (prefix_len_is (is_other c.args.mark) c.args.bytes.now (c.loop-at.at + c.other_run-run.result) (omega (arith, run.few))
+    (λ k below. elim (cases_lt k c.loop-at.at) [ inl early ↦ c.loop-at.invariant.1 k early | inr late ↦ run.pass k late below ])
+    (λ _. run.stops c.if-run-lt-LANES.true))
+
+pub loop-at-preserved : goal.loop-at-preserved
+loop-at-preserved c = (
+  omega arith,
+  λ k below. elim (cases_lt k c.loop-at.at) [ inl early ↦ c.loop-at.invariant.1 k early | inr late ↦ c.other_run-run.ensures.pass k late (omega arith) ],
+)
 
 pub returns-clause-value : goal.returns-clause-value
 returns-clause-value c =
-    sym (prefix_len_is (is_other c.args.mark) c.args.bytes.now _ (omega arith) (λ k below. c.loop-place.invariant k (omega arith)) (λ inside. absurd (omega arith)))
+    let run = c.other_run.ensures in
+    sym (prefix_len_is (is_other c.args.mark) c.args.bytes.now _ (omega (arith, run.few))
+    (λ k below. elim (cases_lt k c.loop-at.at) [ inl early ↦ c.loop-at.invariant.1 k early | inr late ↦ run.pass k (omega arith) (omega arith) ])
+    (λ inside. run.stops (omega arith)))

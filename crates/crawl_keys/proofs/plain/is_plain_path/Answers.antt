@@ -1,6 +1,6 @@
 use Rattle.std.proofs.Common.{sym, ◌∙◌, arith}
 use Rattle.crawl_keys.proofs.PlainLemmas.{plain_from}
-use Rattle.crawl_keys.proofs.plain.is_plain.Goals as goal
+use Rattle.crawl_keys.proofs.plain.is_plain_path.Goals as goal
 
 pub returns-then-may_follow : goal.returns-then-may_follow
 returns-then-may_follow c all =

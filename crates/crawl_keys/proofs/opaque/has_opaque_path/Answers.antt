@@ -4,7 +4,7 @@ use Rattle.url.specs.Scheme.{is_special, scheme_type}
 use Rattle.crawl_keys.specs.Opaque.{IsWord}
 use Rattle.crawl_keys.specs.Plain.{first_is_slash, is_plain}
 use Rattle.crawl_keys.proofs.PlainLemmas.{cut_at}
-use Rattle.crawl_keys.proofs.opaque.is_opaque.Goals as goal
+use Rattle.crawl_keys.proofs.opaque.has_opaque_path.Goals as goal
 
 pub returns-then-not-begins_path : goal.returns-then-not-begins_path
 returns-then-not-begins_path c passes =
