@@ -1,5 +1,5 @@
 -- The lines of bytes, by their first line, and when a line is a text.
-use Rattle.std.proofs.Common.{◌≡◌, ℕ, zero, suc, ◌+◌, ◌<◌, ◌≤◌, ◌-◌, ◌==◌, Bool, true, false, cond, List, [], ◌∷◌, ◌++◌, length, take, drop, nat_lt, get_or, Option, Some, None, Ok, Err, refl, sym, ap, subst, ◌∙◌, arith, append_assoc, append-nil, length-append, ltb-true, ltb-false, le-ltb, lt-ltb, ne_eqb}
+use Rattle.std.proofs.Common.{◌≡◌, ℕ, zero, suc, ◌+◌, ◌<◌, ◌≤◌, ◌-◌, ◌==◌, Bool, true, false, cond, List, [], ◌∷◌, ◌++◌, length, take, drop, nat_lt, get_or, Option, Some, None, Ok, Err, codes, refl, sym, ap, subst, ◌∙◌, arith, length-append, drop-drop, ltb-true, ltb-false, le-ltb, lt-ltb, ne_eqb}
 use Rattle.std.specs.List.{position, position_or_len, before_first, after_first, slice_split, onto_first}
 use Rattle.std.specs.Str.{is_utf8, IsUtf8}
 use Rattle.std.specs.Str.Lines.{lines, lines_of_parts, strip_carriage_return}
@@ -7,9 +7,7 @@ use Rattle.std.specs.Bool.{if◌then◌else◌}
 use Rattle.std.proofs.lemmas.Bool.{eqb-true}
 use Rattle.std.proofs.lemmas.Str.{is_utf8-from_IsUtf8, IsUtf8-from_is_utf8, IsUtf8-nil, IsUtf8-append, IsUtf8-from_ascii}
 use Rattle.std.proofs.lemmas.Str.Ascii.{IsAscii-from_all}
-use Rattle.std.proofs.lemmas.List.{take_all, take_at, take_more, take-append-drop, drop_at, drop_more, get_or-take, get_or-drop, length-take, length-drop}
-use Rattle.std.proofs.Math.ListN.{get_or-append}
-use Rattle.std.proofs.Math.Seq.{get_or-append_seam}
+use Rattle.std.proofs.lemmas.List.{take_all, take_more, take-append-drop, drop_all, drop_more, get_or-drop, length-drop}
 use Rattle.std.proofs.lemmas.List.Elements.{All-nil, All-push}
 use Rattle.std.proofs.lemmas.List.Splits.{slice_split_first, slice_split_none, length-slice_split}
 use Rattle.std.proofs.lemmas.List.Sums.{fails_before_first, passes_at_first, position_or_len_is}
@@ -17,7 +15,7 @@ use Rattle.memchr.specs.Find.{IsFirstByte}
 use Rattle.crawl_web.specs.declared.lines.LineError.TheVariants.{NotText}
 use Rattle.crawl_limits.specs.Limits.{line_limit}
 use Rattle.crawl_web.specs.Lines.{text_of}
-use Rattle.crawl_web.specs.LineEnds.{EndsLine}
+use Rattle.crawl_web.specs.FirstLine.{behind_line}
 
 abbrev pub is_lf : ℕ → Bool
 is_lf b = b == 10
@@ -121,41 +119,29 @@ pub no_bytes : (bytes : List ℕ) → (length bytes == 0) ≡ true → IsUtf8 by
 no_bytes [] e = IsUtf8-nil
 no_bytes (x ∷ xs) e = absurd (omega (arith, eqb-true (length (x ∷ xs)) 0 e))
 
--- ---- where the first line ends
+-- ---- what is behind the first line
 
-lf_first : (text other : List ℕ) (end : ℕ) → position is_lf text ≡ Some end → position is_lf (take end text ++ 10 ∷ other) ≡ Some end
-lf_first text other end e =
+pub behind_at : (text : List ℕ) (end : ℕ) → position is_lf text ≡ Some end → drop (end + 1) text ≡ behind_line text
+behind_at text end e =
     let place = found (nat_lt (position_or_len is_lf text) (length text)) (position_or_len is_lf text) end e in
-    let inside : end < length text = (lf_at text end e).0 in
-    let len : length (take end text) ≡ end = omega (arith, length-take end text) in
-    let w : List ℕ = take end text ++ 10 ∷ other in
-    let n : length w ≡ length (take end text) + length (10 ∷ other) = length-append (take end text) (10 ∷ other) in
-    let before : (k : ℕ) → k < end → is_lf (get_or w k 0) ≡ false = λ k below.
-    ap is_lf (get_or-append (take end text) (10 ∷ other) 0 k (omega (arith, len, below)) ∙ get_or-take end text k 0 below)
-    ∙ fails_before_first is_lf text k 0 (omega (arith, place.1, below)) in
-    let here : get_or w end 0 ≡ 10 = subst (λ m. get_or w m 0 ≡ 10) len (get_or-append_seam (take end text) 10 other 0) in
-    let there : position_or_len is_lf w ≡ end = position_or_len_is is_lf w end 0 (omega (arith, n, len)) before (λ _. ap is_lf here) in
-    rw (there, lt-ltb end (length w) (omega (arith, n, len))) refl
+    ap (λ n. drop (n + 1) text) (sym place.1)
 
-pub ends_at : (text : List ℕ) (end : ℕ) → position is_lf text ≡ Some end → EndsLine text (strip_carriage_return (take end text)) (drop (end + 1) text)
-ends_at text end e =
-    let at = lf_at text end e in
-    let len : length (take end text) ≡ end = omega (arith, length-take end text) in
-    let front : take (end + 1) text ≡ take end text ++ 10 ∷ [] = take_more text end 0 at.0 ∙ ap (λ b. take end text ++ b ∷ []) at.1 in
-    let whole : length (take (end + 1) text) ≡ end + 1 = omega (arith, length-take (end + 1) text) in
-    record {
-      front = take (end + 1) text;
-      split = sym (take-append-drop (end + 1) text);
-      ends = λ _ other.
-          let joined : take (end + 1) text ++ other ≡ take end text ++ 10 ∷ other = ap (λ b. b ++ other) front ∙ append_assoc (take end text) (10 ∷ []) other in
-          let first : position is_lf (take (end + 1) text ++ other) ≡ Some end = ap (position is_lf) joined ∙ lf_first text other end e in
-          let line : take end (take (end + 1) text ++ other) ≡ take end text = ap (take end) joined ∙ take_at (take end text) (10 ∷ other) end len in
-          let more : drop (end + 1) (take (end + 1) text ++ other) ≡ other = drop_at (take (end + 1) text) other (end + 1) whole in
-          lines_at (take (end + 1) text ++ other) end first ∙ (λ i. strip_carriage_return (line i) ∷ lines (more i));
-    }
+pub none_behind : (text : List ℕ) → position is_lf text ≡ None → [] ≡ behind_line text
+none_behind text e =
+    let beyond = ltb-false _ _ (missed (nat_lt (position_or_len is_lf text) (length text)) (position_or_len is_lf text) e) in
+    sym (drop_all (position_or_len is_lf text + 1) text (omega (arith, beyond)))
 
-pub ends_all : (text : List ℕ) → EndsLine text text []
-ends_all text = record { front = text; split = sym (append-nil text); ends = λ none other. absurd (omega (arith, none)) }
+pub no_text : (text : List ℕ) → (length text == 0) ≡ true → behind_line text ≡ []
+no_text [] e = refl
+no_text (x ∷ xs) e = absurd (omega (arith, eqb-true (length (x ∷ xs)) 0 e))
+
+-- a word before the line changes nothing
+pub behind_page : (text : List ℕ) → behind_line text ≡ behind_line (codes "page " ++ text)
+behind_page text =
+    let n : ℕ = position_or_len is_lf text in
+    let whole : position_or_len is_lf (codes "page " ++ text) ≡ 1 + (1 + (1 + (1 + (1 + n)))) = refl in
+    let count : position_or_len is_lf (codes "page " ++ text) + 1 ≡ 5 + (n + 1) = omega (arith, whole) in
+    drop-drop (n + 1) 5 (codes "page " ++ text) ∙ ap (λ k. drop k (codes "page " ++ text)) (sym count)
 
 -- ---- bytes that are cut at the end of a line
 

@@ -3,7 +3,6 @@ pub mod FirstVersion
 pub mod JoinedParts
 pub mod LeastLine
 pub mod LinkIndex
-pub mod OwnLines
 pub mod PageIndex
 pub mod PageLinks
 pub mod PartPages

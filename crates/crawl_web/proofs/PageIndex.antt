@@ -1,11 +1,10 @@
 -- Pages by the index of their URLs.
-use Rattle.std.proofs.Common.{◌≡◌, ℕ, suc, Bool, true, false, List, [], ◌∷◌, ◌++◌, length, map, slice_get, slice_set, slice_index_or, Option, Some, None, IfSome, is_some, refl, sym, ap, subst, ◌∙◌}
+use Rattle.std.proofs.Common.{◌≡◌, ℕ, suc, Bool, true, false, List, [], ◌∷◌, length, map, slice_get, Option, Some, None, IfSome, is_some, refl, sym, ap, subst, ◌∙◌}
 use Rattle.std.specs.Bool.{if◌then◌else◌}
 use Rattle.std.specs.Borrow.{Bor}
 use Rattle.std.specs.Option.{option_map, option_and_then}
 use Rattle.std.specs.Slice.{IsItemAt}
 use Rattle.std.specs.Str.{bytes_eq}
-use Rattle.std.proofs.Math.Seq.{get_or-append_seam}
 use Rattle.std.proofs.lemmas.Option.{slice_get_past, slice_get_read}
 use Rattle.hash_index.specs.Lists.{index_of}
 use Rattle.hash_index.proofs.Listed.{same_text}
@@ -59,17 +58,3 @@ with_url (page ∷ more) url x found = by_first (bytes_eq page.url url) refl fou
 pub has_url : (pages : List PageRead) (url : List ℕ) (o : Option (Bor PageRead)) → option_map (λ page. page.now) o ≡ page_with pages url → IfSome o (λ page. page.now.url ≡ url)
 has_url pages url None found = tt
 has_url pages url (Some page) found = with_url pages url page.now (sym found)
-
--- the last page is replaced
-
-set_seam : (front : List PageRead) (page new : PageRead) → slice_set (front ++ page ∷ []) (length front) new ≡ front ++ new ∷ []
-set_seam [] page new = refl
-set_seam (x ∷ front) page new = ap (λ ps. x ∷ ps) (set_seam front page new)
-
-pub set_at_end : (pages front : List PageRead) (page new : PageRead) (i : ℕ) → pages ≡ front ++ page ∷ [] → i ≡ length front → slice_set pages i new ≡ front ++ new ∷ []
-set_at_end pages front page new i is n =
-    ap (λ ps. slice_set ps i new) is ∙ ap (λ k. slice_set (front ++ page ∷ []) k new) n ∙ set_seam front page new
-
-pub get_at_end : (pages front : List PageRead) (page d : PageRead) (i : ℕ) → pages ≡ front ++ page ∷ [] → i ≡ length front → slice_index_or pages i d ≡ page
-get_at_end pages front page d i is n =
-    ap (λ ps. slice_index_or ps i d) is ∙ ap (λ k. slice_index_or (front ++ page ∷ []) k d) n ∙ get_or-append_seam front page [] d

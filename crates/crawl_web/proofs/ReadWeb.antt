@@ -1,5 +1,5 @@
 -- What is known of a saved web while its lines are read one by one.
-use Rattle.std.proofs.Common.{◌≡◌, inl, inr, ℕ, ◌+◌, ◌<◌, ◌==◌, Bool, true, false, ◌||◌, not, List, [], ◌∷◌, ◌++◌, length, Option, Some, None, Ok, Err, codes, is_some, refl, sym, ap, subst, ◌∙◌, arith, append_assoc, append-nil, length-append, ne_eqb}
+use Rattle.std.proofs.Common.{◌≡◌, inl, inr, ℕ, ◌+◌, ◌<◌, ◌==◌, Bool, true, false, ◌||◌, not, List, [], ◌∷◌, ◌++◌, length, Option, Some, None, Result, Ok, Err, IfOk, IfErr, codes, is_some, refl, sym, ap, subst, ◌∙◌, arith, append_assoc, append-nil, length-append, ne_eqb}
 use Rattle.std.specs.Bool.{if◌then◌else◌}
 use Rattle.std.specs.List.{list_any, position}
 use Rattle.std.specs.Option.{option_map, option_or, option_map_or}
@@ -10,13 +10,14 @@ use Rattle.std.proofs.lemmas.List.Folds.{list_any-append}
 use Rattle.crawl_keys.specs.Outcome.{IsRefusal}
 use Rattle.crawl_web.proofs.CutLines.{is_lf, lines_at, lines_only}
 use Rattle.crawl_web.specs.LeastFault.{SoundAfter, IsLeastFault}
-use Rattle.crawl_web.specs.Reading.{ReadTo, FoundTo, IsHeader}
-use Rattle.crawl_web.specs.SavedWeb.{up_to_page}
+use Rattle.crawl_web.specs.Reading.{ReadTo, AllFound, FoundTo, AreRead, IsHeader}
+use Rattle.crawl_web.specs.SavedWeb.{lines_behind, page_behind, page_of}
 use Rattle.crawl_web.specs.WebLines.{says_page, says_link, says_moved, url_said, is_page, is_link, is_moved_line, is_page_at, page_url}
 use Rattle.crawl_web.specs.WebChecks.{is_second, under_last_page, line_fault, fault_after}
-use Rattle.crawl_web.specs.KnownPages.{KnownPages, has_some, kept_before, Adds, Follows}
+use Rattle.crawl_web.specs.FirstLine.{behind_line}
+use Rattle.crawl_web.specs.KnownPages.{KnownPages, has_some, known_behind, known_page, kept_before, Adds, Follows}
 use Rattle.crawl_web.specs.PageLists.{PageRead, page_with, has}
-use Rattle.crawl_web.specs.WebFaults.{IsWebFault, IsWebRefusal, checked}
+use Rattle.crawl_web.specs.WebFaults.{IsSound, IsWebFault, IsWebRefusal, checked}
 use Rattle.crawl_web.specs.declared.saved_web.add.Above.{Above}
 use Rattle.crawl_web.specs.declared.saved_web.error.WebError.{WebError}
 use Rattle.crawl_web.specs.declared.saved_web.error.WebError.TheVariants as wrong
@@ -30,6 +31,10 @@ or_true true = refl
 or_true false = refl
 
 -- ---- one more page
+
+-- the lines behind a page that is known
+abbrev told : Option PageRead → Option (List (List ℕ))
+told o = option_map (λ page. lines page.behind) o
 
 -- the page whose URL a line has, if any, is the one with this URL
 abbrev at : Option (List ℕ) → List ℕ → Bool
@@ -61,6 +66,18 @@ adds_has old new None bytes same q = ap (λ ps. has ps q) same ∙ or_false (has
 adds_has old new (Some url) bytes adds q =
     let page : PageRead = record { url = url; behind = bytes } in
     ap (λ ps. has ps q) adds.1 ∙ ap is_some (page_with-push old page q) ∙ has_put (bytes_eq url q) (page_with old q) page
+
+behind_put : (b : Bool) (o : Option PageRead) (page : PageRead) (more : Option (List (List ℕ))) → option_or (told o) (if b then Some (lines page.behind) else more) ≡ option_or (told (option_or o (if b then Some page else None))) more
+behind_put b (Some old) page more = refl
+behind_put true None page more = refl
+behind_put false None page more = refl
+
+adds_behind : (old new : KnownPages) (own : Option (List ℕ)) (bytes : List ℕ) (more : Option (List (List ℕ))) → Adds old new own bytes → (q : List ℕ) → option_or (known_behind old q) (if at own q then Some (lines bytes) else more) ≡ option_or (known_behind new q) more
+adds_behind old new None bytes more same q = ap (λ ps. option_or (known_behind ps q) more) (sym same)
+adds_behind old new (Some url) bytes more adds q =
+    let page : PageRead = record { url = url; behind = bytes } in
+    behind_put (bytes_eq url q) (page_with old q) page more
+    ∙ ap (λ o. option_or (told o) more) (sym (ap (λ ps. page_with ps q) adds.1 ∙ page_with-push old page q))
 
 -- ---- one more line
 
@@ -143,6 +160,39 @@ read_more all rest number above pages line more behind after new first passes ad
       ∙ any_more (is_page_at url) (is_page_at url line) k.earlier line refl;
 }
 
+-- each page is known, or stands among the lines that are left
+found_more : (all : List (List ℕ)) (rest : List ℕ) (pages : KnownPages) (line more : List ℕ) (new : KnownPages) → lines rest ≡ line ∷ lines more → Adds pages new (page_url line) more → AllFound all (lines rest) pages → AllFound all (lines more) new
+found_more all rest pages line more new first adds found url =
+    found url ∙ ap (λ ls. option_or (known_behind pages url) (lines_behind ls url)) first
+    ∙ adds_behind pages new (page_url line) more (lines_behind (lines more) url) adds url
+
+pub found_on : (all : List (List ℕ)) (rest : List ℕ) (number : ℕ) (above : Above) (pages : KnownPages) (line more : List ℕ) (after : Above) (new : KnownPages) → lines rest ≡ line ∷ lines more → more ≡ behind_line rest → checked (line_fault (kept_before (number + 1) pages above) line) ≡ Ok tt → Adds pages new (page_url line) (behind_line rest) → is_page line ≡ is_some (page_url line) → Follows (number + 1) line above after → FoundTo all (lines rest) number above pages → FoundTo all (lines more) (number + 1) after new
+found_on all rest number above pages line more after new first behind passes adds page follows k = record {
+  read = read_more all rest number above pages line more (behind_line rest) after new first passes adds page follows k.read;
+  found = found_more all rest pages line more new first (subst (Adds pages new (page_url line)) (sym behind) adds) k.found;
+}
+
+-- ---- behind the last line
+
+or_none : (o : Option (List (List ℕ))) → option_or o None ≡ o
+or_none None = refl
+or_none (Some ls) = refl
+
+found_all : (all : List (List ℕ)) (rest : List ℕ) (pages : KnownPages) → lines rest ≡ [] → AllFound all (lines rest) pages → (url : List ℕ) → known_page pages url ≡ page_of all url
+found_all all rest pages none found url =
+    let own : lines_behind all url ≡ known_behind pages url =
+    found url ∙ ap (λ ls. option_or (known_behind pages url) (lines_behind ls url)) none ∙ or_none (known_behind pages url) in
+    ap (page_behind url) (sym own)
+
+pub all_read : (all : List (List ℕ)) (rest : List ℕ) (number : ℕ) (above : Above) (pages : KnownPages) → lines rest ≡ [] → FoundTo all (lines rest) number above pages → AreRead all pages
+all_read all rest number above pages none k =
+    let same : k.read.earlier ≡ all = sym (append-nil k.read.earlier) ∙ ap (λ ls. k.read.earlier ++ ls) (sym none) ∙ sym k.read.cut in
+    record {
+      sound = subst (SoundAfter fault_after []) same k.read.sound;
+      known = λ url. k.read.known url ∙ ap (list_any (is_page_at url)) same;
+      found = found_all all rest pages none k.found;
+    }
+
 -- ---- a line that fails
 
 is_fault : (all : List (List ℕ)) (fault : WebError) → IsLeastFault fault_after all fault → IsWebFault all fault
@@ -196,5 +246,19 @@ header_read second header behind h =
         some_page = sym no_page;
         known = λ url. sym (ap (λ b. b || false) (no_page_at url));
       };
-      found = λ url. ap (option_map up_to_page) (cond-false _ _ _ (no_page_at url));
+      found = λ url. cond-false _ _ _ (no_page_at url);
     }
+
+-- ---- all lines, from the first on
+
+pub read_sound : (all : List (List ℕ)) (read : Result KnownPages WebError) → 0 < length all → IfOk read (λ pages. (ls : List (List ℕ)) → FoundTo ls all 0 (record { second = false; link = false; moved = false }) [] → AreRead ls pages) → IfOk read (λ _. IsSound all)
+read_sound all (Err e) some read = tt
+read_sound all (Ok pages) some read = record { some = some; sound = (read all (nothing_read all)).sound }
+
+pub read_found : (all : List (List ℕ)) (read : Result KnownPages WebError) → IfOk read (λ pages. (ls : List (List ℕ)) → FoundTo ls all 0 (record { second = false; link = false; moved = false }) [] → AreRead ls pages) → IfOk read (λ pages. (url : List ℕ) → known_page pages url ≡ page_of all url)
+read_found all (Err e) read = tt
+read_found all (Ok pages) read = (read all (nothing_read all)).found
+
+pub read_refused : (all : List (List ℕ)) (read : Result KnownPages WebError) → IfErr read (λ told. (ls : List (List ℕ)) → FoundTo ls all 0 (record { second = false; link = false; moved = false }) [] → IsWebRefusal ls told) → IfErr read (λ told. IsWebRefusal all told)
+read_refused all (Err e) read = read all (nothing_read all)
+read_refused all (Ok pages) read = tt

@@ -1,11 +1,10 @@
+pub mod FirstLine
 pub mod KnownLinks
 pub mod KnownPages
 pub mod LeastFault
-pub mod LineEnds
 pub mod Lines
-pub mod OwnLines
 pub mod PageLists
-pub mod PageUrls
+pub mod PageTexts
 pub mod Pages
 pub mod Parts
 pub mod Reading

@@ -3,7 +3,7 @@ use Rattle.std.specs.Prelude.{ℕ, Bool, List, [], ◌∷◌, if◌then◌else�
 use Rattle.std.specs.Coded.{Coded, code_by, coded×, coded_list, coded_ℕ}
 use Rattle.std.specs.Str.{bytes_eq}
 
--- a page that was read: its URL, and the bytes behind its line, up to the next page once that was read
+-- a page that was read: its URL, and the bytes behind its line
 pub record PageRead : Type 0 where
   pub url : List ℕ
   pub behind : List ℕ

@@ -1,13 +1,12 @@
 -- What is known of the lines of a saved web while they are read one by one, and once they are.
 use Rattle.std.specs.Prelude.{◌≡◌, ℕ, Bool, List, [], ◌∷◌, ◌++◌, length, codes, None}
 use Rattle.std.specs.List.{list_any}
-use Rattle.std.specs.Option.{option_map, option_or}
+use Rattle.std.specs.Option.{option_or}
 use Rattle.std.specs.Str.{bytes_eq}
-use Rattle.crawl_web.specs.KnownPages.{KnownPages, has_some, known_page}
+use Rattle.crawl_web.specs.KnownPages.{KnownPages, has_some, known_behind, known_page}
 use Rattle.crawl_web.specs.LeastFault.{SoundAfter}
-use Rattle.crawl_web.specs.OwnLines.{known_own}
 use Rattle.crawl_web.specs.PageLists.{has}
-use Rattle.crawl_web.specs.SavedWeb.{lines_behind, page_of, up_to_page}
+use Rattle.crawl_web.specs.SavedWeb.{lines_behind, page_of}
 use Rattle.crawl_web.specs.WebChecks.{is_second, under_last_page, fault_after}
 use Rattle.crawl_web.specs.WebLines.{line_of, is_page, is_link, is_moved_line, is_page_at}
 use Rattle.crawl_web.specs.declared.saved_web.add.Above.{Above}
@@ -25,10 +24,10 @@ pub record ReadTo (all rest : List (List ℕ)) (number : ℕ) (above : Above) (p
   pub some_page : has_some pages ≡ list_any is_page earlier
   pub known : (url : List ℕ) → has pages url ≡ list_any (is_page_at url) earlier
 
--- each page of all these lines is known with its own lines, or stands among the rest
+-- each page of all these lines is known with the lines behind it, or stands among the rest
 abbrev pub AllFound : List (List ℕ) → List (List ℕ) → KnownPages → Type 0
 AllFound all rest pages =
-    (url : List ℕ) → option_map up_to_page (lines_behind all url) ≡ option_or (known_own pages url) (option_map up_to_page (lines_behind rest url))
+    (url : List ℕ) → lines_behind all url ≡ option_or (known_behind pages url) (lines_behind rest url)
 
 -- both: the lines before the rest are sound, and their pages are known
 pub record FoundTo (all rest : List (List ℕ)) (number : ℕ) (above : Above) (pages : KnownPages) : Type 0 where

@@ -2,7 +2,7 @@
 ghost use Rattle.std.specs.Prelude.{◌≡◌, ◌==◌, ◌∷◌, ◌++◌, ◌<◌, ◌≤◌, [], length, position, IfSome, IsUtf8, MatchOption};
 ghost use Rattle.std.specs.Str.Lines.{lines, strip_carriage_return};
 ghost use Rattle.crawl_web.specs.Lines.{text_of, bytes_at};
-ghost use Rattle.crawl_web.specs.LineEnds.{EndsLine};
+ghost use Rattle.crawl_web.specs.FirstLine.{line_in, behind_line};
 
 pub use crawl_limits::LINE_LIMIT;
 use memchr::memchr;
@@ -36,12 +36,23 @@ pub fn first_line(bytes: &[u8]) -> Option<(&[u8], &[u8])>
 pub fn first_text(text: &str) -> Option<(&str, &str)>
     ensures cut { MatchOption result (lines text.now ≡ []) (λ x. lines text.now ≡ x.0.now ∷ lines x.1.now) }
     ensures shorter { IfSome result (λ x. length x.1.now < length text.now) }
-    ensures ends { IfSome result (λ x. EndsLine text.now x.0.now x.1.now) }
+    ensures behind { MatchOption result (behind_line text.now ≡ []) (λ x. x.1.now ≡ behind_line text.now) }
 {
     match newline_in(text.as_bytes()) {
         Some(end) => Some((text_without_return(&text[..end]), &text[end + 1..])),
         None if text.is_empty() => None,
         None => Some((text, "")),
+    }
+}
+
+/// The first line of a text, and what follows it; nothing stands in either where there is no text.
+pub fn split_line(text: &str) -> (&str, &str)
+    ensures line { result.0.now ≡ line_in text.now }
+    ensures behind { result.1.now ≡ behind_line text.now }
+{
+    match first_text(text) {
+        Some(cut) => cut,
+        None => ("", ""),
     }
 }
 

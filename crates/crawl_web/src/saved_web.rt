@@ -16,7 +16,6 @@ mod line;
 mod link_cache;
 mod link_text;
 mod links;
-mod page_url;
 mod pages;
 mod reader;
 mod threads;
@@ -42,7 +41,6 @@ use web_pages::WebPages;
 /// The pages of a saved web, each with its links. It borrows the bytes that it was read from.
 #[derive(Drop)]
 pub struct SavedWeb<'a> {
-    /// Each page with its own lines.
     pages: WebPages<'a>,
 }
 
@@ -106,7 +104,7 @@ fn known_pages(alloc: Global, bytes: &[u8]) -> Result<Pages<'_>, WebError>
     }
 }
 
-/// The pages that the lines of a text are, each with its own lines.
+/// The pages that the lines of a text are.
 fn pages_in(alloc: Global, text: &str) -> Result<Pages<'_>, WebError>
     ensures sound { IfOk result (λ _. IsSound (lines text.now)) }
     ensures pages { IfOk result (λ pages. (url : List ℕ) → known_page pages url ≡ page_of (lines text.now) url) }

@@ -1,8 +1,9 @@
 //! The checks of a line of a saved web, and the page that it adds.
-ghost use Rattle.std.specs.Prelude.{◌≡◌, true, false, [], Ok, OnOk, IfOk, IsUtf8, is_some};
+ghost use Rattle.std.specs.Prelude.{◌≡◌, true, false, Ok, OnOk, IfOk, IsUtf8, is_some};
 ghost use Rattle.crawl_keys.specs.CanonicalText.{canonical};
 ghost use Rattle.crawl_keys.specs.Outcome.{Gives};
 ghost use Rattle.std.specs.Result.{result_ok};
+ghost use Rattle.crawl_web.specs.FirstLine.{behind_line};
 ghost use Rattle.crawl_web.specs.Lines.{text_of};
 ghost use Rattle.crawl_web.specs.WebChecks.{header_of, page_fault, under_fault, line_fault};
 ghost use Rattle.crawl_web.specs.WebLines.{page_url, is_page};
@@ -13,7 +14,6 @@ ghost use Rattle.crawl_web.specs.PageLists.{has};
 use crate::lines::{short_text, text_of};
 use crate::saved_web::error::WebError;
 use crate::saved_web::line::{Line, line_of_text};
-use crate::saved_web::page_url::PageUrl;
 use crate::saved_web::pages::Pages;
 use crawl_keys::{KeyError, canonical};
 use std::alloc::Global;
@@ -83,26 +83,26 @@ impl Above {
 }
 
 /// Checks the line with this number, behind the lines whose pages are known, and adds the page that it is, if it is
-/// one, with the text behind it.
+/// one. The line is the first of the rest.
 pub fn add_line<'a>(
     alloc: Global,
     pages: &mut Pages<'a>,
     number: u64,
     above: Above,
-    line: &'a str,
-    behind: &'a str,
+    line: &str,
+    rest: &'a str,
 ) -> Result<Above, WebError>
     ensures tells { Tells result (line_fault (kept_before number pages.old above) line.now) }
-    ensures adds { OnOk result (Adds pages.old pages.new (page_url line.now) behind.now) }
+    ensures adds { OnOk result (Adds pages.old pages.new (page_url line.now) (behind_line rest.now)) }
     // A page that passes the checks has a URL.
     ensures page { OnOk result (is_page line.now ≡ is_some (page_url line.now)) }
     ensures follows { IfOk result (λ new. Follows number line.now above new) }
 {
     let text = short_text(number, line)?;
-    add_text(alloc, pages, number, above, text, behind)
+    add_text(alloc, pages, number, above, text, rest)
 }
 
-/// The same of a line that may be no text, for its fault: its page is added with no text behind it.
+/// The same of a line that may be no text, for its fault: its page is added without what is behind it.
 pub fn check_line<'a>(
     alloc: Global,
     pages: &mut Pages<'a>,
@@ -111,13 +111,13 @@ pub fn check_line<'a>(
     line: &'a [u8],
 ) -> Result<Above, WebError>
     ensures tells { Tells result (line_fault (kept_before number pages.old above) line.now) }
-    ensures adds { OnOk result (Adds pages.old pages.new (page_url line.now) []) }
+    ensures adds { OnOk result (Adds pages.old pages.new (page_url line.now) (behind_line line.now)) }
     ensures page { OnOk result (is_page line.now ≡ is_some (page_url line.now)) }
     ensures follows { IfOk result (λ new. Follows number line.now above new) }
     ensures utf8 { OnOk result (IsUtf8 line.now) }
 {
     let text = text_of(number, line)?;
-    add_text(alloc, pages, number, above, text, "")
+    add_text(alloc, pages, number, above, text, text)
 }
 
 /// The same of a line with this text.
@@ -126,12 +126,12 @@ fn add_text<'a>(
     pages: &mut Pages<'a>,
     number: u64,
     above: Above,
-    text: &'a str,
-    behind: &'a str,
+    text: &str,
+    rest: &'a str,
 ) -> Result<Above, WebError>
     requires { text_of number text.now ≡ Ok text.now }
     ensures tells { Tells result (line_fault (kept_before number pages.old above) text.now) }
-    ensures adds { OnOk result (Adds pages.old pages.new (page_url text.now) behind.now) }
+    ensures adds { OnOk result (Adds pages.old pages.new (page_url text.now) (behind_line rest.now)) }
     ensures page { OnOk result (is_page text.now ≡ is_some (page_url text.now)) }
     ensures follows { IfOk result (λ new. Follows number text.now above new) }
 {
@@ -140,7 +140,7 @@ fn add_text<'a>(
     }
     match line_of_text(text) {
         Line::Page(url) => {
-            add_page(alloc, pages, number, url, behind)?;
+            add_page(alloc, pages, number, url, rest)?;
             Ok(above.under_new_page())
         }
         Line::Link(_) => {
@@ -172,21 +172,31 @@ fn add_page<'a>(
     alloc: Global,
     pages: &mut Pages<'a>,
     number: u64,
-    text: &'a str,
-    behind: &'a str,
+    text: &str,
+    rest: &'a str,
 ) -> Result<(), WebError>
     ensures tells { Tells result (page_fault number (has pages.old) (canonical text.now)) }
-    ensures adds { OnOk result (Adds pages.old pages.new (result_ok (canonical text.now)) behind.now) }
+    ensures adds { OnOk result (Adds pages.old pages.new (result_ok (canonical text.now)) (behind_line rest.now)) }
 {
     let url = match canonical(alloc, text) {
         Ok(url) => url,
         Err(KeyError::NoMemory) => return Err(WebError::NoMemory),
         Err(KeyError::NotUrl | KeyError::NotHttp) => return Err(WebError::BadPageUrl(number)),
     };
-    if pages.add(PageUrl::new(url, text), behind)? {
+    if pages.add(alloc, url, behind_word(rest))? {
         Ok(())
     } else {
         Err(WebError::PageTwice(number))
+    }
+}
+
+/// What stands behind the word `page` at the front, if it stands there. The same is behind its first line.
+fn behind_word(rest: &str) -> &str
+    ensures { behind_line result.now ≡ behind_line rest.now }
+{
+    match rest.strip_prefix("page ") {
+        Some(text) => text,
+        None => rest,
     }
 }
 

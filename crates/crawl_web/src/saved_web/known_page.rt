@@ -1,23 +1,41 @@
 //! A page of a saved web, as it is kept.
-ghost use Rattle.std.specs.Prelude.{◌≡◌};
+ghost use Rattle.std.specs.Prelude.{◌≡◌, IfOk};
+ghost use Rattle.crawl_web.specs.FirstLine.{behind_line};
 
-use crate::saved_web::page_url::PageUrl;
+use crate::lines::split_line;
+use crawl_keys::CanonUrl;
 use hash_index::Keyed;
+use hash_order::hash_of;
+use std::alloc::{AllocError, Global};
 use std::marker::Model;
 use std::mem::size_of;
 
-/// A page of a saved web: its URL, and its own lines: those behind its line, up to the next page. As long as they are read, all
-/// that is behind it stands there.
+/// A page of a saved web: its URL, and all that is behind its line.
 #[derive(Drop)]
 pub struct KnownPage<'a> {
-    url: PageUrl<'a>,
+    text: PageText<'a>,
+}
+
+// What a page takes beside the input, but for its place in the index.
+const _: () = prove!(size_of::<KnownPage<'static>>() == 24);
+
+/// Where a page stands.
+#[derive(Drop)]
+enum PageText<'a> {
+    /// In the input, from its URL on: most are written as they are.
+    Written(&'a str),
+    /// Its line spells its URL otherwise.
+    Made(Box<MadePage<'a>>),
+}
+
+/// A page whose line spells its URL otherwise.
+#[derive(Drop)]
+struct MadePage<'a> {
+    url: CanonUrl,
     behind: &'a str,
 }
 
-// The text of most URLs is the input's, so this is what most pages take beside it, but for their place in the index.
-const _: () = prove!(size_of::<KnownPage<'static>>() == 48);
-
-// Contracts see the text of the URL and that text.
+// Contracts see the text of the URL and what is behind the line.
 impl<'a> Model for KnownPage<'a> {
     ghost use Rattle.crawl_web.specs.PageLists.{PageRead, page_read_code};
 
@@ -25,29 +43,48 @@ impl<'a> Model for KnownPage<'a> {
 
     ghost coded = { page_read_code };
 
-    ghost view = { λ page. record { url = page.url; behind = page.behind.now } };
+    ghost use Rattle.crawl_web.specs.PageTexts.{page_in};
+
+    ghost view = { λ page. page_in page.text };
 }
 
 impl<'a> KnownPage<'a> {
-    /// The page with this URL.
-    pub fn new(url: PageUrl<'a>, behind: &'a str) -> KnownPage<'a>
-        ensures { result ≡ record { url = url.entry; behind = behind.now } }
+    /// The page with this URL, which is spelled in the first line of this text.
+    pub fn new(alloc: Global, url: CanonUrl, text: &'a str) -> Result<KnownPage<'a>, AllocError>
+        ensures { IfOk result (λ page. page ≡ record { url = url; behind = behind_line text.now }) }
     {
-        KnownPage { url, behind }
+        let (spelled, behind) = split_line(text);
+        if url.as_str() == spelled {
+            return Ok(KnownPage {
+                text: PageText::Written(text),
+            });
+        }
+        match Box::new(alloc, MadePage { url, behind }) {
+            Ok(page) => Ok(KnownPage {
+                text: PageText::Made(page),
+            }),
+            Err(_) => Err(AllocError),
+        }
     }
 
-    /// Says that its own lines are these.
-    pub fn end(&mut self, own: &'a str)
-        ensures { self.new ≡ record { url = self.old.url; behind = own.now } }
+    /// The text of its URL.
+    fn url(&self) -> &str
+        ensures { result.now ≡ self.now.url }
     {
-        self.behind = own;
+        match &self.text {
+            PageText::Written(text) => split_line(*text).0,
+            PageText::Made(page) => page.url.as_str(),
+        }
     }
 
-    /// The lines under its own, up to the next page.
+    /// The lines behind its own, to the end.
     pub fn behind(&self) -> &'a str
         ensures { result.now ≡ self.now.behind }
     {
-        self.behind
+        match &self.text {
+            PageText::Written(text) => split_line(*text).1,
+            PageText::Made(page) => page.behind,
+        }
     }
 }
 
@@ -59,10 +96,11 @@ impl Keyed for KnownPage<'_> {
     ghost hash = { hash_of };
 
     fn text(&self) -> &str {
-        self.url.as_str()
+        self.url()
     }
 
+    // Growth alone asks for it.
     fn text_hash(&self) -> u64 {
-        self.url.text_hash()
+        hash_of(self.url())
     }
 }

@@ -1,6 +1,6 @@
 //! What a line of a saved web says.
 ghost use Rattle.std.specs.Prelude.{◌≡◌};
-ghost use Rattle.crawl_web.specs.WebLines.{pointed, line_of_text, line_of, is_page};
+ghost use Rattle.crawl_web.specs.WebLines.{pointed, line_of_text, line_of};
 
 use crate::parts::split_space;
 
@@ -48,14 +48,4 @@ pub fn line_of(line: &str) -> Line<&str>
     ensures { pointed result ≡ line_of line.now }
 {
     line_of_text(line)
-}
-
-/// Whether the line is a page.
-pub fn is_page(line: &str) -> bool
-    ensures { result ≡ is_page line.now }
-{
-    match line_of(line) {
-        Line::Page(_) => true,
-        _ => false,
-    }
 }

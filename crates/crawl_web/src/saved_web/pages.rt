@@ -1,10 +1,10 @@
 //! The pages of a saved web, found by their URLs.
 ghost use Rattle.std.specs.Prelude.{◌≡◌, ◌==◌, ◌++◌, ◌∷◌, [], ℕ, List, true, false, not, length, IfOk, IfSome, if◌then◌else◌};
 ghost use Rattle.std.specs.Option.{option_map};
-ghost use Rattle.crawl_web.specs.PageLists.{PageRead, page_with, has};
+ghost use Rattle.crawl_web.specs.FirstLine.{behind_line};
+ghost use Rattle.crawl_web.specs.PageLists.{page_with, has};
 
 use crate::saved_web::known_page::KnownPage;
-use crate::saved_web::page_url::PageUrl;
 use crawl_keys::CanonUrl;
 use hash_index::HashIndex;
 use std::alloc::{AllocError, Global};
@@ -52,30 +52,20 @@ impl<'a> Pages<'a> {
         self.list.is_empty()
     }
 
-    /// Adds a page, unless there is one with its URL, and tells whether it did.
+    /// Adds the page with this URL, which is spelled in the first line of this text, unless there is one with the URL. Tells
+    /// whether it did.
     #[tactic(auto, using(crate::proofs::PageIndex::has_index_there))]
-    pub fn add(&mut self, url: PageUrl<'a>, behind: &'a str) -> Result<bool, AllocError>
-        ensures added { IfOk result (λ added. added ≡ not (has self.old url.entry)) }
-        ensures pages { IfOk result (λ added. self.new ≡ (if added then self.old ++ record { url = url.entry; behind = behind.now } ∷ [] else self.old)) }
+    pub fn add(&mut self, alloc: Global, url: CanonUrl, text: &'a str) -> Result<bool, AllocError>
+        ensures added { IfOk result (λ added. added ≡ not (has self.old url)) }
+        ensures pages { IfOk result (λ added. self.new ≡ (if added then self.old ++ record { url = url; behind = behind_line text.now } ∷ [] else self.old)) }
     {
-        let page = KnownPage::new(url, behind);
-        let found = self.index.find_or_insert(&self.list, &page)?;
+        let found = self.index.find_or_insert(&self.list, &url)?;
         if found.is_some() {
             return Ok(false);
         }
+        let page = KnownPage::new(alloc, url, text)?;
         self.list.push(page)?;
         Ok(true)
-    }
-
-    /// Says that these are the own lines of the last page, if there is a page.
-    pub fn end_last(&mut self, own: &'a str)
-        ensures none { self.old ≡ [] → self.new ≡ [] }
-        ensures ended { (front : List PageRead) (page : PageRead) → self.old ≡ front ++ page ∷ [] → self.new ≡ front ++ record { url = page.url; behind = own.now } ∷ [] }
-    {
-        let count = self.list.len();
-        if count > 0 {
-            self.list[count - 1].end(own);
-        }
     }
 
     /// The page with the URL.
@@ -88,6 +78,7 @@ impl<'a> Pages<'a> {
             None => None,
         }
     }
+
     /// Whether a page of each has one URL.
     pub fn shares_url(&self, others: &Pages<'_>) -> bool
         ensures { result ≡ false → (url : List ℕ) → has others.now url ≡ true → has self.now url ≡ false }

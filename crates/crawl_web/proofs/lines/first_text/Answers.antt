@@ -1,6 +1,6 @@
-use Rattle.std.proofs.Common.{rules, ◌≡◌, ◌==◌, ◌+◌, position, length, take, drop, Some, None, arith}
+use Rattle.std.proofs.Common.{rules, ◌≡◌, ◌==◌, ◌+◌, position, length, take, drop, Some, None, arith, ◌∙◌}
 use Rattle.std.proofs.lemmas.Str.{IsCharBoundary-before_ascii, IsCharBoundary-after_ascii}
-use Rattle.crawl_web.proofs.CutLines.{lines_at, lines_only, nonempty, lf_at, ends_at, ends_all}
+use Rattle.crawl_web.proofs.CutLines.{lines_at, lines_only, nonempty, lf_at, behind_at, none_behind, no_text}
 use Rattle.crawl_web.proofs.lines.first_text.Goals as goal
 
 pub range-requires-clause-end_boundary : goal.range-requires-clause-end_boundary
@@ -27,12 +27,16 @@ returns-in-None-2-clause-cut c =
     let none : position (λ b. b == 10) c.args.text.now ≡ None = search rules in
     lines_only c.args.text.now none (nonempty (length c.args.text.now) (search rules))
 
-pub returns-in-Some-clause-ends : goal.returns-in-Some-clause-ends
-returns-in-Some-clause-ends c =
+pub returns-in-Some-clause-behind : goal.returns-in-Some-clause-behind
+returns-in-Some-clause-behind c =
     let found : position (λ b. b == 10) c.args.text.now ≡ Some c.in-Some.end = search rules in
-    let front : c.range.result.now ≡ take c.in-Some.end c.args.text.now = search rules in
     let more : c.range_from.result.now ≡ drop (c.in-Some.end + 1) c.args.text.now = search rules in
-    rw (c.text_without_return.ensures, front, more) (ends_at c.args.text.now c.in-Some.end found)
+    more ∙ behind_at c.args.text.now c.in-Some.end found
 
-pub returns-in-None-2-clause-ends : goal.returns-in-None-2-clause-ends
-returns-in-None-2-clause-ends c = ends_all c.args.text.now
+pub returns-in-None-clause-behind : goal.returns-in-None-clause-behind
+returns-in-None-clause-behind c = no_text c.args.text.now (search rules)
+
+pub returns-in-None-2-clause-behind : goal.returns-in-None-2-clause-behind
+returns-in-None-2-clause-behind c =
+    let none : position (λ b. b == 10) c.args.text.now ≡ None = search rules in
+    none_behind c.args.text.now none

@@ -1,5 +1,6 @@
-use Rattle.std.proofs.Common.{arith, []}
+use Rattle.std.proofs.Common.{arith}
 use Rattle.std.specs.Str.Lines.{lines}
+use Rattle.crawl_web.specs.FirstLine.{behind_line}
 use Rattle.crawl_web.proofs.ReadWeb.{read_more, read_fault}
 use Rattle.crawl_web.proofs.saved_web.fault_in.Goals as goal
 
@@ -7,7 +8,7 @@ pub loop-line-preserved : goal.loop-line-preserved
 loop-line-preserved c = record {
   few = omega (arith, c.in-Some.ensures.shorter);
   read =
-      read_more (lines c.args.bytes.now) c.loop-line.rest.now c.loop-line.number c.loop-line.above c.loop-line.pages c.in-Some.line.now c.in-Some.more.now [] c.in-Ok.next c.check_line.new.pages c.in-Some.ensures.cut c.in-Ok.ensures.tells c.in-Ok.ensures.adds c.in-Ok.ensures.page c.in-Ok.ensures.follows c.loop-line.invariant.read;
+      read_more (lines c.args.bytes.now) c.loop-line.rest.now c.loop-line.number c.loop-line.above c.loop-line.pages c.in-Some.line.now c.in-Some.more.now (behind_line c.in-Some.line.now) c.in-Ok.next c.check_line.new.pages c.in-Some.ensures.cut c.in-Ok.ensures.tells c.in-Ok.ensures.adds c.in-Ok.ensures.page c.in-Ok.ensures.follows c.loop-line.invariant.read;
   utf8 = λ more. c.loop-line.invariant.utf8 (c.in-Some.ensures.utf8 c.in-Ok.ensures.utf8 more);
 }
 

@@ -1,8 +1,7 @@
 use Rattle.std.proofs.Common.{sym, length}
 use Rattle.std.specs.Str.Lines.{lines}
 use Rattle.crawl_web.proofs.CutLines.{nonempty}
-use Rattle.crawl_web.proofs.ReadWeb.{some_lines}
-use Rattle.crawl_web.proofs.OwnLines.{read_sound, read_found, read_refused}
+use Rattle.crawl_web.proofs.ReadWeb.{some_lines, read_sound, read_found, read_refused}
 use Rattle.crawl_web.proofs.saved_web.pages_in.Goals as goal
 
 pub returns-clause-sound : goal.returns-clause-sound

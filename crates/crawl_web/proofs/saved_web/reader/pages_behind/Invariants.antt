@@ -3,15 +3,12 @@ use denote.Text.{Utf8}
 use Rattle.std.proofs.Common.{◌+◌, ◌≤◌, ℕ, List, [], length}
 use Rattle.std.specs.Str.Lines.{lines}
 use Rattle.crawl_web.specs.Reading.{FoundTo}
-use Rattle.crawl_web.proofs.OwnLines.{UnderLast}
 use Rattle.crawl_web.proofs.saved_web.reader.pages_behind.Given as goal
 
 abbrev pub invariant-loop-line : goal.invariant-loop-line
 invariant-loop-line l = record {
   text : shadow (Utf8 l.rest);
-  behind : shadow (Utf8 l.start);
   few : l.number + length l.rest ≤ l.before + length l.text;
-  under : UnderLast l.rest l.start l.pages;
   read : (all : List (List ℕ)) → FoundTo all (lines l.text) l.before l.fn.above [] → FoundTo all (lines l.rest) l.number l.above l.pages;
 }
 

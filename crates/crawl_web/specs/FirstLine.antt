@@ -1,0 +1,17 @@
+-- The first line of a text, and what is behind it.
+use Rattle.std.specs.Prelude.{ℕ, ◌==◌, List, [], ◌∷◌}
+use Rattle.std.specs.List.{after_first}
+use Rattle.std.specs.Str.Lines.{lines}
+
+-- the first of the lines, nothing where there is none
+abbrev pub first_of : List (List ℕ) → List ℕ
+first_of [] = []
+first_of (line ∷ more) = line
+
+-- the text's first line
+abbrev pub line_in : List ℕ → List ℕ
+line_in text = first_of (lines text)
+
+-- what is behind the text's first LF
+abbrev pub behind_line : List ℕ → List ℕ
+behind_line text = after_first (λ b. b == 10) text

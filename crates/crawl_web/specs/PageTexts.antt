@@ -1,0 +1,11 @@
+-- What is seen of a page whose URL the input has, or which has it beside.
+use Rattle.std.specs.Prelude.{ℕ, List}
+use Rattle.crawl_web.specs.FirstLine.{line_in, behind_line}
+use Rattle.crawl_web.specs.PageLists.{PageRead}
+use Rattle.crawl_web.specs.declared.saved_web.known_page.PageText.{PageText}
+use Rattle.crawl_web.specs.declared.saved_web.known_page.PageText.TheVariants.{Written, Made}
+
+-- its URL, and what is behind its line
+abbrev pub page_in : PageText → PageRead
+page_in (Written text) = record { url = line_in text.now; behind = behind_line text.now }
+page_in (Made page) = record { url = page.value.url; behind = page.value.behind.now }
