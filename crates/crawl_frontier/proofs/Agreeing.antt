@@ -6,7 +6,7 @@ use Rattle.crawl_frontier.specs.declared.entry.Entry.{Entry}
 use Rattle.crawl_frontier.specs.declared.book.Logged.{Logged}
 use Rattle.crawl_frontier.specs.declared.book.Logged.TheVariants.{Accepted, Seen}
 use Rattle.crawl_frontier.specs.Entries.{KeepsRule, count_of, entries_of}
-use Rattle.crawl_frontier.specs.Books.{BookId, sent_to, Numbered, IsBook, place_of}
+use Rattle.crawl_frontier.specs.Books.{BookId, sent_to, Numbered, IsBook, queue_of}
 use Rattle.crawl_frontier.specs.Accounts.{At}
 use Rattle.crawl_frontier.specs.Finishing.{Stands, LogStands, LogFails, CountsStand, CountFails, AgreesBelow, DisagreesAt, KeepRuleBelow}
 use Rattle.crawl_frontier.proofs.Entries.{count_of-snoc}
@@ -77,7 +77,7 @@ entries_of-at id (e ∷ es) (suc k) x at own = later (eqb e.sender id) (entries_
     later false r = r
 
 -- each accepted entry of the log stands in the list
-pub sent_to-stands : (q : ℕ) (es : List Entry) (log : List Logged) → ((k : ℕ) (l : Logged) → At log k l → place_of l ≡ q → Stands es l) → (j : ℕ) (x : Entry) → At (sent_to q log) j x → (k : ℕ) × At es k x
+pub sent_to-stands : (q : ℕ) (es : List Entry) (log : List Logged) → ((k : ℕ) (l : Logged) → At log k l → queue_of l ≡ q → Stands es l) → (j : ℕ) (x : Entry) → At (sent_to q log) j x → (k : ℕ) × At es k x
 sent_to-stands q es [] stands j x at = absurd (cc (at))
 sent_to-stands q es (Seen u p ∷ ls) stands j x at = sent_to-stands q es ls (λ k. stands (suc k)) j x at
 sent_to-stands q es (Accepted e p ∷ ls) stands j x at = by_case (eqb p q) refl j at (λ i here. sent_to-stands q es ls (λ k. stands (suc k)) i x here)
@@ -104,8 +104,8 @@ agrees workers least below lists b is within rule under stands now under' counts
         let same : length (sent_to q b.log) ≡ count_of b.id es = cc in
         same ∙ sym (entries_of-length b.id es)
 
-    in_list : (k : ℕ) (l : Logged) → At b.log k l → place_of l ≡ q → Stands es l
-    in_list k l here place = stands k l here (omega (arith, place)) es (subst (λ p. At lists p es) (sym place) at)
+    in_list : (k : ℕ) (l : Logged) → At b.log k l → queue_of l ≡ q → Stands es l
+    in_list k l here queue = stands k l here (omega (arith, queue)) es (subst (λ p. At lists p es) (sym queue) at)
 
     found : (j : ℕ) (x : Entry) → At (sent_to q b.log) j x → (k : ℕ) × At (entries_of b.id es) k x
     found j x here =
@@ -141,10 +141,10 @@ sent_to-has q (Accepted x p ∷ ls) (suc k) e at = later (eqb p q) (sent_to-has 
 
 -- a line that is false
 pub log_disagrees : (q : ℕ) (lists : List (List Entry)) (b : BookId) → LogFails q lists b.log → DisagreesAt q lists b
-log_disagrees q lists b (k, Seen u p, at, place, (es, here, fails)) =
-    (es, subst (λ n. At lists n es) place here, λ agree. true≢false (sym (agree.seen k u (subst (λ n. At b.log k (Seen u n)) place at)) ∙ fails))
-log_disagrees q lists b (k, Accepted e p, at, place, (es, here, fails)) =
-    (es, subst (λ n. At lists n es) place here, λ agree. refute agree.sent (sent_to-has q b.log k e (subst (λ n. At b.log k (Accepted e n)) place at)))
+log_disagrees q lists b (k, Seen u p, at, queue, (es, here, fails)) =
+    (es, subst (λ n. At lists n es) queue here, λ agree. true≢false (sym (agree.seen k u (subst (λ n. At b.log k (Seen u n)) queue at)) ∙ fails))
+log_disagrees q lists b (k, Accepted e p, at, queue, (es, here, fails)) =
+    (es, subst (λ n. At lists n es) queue here, λ agree. refute agree.sent (sent_to-has q b.log k e (subst (λ n. At b.log k (Accepted e n)) queue at)))
   where
     refute : sent_to q b.log ≡ entries_of b.id es → (j : ℕ) × At (sent_to q b.log) j e → ⊥
     refute same r =
@@ -162,6 +162,6 @@ count_disagrees workers q lists b is lt (es, n, here, counted, differs) = (
       differs (same ∙ (ap length agree.sent ∙ entries_of-length b.id es)),
 )
 
--- a bound that falls to a place where something fails
+-- a bound that falls to a queue where something fails
 pub fails_next : (P : ℕ → Type 0) (first old new : ℕ) → new ≤ old → (old < first → P old) → (new < old → P new) → new < first → P new
 fails_next P first old new le before now lt = ⊎_elim now (λ not. let same : old ≡ new = omega (arith, le, not) in subst P same (before (omega (arith, lt, same)))) (cases_lt new old)

@@ -1,4 +1,4 @@
--- Why a run has no account, from what was found place by place.
+-- Why a run has no account, from what was found queue by queue.
 use Rattle.std.proofs.Common.{◌≡◌, ℕ, ◌<◌, ◌≤◌, true, false, true≢false, List, [], length, Option, Some, None, refl, sym, ap, ◌∙◌, subst, ⊎_elim, arith}
 use Rattle.std.proofs.lemmas.Bool.{cases_lt}
 use Rattle.std.specs.Ordering.{nat_cmp}
@@ -16,27 +16,27 @@ use Rattle.crawl_frontier.specs.Finishing.{Slots, Placed, IsShared, SettlesAt, A
 use Rattle.crawl_frontier.proofs.Gets.{get_within, has_at, same_at, list_of}
 use Rattle.crawl_frontier.proofs.Settling.{has_book}
 
--- what was found at place q is of this list and this doubt
+-- what was found of queue q is of this list and this doubt
 pub record Tied (workers : ℕ) (closed : List WorkerId) (lists : List (List Entry)) (doubts : List (Option Doubt)) (q : ℕ) (f : Found) : Type 0 where
   pub listed : At lists q f.sent
-  pub clear : At doubts q None → (f.place ≡ q) × (f.is_taken ≡ true)
+  pub clear : At doubts q None → (f.queue ≡ q) × (f.is_taken ≡ true)
   pub unclear : (why : Doubt) → At doubts q (Some why) → f.is_taken ≡ false
   pub found : IsFound workers closed q f
 
 module _ (gate : GateId) (workers : ℕ) (queues : List QueueId) (closed : List WorkerId) (shards : List ShardId) (rights : BTreeMap ℕ PassId) (lists : List (List Entry)) (doubts : List (Option Doubt)) where
   tied : Slots gate workers queues closed rights → (q : ℕ) (es : List Entry) (doubt : Option Doubt) → At lists q es → At doubts q doubt → SettlesAt workers queues shards rights q es doubt → (f : Found) × Tied workers closed lists doubts q f
-  tied slots q es None at there (j, s, right, here, sum, has, (same, rule, (place, taken))) =
+  tied slots q es None at there (j, s, right, here, sum, has, (same, rule, (queue, taken))) =
       let w = slots q right has in (
-        record { place = s.place; sent = es; is_taken = true },
+        record { queue = s.queue; sent = es; is_taken = true },
         record {
           listed = at;
-          clear = λ none. (place, refl);
+          clear = λ none. (queue, refl);
           unclear = λ why some. let both : Some None ≡ Some (Some why) = sym there ∙ some in absurd (cc (both));
           found = record { rule = rule; taken = λ is. (w.0, w.1, w.2, w.3, ap (λ v. v.taken) (sym w.4) ∙ (sym taken ∙ sym same)) };
         },
       )
   tied slots q es (Some why) at there (j, s, right, here, sum, has, (same, rule, shows)) = (
-    record { place = s.place; sent = es; is_taken = false },
+    record { queue = s.queue; sent = es; is_taken = false },
     record {
       listed = at;
       clear = λ none. let both : Some (Some why) ≡ Some None = sym there ∙ none in absurd (cc (both));
@@ -45,7 +45,7 @@ module _ (gate : GateId) (workers : ℕ) (queues : List QueueId) (closed : List 
     },
   )
 
-  -- what was found, place by place
+  -- what was found, queue by queue
   pub found : Slots gate workers queues closed rights → AllSettle workers queues shards rights lists doubts → length lists ≡ workers → length doubts ≡ workers
       → (fs : List Found) × AreFound workers closed fs × ((q : ℕ) (f : Found) → At fs q f → Tied workers closed lists doubts q f)
   found slots all len len' =
@@ -81,7 +81,7 @@ module _ (workers : ℕ) (closed : List WorkerId) (senders : List SenderId) (lis
       let t = of_ids.of_books e.sender (in_ids q f.sent (ties q f at).listed k e here) in
       (t.1, g.parts t.0 t.1 t.2, t.3)
 
-  -- the least place at which something is found
+  -- the least queue at which something is found
   pub first_unsettled : (gate : GateId) (rights : BTreeMap ℕ PassId) (alone clear least : ℕ) → Placed gate workers closed 0 rights alone → Gathered workers closed senders [] [] books → AreFound workers closed fs
       → ((q : ℕ) (f : Found) → At fs q f → Tied workers closed lists doubts q f) → clear ≤ alone → ((q : ℕ) → q < clear → At doubts q None) → (clear < alone → (why : Doubt) × At doubts clear (Some why)) → (alone < workers → IsShared closed alone)
       → least ≤ clear → AllAre (AgreesBelow least lists) books → (least < clear → OneDisagrees least lists books) → least < workers → IsFirstUnsettled closed senders fs least

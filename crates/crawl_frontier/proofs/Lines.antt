@@ -16,7 +16,7 @@ get_past [] a e = absurd (cc (e))
 get_past (x ∷ xs) a e = get_past xs a e
 
 pub line-snoc : (gate : GateId) (workers : ℕ) (qs : List QueueId) (ss ts : List PassId) (n : ℕ) (q : QueueId) (s t : PassId) → Line gate workers qs ss ts n
-    → (s.queue ≡ q) × (s.view ≡ pushing (home gate workers n) []) → (t.queue ≡ q) × (t.view ≡ popping (home gate workers n) [] 0)
+    → (s.subqueue ≡ q) × (s.view ≡ pushing (home gate workers n) []) → (t.subqueue ≡ q) × (t.view ≡ popping (home gate workers n) [] 0)
     → Line gate workers (qs ++ q ∷ []) (ss ++ s ∷ []) (ts ++ t ∷ []) (n + 1)
 line-snoc gate workers qs ss ts n q s t l hs ht =
     let lq = l.queues_len in let ls = l.sending_len in let lt = l.taking_len in
@@ -25,10 +25,10 @@ line-snoc gate workers qs ss ts n q s t l hs ht =
       sending_len = omega (arith, length-append ss (s ∷ []));
       taking_len = omega (arith, length-append ts (t ∷ []));
       sends = λ k q' p e f. ⊎_elim (λ x. l.sends k q' p x.0 x.1)
-          (λ x. let at : n ≡ k = omega (arith, x.0) in (ap (λ z. z.queue) (sym x.2) ∙ hs.0 ∙ x.1, ap (λ z. z.view) (sym x.2) ∙ hs.1 ∙ ap (λ j. pushing (home gate workers j) []) at))
+          (λ x. let at : n ≡ k = omega (arith, x.0) in (ap (λ z. z.subqueue) (sym x.2) ∙ hs.0 ∙ x.1, ap (λ z. z.view) (sym x.2) ∙ hs.1 ∙ ap (λ j. pushing (home gate workers j) []) at))
           (get_both qs ss q q' s p k (omega arith) e f);
       takes = λ k q' p e f. ⊎_elim (λ x. l.takes k q' p x.0 x.1)
-          (λ x. let at : n ≡ k = omega (arith, x.0) in (ap (λ z. z.queue) (sym x.2) ∙ ht.0 ∙ x.1, ap (λ z. z.view) (sym x.2) ∙ ht.1 ∙ ap (λ j. popping (home gate workers j) [] 0) at))
+          (λ x. let at : n ≡ k = omega (arith, x.0) in (ap (λ z. z.subqueue) (sym x.2) ∙ ht.0 ∙ x.1, ap (λ z. z.view) (sym x.2) ∙ ht.1 ∙ ap (λ j. popping (home gate workers j) [] 0) at))
           (get_both qs ts q q' t p k (omega arith) e f);
     }
 
@@ -49,10 +49,10 @@ has_same (x ∷ xs) (y ∷ ys) zero b same e = (x, refl)
 has_same (x ∷ xs) (y ∷ ys) (suc k) b same e = has_same xs ys k b (omega arith) e
 
 abbrev Sends : GateId → ℕ → List QueueId → ℕ → PassId → Type 0
-Sends gate workers qs n p = (p.view ≡ pushing (home gate workers n) []) × (slice_get qs n ≡ Some p.queue)
+Sends gate workers qs n p = (p.view ≡ pushing (home gate workers n) []) × (slice_get qs n ≡ Some p.subqueue)
 
 abbrev Takes : GateId → ℕ → List QueueId → ℕ → PassId → Type 0
-Takes gate workers qs n p = (p.view ≡ popping (home gate workers n) [] 0) × (slice_get qs n ≡ Some p.queue)
+Takes gate workers qs n p = (p.view ≡ popping (home gate workers n) [] 0) × (slice_get qs n ≡ Some p.subqueue)
 
 all_send : (gate : GateId) (workers : ℕ) (qs : List QueueId) (n : ℕ) (ss : List PassId) → ((k : ℕ) (p : PassId) → slice_get ss k ≡ Some p → Sends gate workers qs (n + k) p) → AllPush gate workers qs n ss
 all_send gate workers qs n [] h = tt
@@ -76,7 +76,7 @@ line-pop gate workers qs ss ts n l = all_take gate workers qs 0 ts
     (λ k p e. let q = has_same qs ts k p (l.queues_len ∙ sym l.taking_len) e in let s = l.takes k q.0 p q.1 e in
     subst (λ j. Takes gate workers qs j p) (omega arith) (s.1, q.1 ∙ ap Some (sym s.0)))
 
-pub fresh-snoc : (gate : GateId) (workers n : ℕ) (ws : List WorkerId) (w : WorkerId) → AllFresh gate workers n ws → w.place ≡ n + length ws → w.book ≡ fresh_book (n + length ws) workers → w.taken ≡ [] → w.empty_pops ≡ 0 → w.seat.view ≡ fresh_view gate.max_pending → AllFresh gate workers n (ws ++ w ∷ [])
+pub fresh-snoc : (gate : GateId) (workers n : ℕ) (ws : List WorkerId) (w : WorkerId) → AllFresh gate workers n ws → w.queue ≡ n + length ws → w.book ≡ fresh_book (n + length ws) workers → w.taken ≡ [] → w.empty_pops ≡ 0 → w.seat.view ≡ fresh_view gate.max_pending → AllFresh gate workers n (ws ++ w ∷ [])
 fresh-snoc gate workers n [] w all at book none zero_empties new = (omega (arith, at), subst (λ k. w.book ≡ fresh_book k workers) (omega arith) book, none, zero_empties, new, tt)
 fresh-snoc gate workers n (v ∷ ws) w all at book none zero_empties new =
     (all.0, all.1, all.2, all.3, all.4, fresh-snoc gate workers (n + 1) ws w all.5 (omega (arith, at)) (subst (λ k. w.book ≡ fresh_book k workers) (omega arith) book) none zero_empties new)

@@ -122,7 +122,7 @@ pub all_of-snoc : (g : GateId) (items : List Message) (x : Message) → AllOfGat
 all_of-snoc g [] x a o = (o, tt)
 all_of-snoc g (m ∷ ms) x a o = (a.0, all_of-snoc g ms x a.1 o)
 
-unfoldable pub sends : (n id : ℕ) (v : PassView) (x : Message) → v ≡ pushing v.home v.sent → IsSeatOf v.home.gate x.unit → MayFollow v.home.workers v.home.place v.sent (plain x)
+unfoldable pub sends : (n id : ℕ) (v : PassView) (x : Message) → v ≡ pushing v.home v.sent → IsSeatOf v.home.gate x.unit → MayFollow v.home.workers v.home.queue v.sent (plain x)
     → Pushes SubqueueInvariant n id v x (λ w. w ≡ pushing v.home (v.sent ++ plain x ∷ []))
 sends n id v x is unit may items views _ k at =
     let mine = k.passes id v at in
@@ -130,7 +130,7 @@ sends n id v x is unit may items views _ k at =
     let w = pushing v.home (v.sent ++ plain x ∷ []) in
     let sent = k.sent ++ plain x ∷ [] in
     let F = PassFits k.home k.writer k.reader sent k.taken in
-    let may' : MayFollow k.home.workers k.home.place k.sent (plain x) = subst (λ (y : Home × List Entry). MayFollow y.0.workers y.0.place y.1 (plain x)) (λ i. (s.2 i, s.1 i)) may in (
+    let may' : MayFollow k.home.workers k.home.queue k.sent (plain x) = subst (λ (y : Home × List Entry). MayFollow y.0.workers y.0.queue y.1 (plain x)) (λ i. (s.2 i, s.1 i)) may in (
       w,
       record {
         home = k.home;
@@ -139,7 +139,7 @@ sends n id v x is unit may items views _ k at =
         sent = sent;
         taken = k.taken;
         split = ap (λ l. l ++ plain x ∷ []) k.split ∙ append_assoc k.taken (map plain items) (plain x ∷ []) ∙ ap (λ l. k.taken ++ l) (sym (map-append plain items (x ∷ [])));
-        rule = rule-snoc k.home.workers k.home.place [] k.sent (plain x) k.rule may';
+        rule = rule-snoc k.home.workers k.home.queue [] k.sent (plain x) k.rule may';
         units = all_of-snoc k.home.gate items x k.units (subst (λ (h : Home). IsSeatOf h.gate x.unit) s.2 unit);
         passes = all_set F views id w (record { sends = λ _. (s.0, ap (λ l. l ++ plain x ∷ []) s.1, s.2); takes = no })
             (λ j u apart e. let o = k.passes j u e in record { sends = λ p. absurd (apart ((o.sends p).0 ∙ sym s.0)); takes = o.takes });
@@ -148,15 +148,15 @@ sends n id v x is unit may items views _ k at =
     )
 
 unfoldable pub takes : (id : ℕ) (v : PassView) → v ≡ popping v.home v.taken v.empty_pops
-    → Pops SubqueueInvariant id v (λ x w. (w ≡ popping v.home (v.taken ++ plain x ∷ []) v.empty_pops) × IsSeatOf v.home.gate x.unit × MayFollow v.home.workers v.home.place v.taken (plain x))
+    → Pops SubqueueInvariant id v (λ x w. (w ≡ popping v.home (v.taken ++ plain x ∷ []) v.empty_pops) × IsSeatOf v.home.gate x.unit × MayFollow v.home.workers v.home.queue v.taken (plain x))
 takes id v is x items views k at =
     let mine = k.passes id v at in
     let t = mine.takes (ap (λ z. z.takes) is) in
     let w = popping v.home (v.taken ++ plain x ∷ []) v.empty_pops in
     let taken = k.taken ++ plain x ∷ [] in
     let F = PassFits k.home k.writer k.reader k.sent taken in
-    let may : MayFollow k.home.workers k.home.place k.taken (plain x) =
-    rule-at k.home.workers k.home.place [] k.taken (plain x) (map plain items) (subst (KeepsRule k.home.workers k.home.place []) k.split k.rule) in (
+    let may : MayFollow k.home.workers k.home.queue k.taken (plain x) =
+    rule-at k.home.workers k.home.queue [] k.taken (plain x) (map plain items) (subst (KeepsRule k.home.workers k.home.queue []) k.split k.rule) in (
       w,
       record {
         home = k.home;
@@ -173,7 +173,7 @@ takes id v is x items views k at =
       (
         refl,
         subst (λ (h : Home). IsSeatOf h.gate x.unit) (sym t.2) k.units.0,
-        subst (λ (y : Home × List Entry). MayFollow y.0.workers y.0.place y.1 (plain x)) (λ i. (sym t.2 i, sym t.1 i)) may,
+        subst (λ (y : Home × List Entry). MayFollow y.0.workers y.0.queue y.1 (plain x)) (λ i. (sym t.2 i, sym t.1 i)) may,
       ),
     )
 

@@ -44,16 +44,16 @@ removed key m n h q lt = h q ∙ by_case (is_at (nat_cmp key) q) refl
     by_case false is = refl
 
 pub slots_more : (gate : GateId) (workers : ℕ) (queues : List QueueId) (closed : List WorkerId) (m n : BTreeMap ℕ PassId) (k : ℕ) (w : WorkerId) (r : PassId)
-    → Slots gate workers queues closed m → ((q : ℕ) → get nat_cmp n q ≡ cond (is_at (nat_cmp w.place) q) (Some r) (get nat_cmp m q)) → At closed k w
-    → r.view ≡ popping (home gate workers w.place) w.taken w.empty_pops → slice_get queues w.place ≡ Some r.queue → Slots gate workers queues closed n
-slots_more gate workers queues closed m n k w r old h at view queue q p e = by_case (is_at (nat_cmp w.place) q) refl (sym (h q) ∙ e)
+    → Slots gate workers queues closed m → ((q : ℕ) → get nat_cmp n q ≡ cond (is_at (nat_cmp w.queue) q) (Some r) (get nat_cmp m q)) → At closed k w
+    → r.view ≡ popping (home gate workers w.queue) w.taken w.empty_pops → slice_get queues w.queue ≡ Some r.subqueue → Slots gate workers queues closed n
+slots_more gate workers queues closed m n k w r old h at view subqueue q p e = by_case (is_at (nat_cmp w.queue) q) refl (sym (h q) ∙ e)
   where
-    by_case : (t : Bool) → is_at (nat_cmp w.place) q ≡ t → cond t (Some r) (get nat_cmp m q) ≡ Some p
-        → (k : ℕ) × (w : WorkerId) × At closed k w × (w.place ≡ q) × (p.view ≡ popping (home gate workers q) w.taken w.empty_pops) × (slice_get queues q ≡ Some p.queue)
+    by_case : (t : Bool) → is_at (nat_cmp w.queue) q ≡ t → cond t (Some r) (get nat_cmp m q) ≡ Some p
+        → (k : ℕ) × (w : WorkerId) × At closed k w × (w.queue ≡ q) × (p.view ≡ popping (home gate workers q) w.taken w.empty_pops) × (slice_get queues q ≡ Some p.subqueue)
     by_case true is e =
-        let same : w.place ≡ q = key_is w.place q is in
+        let same : w.queue ≡ q = key_is w.queue q is in
         let equal : r ≡ p = cc in
-        (k, w, at, same, ap (λ z. z.view) (sym equal) ∙ (view ∙ ap (λ (j : ℕ). popping (home gate workers j) w.taken w.empty_pops) same), ap (slice_get queues) (sym same) ∙ (queue ∙ ap (λ z. Some z.queue) equal))
+        (k, w, at, same, ap (λ z. z.view) (sym equal) ∙ (view ∙ ap (λ (j : ℕ). popping (home gate workers j) w.taken w.empty_pops) same), ap (slice_get queues) (sym same) ∙ (subqueue ∙ ap (λ z. Some z.subqueue) equal))
     by_case false is e = old q p e
 
 some_not_none : (o : Option PassId) (p : PassId) → o ≡ Some p → o ≡ None → ⊥
@@ -75,29 +75,29 @@ placed-none gate workers closed rights alone none = record {
 
 -- one closed worker more was taken apart, the n-th
 pub placed_more : (gate : GateId) (workers : ℕ) (closed : List WorkerId) (m m' : BTreeMap ℕ PassId) (n : ℕ) (w : WorkerId) (r : PassId) (alone alone' : ℕ)
-    → Placed gate workers closed (n + 1) m alone → At closed n w → w.place < workers
-    → ((q : ℕ) → get nat_cmp m' q ≡ cond (is_at (nat_cmp w.place) q) (Some r) (get nat_cmp m q))
-    → r.view ≡ popping (home gate workers w.place) w.taken w.empty_pops
-    → alone' ≤ alone → (w.place < alone' → get nat_cmp m w.place ≡ None) → Placed gate workers closed n m' alone'
+    → Placed gate workers closed (n + 1) m alone → At closed n w → w.queue < workers
+    → ((q : ℕ) → get nat_cmp m' q ≡ cond (is_at (nat_cmp w.queue) q) (Some r) (get nat_cmp m q))
+    → r.view ≡ popping (home gate workers w.queue) w.taken w.empty_pops
+    → alone' ≤ alone → (w.queue < alone' → get nat_cmp m w.queue ≡ None) → Placed gate workers closed n m' alone'
 placed_more gate workers closed m m' n w r alone alone' old at below h view le none = record {
-  within = λ k v here from. ⊎_elim (λ e. subst (λ (z : WorkerId). z.place < workers) (is_w k v here e) below) (λ later. old.within k v here later) (first k from);
-  there = λ k v here from. ⊎_elim (λ e. subst (λ (z : WorkerId). is_some (get nat_cmp m' z.place) ≡ true) (is_w k v here e) (ap is_some mine)) (λ later. kept v.place (old.there k v here later)) (first k from);
+  within = λ k v here from. ⊎_elim (λ e. subst (λ (z : WorkerId). z.queue < workers) (is_w k v here e) below) (λ later. old.within k v here later) (first k from);
+  there = λ k v here from. ⊎_elim (λ e. subst (λ (z : WorkerId). is_some (get nat_cmp m' z.queue) ≡ true) (is_w k v here e) (ap is_some mine)) (λ later. kept v.queue (old.there k v here later)) (first k from);
   own = λ k v here from small. ⊎_elim (λ e. subst (OwnRight gate workers m') (is_w k v here e) (r, mine, view)) (λ later. own k v here later small) (first k from);
-  once = λ j k u v at_j at_k from_j from_k same small. ⊎_elim (λ e. ⊎_elim (λ e'. e ∙ sym e') (λ later. absurd (clash k v at_k later (sym same ∙ sym (ap (λ z. z.place) (is_w j u at_j e))) small)) (first k from_k))
-      (λ later_j. ⊎_elim (λ e'. absurd (clash j u at_j later_j (same ∙ sym (ap (λ z. z.place) (is_w k v at_k e'))) (omega (arith, same, small)))) (λ later_k. old.once j k u v at_j at_k later_j later_k same (omega (arith, small, le))) (first k from_k))
+  once = λ j k u v at_j at_k from_j from_k same small. ⊎_elim (λ e. ⊎_elim (λ e'. e ∙ sym e') (λ later. absurd (clash k v at_k later (sym same ∙ sym (ap (λ z. z.queue) (is_w j u at_j e))) small)) (first k from_k))
+      (λ later_j. ⊎_elim (λ e'. absurd (clash j u at_j later_j (same ∙ sym (ap (λ z. z.queue) (is_w k v at_k e'))) (omega (arith, same, small)))) (λ later_k. old.once j k u v at_j at_k later_j later_k same (omega (arith, small, le))) (first k from_k))
       (first j from_j);
   whose = λ q has. whose q has;
 }
   where
-    whose : (q : ℕ) → is_some (get nat_cmp m' q) ≡ true → (k : ℕ) × (v : WorkerId) × At closed k v × (n ≤ k) × (v.place ≡ q)
-    whose q has = by_case (is_at (nat_cmp w.place) q) refl (sym (ap is_some (h q)) ∙ has)
+    whose : (q : ℕ) → is_some (get nat_cmp m' q) ≡ true → (k : ℕ) × (v : WorkerId) × At closed k v × (n ≤ k) × (v.queue ≡ q)
+    whose q has = by_case (is_at (nat_cmp w.queue) q) refl (sym (ap is_some (h q)) ∙ has)
       where
-        by_case : (t : Bool) → is_at (nat_cmp w.place) q ≡ t → is_some (cond t (Some r) (get nat_cmp m q)) ≡ true → (k : ℕ) × (v : WorkerId) × At closed k v × (n ≤ k) × (v.place ≡ q)
-        by_case true is here = (n, w, at, omega arith, key_is w.place q is)
+        by_case : (t : Bool) → is_at (nat_cmp w.queue) q ≡ t → is_some (cond t (Some r) (get nat_cmp m q)) ≡ true → (k : ℕ) × (v : WorkerId) × At closed k v × (n ≤ k) × (v.queue ≡ q)
+        by_case true is here = (n, w, at, omega arith, key_is w.queue q is)
         by_case false is here = let t = old.whose q here in (t.0, t.1, t.2, omega (arith, t.3), t.4)
 
-    mine : get nat_cmp m' w.place ≡ Some r
-    mine = h w.place ∙ ap (λ t. cond t (Some r) (get nat_cmp m w.place)) (key_self w.place)
+    mine : get nat_cmp m' w.queue ≡ Some r
+    mine = h w.queue ∙ ap (λ t. cond t (Some r) (get nat_cmp m w.queue)) (key_self w.queue)
 
     is_w : (k : ℕ) (v : WorkerId) → At closed k v → k ≡ n → w ≡ v
     is_w k v here e = same_at closed k w v (subst (λ i. At closed i w) (sym e) at) here
@@ -106,29 +106,29 @@ placed_more gate workers closed m m' n w r alone alone' old at below h view le n
     first k from = ⊎_elim (λ lt. inr (omega (arith, lt))) (λ no. inl (omega (arith, from, no))) (cases_lt n k)
 
     kept : (q : ℕ) → is_some (get nat_cmp m q) ≡ true → is_some (get nat_cmp m' q) ≡ true
-    kept q had = ap is_some (h q) ∙ by_case (is_at (nat_cmp w.place) q)
+    kept q had = ap is_some (h q) ∙ by_case (is_at (nat_cmp w.queue) q)
       where
         by_case : (t : Bool) → is_some (cond t (Some r) (get nat_cmp m q)) ≡ true
         by_case true = refl
         by_case false = had
 
-    clash : (k : ℕ) (v : WorkerId) → At closed k v → n + 1 ≤ k → v.place ≡ w.place → v.place < alone' → ⊥
+    clash : (k : ℕ) (v : WorkerId) → At closed k v → n + 1 ≤ k → v.queue ≡ w.queue → v.queue < alone' → ⊥
     clash k v here later same small =
         let p = old.own k v here later (omega (arith, small, le)) in
-        some_not_none (get nat_cmp m v.place) p.0 p.1 (ap (get nat_cmp m) same ∙ none (omega (arith, same, small)))
+        some_not_none (get nat_cmp m v.queue) p.0 p.1 (ap (get nat_cmp m) same ∙ none (omega (arith, same, small)))
 
-    own : (k : ℕ) (v : WorkerId) → At closed k v → n + 1 ≤ k → v.place < alone' → OwnRight gate workers m' v
-    own k v here later small = by_case (is_at (nat_cmp w.place) v.place) refl
+    own : (k : ℕ) (v : WorkerId) → At closed k v → n + 1 ≤ k → v.queue < alone' → OwnRight gate workers m' v
+    own k v here later small = by_case (is_at (nat_cmp w.queue) v.queue) refl
       where
-        by_case : (t : Bool) → is_at (nat_cmp w.place) v.place ≡ t → OwnRight gate workers m' v
-        by_case true is = absurd (clash k v here later (sym (key_is w.place v.place is)) small)
+        by_case : (t : Bool) → is_at (nat_cmp w.queue) v.queue ≡ t → OwnRight gate workers m' v
+        by_case true is = absurd (clash k v here later (sym (key_is w.queue v.queue is)) small)
         by_case false is =
             let p = old.own k v here later (omega (arith, small, le)) in
-            (p.0, h v.place ∙ ((λ i. cond (is i) (Some r) (get nat_cmp m v.place)) ∙ p.1), p.2)
+            (p.0, h v.queue ∙ ((λ i. cond (is i) (Some r) (get nat_cmp m v.queue)) ∙ p.1), p.2)
 
--- two workers meet at the place at which the bound falls
+-- two workers meet at the queue at which the bound falls
 pub shared_more : (gate : GateId) (workers : ℕ) (closed : List WorkerId) (m : BTreeMap ℕ PassId) (n : ℕ) (w : WorkerId) (limit alone alone' : ℕ)
-    → Placed gate workers closed (n + 1) m alone → At closed n w → alone' ≤ alone → (alone' < alone → (alone' ≡ w.place) × (is_some (get nat_cmp m w.place) ≡ true))
+    → Placed gate workers closed (n + 1) m alone → At closed n w → alone' ≤ alone → (alone' < alone → (alone' ≡ w.queue) × (is_some (get nat_cmp m w.queue) ≡ true))
     → (alone < limit → IsShared closed alone) → alone' < limit → IsShared closed alone'
 shared_more gate workers closed m n w limit alone alone' old at le named before lt = ⊎_elim meets
     (λ not. let same : alone ≡ alone' = omega (arith, le, not) in subst (IsShared closed) same (before (omega (arith, lt, same))))
@@ -137,10 +137,10 @@ shared_more gate workers closed m n w limit alone alone' old at le named before 
     meets : alone' < alone → IsShared closed alone'
     meets less =
         let here = named less in
-        let t = old.whose w.place here.1 in
+        let t = old.whose w.queue here.1 in
         (n, t.0, w, t.1, at, t.2, sym here.0, t.4 ∙ sym here.0, λ same. absurd (omega (arith, t.3, same)))
 
--- one place more was settled
+-- one queue more was settled
 pub settle_more : (workers : ℕ) (queues : List QueueId) (shards : List ShardId) (rights : BTreeMap ℕ PassId) (lists : List (List Entry)) (doubts : List (Option Doubt))
     (list : List Entry) (doubt : Option Doubt) → AllSettle workers queues shards rights lists doubts → length lists ≡ length doubts
     → SettlesAt workers queues shards rights (length lists) list doubt → AllSettle workers queues shards rights (lists ++ list ∷ []) (doubts ++ doubt ∷ [])
@@ -155,7 +155,7 @@ Settled workers rights least lists =
     (q : ℕ) (es : List Entry) → q < least → At lists q es
     → ((p : PassId) × (get nat_cmp rights q ≡ Some p) × (es ≡ p.view.taken)) × KeepsRule workers q [] es
 
--- where no place is in doubt
+-- where no queue is in doubt
 pub settled : (workers : ℕ) (queues : List QueueId) (shards : List ShardId) (rights : BTreeMap ℕ PassId) (lists : List (List Entry)) (doubts : List (Option Doubt)) (least : ℕ)
     → AllSettle workers queues shards rights lists doubts → ((q : ℕ) → q < least → At doubts q None) → Settled workers rights least lists
 settled workers queues shards rights lists doubts least all none q es lt at =
@@ -215,7 +215,7 @@ has_book workers closed senders books g b part = ⊎_elim
     (λ (t : (k : ℕ) × (s : SenderId) × At senders k s × (s.book ≡ b)). subst (HasBook books) t.3 (⊎_elim (λ (lt : t.0 < 0). absurd (omega arith)) (λ h. h) (g.senders_in t.0 t.1 t.2)))
     part
 
--- each place that has a right to pop has a worker, and one that has none has none
+-- each queue that has a right to pop has a worker, and one that has none has none
 pub all_work : (gate : GateId) (workers : ℕ) (queues : List QueueId) (closed : List WorkerId) (rights : BTreeMap ℕ PassId)
     → Slots gate workers queues closed rights → ((q : ℕ) → q < workers → is_some (get nat_cmp rights q) ≡ true) → HasWorkers workers closed
 all_work gate workers queues closed rights slots there q lt =
@@ -229,7 +229,7 @@ one_is_missing gate workers closed rights alone q placed lt none has =
     let t = has q lt in
     true≢false (sym (placed.there t.0 t.1 t.2 (omega arith)) ∙ (ap (λ k. is_some (get nat_cmp rights k)) t.3 ∙ none))
 
--- with nothing left to take apart and all places compared, the lists are an account
+-- with nothing left to take apart and all queues compared, the lists are an account
 pub accounts : (gate : GateId) (workers : ℕ) (queues : List QueueId) (closed : List WorkerId) (senders : List SenderId) (rights : BTreeMap ℕ PassId) (books : List BookId) (lists : List (List Entry)) (alone least now : ℕ) (ids : BTreeSet ℕ)
     → length lists ≡ workers → Slots gate workers queues closed rights → Placed gate workers closed 0 rights alone → Gathered workers closed senders [] [] books
     → ((q : ℕ) → q < workers → is_some (get nat_cmp rights q) ≡ true) → Settled workers rights least lists
@@ -237,18 +237,18 @@ pub accounts : (gate : GateId) (workers : ℕ) (queues : List QueueId) (closed :
 accounts gate workers queues closed senders rights books lists alone least now ids len slots placed g there settled of_ids in_ids agree all le le' = record {
   len = len;
   worked = all_work gate workers queues closed rights slots there;
-  once = λ j k v w at_j at_k same. placed.once j k v w at_j at_k (omega arith) (omega arith) same (let lt = place k w at_k in omega (arith, lt));
+  once = λ j k v w at_j at_k same. placed.once j k v w at_j at_k (omega arith) (omega arith) same (let lt = queue k w at_k in omega (arith, lt));
   taken = λ k w at.
-      let lt = place k w at in
+      let lt = queue k w at in
       let o = placed.own k w at (omega arith) (omega (arith, lt)) in
-      let x = has_at lists w.place (omega (arith, lt)) in
-      let s = (settled w.place x.0 (omega (arith, lt)) x.1).0 in
+      let x = has_at lists w.queue (omega (arith, lt)) in
+      let s = (settled w.queue x.0 (omega (arith, lt)) x.1).0 in
       let both : Some s.0 ≡ Some o.0 = sym s.1 ∙ o.1 in
       let same : s.0 ≡ o.0 = cc in
-      subst (At lists w.place) (s.2 ∙ (ap (λ z. z.view.taken) same ∙ ap (λ z. z.taken) o.2)) x.1;
+      subst (At lists w.queue) (s.2 ∙ (ap (λ z. z.view.taken) same ∙ ap (λ z. z.taken) o.2)) x.1;
   agrees = λ q es at b part. let h = has_book workers closed senders books g b part in agree h.0 b h.1 q es (let lt = get_within lists q es at in omega arith) at;
   parts = λ q es at k e here. let t = of_ids.of_books e.sender (in_ids q es at k e here) in (t.1, g.parts t.0 t.1 t.2, t.3);
 }
   where
-    place : (k : ℕ) (w : WorkerId) → At closed k w → w.place < workers
-    place k w at = placed.within k w at (omega arith)
+    queue : (k : ℕ) (w : WorkerId) → At closed k w → w.queue < workers
+    queue k w at = placed.within k w at (omega arith)

@@ -16,9 +16,9 @@ At xs k x = slice_get xs k ≡ Some x
 abbrev pub IsPart : List WorkerId → List SenderId → BookId → Type 0
 IsPart closed senders b = ((k : ℕ) × (w : WorkerId) × At closed k w × (w.book ≡ b)) ⊎ ((k : ℕ) × (s : SenderId) × At senders k s × (s.book ≡ b))
 
--- each place has its worker among these
+-- each queue has its worker among these
 abbrev pub HasWorkers : ℕ → List WorkerId → Type 0
-HasWorkers workers closed = (q : ℕ) → q < workers → (k : ℕ) × (w : WorkerId) × At closed k w × (w.place ≡ q)
+HasWorkers workers closed = (q : ℕ) → q < workers → (k : ℕ) × (w : WorkerId) × At closed k w × (w.queue ≡ q)
 
 -- the books agree with the entries of subqueue q: those that they have as accepted are those with their id, in order,
 -- and each URL that they have as seen stands there
@@ -36,10 +36,10 @@ HasStranger closed senders es = (k : ℕ) × (e : Entry) × At es k e × ((b : B
 -- an account agrees with the closed workers and the senders of a run
 pub record Accounts (workers : ℕ) (closed : List WorkerId) (senders : List SenderId) (queues : List (List Entry)) : Type 0 where
   pub len : length queues ≡ workers
-  -- each place has its worker, each worker its own place, and what it took is what the account lists there
+  -- each queue has its worker, each worker its own queue, and what it took is what the account lists there
   pub worked : HasWorkers workers closed
-  pub once : (j k : ℕ) (v w : WorkerId) → At closed j v → At closed k w → v.place ≡ w.place → j ≡ k
-  pub taken : (k : ℕ) (w : WorkerId) → At closed k w → At queues w.place w.taken
+  pub once : (j k : ℕ) (v w : WorkerId) → At closed j v → At closed k w → v.queue ≡ w.queue → j ≡ k
+  pub taken : (k : ℕ) (w : WorkerId) → At closed k w → At queues w.queue w.taken
   -- the books of each part agree, and each entry's sender is a part
   pub agrees : (q : ℕ) (es : List Entry) → At queues q es → (b : BookId) → IsPart closed senders b → Agrees q es b
   pub parts : (q : ℕ) (es : List Entry) → At queues q es → HasSenders closed senders es
@@ -53,35 +53,35 @@ pub record AccountId : Type 0 where
   pub workers : ℕ
   pub queues : List (List Entry)
 
--- what was found at a place: which subqueue's shard, the list sent, and whether its worker was seen to have taken all of it
+-- what was found behind a queue's lock: which queue's shard, the list sent, and whether its worker was seen to have taken all of it
 pub record Found : Type 0 where
-  pub place : ℕ
+  pub queue : ℕ
   pub sent : List Entry
   pub is_taken : Bool
 
--- The list keeps the rule of its shard's subqueue. One that was seen to be taken is what a closed worker of the place took.
+-- The list keeps the rule of its shard's subqueue. One that was seen to be taken is what a closed worker of the queue took.
 pub record IsFound (workers : ℕ) (closed : List WorkerId) (q : ℕ) (f : Found) : Type 0 where
-  pub rule : KeepsRule workers f.place [] f.sent
-  pub taken : f.is_taken ≡ true → (k : ℕ) × (w : WorkerId) × At closed k w × (w.place ≡ q) × (w.taken ≡ f.sent)
+  pub rule : KeepsRule workers f.queue [] f.sent
+  pub taken : f.is_taken ≡ true → (k : ℕ) × (w : WorkerId) × At closed k w × (w.queue ≡ q) × (w.taken ≡ f.sent)
 
--- what can be found, place by place
+-- what can be found, queue by queue
 pub record AreFound (workers : ℕ) (closed : List WorkerId) (found : List Found) : Type 0 where
   pub len : length found ≡ workers
   pub each : (q : ℕ) (f : Found) → At found q f → IsFound workers closed q f
 
--- The place has its own shard and one worker, which took all that was sent; and the books of each part agree with that.
+-- The queue has its own shard and one worker, which took all that was sent; and the books of each part agree with that.
 pub record IsSettled (closed : List WorkerId) (senders : List SenderId) (q : ℕ) (f : Found) : Type 0 where
-  pub here : f.place ≡ q
+  pub here : f.queue ≡ q
   pub taken : f.is_taken ≡ true
-  pub once : (j k : ℕ) (v w : WorkerId) → At closed j v → At closed k w → v.place ≡ q → w.place ≡ q → j ≡ k
+  pub once : (j k : ℕ) (v w : WorkerId) → At closed j v → At closed k w → v.queue ≡ q → w.queue ≡ q → j ≡ k
   pub agrees : (b : BookId) → IsPart closed senders b → Agrees q f.sent b
 
--- q is the least place that is not settled
+-- q is the least queue that is not settled
 pub record IsFirstUnsettled (closed : List WorkerId) (senders : List SenderId) (found : List Found) (q : ℕ) : Type 0 where
   pub there : (f : Found) × At found q f × (¬ IsSettled closed senders q f)
   pub below : (p : ℕ) (f : Found) → p < q → At found p f → IsSettled closed senders p f
 
--- A worker is missing; or else a sender of what was found; or else one place disagrees, and it is the least. No clause of
+-- A worker is missing; or else a sender of what was found; or else one queue disagrees, and it is the least. No clause of
 -- an earlier call has the lists that were found. That the gate is unsettled is never answered.
 abbrev pub FinishFails : ℕ → List WorkerId → List SenderId → FinishError → Type 0
 FinishFails workers closed senders MissingPart =

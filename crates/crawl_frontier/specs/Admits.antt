@@ -12,7 +12,7 @@ use Rattle.crawl_frontier.specs.Parts.{ShardId, shard}
 abbrev pub Admits : ShardId → ShardId → List ℕ → ℕ → ℕ → ℕ → SeatId → Admit → Type 0
 Admits s t url id own hops unit (Admitted n) =
     (n ≡ own) × (own < 2 ^ 63) × (count_of id s.sent ≡ own) × (has_url url s.sent ≡ false) × (hops ≤ hops_limit)
-    × (t ≡ shard s.place (s.sent ++ entry url id own hops ∷ []))
+    × (t ≡ shard s.queue (s.sent ++ entry url id own hops ∷ []))
 Admits s t url id own hops unit (Crossed found u) = (found ≡ count_of id s.sent) × (found ≢ own) × (t ≡ s) × (u ≡ unit)
 Admits s t url id own hops unit (Seen there u) =
     (count_of id s.sent ≡ own) × (has_url url s.sent ≡ true) × (there ≡ url) × (t ≡ s) × (u ≡ unit)

@@ -20,15 +20,15 @@ entries_of s [] = []
 entries_of s (e ∷ es) = if e.sender == s then e ∷ entries_of s es else entries_of s es
 
 -- the entry may follow these: its URL is new, it belongs to the subqueue, and its number is how many of its sender came before
-pub record MayFollow (workers place : ℕ) (before : List Entry) (e : Entry) : Type 0 where
+pub record MayFollow (workers queue : ℕ) (before : List Entry) (e : Entry) : Type 0 where
   pub new : has_url e.url before ≡ false
-  pub here : subqueue_of e.url workers ≡ place
+  pub here : subqueue_of e.url workers ≡ queue
   pub number : e.number ≡ count_of e.sender before
 
 -- each entry may follow those before it
 abbrev pub KeepsRule : ℕ → ℕ → List Entry → List Entry → Type 0
-KeepsRule workers place before [] = Unit {0}
-KeepsRule workers place before (e ∷ es) = MayFollow workers place before e × KeepsRule workers place (before ++ e ∷ []) es
+KeepsRule workers queue before [] = Unit {0}
+KeepsRule workers queue before (e ∷ es) = MayFollow workers queue before e × KeepsRule workers queue (before ++ e ∷ []) es
 
 abbrev pub entry : List ℕ → ℕ → ℕ → ℕ → Entry
 entry url sender number hops = record { url = url; sender = sender; number = number; hops = hops }

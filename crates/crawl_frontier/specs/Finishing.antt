@@ -13,7 +13,7 @@ use Rattle.crawl_frontier.specs.QueueId.{QueueId}
 use Rattle.crawl_frontier.specs.PassId.{PassId}
 use Rattle.crawl_frontier.specs.Rule.{popping, home}
 use Rattle.crawl_frontier.specs.Entries.{has_url, count_of, KeepsRule}
-use Rattle.crawl_frontier.specs.Books.{BookId, IsBook, place_of}
+use Rattle.crawl_frontier.specs.Books.{BookId, IsBook, queue_of}
 use Rattle.crawl_frontier.specs.Parts.{WorkerId, SenderId, ShardId}
 use Rattle.crawl_frontier.specs.Accounts.{At, IsPart, Agrees}
 
@@ -33,53 +33,53 @@ pub record Gathered (workers : ℕ) (closed : List WorkerId) (senders : List Sen
   pub parts : (j : ℕ) (b : BookId) → At books j b → IsPart closed senders b
   pub are_books : (j : ℕ) (b : BookId) → At books j b → IsBook workers b
 
--- the right to pop at each place is a closed worker's of this place
+-- the right to pop of each queue is a closed worker's of this queue
 abbrev pub Slots : GateId → ℕ → List QueueId → List WorkerId → BTreeMap ℕ PassId → Type 0
 Slots gate workers queues closed rights =
     (q : ℕ) (p : PassId) → get nat_cmp rights q ≡ Some p
-    → (k : ℕ) × (w : WorkerId) × At closed k w × (w.place ≡ q) × (p.view ≡ popping (home gate workers q) w.taken w.empty_pops) × (slice_get queues q ≡ Some p.queue)
+    → (k : ℕ) × (w : WorkerId) × At closed k w × (w.queue ≡ q) × (p.view ≡ popping (home gate workers q) w.taken w.empty_pops) × (slice_get queues q ≡ Some p.subqueue)
 
--- the worker's own right to pop stands at its place
+-- the worker's own right to pop stands at its queue
 abbrev pub OwnRight : GateId → ℕ → BTreeMap ℕ PassId → WorkerId → Type 0
 OwnRight gate workers rights w =
-    (p : PassId) × (get nat_cmp rights w.place ≡ Some p) × (p.view ≡ popping (home gate workers w.place) w.taken w.empty_pops)
+    (p : PassId) × (get nat_cmp rights w.queue ≡ Some p) × (p.view ≡ popping (home gate workers w.queue) w.taken w.empty_pops)
 
--- two closed workers have place q
+-- two closed workers have queue q
 abbrev pub IsShared : List WorkerId → ℕ → Type 0
-IsShared closed q = (j k : ℕ) × (v w : WorkerId) × At closed j v × At closed k w × (v.place ≡ q) × (w.place ≡ q) × (j ≢ k)
+IsShared closed q = (j k : ℕ) × (v w : WorkerId) × At closed j v × At closed k w × (v.queue ≡ q) × (w.queue ≡ q) × (j ≢ k)
 
--- of the closed workers from `from` on: each has a place, and a right stands there; and at a place below `alone` that
--- right is its own, and no other of them has the place
+-- of the closed workers from `from` on: each has a queue, and a right stands there; and at a queue below `alone` that
+-- right is its own, and no other of them has the queue
 pub record Placed (gate : GateId) (workers : ℕ) (closed : List WorkerId) (from : ℕ) (rights : BTreeMap ℕ PassId) (alone : ℕ) : Type 0 where
-  pub within : (k : ℕ) (w : WorkerId) → At closed k w → from ≤ k → w.place < workers
-  pub there : (k : ℕ) (w : WorkerId) → At closed k w → from ≤ k → is_some (get nat_cmp rights w.place) ≡ true
-  pub own : (k : ℕ) (w : WorkerId) → At closed k w → from ≤ k → w.place < alone → OwnRight gate workers rights w
-  pub once : (j k : ℕ) (v w : WorkerId) → At closed j v → At closed k w → from ≤ j → from ≤ k → v.place ≡ w.place → w.place < alone → j ≡ k
+  pub within : (k : ℕ) (w : WorkerId) → At closed k w → from ≤ k → w.queue < workers
+  pub there : (k : ℕ) (w : WorkerId) → At closed k w → from ≤ k → is_some (get nat_cmp rights w.queue) ≡ true
+  pub own : (k : ℕ) (w : WorkerId) → At closed k w → from ≤ k → w.queue < alone → OwnRight gate workers rights w
+  pub once : (j k : ℕ) (v w : WorkerId) → At closed j v → At closed k w → from ≤ j → from ≤ k → v.queue ≡ w.queue → w.queue < alone → j ≡ k
   -- a right that stands is one of theirs
-  pub whose : (q : ℕ) → is_some (get nat_cmp rights q) ≡ true → (k : ℕ) × (w : WorkerId) × At closed k w × (from ≤ k) × (w.place ≡ q)
+  pub whose : (q : ℕ) → is_some (get nat_cmp rights q) ≡ true → (k : ℕ) × (w : WorkerId) × At closed k w × (from ≤ k) × (w.queue ≡ q)
 
 -- each right is one of these queues'
 abbrev pub RightsOf : List QueueId → BTreeMap ℕ PassId → Type 0
-RightsOf queues rights = (q : ℕ) (p : PassId) → get nat_cmp rights q ≡ Some p → slice_get queues q ≡ Some p.queue
+RightsOf queues rights = (q : ℕ) (p : PassId) → get nat_cmp rights q ≡ Some p → slice_get queues q ≡ Some p.subqueue
 
--- of the shard behind the lock of place q and the right to pop: either the shard is this place's, and what was sent is
--- what was taken; or it is another's; or it is this place's, and the subqueue was not seen to be empty
+-- of the shard behind the lock of queue q and the right to pop: either the shard is this queue's, and what was sent is
+-- what was taken; or it is another's; or it is this queue's, and the subqueue was not seen to be empty
 abbrev pub Shows : List QueueId → ℕ → ShardId → PassId → Option Doubt → Type 0
-Shows queues q s right None = (s.place ≡ q) × (s.sent ≡ right.view.taken)
-Shows queues q s right (Some (Elsewhere p)) = (p ≡ s.place) × (p ≢ q)
+Shows queues q s right None = (s.queue ≡ q) × (s.sent ≡ right.view.taken)
+Shows queues q s right (Some (Elsewhere p)) = (p ≡ s.queue) × (p ≢ q)
 Shows queues q s right (Some (Holds held)) =
-    (s.place ≡ q) × (slice_get queues q ≡ Some held.queue) × (held.view.sent ≡ s.sent) × (held.view.taken ≡ right.view.taken)
+    (s.queue ≡ q) × (slice_get queues q ≡ Some held.subqueue) × (held.view.sent ≡ s.sent) × (held.view.taken ≡ right.view.taken)
 
 -- the list is the shard's
 abbrev pub Settles : ℕ → List QueueId → ℕ → ShardId → PassId → List Entry → Option Doubt → Type 0
-Settles workers queues q s right es doubt = (es ≡ s.sent) × KeepsRule workers s.place [] es × Shows queues q s right doubt
+Settles workers queues q s right es doubt = (es ≡ s.sent) × KeepsRule workers s.queue [] es × Shows queues q s right doubt
 
--- the last shard is settled with the right to pop of place q, and taken off
+-- the last shard is settled with the right to pop of queue q, and taken off
 abbrev pub SettlesLast : ℕ → List QueueId → ℕ → List ShardId → List ShardId → BTreeMap ℕ PassId → List Entry → Option Doubt → Type 0
 SettlesLast workers queues q shards left rights es doubt =
     (s : ShardId) × (right : PassId) × (shards ≡ left ++ s ∷ []) × (get nat_cmp rights q ≡ Some right) × Settles workers queues q s right es doubt
 
--- place q is settled with its shard, of those that come last first, and its right to pop
+-- queue q is settled with its shard, of those that come last first, and its right to pop
 abbrev pub SettlesAt : ℕ → List QueueId → List ShardId → BTreeMap ℕ PassId → ℕ → List Entry → Option Doubt → Type 0
 SettlesAt workers queues shards rights q es doubt =
     (j : ℕ) × (s : ShardId) × (right : PassId) × At shards j s × (j + q + 1 ≡ length shards) × (get nat_cmp rights q ≡ Some right)
@@ -95,7 +95,7 @@ Stands es (Accepted e q) = (k : ℕ) × At es k e
 Stands es (Seen u q) = has_url u es ≡ true
 
 abbrev pub StandsAt : List (List Entry) → Logged → Type 0
-StandsAt lists l = (es : List Entry) → At lists (place_of l) es → Stands es l
+StandsAt lists l = (es : List Entry) → At lists (queue_of l) es → Stands es l
 
 -- or false of them
 abbrev pub Fails : List Entry → Logged → Type 0
@@ -103,11 +103,11 @@ Fails es (Accepted e q) = (k : ℕ) → ¬ At es k e
 Fails es (Seen u q) = has_url u es ≡ false
 
 abbrev pub FailsAt : List (List Entry) → Logged → Type 0
-FailsAt lists l = (es : List Entry) × At lists (place_of l) es × Fails es l
+FailsAt lists l = (es : List Entry) × At lists (queue_of l) es × Fails es l
 
 -- some line of the log for subqueue q is false of the list there
 abbrev pub LogFails : ℕ → List (List Entry) → List Logged → Type 0
-LogFails q lists log = (k : ℕ) × (l : Logged) × At log k l × (place_of l ≡ q) × FailsAt lists l
+LogFails q lists log = (k : ℕ) × (l : Logged) × At log k l × (queue_of l ≡ q) × FailsAt lists l
 
 -- the count of subqueue q is not that of the list there
 abbrev pub CountFails : ℕ → List (List Entry) → BookId → Type 0
@@ -122,7 +122,7 @@ OneDisagrees q lists books = (j : ℕ) × (b : BookId) × At books j b × Disagr
 
 -- below `least` the line at k of the log is true of its subqueue's list
 abbrev pub LineStands : ℕ → List (List Entry) → List Logged → ℕ → Type 0
-LineStands least lists log k = (l : Logged) → At log k l → place_of l < least → StandsAt lists l
+LineStands least lists log k = (l : Logged) → At log k l → queue_of l < least → StandsAt lists l
 
 -- below `least` each line of the log is
 abbrev pub LogStands : ℕ → List (List Entry) → List Logged → Type 0

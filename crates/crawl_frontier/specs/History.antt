@@ -37,7 +37,7 @@ pub data SubqueueStep (m m' : Moment) : Type 0 where
       → m' ≡ record { items = m.items; views = slice_set m.views pass (undivided h) ++ spent ∷ [] } → SubqueueStep m m'
   divides : (pass : ℕ) (h : Home) → ViewAt m pass (undivided h)
       → m' ≡ record { items = m.items; views = slice_set m.views pass (pushing h []) ++ popping h [] 0 ∷ [] } → SubqueueStep m m'
-  pushes : (pass : ℕ) (h : Home) (sent : List Entry) (x : Message) → ViewAt m pass (pushing h sent) → IsSeatOf h.gate x.unit → MayFollow h.workers h.place sent (plain x)
+  pushes : (pass : ℕ) (h : Home) (sent : List Entry) (x : Message) → ViewAt m pass (pushing h sent) → IsSeatOf h.gate x.unit → MayFollow h.workers h.queue sent (plain x)
       → m' ≡ record { items = m.items ++ x ∷ []; views = slice_set m.views pass (pushing h (sent ++ plain x ∷ [])) } → SubqueueStep m m'
   pops : (pass : ℕ) (h : Home) (taken : List Entry) (n : ℕ) (x : Message) (rest : List Message) → ViewAt m pass (popping h taken n) → m.items ≡ x ∷ rest
       → m' ≡ record { items = rest; views = slice_set m.views pass (popping h (taken ++ plain x ∷ []) n) } → SubqueueStep m m'

@@ -14,6 +14,6 @@ accepted_in (l ∷ ls) = (if l.accepted then 1 else 0) + accepted_in ls
 -- the log of part id: an accepted line has the next of what accepted lines have besides
 abbrev pub logged : ℕ → List LogLine → List Acceptance → List Logged
 logged id [] xs = []
-logged id (l ∷ ls) [] = if l.accepted then [] else Seen l.url l.place ∷ logged id ls []
+logged id (l ∷ ls) [] = if l.accepted then [] else Seen l.url l.queue ∷ logged id ls []
 logged id (l ∷ ls) (x ∷ xs) =
-    if l.accepted then Accepted (entry l.url id x.number x.hops) l.place ∷ logged id ls xs else Seen l.url l.place ∷ logged id ls (x ∷ xs)
+    if l.accepted then Accepted (entry l.url id x.number x.hops) l.queue ∷ logged id ls xs else Seen l.url l.queue ∷ logged id ls (x ∷ xs)

@@ -5,24 +5,24 @@ use Rattle.crawl_frontier.specs.declared.entry.Entry.{Entry}
 use Rattle.crawl_frontier.specs.declared.entry.Message.{Message}
 use Rattle.crawl_frontier.specs.Books.{BookId}
 
--- a shard's place and the list sent
+-- a shard's queue and the list sent
 pub record ShardId : Type 0 where
-  pub place : ℕ
+  pub queue : ℕ
   pub sent : List Entry
 
 abbrev pub shard : ℕ → List Entry → ShardId
-shard place sent = record { place = place; sent = sent }
+shard queue sent = record { queue = queue; sent = sent }
 
--- a worker's place, its pass of the gate, the list that it took, how many of its pops found nothing, and its books
+-- a worker's queue, its pass of the gate, the list that it took, how many of its pops found nothing, and its books
 pub record WorkerId : Type 0 where
-  pub place : ℕ
+  pub queue : ℕ
   pub seat : SeatId
   pub taken : List Entry
   pub empty_pops : ℕ
   pub book : BookId
 
 abbrev pub worker : ℕ → SeatId → List Entry → ℕ → BookId → WorkerId
-worker place seat taken empty_pops book = record { place = place; seat = seat; taken = taken; empty_pops = empty_pops; book = book }
+worker queue seat taken empty_pops book = record { queue = queue; seat = seat; taken = taken; empty_pops = empty_pops; book = book }
 
 -- a worker with the message that it took
 pub record BusyId : Type 0 where

@@ -4,5 +4,5 @@ use Rattle.crawl_frontier.specs.declared.rule.PassView.{PassView}
 
 -- which subqueue a pass is of, and what it knows
 pub record PassId : Type 0 where
-  pub queue : QueueId
+  pub subqueue : QueueId
   pub view : PassView

@@ -1,4 +1,4 @@
--- Which subqueue a queue or a pass is of.
+-- Which subqueue something is of.
 use Rattle.std.specs.Prelude.{ℕ}
 
 -- by the numbers of its two parts

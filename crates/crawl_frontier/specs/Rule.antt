@@ -11,7 +11,7 @@ use Rattle.crawl_frontier.specs.Entries.{KeepsRule}
 
 -- of a pass that has none yet
 abbrev pub no_home : Home
-no_home = record { gate = no_gate; workers = 0; place = 0 }
+no_home = record { gate = no_gate; workers = 0; queue = 0 }
 
 -- the pass that may push, with what it sent; the one that may pop, with what it took; both in one; and none
 abbrev pub pushing : Home → List Entry → PassView
@@ -44,16 +44,16 @@ pub record SubqueueInvariant (items : List Message) (views : List PassView) : Ty
   pub reader : ℕ
   pub sent : List Entry
   pub taken : List Entry
-  -- what was sent is what was taken, and then what the queue holds
+  -- what was sent is what was taken, and then what the subqueue holds
   pub split : sent ≡ taken ++ map plain items
   -- URLs differ, each belongs here, and numbers count up for each sender
-  pub rule : KeepsRule home.workers home.place [] sent
+  pub rule : KeepsRule home.workers home.queue [] sent
   -- each message holds a unit of the gate
   pub units : AllOfGate home.gate items
   pub passes : (id : ℕ) (v : PassView) → get_elem? views id ≡ some v → PassFits home writer reader sent taken id v
 
 abbrev pub home : GateId → ℕ → ℕ → Home
-home gate workers place = record { gate = gate; workers = workers; place = place }
+home gate workers queue = record { gate = gate; workers = workers; queue = queue }
 
 -- both rights in one pass, with what the two passes knew
 abbrev pub reunited : PassView → PassView → PassView

@@ -14,14 +14,14 @@ LoadedHeld u u' = (n : ℕ) × (0 < n) × (u' ≡ after_looking u (open_at n))
 
 abbrev pub Turns : {K : _} → ℕ → WorkerId → Turn K → Type 0
 Turns n w (Busy b) =
-    (b.worker ≡ worker w.place w.seat (w.taken ++ b.message.entry ∷ []) w.empty_pops w.book)
-    × MayFollow n w.place w.taken b.message.entry
+    (b.worker ≡ worker w.queue w.seat (w.taken ++ b.message.entry ∷ []) w.empty_pops w.book)
+    × MayFollow n w.queue w.taken b.message.entry
     × ((u : SeatId) × LoadedHeld u b.message.unit)
-Turns n w (Idle v c) = (0 < c) × (v ≡ worker w.place (after_not_closing w.seat (open_at c)) w.taken (w.empty_pops + 1) w.book)
+Turns n w (Idle v c) = (0 < c) × (v ≡ worker w.queue (after_not_closing w.seat (open_at c)) w.taken (w.empty_pops + 1) w.book)
 Turns n w (Closed v) =
     ((v.seat ≡ after_closing w.seat (open_at 0)) ⊎ (v.seat ≡ after_not_closing w.seat (closed_at 0)))
-    × (v ≡ worker w.place v.seat w.taken (w.empty_pops + 1) w.book)
+    × (v ≡ worker w.queue v.seat w.taken (w.empty_pops + 1) w.book)
 
 -- the unit of the message was given back, and its seat is the worker's pass; all else is as it was
 abbrev pub Done : BusyId → WorkerId → Type 0
-Done b w = GaveBack b.message.unit w.seat × (w ≡ worker b.worker.place w.seat b.worker.taken b.worker.empty_pops b.worker.book)
+Done b w = GaveBack b.message.unit w.seat × (w ≡ worker b.worker.queue w.seat b.worker.taken b.worker.empty_pops b.worker.book)

@@ -52,24 +52,24 @@ impl Book {
         }
     }
 
-    /// Enters a URL that subqueue `place` accepted, as the `number`-th from 0. Nothing grows.
-    pub fn accept(&mut self, url: CanonUrl, place: u32, number: u64, hops: u32)
-        requires within { place < vec_len self.old.counts }
-        requires number { slice_get self.old.counts.items place ≡ Some number }
+    /// Enters a URL that subqueue `queue` accepted, as the `number`-th from 0. Nothing grows.
+    pub fn accept(&mut self, url: CanonUrl, queue: u32, number: u64, hops: u32)
+        requires within { queue < vec_len self.old.counts }
+        requires number { slice_get self.old.counts.items queue ≡ Some number }
         requires small { number < 2 ^ 63 }
         requires room { HasRoom self.old.log }
-        ensures { book_of self.new ≡ book_accepting (book_of self.old) place number (entry url self.old.id number hops) }
+        ensures { book_of self.new ≡ book_accepting (book_of self.old) queue number (entry url self.old.id number hops) }
     {
-        self.counts[place as usize] = number + 1;
-        self.log.accept(url, place, number, hops);
+        self.counts[queue as usize] = number + 1;
+        self.log.accept(url, queue, number, hops);
     }
 
-    /// Enters a URL that was found in subqueue `place`. Nothing grows.
-    pub fn see(&mut self, url: CanonUrl, place: u32)
+    /// Enters a URL that was found in subqueue `queue`. Nothing grows.
+    pub fn see(&mut self, url: CanonUrl, queue: u32)
         requires room { HasRoom self.old.log }
-        ensures { book_of self.new ≡ book_seeing (book_of self.old) url place }
+        ensures { book_of self.new ≡ book_seeing (book_of self.old) url queue }
     {
-        self.log.see(url, place);
+        self.log.see(url, queue);
     }
 
     /// Lets `url` share the text of the last line, where that has the same URL as seen.

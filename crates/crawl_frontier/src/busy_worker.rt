@@ -24,7 +24,7 @@ use std::sync::Wait;
 /// good. To a contract it is the worker and the message.
 #[derive(Drop)]
 pub struct BusyWorker<K: Name> {
-    pub(crate) place: u32,
+    pub(crate) queue: u32,
     pub(crate) right: PopRight,
     pub(crate) pass: Pass,
     pub(crate) book: Book,
@@ -41,12 +41,12 @@ impl<K: Name> Model for BusyWorker<K> {
 
     ghost Value = { BusyId };
 
-    ghost view = { λ w. record { worker = worker w.place w.pass w.right.view.taken w.right.view.empty_pops (book_of w.book); message = w.message } };
+    ghost view = { λ w. record { worker = worker w.queue w.pass w.right.view.taken w.right.view.empty_pops (book_of w.book); message = w.message } };
 
     ghost invariant = { λ w.
-        (w.right.view ≡ popping (home K.gate K.workers w.place) w.right.view.taken w.right.view.empty_pops)
-        × (slice_get K.queues w.place ≡ Some w.right.queue)
-        × IsSeatOf K.gate w.pass × (w.place < K.workers) × IsBook K.workers (book_of w.book)
+        (w.right.view ≡ popping (home K.gate K.workers w.queue) w.right.view.taken w.right.view.empty_pops)
+        × (slice_get K.queues w.queue ≡ Some w.right.subqueue)
+        × IsSeatOf K.gate w.pass × (w.queue < K.workers) × IsBook K.workers (book_of w.book)
         × IsSeatOf K.gate w.message.unit };
 }
 
@@ -77,7 +77,7 @@ impl<K: Name> BusyWorker<K> {
         ensures words { OfferWordsBeside self.old.message.unit self.new.message.unit self.old.worker.seat self.new.worker.seat result }
         ensures filtered { IsFiltered result ↔ (allows K.filter url.now ≡ false) }
         ensures entry { self.new.message.entry ≡ self.old.message.entry }
-        ensures same { self.new.worker ≡ worker self.old.worker.place self.new.worker.seat self.old.worker.taken self.old.worker.empty_pops self.new.worker.book }
+        ensures same { self.new.worker ≡ worker self.old.worker.queue self.new.worker.seat self.old.worker.taken self.old.worker.empty_pops self.new.worker.book }
     {
         let hops = u64::from(self.message.entry.hops) + 1;
         let held = &mut self.message.unit;
@@ -105,7 +105,7 @@ impl<K: Name> BusyWorker<K> {
         ensures words { OfferWordsBeside self.old.message.unit self.new.message.unit self.old.worker.seat self.new.worker.seat result }
         ensures filtered { IsFiltered result ↔ (allows K.filter url.old ≡ false) }
         ensures entry { self.new.message.entry ≡ self.old.message.entry }
-        ensures same { self.new.worker ≡ worker self.old.worker.place self.new.worker.seat self.old.worker.taken self.old.worker.empty_pops self.new.worker.book }
+        ensures same { self.new.worker ≡ worker self.old.worker.queue self.new.worker.seat self.old.worker.taken self.old.worker.empty_pops self.new.worker.book }
     {
         let answer = self.offer(rt, frontier, url);
         self.book.share_last(url);
@@ -117,7 +117,7 @@ impl<K: Name> BusyWorker<K> {
         ensures { Done self result }
     {
         let BusyWorker {
-            place,
+            queue,
             right,
             pass: _,
             book,
@@ -127,7 +127,7 @@ impl<K: Name> BusyWorker<K> {
         let Message { entry: _, unit } = message;
         let pass = give_back(frontier, unit);
         Worker {
-            place,
+            queue,
             right,
             pass,
             book,

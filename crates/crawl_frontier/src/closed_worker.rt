@@ -15,7 +15,7 @@ use std::marker::{Model, PhantomData};
 /// To a contract it is what the worker was.
 #[derive(Drop)]
 pub struct ClosedWorker<K: Name> {
-    pub(crate) place: u32,
+    pub(crate) queue: u32,
     pub(crate) right: PopRight,
     pub(crate) pass: ClosedPass,
     pub(crate) book: Book,
@@ -32,31 +32,31 @@ impl<K: Name> Model for ClosedWorker<K> {
 
     ghost Value = { WorkerId };
 
-    ghost view = { λ w. record { place = w.place; seat = w.pass; taken = w.right.view.taken; empty_pops = w.right.view.empty_pops; book = book_of w.book } };
+    ghost view = { λ w. record { queue = w.queue; seat = w.pass; taken = w.right.view.taken; empty_pops = w.right.view.empty_pops; book = book_of w.book } };
 
     ghost invariant = { λ w.
-        (w.right.view ≡ popping (home K.gate K.workers w.place) w.right.view.taken w.right.view.empty_pops)
-        × (slice_get K.queues w.place ≡ Some w.right.queue)
-        × IsSeatOf K.gate w.pass × (w.place < K.workers) × IsBook K.workers (book_of w.book)
+        (w.right.view ≡ popping (home K.gate K.workers w.queue) w.right.view.taken w.right.view.empty_pops)
+        × (slice_get K.queues w.queue ≡ Some w.right.subqueue)
+        × IsSeatOf K.gate w.pass × (w.queue < K.workers) × IsBook K.workers (book_of w.book)
         × (knows_closed w.pass.view ≡ true) };
 }
 
 impl<K: Name> ClosedWorker<K> {
     /// The subqueue that was its own.
     pub fn queue(&self) -> u32
-        ensures { (result ≡ self.now.place) × (result < K.workers) }
+        ensures { (result ≡ self.now.queue) × (result < K.workers) }
     {
-        self.place
+        self.queue
     }
 
     /// The right to pop, and the books.
     pub(crate) fn into_parts(self) -> (PopRight, Book)
-        ensures right { (result.0.view ≡ popping (home K.gate K.workers self.place) self.taken self.empty_pops) × (slice_get K.queues self.place ≡ Some result.0.queue) }
+        ensures right { (result.0.view ≡ popping (home K.gate K.workers self.queue) self.taken self.empty_pops) × (slice_get K.queues self.queue ≡ Some result.0.subqueue) }
         ensures book { book_of result.1 ≡ self.book }
         ensures is_book { IsBook K.workers (book_of result.1) }
     {
         let ClosedWorker {
-            place: _,
+            queue: _,
             right,
             pass: _,
             book,

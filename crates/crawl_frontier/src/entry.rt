@@ -11,7 +11,7 @@ use hash_index::Keyed;
 #[derive(Debug, Drop)]
 pub struct Entry {
     pub url: CanonUrl,
-    /// The id of whoever offered it: a worker's is its place, the seeder's is the number of workers.
+    /// The id of whoever offered it: a worker's is its queue, the seeder's is the number of workers.
     pub sender: u64,
     /// How many URLs of this sender the subqueue accepted before.
     pub number: u64,

@@ -87,7 +87,7 @@ pub enum FinishError {
     /// The gate's word, were it not closed with count 0. A closed worker knows that it is, so this never comes.
     Unsettled { word: u64 },
     /// The least subqueue behind whose lock stands another's shard, whose worker was not seen to have taken all that was
-    /// sent, whose place two workers have, or whose entries are not those of the parts' logs.
+    /// sent, which two workers have, or whose entries are not those of the parts' logs.
     Disagree { queue: u32 },
     /// There was not memory enough.
     NoMemory,

@@ -37,7 +37,7 @@ pub struct Frontier<K: Name> {
     ghost shards_len: { vec_len shards ≡ workers },
 }
 
-// An empty shard behind a lock for each place, in order.
+// An empty shard behind a lock for each queue, in order.
 fn shards<K: Name>(
     alloc: Global,
     mut rights: VecDeque<PushRight>,
@@ -47,15 +47,15 @@ fn shards<K: Name>(
     ensures { IfOk result (λ v. vec_len v ≡ length rights.items) }
 {
     let mut made = Vec::new(alloc);
-    let mut place = 0u32;
+    let mut queue = 0u32;
     while let Some(right) = rights.pop_front() {
-        made.push(Mutex::new(Shard::new(alloc, place, right)))?;
-        place += 1;
+        made.push(Mutex::new(Shard::new(alloc, queue, right)))?;
+        queue += 1;
     }
     Ok(made)
 }
 
-// A worker for each place, in order, each with a pass of its own.
+// A worker for each queue, in order, each with a pass of its own.
 fn workers<K: Name>(
     alloc: Global,
     gate: &Gate,
@@ -73,18 +73,18 @@ fn workers<K: Name>(
     ensures workers { IfOk result (λ v. (vec_len v ≡ K.workers) × AllFresh K.gate K.workers 0 v.items) }
 {
     let mut made = Vec::new(alloc);
-    let mut place = 0u32;
+    let mut queue = 0u32;
     while let Some(right) = rights.pop_front() {
-        let book = Book::new(alloc, u64::from(place), count)?;
-        let worker = Worker::new(place, right, gate.split_unit(opening), book);
+        let book = Book::new(alloc, u64::from(queue), count)?;
+        let worker = Worker::new(queue, right, gate.split_unit(opening), book);
         made.push(worker)?;
-        place += 1;
+        queue += 1;
     }
     Ok(made)
 }
 
 impl<K: Name> Frontier<K> {
-    /// The frontier of a setup, the worker of each subqueue by place, and the seeder. The filter is copied.
+    /// The frontier of a setup, the worker of each subqueue in order, and the seeder. The filter is copied.
     pub fn new(
         alloc: Global,
         setup: Setup,
@@ -144,25 +144,25 @@ impl<K: Name> Frontier<K> {
         &self.gate
     }
 
-    /// The subqueue of a place.
-    pub(crate) fn subqueue(&self, place: u32) -> &Subqueue
-        requires { place < K.workers }
-        ensures { slice_get K.queues place ≡ Some result.now }
+    /// The subqueue of this number.
+    pub(crate) fn subqueue(&self, queue: u32) -> &Subqueue
+        requires { queue < K.workers }
+        ensures { slice_get K.queues queue ≡ Some result.now }
     {
-        &self.queues[place as usize]
+        &self.queues[queue as usize]
     }
 
     /// Wakes each worker that rests.
     pub(crate) fn ring_all(&self) {
-        for queue in &self.queues {
-            queue.ring();
+        for subqueue in &self.queues {
+            subqueue.ring();
         }
     }
 
-    /// The lock at a place, taken.
-    pub(crate) fn lock<R: Wait>(&self, rt: &R, place: u32) -> MutexGuard<'_, Shard<K>>
-        requires { place < K.workers }
+    /// The lock of a subqueue, taken.
+    pub(crate) fn lock<R: Wait>(&self, rt: &R, queue: u32) -> MutexGuard<'_, Shard<K>>
+        requires { queue < K.workers }
     {
-        self.shards[place as usize].lock(rt)
+        self.shards[queue as usize].lock(rt)
     }
 }

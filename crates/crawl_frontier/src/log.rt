@@ -7,11 +7,11 @@ use crate::entry::Entry;
 use crawl_keys::CanonUrl;
 use std::alloc::{AllocError, Global};
 
-/// A URL that was accepted by subqueue `place`, or found there.
+/// A URL that was accepted by subqueue `queue`, or found there.
 #[derive(Drop)]
 pub struct LogLine {
     pub url: CanonUrl,
-    pub place: u32,
+    pub queue: u32,
     pub accepted: bool,
 }
 
@@ -58,26 +58,26 @@ impl Log {
     }
 
     /// Adds a URL that was accepted. Nothing grows.
-    pub fn accept(&mut self, url: CanonUrl, place: u32, number: u64, hops: u32)
+    pub fn accept(&mut self, url: CanonUrl, queue: u32, number: u64, hops: u32)
         requires room { HasRoom self.old }
-        ensures { (id : ℕ) → logged_by id self.new ≡ logged_by id self.old ++ Logged.Accepted (entry url id number hops) place ∷ [] }
+        ensures { (id : ℕ) → logged_by id self.new ≡ logged_by id self.old ++ Logged.Accepted (entry url id number hops) queue ∷ [] }
     {
         self.acceptances.push_reserved(Acceptance { number, hops });
         self.lines.push_reserved(LogLine {
             url,
-            place,
+            queue,
             accepted: true,
         });
     }
 
     /// Adds a URL that was seen. Nothing grows.
-    pub fn see(&mut self, url: CanonUrl, place: u32)
+    pub fn see(&mut self, url: CanonUrl, queue: u32)
         requires room { HasRoom self.old }
-        ensures { (id : ℕ) → logged_by id self.new ≡ logged_by id self.old ++ Logged.Seen url place ∷ [] }
+        ensures { (id : ℕ) → logged_by id self.new ≡ logged_by id self.old ++ Logged.Seen url queue ∷ [] }
     {
         self.lines.push_reserved(LogLine {
             url,
-            place,
+            queue,
             accepted: false,
         });
     }
@@ -93,7 +93,7 @@ impl Log {
             return Err(AllocError);
         };
         if !line.accepted {
-            return Ok(Logged::Seen(url, line.place));
+            return Ok(Logged::Seen(url, line.queue));
         }
         let Acceptance { number, hops } = self.acceptances[before];
         let entry = Entry {
@@ -102,6 +102,6 @@ impl Log {
             number,
             hops,
         };
-        Ok(Logged::Accepted(entry, line.place))
+        Ok(Logged::Accepted(entry, line.queue))
     }
 }

@@ -40,28 +40,28 @@ pub(crate) fn give_back<K: Name>(frontier: &Frontier<K>, unit: Unit) -> Pass
     pass
 }
 
-// Admits the URL under the lock of its subqueue. A type can't say at which place its lock stands: where another shard
+// Admits the URL under the lock of its subqueue. A type can't say of which subqueue a lock is: where another shard
 // is found, the lock is given back and taken again. What stood there is known to the call of `admit` alone.
 fn admit_at<K: Name, R: Wait>(
     rt: &R,
     frontier: &Frontier<K>,
     url: &CanonUrl,
-    place: u32,
+    queue: u32,
     id: u64,
     own: u64,
     hops: u64,
     unit: Unit,
 ) -> Admit
-    requires place { place ≡ subqueue_of url.now K.workers }
-    requires within { place < K.workers }
+    requires queue { queue ≡ subqueue_of url.now K.workers }
+    requires within { queue < K.workers }
     requires unit { IsSeatOf K.gate unit }
     ensures { Replies url.now own hops unit result }
 {
-    let queue = frontier.subqueue(place);
+    let subqueue = frontier.subqueue(queue);
     for _ in rt.forever() {
-        let mut shard = frontier.lock(rt, place);
-        if shard.place() == place {
-            return shard.admit(rt, queue, url, id, own, hops, unit);
+        let mut shard = frontier.lock(rt, queue);
+        if shard.queue() == queue {
+            return shard.admit(rt, subqueue, url, id, own, hops, unit);
         }
     }
     unreachable!()
@@ -87,20 +87,17 @@ pub(crate) fn deliver<K: Name, R: Wait>(
     ensures pass { IsSeatOf K.gate pass.new }
     ensures delivers { Delivers pass.old pass.new unit result }
 {
-    let place = url.subqueue(frontier.workers());
-    let own = book.counts[place as usize];
-    match admit_at(rt, frontier, &url, place, book.id, own, hops, unit) {
+    let queue = url.subqueue(frontier.workers());
+    let own = book.counts[queue as usize];
+    match admit_at(rt, frontier, &url, queue, book.id, own, hops, unit) {
         Admit::Admitted { number } => {
-            frontier.subqueue(place).ring();
-            book.accept(url, place, number, hops as u32);
-            Ok(Offer::Accepted {
-                queue: place,
-                number,
-            })
+            frontier.subqueue(queue).ring();
+            book.accept(url, queue, number, hops as u32);
+            Ok(Offer::Accepted { queue, number })
         }
         Admit::Seen { url: there, unit } => {
             *pass = give_back(frontier, unit);
-            book.see(there, place);
+            book.see(there, queue);
             Ok(Offer::Seen)
         }
         Admit::Crossed { found, unit } => {

@@ -19,7 +19,7 @@ impl Model for PushRight {
 
     ghost Value = { PassId };
 
-    ghost view = { λ p. record { queue = p.pass.web; view = p.pass.me.view.client } };
+    ghost view = { λ p. record { subqueue = p.pass.web; view = p.pass.me.view.client } };
 
     ghost invariant = { λ p. (p.pass.me.hand ≡ None) × (p.pass.me.spare ≡ None) × (p.pass.me.view.client ≡ pushing p.pass.me.view.client.home p.pass.me.view.client.sent) };
 }
@@ -37,7 +37,7 @@ impl Model for PopRight {
 
     ghost Value = { PassId };
 
-    ghost view = { λ p. record { queue = p.pass.web; view = p.pass.me.view.client } };
+    ghost view = { λ p. record { subqueue = p.pass.web; view = p.pass.me.view.client } };
 
     ghost invariant = { λ p. (p.pass.me.hand ≡ None) × (p.pass.me.spare ≡ None) × (p.pass.me.view.client ≡ popping p.pass.me.view.client.home p.pass.me.view.client.taken p.pass.me.view.client.empty_pops) };
 }

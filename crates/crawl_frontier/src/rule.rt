@@ -12,7 +12,7 @@ use std::marker::{Brand, PhantomData};
 pub struct Home {
     pub gate: Gate,
     pub workers: u32,
-    pub place: u32,
+    pub queue: u32,
 }
 
 /// What a pass of a subqueue knows: what it sent, if it may push, and what it took and how many of its pops found
@@ -72,7 +72,7 @@ impl Split<PassView> for Divide {
     ghost right = { λ v. popping v.home v.taken v.empty_pops };
 }
 
-// Both rights in one pass again, which learns that what was sent is what was taken, and then what the queue holds.
+// Both rights in one pass again, which learns that what was sent is what was taken, and then what the subqueue holds.
 pub(crate) struct Reunite;
 
 impl Join<PassView> for Reunite {
@@ -122,7 +122,7 @@ impl Outcome<Message, PassView> for Pop {
 
     ghost then = { λ v x w.
         (w ≡ popping v.home (v.taken ++ plain x ∷ []) v.empty_pops)
-        × IsSeatOf v.home.gate x.unit × MayFollow v.home.workers v.home.place v.taken (plain x) };
+        × IsSeatOf v.home.gate x.unit × MayFollow v.home.workers v.home.queue v.taken (plain x) };
 }
 
 impl Lesson<Message, PassView> for Pop {

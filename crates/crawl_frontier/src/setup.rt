@@ -19,7 +19,7 @@ pub const WORKERS_LIMIT: u32 = SUBQUEUES_LIMIT;
 
 /// A gate and the subqueues of its workers, of which [`crate::Frontier::new`] makes a frontier.
 ///
-/// To a contract it is the number of workers, the gate, and the subqueues by place: what a [`crate::Name`] that stands
+/// To a contract it is the number of workers, the gate, and the subqueues by number: what a [`crate::Name`] that stands
 /// for it has.
 #[derive(Drop)]
 pub struct Setup {
@@ -48,7 +48,7 @@ impl Model for Setup {
         × Line s.gate s.workers s.queues.items s.push_rights.items s.pop_rights.items s.workers };
 }
 
-// The subqueues with their rights, by place.
+// The subqueues with their rights, by number.
 fn subqueues(
     alloc: Global,
     gate: &Gate,
@@ -59,9 +59,9 @@ fn subqueues(
     let mut queues = Vec::new(alloc);
     let mut push_rights = VecDeque::new(alloc);
     let mut pop_rights = VecDeque::new(alloc);
-    for place in 0..workers {
-        let (queue, push, pop) = Subqueue::new(alloc, gate, workers, place)?;
-        queues.push(queue)?;
+    for queue in 0..workers {
+        let (subqueue, push, pop) = Subqueue::new(alloc, gate, workers, queue)?;
+        queues.push(subqueue)?;
         push_rights.push_back(push)?;
         pop_rights.push_back(pop)?;
     }

@@ -22,10 +22,10 @@ use std::sync::Wait;
 
 /// What a subqueue accepted, oldest first, with the index of its URLs, each sender's count, and the right to push.
 ///
-/// To a contract it is its place and the list sent. Whenever its lock is free, the tables say what the list says.
+/// To a contract it is its queue and the list sent. Whenever its lock is free, the tables say what the list says.
 #[derive(Drop)]
 pub struct Shard<K: Name> {
-    place: u32,
+    queue: u32,
     sent: Vec<Entry>,
     index: HashIndex,
     counts: Counts,
@@ -44,12 +44,12 @@ impl<K: Name> Model for Shard<K> {
 
     ghost Value = { ShardId };
 
-    ghost view = { λ s. record { place = s.place; sent = s.sent.items } };
+    ghost view = { λ s. record { queue = s.queue; sent = s.sent.items } };
 
     ghost invariant = { λ s.
-        (s.right.view ≡ pushing (home K.gate K.workers s.place) s.sent.items)
-        × (slice_get K.queues s.place ≡ Some s.right.queue)
-        × KeepsRule K.workers s.place [] s.sent.items
+        (s.right.view ≡ pushing (home K.gate K.workers s.queue) s.sent.items)
+        × (slice_get K.queues s.queue ≡ Some s.right.subqueue)
+        × KeepsRule K.workers s.queue [] s.sent.items
         × IsIndexOf hash_of (map (λ e. e.url) s.sent.items) s.index
         × ((id : ℕ) → count_in s.counts id ≡ count_of id s.sent.items) };
 }
@@ -92,13 +92,13 @@ fn copies(url: &CanonUrl, sender: u64, number: u64, hops: u32) -> Result<(Entry,
 }
 
 impl<K: Name> Shard<K> {
-    pub(crate) fn new(alloc: Global, place: u32, right: PushRight) -> Shard<K>
-        requires view { right.view ≡ pushing (home K.gate K.workers place) [] }
-        requires queue { slice_get K.queues place ≡ Some right.queue }
-        ensures { result ≡ shard place [] }
+    pub(crate) fn new(alloc: Global, queue: u32, right: PushRight) -> Shard<K>
+        requires view { right.view ≡ pushing (home K.gate K.workers queue) [] }
+        requires subqueue { slice_get K.queues queue ≡ Some right.subqueue }
+        ensures { result ≡ shard queue [] }
     {
         Shard {
-            place,
+            queue,
             sent: Vec::new(alloc),
             index: HashIndex::new(alloc),
             counts: Counts::new(alloc),
@@ -110,11 +110,11 @@ impl<K: Name> Shard<K> {
     /// The list sent, and the right to push.
     pub(crate) fn into_parts(self) -> (AcceptedList, PushRight)
         ensures sent { result.0 ≡ self.sent }
-        ensures rule { KeepsRule K.workers self.place [] self.sent }
-        ensures right { (result.1.view ≡ pushing (home K.gate K.workers self.place) self.sent) × (slice_get K.queues self.place ≡ Some result.1.queue) }
+        ensures rule { KeepsRule K.workers self.queue [] self.sent }
+        ensures right { (result.1.view ≡ pushing (home K.gate K.workers self.queue) self.sent) × (slice_get K.queues self.queue ≡ Some result.1.subqueue) }
     {
         let Shard {
-            place: _,
+            queue: _,
             sent,
             index,
             counts,
@@ -125,25 +125,25 @@ impl<K: Name> Shard<K> {
     }
 
     /// Which subqueue it is.
-    pub fn place(&self) -> u32
-        ensures { result ≡ self.now.place }
+    pub fn queue(&self) -> u32
+        ensures { result ≡ self.now.queue }
     {
-        self.place
+        self.queue
     }
 
     /// Sends the URL with its unit, or says why not and gives the unit back. It may wait, for a push may.
     pub fn admit<R: Wait>(
         &mut self,
         rt: &R,
-        queue: &Subqueue,
+        subqueue: &Subqueue,
         url: &CanonUrl,
         sender: u64,
         own: u64,
         hops: u64,
         unit: Unit,
     ) -> Admit
-        requires place { subqueue_of url.now K.workers ≡ self.old.place }
-        requires queue { slice_get K.queues self.old.place ≡ Some queue.now }
+        requires queue { subqueue_of url.now K.workers ≡ self.old.queue }
+        requires subqueue { slice_get K.queues self.old.queue ≡ Some subqueue.now }
         requires unit { IsSeatOf K.gate unit }
         ensures { Admits self.old self.new url.now sender own hops unit result }
     {
@@ -152,7 +152,7 @@ impl<K: Name> Shard<K> {
             return Admit::Crossed { found, unit };
         }
         if hops <= HOPS_LIMIT {
-            return self.send(rt, queue, url, sender, own, hops as u32, unit);
+            return self.send(rt, subqueue, url, sender, own, hops as u32, unit);
         }
         let known = self.index.find(&self.sent, url);
         if let Some(index) = known {
@@ -166,15 +166,15 @@ impl<K: Name> Shard<K> {
     fn send<R: Wait>(
         &mut self,
         rt: &R,
-        queue: &Subqueue,
+        subqueue: &Subqueue,
         url: &CanonUrl,
         sender: u64,
         own: u64,
         hops: u32,
         unit: Unit,
     ) -> Admit
-        requires place { subqueue_of url.now K.workers ≡ self.old.place }
-        requires queue { slice_get K.queues self.old.place ≡ Some queue.now }
+        requires queue { subqueue_of url.now K.workers ≡ self.old.queue }
+        requires subqueue { slice_get K.queues self.old.queue ≡ Some subqueue.now }
         requires unit { IsSeatOf K.gate unit }
         requires own { count_of sender self.old.sent ≡ own }
         ensures { Admits self.old self.new url.now sender own hops unit result }
@@ -195,7 +195,7 @@ impl<K: Name> Shard<K> {
             return Admit::NoMemory { unit };
         };
         let message = Message { entry: sent, unit };
-        match queue.push(rt, &mut self.right, message) {
+        match subqueue.push(rt, &mut self.right, message) {
             Ok(()) => {
                 raise(&mut self.counts, sender, own + 1);
                 self.sent.push_reserved(listed);

@@ -1,4 +1,4 @@
-//! A queue of messages under its rule.
+//! A subqueue of messages under its rule.
 ghost use Rattle.std.specs.Prelude.{◌≡◌, ◌+◌, ◌++◌, ◌∷◌, [], IfOk, MatchOption, MatchResult, true};
 ghost use Rattle.crossbeam_queue.specs.SegTies.{IsSegPassOf};
 ghost use Rattle.crawl_gate.specs.Seat.{IsSeatOf};
@@ -66,7 +66,7 @@ impl Model for Held {
 
     ghost Value = { PassId };
 
-    ghost view = { λ h. record { queue = h.pass.web; view = h.pass.me.view.client } };
+    ghost view = { λ h. record { subqueue = h.pass.web; view = h.pass.me.view.client } };
 }
 
 impl Drop for Subqueue {
@@ -81,30 +81,30 @@ impl Drop for Subqueue {
 }
 
 // Writes its home into the view of the pass that has both rights.
-fn settle<B: Stamp>(line: &Line, pass: &mut Pass, gate: &Gate, workers: u32, place: u32)
-    requires home { B.home ≡ record { gate = gate.now; workers = workers; place = place } }
+fn settle<B: Stamp>(line: &Line, pass: &mut Pass, gate: &Gate, workers: u32, queue: u32)
+    requires home { B.home ≡ record { gate = gate.now; workers = workers; queue = queue } }
     requires pass { IsSegPassOf line.now pass.old }
     requires undivided { pass.old.me.view.client ≡ undivided pass.old.me.view.client.home }
     ensures pass { IsSegPassOf line.now pass.new }
-    ensures undivided { pass.new.me.view.client ≡ undivided record { gate = gate.now; workers = workers; place = place } }
+    ensures undivided { pass.new.me.view.client ≡ undivided record { gate = gate.now; workers = workers; queue = queue } }
 {
     let _spent = line.another::<Settle<B>>(pass);
 }
 
 impl Subqueue {
-    /// The empty subqueue of a place, with its two rights.
+    /// The empty subqueue of this number, with its two rights.
     pub(crate) fn new(
         alloc: Global,
         gate: &Gate,
         workers: u32,
-        place: u32,
+        queue: u32,
     ) -> Result<(Subqueue, PushRight, PopRight), AllocError>
         ensures { IfOk result (λ r.
-            (r.1.queue ≡ r.0) × (r.1.view ≡ pushing record { gate = gate.now; workers = workers; place = place } [])
-            × (r.2.queue ≡ r.0) × (r.2.view ≡ popping record { gate = gate.now; workers = workers; place = place } [] 0)) }
+            (r.1.subqueue ≡ r.0) × (r.1.view ≡ pushing record { gate = gate.now; workers = workers; queue = queue } [])
+            × (r.2.subqueue ≡ r.0) × (r.2.view ≡ popping record { gate = gate.now; workers = workers; queue = queue } [] 0)) }
     {
         let (line, mut pass) = Line::with_rule(alloc)?;
-        settle::<Brand>(&line, &mut pass, gate, workers, place);
+        settle::<Brand>(&line, &mut pass, gate, workers, queue);
         let other = line.another::<Divide>(&mut pass);
         Ok((
             Subqueue {
@@ -124,10 +124,10 @@ impl Subqueue {
         right: &mut PushRight,
         message: Message,
     ) -> Result<(), Message>
-        requires queue { right.old.queue ≡ self.now }
+        requires subqueue { right.old.subqueue ≡ self.now }
         requires unit { IsSeatOf right.old.view.home.gate message.unit }
-        requires follows { MayFollow right.old.view.home.workers right.old.view.home.place right.old.view.sent message.entry }
-        ensures queue { right.new.queue ≡ self.now }
+        requires follows { MayFollow right.old.view.home.workers right.old.view.home.queue right.old.view.sent message.entry }
+        ensures subqueue { right.new.subqueue ≡ self.now }
         ensures sent { MatchResult result
             (λ _. right.new.view ≡ pushing right.old.view.home (right.old.view.sent ++ message.entry ∷ []))
             (λ m. (m ≡ message) × (right.new.view ≡ right.old.view)) }
@@ -137,13 +137,13 @@ impl Subqueue {
 
     /// Takes the message at the front, or counts a pop that found nothing.
     pub(crate) fn pop<R: Wait>(&self, rt: &R, right: &mut PopRight) -> Option<Message>
-        requires queue { right.old.queue ≡ self.now }
-        ensures queue { right.new.queue ≡ self.now }
+        requires subqueue { right.old.subqueue ≡ self.now }
+        ensures subqueue { right.new.subqueue ≡ self.now }
         ensures taken { MatchOption result
             (right.new.view ≡ popping right.old.view.home right.old.view.taken (right.old.view.empty_pops + 1))
             (λ m. (right.new.view ≡ popping right.old.view.home (right.old.view.taken ++ m.entry ∷ []) right.old.view.empty_pops)
             × IsSeatOf right.old.view.home.gate m.unit
-            × MayFollow right.old.view.home.workers right.old.view.home.place right.old.view.taken m.entry) }
+            × MayFollow right.old.view.home.workers right.old.view.home.queue right.old.view.taken m.entry) }
     {
         match self.line.pop_as::<Pop, R>(rt, &mut right.pass) {
             Some(message) => Some(message),
@@ -203,8 +203,8 @@ impl Subqueue {
 
     /// What it is seen to hold still: nothing only if all that was sent was taken. It waits for nobody.
     pub(crate) fn held(&self, push: PushRight, pop: PopRight) -> Option<Held>
-        requires queue { (push.queue ≡ self.now) × (pop.queue ≡ self.now) }
-        ensures { MatchOption result (push.view.sent ≡ pop.view.taken) (λ h. (h.queue ≡ self.now) × (h.view ≡ reunited push.view pop.view)) }
+        requires subqueue { (push.subqueue ≡ self.now) × (pop.subqueue ≡ self.now) }
+        ensures { MatchOption result (push.view.sent ≡ pop.view.taken) (λ h. (h.subqueue ≡ self.now) × (h.view ≡ reunited push.view pop.view)) }
     {
         let PushRight { mut pass } = push;
         let PopRight { pass: other } = pop;

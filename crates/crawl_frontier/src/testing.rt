@@ -14,7 +14,7 @@ fn pass_of<K: Name>(worker: Worker<K>) -> Pass
     ensures { IsSeatOf K.gate result }
 {
     let Worker {
-        place: _,
+        queue: _,
         right: _,
         pass,
         book: _,
@@ -46,12 +46,12 @@ fn admit_by<K: Name, R: Wait>(
     requires unit { IsSeatOf K.gate unit }
     requires queue { subqueue_of url.now K.workers ≡ 0 }
 {
-    let queue = frontier.subqueue(0);
+    let subqueue = frontier.subqueue(0);
     let mut shard = frontier.lock(rt, 0);
-    if shard.place() != 0 {
+    if shard.queue() != 0 {
         return None;
     }
-    Some(shard.admit(rt, queue, url, 9, own, hops, unit))
+    Some(shard.admit(rt, subqueue, url, 9, own, hops, unit))
 }
 
 /// Admits a URL to subqueue 0 with hops of the caller's choice, which no offer can reach: as the one with this own number

@@ -25,11 +25,11 @@ const REST_MILLISECONDS: u64 = 50;
 /// The one worker of a subqueue, with no URL in hand. [`Frontier::new`] makes one for each subqueue, and
 /// [`BusyWorker::done`] gives it back.
 ///
-/// To a contract it is its place, its pass of the gate, the list that it took, how many of its pops found nothing, and
+/// To a contract it is its queue, its pass of the gate, the list that it took, how many of its pops found nothing, and
 /// its books.
 #[derive(Drop)]
 pub struct Worker<K: Name> {
-    pub(crate) place: u32,
+    pub(crate) queue: u32,
     pub(crate) right: PopRight,
     pub(crate) pass: Pass,
     pub(crate) book: Book,
@@ -45,12 +45,12 @@ impl<K: Name> Model for Worker<K> {
 
     ghost Value = { WorkerId };
 
-    ghost view = { λ w. record { place = w.place; seat = w.pass; taken = w.right.view.taken; empty_pops = w.right.view.empty_pops; book = book_of w.book } };
+    ghost view = { λ w. record { queue = w.queue; seat = w.pass; taken = w.right.view.taken; empty_pops = w.right.view.empty_pops; book = book_of w.book } };
 
     ghost invariant = { λ w.
-        (w.right.view ≡ popping (home K.gate K.workers w.place) w.right.view.taken w.right.view.empty_pops)
-        × (slice_get K.queues w.place ≡ Some w.right.queue)
-        × IsSeatOf K.gate w.pass × (w.place < K.workers) × IsBook K.workers (book_of w.book) };
+        (w.right.view ≡ popping (home K.gate K.workers w.queue) w.right.view.taken w.right.view.empty_pops)
+        × (slice_get K.queues w.queue ≡ Some w.right.subqueue)
+        × IsSeatOf K.gate w.pass × (w.queue < K.workers) × IsBook K.workers (book_of w.book) };
 }
 
 /// What [`Worker::next`] found.
@@ -65,16 +65,16 @@ pub enum Turn<K: Name> {
 }
 
 impl<K: Name> Worker<K> {
-    pub(crate) fn new(place: u32, right: PopRight, pass: Pass, book: Book) -> Worker<K>
-        requires view { right.view ≡ popping (home K.gate K.workers place) [] 0 }
-        requires queue { slice_get K.queues place ≡ Some right.queue }
+    pub(crate) fn new(queue: u32, right: PopRight, pass: Pass, book: Book) -> Worker<K>
+        requires view { right.view ≡ popping (home K.gate K.workers queue) [] 0 }
+        requires subqueue { slice_get K.queues queue ≡ Some right.subqueue }
         requires pass { IsSeatOf K.gate pass }
-        requires place { place < K.workers }
+        requires queue { queue < K.workers }
         requires book { IsBook K.workers (book_of book) }
-        ensures { result ≡ worker place pass [] 0 (book_of book) }
+        ensures { result ≡ worker queue pass [] 0 (book_of book) }
     {
         Worker {
-            place,
+            queue,
             right,
             pass,
             book,
@@ -84,9 +84,9 @@ impl<K: Name> Worker<K> {
 
     /// Its subqueue, which is also its id as a sender.
     pub fn queue(&self) -> u32
-        ensures { result ≡ self.now.place }
+        ensures { result ≡ self.now.queue }
     {
-        self.place
+        self.queue
     }
 
     /// Rests after a turn that found nothing, until a URL is accepted for this worker, or the last unit of the gate is given
@@ -99,7 +99,7 @@ impl<K: Name> Worker<K> {
 
     /// Rests as [`Worker::rest`] does, and sleeps for at most this long.
     pub fn rest_for<R: Wait>(&self, rt: &R, frontier: &Frontier<K>, limit: Duration) {
-        frontier.subqueue(self.place).rest(rt, limit);
+        frontier.subqueue(self.queue).rest(rt, limit);
     }
 
     /// Takes the oldest URL that waits in its subqueue, or tries to close the gate. It takes no lock and no memory; a
@@ -108,18 +108,18 @@ impl<K: Name> Worker<K> {
         ensures { Turns K.workers self result }
     {
         let Worker {
-            place,
+            queue,
             mut right,
             pass,
             book,
             of,
         } = self;
         let gate = frontier.gate();
-        match frontier.subqueue(place).pop(rt, &mut right) {
+        match frontier.subqueue(queue).pop(rt, &mut right) {
             Some(mut message) => {
                 gate.load_held(&mut message.unit);
                 Turn::Busy(BusyWorker {
-                    place,
+                    queue,
                     right,
                     pass,
                     book,
@@ -129,7 +129,7 @@ impl<K: Name> Worker<K> {
             }
             None => match gate.try_close(pass) {
                 Close::Closed(pass) => Turn::Closed(ClosedWorker {
-                    place,
+                    queue,
                     right,
                     pass,
                     book,
@@ -137,7 +137,7 @@ impl<K: Name> Worker<K> {
                 }),
                 Close::Pending(pass, count) => {
                     let worker = Worker {
-                        place,
+                        queue,
                         right,
                         pass,
                         book,

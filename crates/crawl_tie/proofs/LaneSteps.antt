@@ -25,7 +25,7 @@ made_divided gate workers q =
     pass.all_push One (pushing h [] ∷ spent ∷ []) (popping h [] 0) (λ s t. true≢false (sym s))
     (pass.all_push One (pushing h [] ∷ []) spent (λ s t. true≢false (sym s)) (pass.all_push One [] (pushing h []) (λ s t. true≢false (sym t)) (λ j v at. absurd (some-ne-none v (sym at)))))
 
--- a place of a divided subqueue gets another view with at most one right
+-- a pass of a divided subqueue gets another view with at most one right
 still_one : (m : Moment) (pass_id : ℕ) (w : PassView) → IsDivided m → One pass_id w → (j : ℕ) (u : PassView) → get_elem? (set m.views pass_id w) j ≡ some u → One j u
 still_one m pass_id w one mine = pass.all_set One m.views pass_id w mine (λ j u apart at. one j u at)
 

@@ -1,4 +1,4 @@
--- Subqueues of the machine and of the running frontier, place by place.
+-- Subqueues of the machine and of the running frontier, one by one.
 use Rattle.std.proofs.Common.{◌≡◌, ◌≢◌, ℕ, zero, suc, ◌+◌, Bool, true, false, cond, ◌||◌, List, [], ◌∷◌, ◌++◌, length, map, set, nat_eq, slice_get, slice_set, Some, None, refl, sym, ap, ◌∙◌, subst, arith, eqb-true, append_assoc}
 use Rattle.std.specs.List.{list_any}
 use Rattle.std.specs.Str.{bytes_eq}

@@ -56,9 +56,9 @@ still gate workers q l acts h = rw (append-nil (accepted q acts), append-nil (de
 abbrev AllGrown : GateId → ℕ → List Lane → List Act → Act → Type 0
 AllGrown gate workers lanes acts act = (q : ℕ) (l : Lane) → slice_get lanes q ≡ Some l → Grown gate workers q l acts act
 
--- how a subqueue at the place of a step, and at another, is after it
-at_place : (gate : GateId) (workers : ℕ) (lanes : List Lane) (acts : List Act) (act : Act) (q : ℕ) (l l' : Lane) → AllHave gate workers lanes acts → slice_get lanes q ≡ Some l → ((there : ℕ) → nat_eq q there ≡ true → Grown gate workers q l' acts act) → ((there : ℕ) (x : Lane) → nat_eq q there ≡ false → LaneHas gate workers there x (accepted there acts) (delivered there acts) (fetches_done there acts) → Grown gate workers there x acts act) → AllGrown gate workers (slice_set lanes q l') acts act
-at_place gate workers lanes acts act q l l' all at mine others there x =
+-- how the subqueue of a step, and another one, is after it
+at_queue : (gate : GateId) (workers : ℕ) (lanes : List Lane) (acts : List Act) (act : Act) (q : ℕ) (l l' : Lane) → AllHave gate workers lanes acts → slice_get lanes q ≡ Some l → ((there : ℕ) → nat_eq q there ≡ true → Grown gate workers q l' acts act) → ((there : ℕ) (x : Lane) → nat_eq q there ≡ false → LaneHas gate workers there x (accepted there acts) (delivered there acts) (fetches_done there acts) → Grown gate workers there x acts act) → AllGrown gate workers (slice_set lanes q l') acts act
+at_queue gate workers lanes acts act q l l' all at mine others there x =
     set_cases (λ o. o ≡ Some x → Grown gate workers there x acts act) lanes q there l l' at
     (λ here was is. let same : q ≡ there = eqb-true q there here in subst (λ y. Grown gate workers there y acts act) (some_is is) (subst (λ n. Grown gate workers n l' acts act) same (mine there here)))
     (λ apart is. others there x apart (all there x is))
@@ -73,7 +73,7 @@ eqb_same n = by_test (nat_eq n n) refl
 pushes_grown : (gate : GateId) (workers : ℕ) (lanes : List Lane) (acts : List Act) (q : ℕ) (e : Entry) (l : Lane) (m : Moment) → AllHave gate workers lanes acts → slice_get lanes q ≡ Some l → Pushing l.moment m e → AllGrown gate workers (slice_set lanes q (record { moment = m; fetching = l.fetching })) acts (Pushes q e)
 pushes_grown gate workers lanes acts q e l m all at p =
     let old = all q l at in
-    at_place gate workers lanes acts (Pushes q e) q l (record { moment = m; fetching = l.fetching }) all at
+    at_queue gate workers lanes acts (Pushes q e) q l (record { moment = m; fetching = l.fetching }) all at
     (λ there here. rw (eqb_same q, append-nil (delivered q acts), append-nil (filter_map (fetched_at q) acts)) (record { has = pushed_has gate workers q l.moment m (accepted q acts) (delivered q acts) e old.has p; fetches = old.fetches }))
     (λ there x apart h. rw apart (still gate workers there x acts h))
 
@@ -83,7 +83,7 @@ pops_grown gate workers lanes acts q e l m all at p idle =
     let none : one_if l.fetching ≡ 0 = ap one_if idle in
     let longer = length_push (delivered q acts) e in
     let fetches : length (delivered q acts ++ e ∷ []) ≡ fetches_done q acts + 1 = omega (arith, old.fetches, none, longer) in
-    at_place gate workers lanes acts (Pops q e) q l (record { moment = m; fetching = true }) all at
+    at_queue gate workers lanes acts (Pops q e) q l (record { moment = m; fetching = true }) all at
     (λ there here. rw (eqb_same q, append-nil (accepted q acts), append-nil (filter_map (fetched_at q) acts)) (record { has = popped_has gate workers q l.moment m (accepted q acts) (delivered q acts) e old.has p; fetches = fetches }))
     (λ there x apart h. rw apart (still gate workers there x acts h))
 
@@ -92,7 +92,7 @@ keeps_grown : (gate : GateId) (workers : ℕ) (lanes : List Lane) (acts : List A
 keeps_grown gate workers lanes acts act q l m all at quiet same =
     let old = all q l at in
     let l' : Lane = record { moment = m; fetching = l.fetching } in
-    at_place gate workers lanes acts act q l l' all at
+    at_queue gate workers lanes acts act q l l' all at
     (λ there here. let n = quiet q in rw (n.0, n.1, n.2) (still gate workers q l' acts (record { has = same (accepted q acts) (delivered q acts) old.has; fetches = old.fetches })))
     (λ there x apart h. let n = quiet there in rw (n.0, n.1, n.2) (still gate workers there x acts h))
 
@@ -102,7 +102,7 @@ fetched_grown gate workers lanes acts q n l all at busy =
     let one : one_if l.fetching ≡ 1 = ap one_if busy in
     let longer = length_push (filter_map (fetched_at q) acts) n in
     let fetches : length (delivered q acts) ≡ length (filter_map (fetched_at q) acts ++ n ∷ []) + 0 = omega (arith, old.fetches, one, longer) in
-    at_place gate workers lanes acts (LeavesFetch q n) q l (record { moment = l.moment; fetching = false }) all at
+    at_queue gate workers lanes acts (LeavesFetch q n) q l (record { moment = l.moment; fetching = false }) all at
     (λ there here. rw (eqb_same q, append-nil (accepted q acts), append-nil (delivered q acts)) (record { has = old.has; fetches = fetches }))
     (λ there x apart h. rw apart (still gate workers there x acts h))
 
@@ -190,16 +190,16 @@ some_there (x ∷ xs) (suc i) lt = some_there xs i (omega arith)
 
 pub delivers : (gate : GateId) (workers : ℕ) (w : Whole) (acts : List Act) → Reached gate workers w acts → Delivers workers acts
 delivers gate workers w acts r = record {
-  in_order = λ q lt. (map plain (place q lt).moment.items, lists_split gate workers q (place q lt).moment (accepted q acts) (delivered q acts) (lane q lt).has);
+  in_order = λ q lt. (map plain (own_lane q lt).moment.items, lists_split gate workers q (own_lane q lt).moment (accepted q acts) (delivered q acts) (lane q lt).has);
   rule = λ q lt.
       let h = (lane q lt).has in
-      let rule : KeepsRule workers q [] h.kept.sent = subst (λ o. KeepsRule o.workers o.place [] h.kept.sent) h.here h.kept.rule in
+      let rule : KeepsRule workers q [] h.kept.sent = subst (λ o. KeepsRule o.workers o.queue [] h.kept.sent) h.here h.kept.rule in
       accepted_lists workers q (accepted q acts) (subst (λ es. KeepsRule workers q [] es) h.sent_is rule);
   nowhere_else = r.outside;
 }
   where
-    place : (q : ℕ) → q < workers → Lane
-    place q lt = (some_there w.lanes q (rw r.len lt)).0
+    own_lane : (q : ℕ) → q < workers → Lane
+    own_lane q lt = (some_there w.lanes q (rw r.len lt)).0
 
-    lane : (q : ℕ) (lt : q < workers) → LaneHas gate workers q (place q lt) (accepted q acts) (delivered q acts) (fetches_done q acts)
-    lane q lt = r.all q (place q lt) (some_there w.lanes q (rw r.len lt)).1
+    lane : (q : ℕ) (lt : q < workers) → LaneHas gate workers q (own_lane q lt) (accepted q acts) (delivered q acts) (fetches_done q acts)
+    lane q lt = r.all q (own_lane q lt) (some_there w.lanes q (rw r.len lt)).1

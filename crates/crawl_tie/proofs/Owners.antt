@@ -24,7 +24,7 @@ use Rattle.crawl_tie.specs.Whole.{Lane, Whole, Owner, Seeds, Offer, Sent, IsFirs
 use Rattle.crawl_tie.specs.Acts.{Splitting, Entering, Leaving, IsOwner, IsUnitOf, is_offering, with_gate, after_splitting, after_looking, after_entering, after_leaving, after_fetching, after_seeding, after_pushing}
 use Rattle.crawl_tie.specs.Parts.{UnitsAreOwned, is_owned}
 
--- ## Places of two lists at once
+-- ## Indices of two lists at once
 
 map_set : {A : Type 0} (f : A → Bool) (xs : List A) (i : ℕ) (x : A) → map f (set xs i x) ≡ set (map f xs) i (f x)
 map_set f [] i x = refl
@@ -44,7 +44,7 @@ owner_set f [] i v w at same = refl
 owner_set f (x ∷ xs) zero v w at same = let here : Some x ≡ Some v = at in ap (λ b. b ∷ map f xs) (same ∙ ap f (sym (some_is here)))
 owner_set f (x ∷ xs) (suc i) v w at same = ap (λ bs. f x ∷ bs) (owner_set f xs i v w at same)
 
--- what a place has after a write
+-- what an index has after a write
 after_set : (xs : List (Option Owner)) (i j : ℕ) (y z : Option Owner) → slice_get (slice_set xs i y) j ≡ Some z → ((i ≡ j) × (y ≡ z)) ⊎ ((i ≢ j) × (slice_get xs j ≡ Some z))
 after_set [] i j y z at = absurd (cc (at))
 after_set (x ∷ xs) zero zero y z at = let here : Some y ≡ Some z = at in inl (refl, some_is here)
@@ -58,7 +58,7 @@ in_front [] (suc j) owner at = absurd (cc (at))
 in_front (x ∷ xs) zero owner at = at
 in_front (x ∷ xs) (suc j) owner at = in_front xs j owner at
 
--- where a write has left an owner: it was one before, at another place; or it was written
+-- where a write has left an owner: it was one before, at another index; or it was written
 abbrev Before : Whole → ℕ → ℕ → Option Owner → Owner → Type 0
 Before w seat other written owner = ((seat ≡ other) × (written ≡ Some owner)) ⊎ ((seat ≢ other) × IsOwner w other owner)
 

@@ -20,37 +20,37 @@ use Rattle.crawl_tie.specs.Whole.{Lane, Whole, Owner, Seeds, Offer, Sent, IsFirs
 use Rattle.crawl_tie.specs.Acts.{Atomic, History, with_gate, with_lane, after_splitting, after_looking, after_entering, after_leaving, after_fetching, after_seeding, after_pushing}
 use Rattle.crawl_tie.specs.Sample.{offers_made, turns_made}
 
--- ## Which of two places
+-- ## Which of two subqueues
 
-abbrev place : Bool → ℕ
-place true = 0
-place false = 1
+abbrev queue : Bool → ℕ
+queue true = 0
+queue false = 1
 
--- x stands at the place, y at the other
+-- x stands at the queue, y at the other
 abbrev both : {A : Type 0} → Bool → A → A → List A
 both true x y = x ∷ y ∷ []
 both false x y = y ∷ x ∷ []
 
-get_one : {A : Type 0} (b : Bool) (x y : A) → slice_get (both b x y) (place b) ≡ Some x
+get_one : {A : Type 0} (b : Bool) (x y : A) → slice_get (both b x y) (queue b) ≡ Some x
 get_one true x y = refl
 get_one false x y = refl
 
-get_other : {A : Type 0} (b : Bool) (x y : A) → slice_get (both b x y) (place (not b)) ≡ Some y
+get_other : {A : Type 0} (b : Bool) (x y : A) → slice_get (both b x y) (queue (not b)) ≡ Some y
 get_other true x y = refl
 get_other false x y = refl
 
-set_one : {A : Type 0} (b : Bool) (x y z : A) → both b z y ≡ slice_set (both b x y) (place b) z
+set_one : {A : Type 0} (b : Bool) (x y z : A) → both b z y ≡ slice_set (both b x y) (queue b) z
 set_one true x y z = refl
 set_one false x y z = refl
 
-set_other : {A : Type 0} (b : Bool) (x y z : A) → both b x z ≡ slice_set (both b x y) (place (not b)) z
+set_other : {A : Type 0} (b : Bool) (x y z : A) → both b x z ≡ slice_set (both b x y) (queue (not b)) z
 set_other true x y z = refl
 set_other false x y z = refl
 
-some_place : (n : ℕ) → (b : Bool) × (n % 2 ≡ place b)
-some_place n = by_rest (n % 2) refl (mod-lt n (omega arith))
+some_queue : (n : ℕ) → (b : Bool) × (n % 2 ≡ queue b)
+some_queue n = by_rest (n % 2) refl (mod-lt n (omega arith))
   where
-    by_rest : (r : ℕ) → n % 2 ≡ r → r < 2 → (b : Bool) × (n % 2 ≡ place b)
+    by_rest : (r : ℕ) → n % 2 ≡ r → r < 2 → (b : Bool) × (n % 2 ≡ queue b)
     by_rest zero e below = (true, e)
     by_rest (suc zero) e below = (false, e)
     by_rest (suc (suc r)) e below = absurd (omega (arith, below))
@@ -115,10 +115,10 @@ abbrev message : GateId → Message
 message gate = record { entry = e; unit = record { table = gate.table; number = 3; view = seven } }
 
 abbrev at_home : GateId → Bool → Home
-at_home gate b = home gate 2 (place b)
+at_home gate b = home gate 2 (queue b)
 
 abbrev fresh_at : GateId → Bool → Lane
-fresh_at gate b = fresh_lane gate 2 (place b)
+fresh_at gate b = fresh_lane gate 2 (queue b)
 
 abbrev full : Home → GateId → subqueues.Moment
 full h gate = record { items = message gate ∷ []; views = pushing h (e ∷ []) ∷ spent ∷ popping h [] 0 ∷ [] }
@@ -183,7 +183,7 @@ abbrev w10 : GateId → Bool → Whole
 w10 gate b = after_entering (w9 gate b) (gate_with (open_at 3) (seeds ∷ fresh ∷ fresh ∷ seven ∷ nine ∷ [])) 4 9
 
 abbrev w11 : GateId → Bool → Whole
-w11 gate b = record (after_pushing (w10 gate b) (place b) (fresh_at gate b) (full (at_home gate b) gate) 3 7) { lanes = both b (idle (full (at_home gate b) gate)) (fresh_at gate (not b)) }
+w11 gate b = record (after_pushing (w10 gate b) (queue b) (fresh_at gate b) (full (at_home gate b) gate) 3 7) { lanes = both b (idle (full (at_home gate b) gate)) (fresh_at gate (not b)) }
 
 abbrev w12 : GateId → Bool → Whole
 w12 gate b = after_leaving (w11 gate b) (gate_with (open_at 2) (seeds ∷ fresh ∷ fresh ∷ seven ∷ nine_left ∷ [])) 4 9
@@ -207,7 +207,7 @@ abbrev w18 : GateId → Bool → Whole
 w18 gate b = record (w17 gate b) { lanes = both b (busy (popped (at_home gate b))) (idle (found_none (at_home gate (not b)))) }
 
 abbrev w19 : GateId → Bool → Whole
-w19 gate b = record (after_fetching (w18 gate b) (gate_with (open_at 0) (seeds_left ∷ fresh ∷ waiter ∷ seven_left ∷ nine_left ∷ [])) 3 (place b) (busy (popped (at_home gate b)))) { lanes = both b (idle (popped (at_home gate b))) (idle (found_none (at_home gate (not b)))) }
+w19 gate b = record (after_fetching (w18 gate b) (gate_with (open_at 0) (seeds_left ∷ fresh ∷ waiter ∷ seven_left ∷ nine_left ∷ [])) 3 (queue b) (busy (popped (at_home gate b)))) { lanes = both b (idle (popped (at_home gate b))) (idle (found_none (at_home gate (not b)))) }
 
 abbrev w20 : GateId → Bool → Whole
 w20 gate b = w19 gate b
@@ -239,11 +239,11 @@ differ m n below e = let same : m ≡ n = ap (λ x. x.0) e in omega (arith, same
 shut_is_not_open : closed_at 0 ≢ open_at 0
 shut_is_not_open e = true≢false (ap (λ x. x.1) e)
 
-offers : (gate : GateId) (b : Bool) → gate.max_pending ≡ 4 → subqueue_of [] 2 ≡ place b → History (w0 gate b) (offers_made (place b) e) (w13 gate b)
-offers gate b four here = (w1 gate b, ((gate_with (open_at 1) (seeds ∷ fresh ∷ [])), record { view = seeds; seat = 0; at = refl; next = refl }, refl), (w2 gate b, ((gate_with (open_at 1) (seeds ∷ fresh ∷ fresh ∷ [])), record { view = seeds; seat = 0; at = refl; next = refl }, refl), (w3 gate b, ((gate_with (open_at 1) (seeds ∷ fresh ∷ fresh ∷ fresh ∷ [])), record { view = seeds; seat = 0; at = refl; next = refl }, refl), (w4 gate b, ((gate_with (open_at 1) (seeds ∷ fresh ∷ fresh ∷ fresh ∷ fresh ∷ [])), record { view = seeds; seat = 0; at = refl; next = refl }, refl), (w5 gate b, ((gate_with (open_at 1) (seeds ∷ fresh ∷ fresh ∷ seven_looked ∷ fresh ∷ [])), record { view = fresh; steps = record { seat = 3; view = refl; word = refl; small = omega arith; next = refl } }, refl), (w6 gate b, ((gate_with (open_at 1) (seeds ∷ fresh ∷ fresh ∷ seven_looked ∷ nine_looked ∷ [])), record { view = fresh; steps = record { seat = 4; view = refl; word = refl; small = omega arith; next = refl } }, refl), (w7 gate b, ((gate_with (open_at 2) (seeds ∷ fresh ∷ fresh ∷ seven ∷ nine_looked ∷ [])), record { view = seven_looked; holds_none = refl; room = omega arith; steps = record { seat = 3; view = refl; word = refl; small = omega arith; next = refl } }, refl, refl, refl), (w8 gate b, ((gate_with (open_at 2) (seeds ∷ fresh ∷ fresh ∷ seven ∷ nine_lost ∷ [])), 1, record { view = nine_looked; holds_none = refl; room = omega arith; other = λ e. differ 2 1 (omega arith) e; steps = record { seat = 4; view = refl; word = refl; small = omega arith; next = refl } }, refl, refl, refl), (w9 gate b, ((gate_with (open_at 2) (seeds ∷ fresh ∷ fresh ∷ seven ∷ nine_again ∷ [])), record { view = nine_lost; steps = record { seat = 4; view = refl; word = refl; small = omega arith; next = refl } }, refl), (w10 gate b, ((gate_with (open_at 3) (seeds ∷ fresh ∷ fresh ∷ seven ∷ nine ∷ [])), record { view = nine_again; holds_none = refl; room = omega arith; steps = record { seat = 4; view = refl; word = refl; small = omega arith; next = refl } }, refl, refl, refl), (w11 gate b, (fresh_at gate b, full (at_home gate b) gate, record { pass = 0; home = at_home gate b; sent = []; message = message gate; view = refl; unit = (refl, sym four); may = record { new = refl; here = here; number = refl }; entry_is = refl; next = refl }, get_one b (fresh_at gate b) (fresh_at gate (not b)), record { owner = refl; view = refl }, ap (λ (ls : List Lane). (let u : Whole = record (after_pushing (w10 gate b) (place b) (fresh_at gate b) (full (at_home gate b) gate) 3 7) { lanes = ls } in u)) (set_one b (fresh_at gate b) (fresh_at gate (not b)) (idle (full (at_home gate b) gate)))), (w12 gate b, ((gate_with (open_at 2) (seeds ∷ fresh ∷ fresh ∷ seven ∷ nine_left ∷ [])), idle (full (at_home gate b) gate), record { view = nine; holds = refl; steps = record { seat = 4; view = refl; word = refl; small = omega arith; next = refl } }, refl, get_one b (idle (full (at_home gate b) gate)) (fresh_at gate (not b)), record { pass = 0; home = at_home gate b; sent = e ∷ []; view = refl; stands = refl }, refl), (w13 gate b, ((gate_with (open_at 1) (seeds_left ∷ fresh ∷ fresh ∷ seven ∷ nine_left ∷ [])), record { view = seeds; holds = refl; steps = record { seat = 0; view = refl; word = refl; small = omega arith; next = refl } }, refl, refl), refl)))))))))))))
+offers : (gate : GateId) (b : Bool) → gate.max_pending ≡ 4 → subqueue_of [] 2 ≡ queue b → History (w0 gate b) (offers_made (queue b) e) (w13 gate b)
+offers gate b four here = (w1 gate b, ((gate_with (open_at 1) (seeds ∷ fresh ∷ [])), record { view = seeds; seat = 0; at = refl; next = refl }, refl), (w2 gate b, ((gate_with (open_at 1) (seeds ∷ fresh ∷ fresh ∷ [])), record { view = seeds; seat = 0; at = refl; next = refl }, refl), (w3 gate b, ((gate_with (open_at 1) (seeds ∷ fresh ∷ fresh ∷ fresh ∷ [])), record { view = seeds; seat = 0; at = refl; next = refl }, refl), (w4 gate b, ((gate_with (open_at 1) (seeds ∷ fresh ∷ fresh ∷ fresh ∷ fresh ∷ [])), record { view = seeds; seat = 0; at = refl; next = refl }, refl), (w5 gate b, ((gate_with (open_at 1) (seeds ∷ fresh ∷ fresh ∷ seven_looked ∷ fresh ∷ [])), record { view = fresh; steps = record { seat = 3; view = refl; word = refl; small = omega arith; next = refl } }, refl), (w6 gate b, ((gate_with (open_at 1) (seeds ∷ fresh ∷ fresh ∷ seven_looked ∷ nine_looked ∷ [])), record { view = fresh; steps = record { seat = 4; view = refl; word = refl; small = omega arith; next = refl } }, refl), (w7 gate b, ((gate_with (open_at 2) (seeds ∷ fresh ∷ fresh ∷ seven ∷ nine_looked ∷ [])), record { view = seven_looked; holds_none = refl; room = omega arith; steps = record { seat = 3; view = refl; word = refl; small = omega arith; next = refl } }, refl, refl, refl), (w8 gate b, ((gate_with (open_at 2) (seeds ∷ fresh ∷ fresh ∷ seven ∷ nine_lost ∷ [])), 1, record { view = nine_looked; holds_none = refl; room = omega arith; other = λ e. differ 2 1 (omega arith) e; steps = record { seat = 4; view = refl; word = refl; small = omega arith; next = refl } }, refl, refl, refl), (w9 gate b, ((gate_with (open_at 2) (seeds ∷ fresh ∷ fresh ∷ seven ∷ nine_again ∷ [])), record { view = nine_lost; steps = record { seat = 4; view = refl; word = refl; small = omega arith; next = refl } }, refl), (w10 gate b, ((gate_with (open_at 3) (seeds ∷ fresh ∷ fresh ∷ seven ∷ nine ∷ [])), record { view = nine_again; holds_none = refl; room = omega arith; steps = record { seat = 4; view = refl; word = refl; small = omega arith; next = refl } }, refl, refl, refl), (w11 gate b, (fresh_at gate b, full (at_home gate b) gate, record { pass = 0; home = at_home gate b; sent = []; message = message gate; view = refl; unit = (refl, sym four); may = record { new = refl; here = here; number = refl }; entry_is = refl; next = refl }, get_one b (fresh_at gate b) (fresh_at gate (not b)), record { owner = refl; view = refl }, ap (λ (ls : List Lane). (let u : Whole = record (after_pushing (w10 gate b) (queue b) (fresh_at gate b) (full (at_home gate b) gate) 3 7) { lanes = ls } in u)) (set_one b (fresh_at gate b) (fresh_at gate (not b)) (idle (full (at_home gate b) gate)))), (w12 gate b, ((gate_with (open_at 2) (seeds ∷ fresh ∷ fresh ∷ seven ∷ nine_left ∷ [])), idle (full (at_home gate b) gate), record { view = nine; holds = refl; steps = record { seat = 4; view = refl; word = refl; small = omega arith; next = refl } }, refl, get_one b (idle (full (at_home gate b) gate)) (fresh_at gate (not b)), record { pass = 0; home = at_home gate b; sent = e ∷ []; view = refl; stands = refl }, refl), (w13 gate b, ((gate_with (open_at 1) (seeds_left ∷ fresh ∷ fresh ∷ seven ∷ nine_left ∷ [])), record { view = seeds; holds = refl; steps = record { seat = 0; view = refl; word = refl; small = omega arith; next = refl } }, refl, refl), refl)))))))))))))
 
-turns : (gate : GateId) (b : Bool) → History (w13 gate b) (turns_made (place b) (place (not b)) e) (w27 gate b)
-turns gate b = (w14 gate b, (idle (full (at_home gate b) gate), popped (at_home gate b), record { pass = 2; home = at_home gate b; taken = []; empty_pops = 0; message = message gate; rest = []; view = refl; items = refl; entry_is = refl; next = refl }, get_one b (idle (full (at_home gate b) gate)) (fresh_at gate (not b)), refl, ap (λ (ls : List Lane). (let u : Whole = record (w13 gate b) { lanes = ls } in u)) (set_one b (idle (full (at_home gate b) gate)) (fresh_at gate (not b)) (busy (popped (at_home gate b))))), (w15 gate b, ((gate_with (open_at 1) (seeds_left ∷ fresh ∷ fresh ∷ seven_held ∷ nine_left ∷ [])), record { view = seven; steps = record { seat = 3; view = refl; word = refl; small = omega arith; next = refl } }, refl), (w16 gate b, (fresh_at gate (not b), get_other b (busy (popped (at_home gate b))) (fresh_at gate (not b)), refl, refl, refl), (w17 gate b, ((gate_with (open_at 1) (seeds_left ∷ fresh ∷ waiter ∷ seven_held ∷ nine_left ∷ [])), record { view = fresh; holds_none = refl; other = λ e. differ 1 0 (omega arith) e; steps = record { seat = 2; view = refl; word = refl; small = omega arith; next = refl } }, refl), (w18 gate b, (fresh_at gate (not b), found_none (at_home gate (not b)), record { pass = 2; home = at_home gate (not b); taken = []; empty_pops = 0; view = refl; next = refl }, get_other b (busy (popped (at_home gate b))) (fresh_at gate (not b)), ap (λ (ls : List Lane). (let u : Whole = record (w17 gate b) { lanes = ls } in u)) (set_other b (busy (popped (at_home gate b))) (fresh_at gate (not b)) (idle (found_none (at_home gate (not b)))))), (w19 gate b, ((gate_with (open_at 0) (seeds_left ∷ fresh ∷ waiter ∷ seven_left ∷ nine_left ∷ [])), busy (popped (at_home gate b)), record { view = seven_held; holds = refl; steps = record { seat = 3; view = refl; word = refl; small = omega arith; next = refl } }, refl, get_one b (busy (popped (at_home gate b))) (idle (found_none (at_home gate (not b)))), refl, ap (λ (ls : List Lane). (let u : Whole = record (after_fetching (w18 gate b) (gate_with (open_at 0) (seeds_left ∷ fresh ∷ waiter ∷ seven_left ∷ nine_left ∷ [])) 3 (place b) (busy (popped (at_home gate b)))) { lanes = ls } in u)) (set_one b (busy (popped (at_home gate b))) (idle (found_none (at_home gate (not b)))) (idle (popped (at_home gate b))))), (w20 gate b, (idle (popped (at_home gate b)), get_one b (idle (popped (at_home gate b))) (idle (found_none (at_home gate (not b)))), refl, refl, refl), (w21 gate b, ((gate_with (closed_at 0) (seeds_left ∷ closer ∷ waiter ∷ seven_left ∷ nine_left ∷ [])), record { view = fresh; holds_none = refl; steps = record { seat = 1; view = refl; word = refl; small = omega arith; next = refl } }, refl), (w22 gate b, (idle (popped (at_home gate b)), counted (at_home gate b), record { pass = 2; home = at_home gate b; taken = e ∷ []; empty_pops = 0; view = refl; next = refl }, get_one b (idle (popped (at_home gate b))) (idle (found_none (at_home gate (not b)))), ap (λ (ls : List Lane). (let u : Whole = record (w21 gate b) { lanes = ls } in u)) (set_one b (idle (popped (at_home gate b))) (idle (found_none (at_home gate (not b)))) (idle (counted (at_home gate b))))), (w23 gate b, (idle (found_none (at_home gate (not b))), get_other b (idle (counted (at_home gate b))) (idle (found_none (at_home gate (not b)))), refl, refl, refl), (w24 gate b, ((gate_with (closed_at 0) (seeds_left ∷ closer ∷ told ∷ seven_left ∷ nine_left ∷ [])), record { view = waiter; holds_none = refl; other = λ e. shut_is_not_open e; steps = record { seat = 2; view = refl; word = refl; small = omega arith; next = refl } }, refl), (w25 gate b, (idle (found_none (at_home gate (not b))), found_none_twice (at_home gate (not b)), record { pass = 2; home = at_home gate (not b); taken = []; empty_pops = 1; view = refl; next = refl }, get_other b (idle (counted (at_home gate b))) (idle (found_none (at_home gate (not b)))), ap (λ (ls : List Lane). (let u : Whole = record (w24 gate b) { lanes = ls } in u)) (set_other b (idle (counted (at_home gate b))) (idle (found_none (at_home gate (not b)))) (idle (found_none_twice (at_home gate (not b)))))), (w26 gate b, (idle (counted (at_home gate b)), one_again (at_home gate b), record { pass = 0; home = at_home gate b; sent = e ∷ []; other = 2; home' = at_home gate b; taken = e ∷ []; empty_pops = 1; apart = λ e. absurd (omega (arith, e)); view = refl; view' = refl; next = refl }, get_one b (idle (counted (at_home gate b))) (idle (found_none_twice (at_home gate (not b)))), ap (λ (ls : List Lane). (let u : Whole = record (w25 gate b) { lanes = ls } in u)) (set_one b (idle (counted (at_home gate b))) (idle (found_none_twice (at_home gate (not b)))) (idle (one_again (at_home gate b))))), (w27 gate b, (idle (found_none_twice (at_home gate (not b))), other_again (at_home gate (not b)), record { pass = 0; home = at_home gate (not b); sent = []; other = 2; home' = at_home gate (not b); taken = []; empty_pops = 2; apart = λ e. absurd (omega (arith, e)); view = refl; view' = refl; next = refl }, get_other b (idle (one_again (at_home gate b))) (idle (found_none_twice (at_home gate (not b)))), ap (λ (ls : List Lane). (let u : Whole = record (w26 gate b) { lanes = ls } in u)) (set_other b (idle (one_again (at_home gate b))) (idle (found_none_twice (at_home gate (not b)))) (idle (other_again (at_home gate (not b)))))), refl))))))))))))))
+turns : (gate : GateId) (b : Bool) → History (w13 gate b) (turns_made (queue b) (queue (not b)) e) (w27 gate b)
+turns gate b = (w14 gate b, (idle (full (at_home gate b) gate), popped (at_home gate b), record { pass = 2; home = at_home gate b; taken = []; empty_pops = 0; message = message gate; rest = []; view = refl; items = refl; entry_is = refl; next = refl }, get_one b (idle (full (at_home gate b) gate)) (fresh_at gate (not b)), refl, ap (λ (ls : List Lane). (let u : Whole = record (w13 gate b) { lanes = ls } in u)) (set_one b (idle (full (at_home gate b) gate)) (fresh_at gate (not b)) (busy (popped (at_home gate b))))), (w15 gate b, ((gate_with (open_at 1) (seeds_left ∷ fresh ∷ fresh ∷ seven_held ∷ nine_left ∷ [])), record { view = seven; steps = record { seat = 3; view = refl; word = refl; small = omega arith; next = refl } }, refl), (w16 gate b, (fresh_at gate (not b), get_other b (busy (popped (at_home gate b))) (fresh_at gate (not b)), refl, refl, refl), (w17 gate b, ((gate_with (open_at 1) (seeds_left ∷ fresh ∷ waiter ∷ seven_held ∷ nine_left ∷ [])), record { view = fresh; holds_none = refl; other = λ e. differ 1 0 (omega arith) e; steps = record { seat = 2; view = refl; word = refl; small = omega arith; next = refl } }, refl), (w18 gate b, (fresh_at gate (not b), found_none (at_home gate (not b)), record { pass = 2; home = at_home gate (not b); taken = []; empty_pops = 0; view = refl; next = refl }, get_other b (busy (popped (at_home gate b))) (fresh_at gate (not b)), ap (λ (ls : List Lane). (let u : Whole = record (w17 gate b) { lanes = ls } in u)) (set_other b (busy (popped (at_home gate b))) (fresh_at gate (not b)) (idle (found_none (at_home gate (not b)))))), (w19 gate b, ((gate_with (open_at 0) (seeds_left ∷ fresh ∷ waiter ∷ seven_left ∷ nine_left ∷ [])), busy (popped (at_home gate b)), record { view = seven_held; holds = refl; steps = record { seat = 3; view = refl; word = refl; small = omega arith; next = refl } }, refl, get_one b (busy (popped (at_home gate b))) (idle (found_none (at_home gate (not b)))), refl, ap (λ (ls : List Lane). (let u : Whole = record (after_fetching (w18 gate b) (gate_with (open_at 0) (seeds_left ∷ fresh ∷ waiter ∷ seven_left ∷ nine_left ∷ [])) 3 (queue b) (busy (popped (at_home gate b)))) { lanes = ls } in u)) (set_one b (busy (popped (at_home gate b))) (idle (found_none (at_home gate (not b)))) (idle (popped (at_home gate b))))), (w20 gate b, (idle (popped (at_home gate b)), get_one b (idle (popped (at_home gate b))) (idle (found_none (at_home gate (not b)))), refl, refl, refl), (w21 gate b, ((gate_with (closed_at 0) (seeds_left ∷ closer ∷ waiter ∷ seven_left ∷ nine_left ∷ [])), record { view = fresh; holds_none = refl; steps = record { seat = 1; view = refl; word = refl; small = omega arith; next = refl } }, refl), (w22 gate b, (idle (popped (at_home gate b)), counted (at_home gate b), record { pass = 2; home = at_home gate b; taken = e ∷ []; empty_pops = 0; view = refl; next = refl }, get_one b (idle (popped (at_home gate b))) (idle (found_none (at_home gate (not b)))), ap (λ (ls : List Lane). (let u : Whole = record (w21 gate b) { lanes = ls } in u)) (set_one b (idle (popped (at_home gate b))) (idle (found_none (at_home gate (not b)))) (idle (counted (at_home gate b))))), (w23 gate b, (idle (found_none (at_home gate (not b))), get_other b (idle (counted (at_home gate b))) (idle (found_none (at_home gate (not b)))), refl, refl, refl), (w24 gate b, ((gate_with (closed_at 0) (seeds_left ∷ closer ∷ told ∷ seven_left ∷ nine_left ∷ [])), record { view = waiter; holds_none = refl; other = λ e. shut_is_not_open e; steps = record { seat = 2; view = refl; word = refl; small = omega arith; next = refl } }, refl), (w25 gate b, (idle (found_none (at_home gate (not b))), found_none_twice (at_home gate (not b)), record { pass = 2; home = at_home gate (not b); taken = []; empty_pops = 1; view = refl; next = refl }, get_other b (idle (counted (at_home gate b))) (idle (found_none (at_home gate (not b)))), ap (λ (ls : List Lane). (let u : Whole = record (w24 gate b) { lanes = ls } in u)) (set_other b (idle (counted (at_home gate b))) (idle (found_none (at_home gate (not b)))) (idle (found_none_twice (at_home gate (not b)))))), (w26 gate b, (idle (counted (at_home gate b)), one_again (at_home gate b), record { pass = 0; home = at_home gate b; sent = e ∷ []; other = 2; home' = at_home gate b; taken = e ∷ []; empty_pops = 1; apart = λ e. absurd (omega (arith, e)); view = refl; view' = refl; next = refl }, get_one b (idle (counted (at_home gate b))) (idle (found_none_twice (at_home gate (not b)))), ap (λ (ls : List Lane). (let u : Whole = record (w25 gate b) { lanes = ls } in u)) (set_one b (idle (counted (at_home gate b))) (idle (found_none_twice (at_home gate (not b)))) (idle (one_again (at_home gate b))))), (w27 gate b, (idle (found_none_twice (at_home gate (not b))), other_again (at_home gate (not b)), record { pass = 0; home = at_home gate (not b); sent = []; other = 2; home' = at_home gate (not b); taken = []; empty_pops = 2; apart = λ e. absurd (omega (arith, e)); view = refl; view' = refl; next = refl }, get_other b (idle (one_again (at_home gate b))) (idle (found_none_twice (at_home gate (not b)))), ap (λ (ls : List Lane). (let u : Whole = record (w26 gate b) { lanes = ls } in u)) (set_other b (idle (one_again (at_home gate b))) (idle (found_none_twice (at_home gate (not b)))) (idle (other_again (at_home gate (not b)))))), refl))))))))))))))
 
 begins : (gate : GateId) (b : Bool) → gate.max_pending ≡ 4 → IsFirst gate 2 (w0 gate b)
 begins gate b four = record {
@@ -269,13 +269,13 @@ begins gate b four = record {
     each false (suc zero) l at = sym (some_is at)
     each false (suc (suc q)) l at = absurd (cc (at))
 
-places_differ : (b : Bool) → place b ≢ place (not b)
-places_differ true same = omega (arith, same)
-places_differ false same = omega (arith, same)
+queues_differ : (b : Bool) → queue b ≢ queue (not b)
+queues_differ true same = omega (arith, same)
+queues_differ false same = omega (arith, same)
 
 pub sample : (gate : GateId) → gate.max_pending ≡ 4 → (q : ℕ) × (other : ℕ) × (x : Entry) × (first : Whole) × (mid : Whole) × (last : Whole)
     × (q ≢ other) × IsFirst gate 2 first × History first (offers_made q x) mid × History mid (turns_made q other x) last
 sample gate four =
-    let at = some_place (hash (host_key [])) in
+    let at = some_queue (hash (host_key [])) in
     let b = at.0 in
-    (place b, place (not b), e, w0 gate b, w13 gate b, w27 gate b, places_differ b, begins gate b four, offers gate b four at.1, turns gate b)
+    (queue b, queue (not b), e, w0 gate b, w13 gate b, w27 gate b, queues_differ b, begins gate b four, offers gate b four at.1, turns gate b)

@@ -50,9 +50,9 @@ rule_from n q before (x ∷ xs) f = (
 )
 
 record Found (url : List ℕ) (es : List Entry) : Type 0 where
-  pub place : ℕ
+  pub index : ℕ
   pub item : Entry
-  pub at : slice_get es place ≡ Some item
+  pub at : slice_get es index ≡ Some item
   pub same : item.url ≡ url
 
 found : (url : List ℕ) (es : List Entry) → has_url url es ≡ true → Found url es
@@ -60,8 +60,8 @@ found url [] e = absurd (true≢false (sym e))
 found url (x ∷ xs) e = by_first (bytes_eq x.url url) refl e (λ rest. found url xs rest)
   where
     by_first : (b : Bool) → bytes_eq x.url url ≡ b → (b || has_url url xs) ≡ true → (has_url url xs ≡ true → Found url xs) → Found url (x ∷ xs)
-    by_first true is e later = record { place = 0; item = x; at = refl; same = (bytes_eq-Decides x.url url).0 is }
-    by_first false is e later = let f = later e in record { place = suc f.place; item = f.item; at = f.at; same = f.same }
+    by_first true is e later = record { index = 0; item = x; at = refl; same = (bytes_eq-Decides x.url url).0 is }
+    by_first false is e later = let f = later e in record { index = suc f.index; item = f.item; at = f.at; same = f.same }
 
 below_take : {X : Type 0} (xs : List X) (n i : ℕ) (x : X) → slice_get (take n xs) i ≡ Some x → i < n
 below_take [] zero i x at = absurd (cc (at))
@@ -97,9 +97,9 @@ lists_keep workers q queue sent taken waits inv placed shows = record {
 
     twice : (k : ℕ) (e : Entry) → slice_get sent k ≡ Some e → Found e.url (take k sent) → ⊥
     twice k e at f =
-        let below = below_take sent k f.place f.item f.at in
-        let first = slice_get-take sent k f.place f.item f.at in
-        let same = inv.distinct f.place k (message_of f.item) (message_of e) (there f.place f.item first) (there k e at) f.same in
+        let below = below_take sent k f.index f.item f.at in
+        let first = slice_get-take sent k f.index f.item f.at in
+        let same = inv.distinct f.index k (message_of f.item) (message_of e) (there f.index f.item first) (there k e at) f.same in
         omega (arith, below, same)
 
     by_test : (k : ℕ) (e : Entry) → slice_get sent k ≡ Some e → (b : Bool) → has_url e.url (take k sent) ≡ b → b ≡ false

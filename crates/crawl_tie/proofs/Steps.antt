@@ -319,7 +319,7 @@ keeps_lists gate workers w s ties q l m at same =
       remembered = shows.remembered;
       opening = shows.opening;
       max = shows.max;
-      lanes = subst (λ queues. (place : ℕ) (x : Lane) → slice_get (slice_set w.lanes q l') place ≡ Some x → (y : Subqueue) × (slice_get queues place ≡ Some y) × ShowsLane gate workers place y x) (same_at s.subqueues q queue there.1) all;
+      lanes = subst (λ queues. (k : ℕ) (x : Lane) → slice_get (slice_set w.lanes q l') k ≡ Some x → (y : Subqueue) × (slice_get queues k ≡ Some y) × ShowsLane gate workers k y x) (same_at s.subqueues q queue there.1) all;
     })
 
 leaves_offer : (gate : GateId) (workers : ℕ) (w : Whole) (s : State) → Ties gate workers w s → (id n : ℕ) (m : gates.Moment) → (step : Leaving w.gate m n) → IsOwner w step.steps.seat (Offer id) → Next gate workers (after_leaving w m step.steps.seat id) s ((Back id, told.Count n) ∷ [])

@@ -112,7 +112,7 @@ pub record Pushing (m m' : subqueues.Moment) (e : Entry) : Type 0 where
   pub message : Message
   pub view : ViewAt m pass (pushing home sent)
   pub unit : IsSeatOf home.gate message.unit
-  pub may : MayFollow home.workers home.place sent (plain message)
+  pub may : MayFollow home.workers home.queue sent (plain message)
   pub entry_is : plain message ≡ e
   pub next : m' ≡ record { items = m.items ++ message ∷ []; views = slice_set m.views pass (pushing home (sent ++ plain message ∷ [])) }
 

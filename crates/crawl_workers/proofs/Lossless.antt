@@ -46,17 +46,17 @@ all_taken_found workers allowed meaning start now results ran fresh =
 
 -- a line of a log, by its URL and subqueue
 record Line (log : List Logged) (p : List ℕ × ℕ) : Type 0 where
-  pub place : ℕ
+  pub index : ℕ
   pub line : Logged
-  pub at : slice_get log place ≡ Some line
+  pub at : slice_get log index ≡ Some line
   pub is : line_of line ≡ p
 
 find_line : (log : List Logged) (p : List ℕ × ℕ) (k : ℕ) → k < length (map line_of log) → slice_index_or (map line_of log) k p ≡ p → Line log p
 find_line [] p k less is = absurd (omega (arith, less))
-find_line (l ∷ ls) p zero less is = record { place = 0; line = l; at = refl; is = is }
+find_line (l ∷ ls) p zero less is = record { index = 0; line = l; at = refl; is = is }
 find_line (l ∷ ls) p (suc k) less is =
     let rest = find_line ls p k (omega (arith, less)) is in
-    record { place = suc rest.place; line = rest.line; at = rest.at; is = rest.is }
+    record { index = suc rest.index; line = rest.line; at = rest.at; is = rest.is }
 
 same_url : (url : List ℕ) → bytes_eq url url ≡ true
 same_url url = (bytes_eq-Decides url url).1 refl
@@ -107,8 +107,8 @@ line_stands q es b url k (Seen u p) agrees at is =
     agrees.seen k url (subst (λ (x : List ℕ × ℕ). At b.log k (Seen x.0 x.1)) is at)
 line_stands q es b url k (Accepted e p) agrees at is =
     let same : e.url ≡ url = ap (λ (x : List ℕ × ℕ). x.0) is in
-    let place : p ≡ q = ap (λ (x : List ℕ × ℕ). x.1) is in
-    let here : At b.log k (Accepted e q) = subst (λ (n : ℕ). At b.log k (Accepted e n)) place at in
+    let queue : p ≡ q = ap (λ (x : List ℕ × ℕ). x.1) is in
+    let here : At b.log k (Accepted e q) = subst (λ (n : ℕ). At b.log k (Accepted e n)) queue at in
     let sent : has_url e.url (entries_of b.id es) ≡ true = subst (λ (xs : List Entry). has_url e.url xs ≡ true) agrees.sent (sent_has q b.log k e here) in
     subst (λ (u : List ℕ). has_url u es ≡ true) same (entries_has b.id e.url es sent)
 
@@ -132,7 +132,7 @@ logged_accepted workers closed senders queues some account b part url has =
     record {
       list = found.0;
       at = found.1;
-      has = line_stands (subqueue_of url workers) found.0 b url line.place line.line (account.agrees (subqueue_of url workers) found.0 found.1 b part) line.at line.is;
+      has = line_stands (subqueue_of url workers) found.0 b url line.index line.line (account.agrees (subqueue_of url workers) found.0 found.1 b part) line.at line.is;
     }
 
 pub links_accepted : (workers : ℕ) (allowed : List ℕ → Bool) (meaning : List ℕ → Page) (closed : List WorkerId) (senders : List SenderId) (queues : List (List Entry)) → Accounts workers closed senders queues
@@ -140,7 +140,7 @@ pub links_accepted : (workers : ℕ) (allowed : List ℕ → Bool) (meaning : Li
     → All (λ (r : PageResult). AllAccepted workers allowed queues (links_of r.page)) results
 links_accepted workers allowed meaning closed senders queues account k start now results at ran =
     let own = account.taken k now at in
-    let less = within_get queues now.place now.taken own in
+    let less = within_get queues now.queue now.taken own in
     let some : 0 < workers = let len = account.len in omega (arith, less, len) in
     All-weaker (λ (r : PageResult). AllLogged workers allowed now.book.log (links_of r.page)) (λ (r : PageResult). AllAccepted workers allowed queues (links_of r.page))
     (λ r. All-weaker (λ (url : List ℕ). IsTrue (allowed url) → HasLine workers now.book.log url) (λ (url : List ℕ). IsTrue (allowed url) → IsAccepted workers queues url)
@@ -150,6 +150,6 @@ links_accepted workers allowed meaning closed senders queues account k start now
 -- the results of a worker that lost nothing have the URLs that its subqueue accepted
 pub results_are_accepted : (workers : ℕ) (allowed : List ℕ → Bool) (meaning : List ℕ → Page) (closed : List WorkerId) (senders : List SenderId) (queues : List (List Entry)) → Accounts workers closed senders queues
     → (k : ℕ) (start now : WorkerId) (results : List PageResult) → At closed k now → Ran workers allowed meaning start now results 0 → start.taken ≡ []
-    → (es : List Entry) × At queues now.place es × (result_urls results ≡ entry_urls es)
+    → (es : List Entry) × At queues now.queue es × (result_urls results ≡ entry_urls es)
 results_are_accepted workers allowed meaning closed senders queues account k start now results at ran fresh =
     (now.taken, account.taken k now at, all_taken_found workers allowed meaning start now results ran fresh)

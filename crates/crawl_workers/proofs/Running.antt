@@ -113,21 +113,21 @@ busy_same b = record { entry = refl; worker = refl; grows = grows_same b.worker.
 pub busy_on : (a b c : BusyId) → SameBusy a b → SameBusy b c → SameBusy a c
 busy_on a b c first next = record {
   entry = next.entry ∙ first.entry;
-  worker = next.worker ∙ ap (λ (w : WorkerId). worker w.place c.worker.seat w.taken w.empty_pops c.worker.book) first.worker;
+  worker = next.worker ∙ ap (λ (w : WorkerId). worker w.queue c.worker.seat w.taken w.empty_pops c.worker.book) first.worker;
   grows = grows_on a.worker.book b.worker.book c.worker.book first.grows next.grows;
 }
 
 -- ## A run
 
-rule_more : (workers place : ℕ) (before es : List Entry) (e : Entry) → KeepsRule workers place before es → MayFollow workers place (before ++ es) e → KeepsRule workers place before (es ++ e ∷ [])
-rule_more workers place before [] e rule may = (subst (λ xs. MayFollow workers place xs e) (append_nil before) may, tt)
-rule_more workers place before (x ∷ es) e rule may = (rule.0, rule_more workers place (before ++ x ∷ []) es e rule.1 (rw (append_assoc before (x ∷ []) es) may))
+rule_more : (workers queue : ℕ) (before es : List Entry) (e : Entry) → KeepsRule workers queue before es → MayFollow workers queue (before ++ es) e → KeepsRule workers queue before (es ++ e ∷ [])
+rule_more workers queue before [] e rule may = (subst (λ xs. MayFollow workers queue xs e) (append_nil before) may, tt)
+rule_more workers queue before (x ∷ es) e rule may = (rule.0, rule_more workers queue (before ++ x ∷ []) es e rule.1 (rw (append_assoc before (x ∷ []) es) may))
 
 -- nothing was done
 pub ran_nothing : (workers : ℕ) (allowed : List ℕ → Bool) (meaning : List ℕ → Page) (w : WorkerId) → Ran workers allowed meaning w w [] 0
 ran_nothing workers allowed meaning w = record {
   fates = [];
-  place = refl;
+  queue = refl;
   taken = sym (append_nil w.taken);
   rule = tt;
   found = refl;
@@ -138,11 +138,11 @@ ran_nothing workers allowed meaning w = record {
   links = λ _. All-nil (λ (r : PageResult). AllLogged workers allowed w.book.log (links_of r.page));
 }
 
--- the same place, list and books
-pub ran_on : (workers : ℕ) (allowed : List ℕ → Bool) (meaning : List ℕ → Page) (start w v : WorkerId) (results : List PageResult) (lost : ℕ) → v.place ≡ w.place → v.taken ≡ w.taken → v.book ≡ w.book → Ran workers allowed meaning start w results lost → Ran workers allowed meaning start v results lost
-ran_on workers allowed meaning start w v results lost place taken book ran = record {
+-- the same queue, list and books
+pub ran_on : (workers : ℕ) (allowed : List ℕ → Bool) (meaning : List ℕ → Page) (start w v : WorkerId) (results : List PageResult) (lost : ℕ) → v.queue ≡ w.queue → v.taken ≡ w.taken → v.book ≡ w.book → Ran workers allowed meaning start w results lost → Ran workers allowed meaning start v results lost
+ran_on workers allowed meaning start w v results lost queue taken book ran = record {
   fates = ran.fates;
-  place = place ∙ ran.place;
+  queue = queue ∙ ran.queue;
   taken = taken ∙ ran.taken;
   rule = ran.rule;
   found = ran.found;
@@ -157,9 +157,9 @@ all_links_on : (workers : ℕ) (allowed : List ℕ → Bool) (b b' : BookId) (re
 all_links_on workers allowed b b' results grows all =
     All-weaker (λ (r : PageResult). AllLogged workers allowed b.log (links_of r.page)) (λ (r : PageResult). AllLogged workers allowed b'.log (links_of r.page)) (λ r has. all_logged_on workers allowed b b' (links_of r.page) grows has) results all
 
-rule_next : (workers : ℕ) (start w : WorkerId) (fates : List Fate) (e : Entry) (o : Option Page) → w.place ≡ start.place → w.taken ≡ start.taken ++ taken_in fates → KeepsRule workers start.place start.taken (taken_in fates) → MayFollow workers w.place w.taken e → KeepsRule workers start.place start.taken (taken_in (fates ++ (e, o) ∷ []))
-rule_next workers start w fates e o place taken rule may =
-    rw (map-append (λ (f : Fate). f.0) fates ((e, o) ∷ [])) (rule_more workers start.place start.taken (taken_in fates) e rule (rw (← place, ← taken) may))
+rule_next : (workers : ℕ) (start w : WorkerId) (fates : List Fate) (e : Entry) (o : Option Page) → w.queue ≡ start.queue → w.taken ≡ start.taken ++ taken_in fates → KeepsRule workers start.queue start.taken (taken_in fates) → MayFollow workers w.queue w.taken e → KeepsRule workers start.queue start.taken (taken_in (fates ++ (e, o) ∷ []))
+rule_next workers start w fates e o queue taken rule may =
+    rw (map-append (λ (f : Fate). f.0) fates ((e, o) ∷ [])) (rule_more workers start.queue start.taken (taken_in fates) e rule (rw (← queue, ← taken) may))
 
 taken_next : (start w : WorkerId) (fates : List Fate) (e : Entry) (o : Option Page) → w.taken ≡ start.taken ++ taken_in fates → w.taken ++ e ∷ [] ≡ start.taken ++ taken_in (fates ++ (e, o) ∷ [])
 taken_next start w fates e o taken =
@@ -175,9 +175,9 @@ few_next allowed meaning fates e o before after few next =
 
 -- a URL got its page
 ran_found : (workers : ℕ) (allowed : List ℕ → Bool) (meaning : List ℕ → Page) (start w v : WorkerId) (e : Entry) (old new : WorkerOutput)
-    → MayFollow workers w.place w.taken e → v.place ≡ w.place → v.taken ≡ w.taken ++ e ∷ [] → Grows w.book v.book → Finds workers allowed meaning e.url v.book.log old new
+    → MayFollow workers w.queue w.taken e → v.queue ≡ w.queue → v.taken ≡ w.taken ++ e ∷ [] → Grows w.book v.book → Finds workers allowed meaning e.url v.book.log old new
     → Ran workers allowed meaning start w old.results.items old.lost → Ran workers allowed meaning start v new.results.items new.lost
-ran_found workers allowed meaning start w v e old new may place taken grows finds ran =
+ran_found workers allowed meaning start w v e old new may queue taken grows finds ran =
     let result : PageResult = record { url = e.url; page = finds.page } in
     let len : length (old.results.items ++ result ∷ []) ≡ length old.results.items + 1 = rw length_push (omega arith) in
     let fates_len : length (ran.fates ++ (e, Some finds.page) ∷ []) ≡ length ran.fates + 1 = rw length_push (omega arith) in
@@ -187,9 +187,9 @@ ran_found workers allowed meaning start w v e old new may place taken grows find
     rw (len, fates_len) (omega (arith, was, more)) in
     record {
       fates = ran.fates ++ (e, Some finds.page) ∷ [];
-      place = place ∙ ran.place;
+      queue = queue ∙ ran.queue;
       taken = taken ∙ taken_next start w ran.fates e (Some finds.page) ran.taken;
-      rule = rule_next workers start w ran.fates e (Some finds.page) ran.place ran.taken ran.rule may;
+      rule = rule_next workers start w ran.fates e (Some finds.page) ran.queue ran.taken ran.rule may;
       found = finds.results ∙ results_next ran.fates e (Some finds.page) old.results.items ran.found;
       pages = rw finds.results (All-push (λ (r : PageResult). r.page ≡ meaning r.url) old.results.items result ran.pages finds.means);
       counted = rw finds.results counted;
@@ -201,9 +201,9 @@ ran_found workers allowed meaning start w v e old new may place taken grows find
 
 -- a URL was lost
 ran_lost : (workers : ℕ) (allowed : List ℕ → Bool) (meaning : List ℕ → Page) (start w v : WorkerId) (e : Entry) (old new : WorkerOutput)
-    → MayFollow workers w.place w.taken e → v.place ≡ w.place → v.taken ≡ w.taken ++ e ∷ [] → Grows w.book v.book → Loses (most_lost_at allowed (links_of (meaning e.url)) None) old new
+    → MayFollow workers w.queue w.taken e → v.queue ≡ w.queue → v.taken ≡ w.taken ++ e ∷ [] → Grows w.book v.book → Loses (most_lost_at allowed (links_of (meaning e.url)) None) old new
     → Ran workers allowed meaning start w old.results.items old.lost → Ran workers allowed meaning start v new.results.items new.lost
-ran_lost workers allowed meaning start w v e old new may place taken grows loses ran =
+ran_lost workers allowed meaning start w v e old new may queue taken grows loses ran =
     let fates : List Fate = ran.fates ++ (e, None) ∷ [] in
     let fates_len : length fates ≡ length ran.fates + 1 = rw length_push (omega arith) in
     let counted : new.lost < 2 ^ 64 - 1 → length fates ≤ length old.results.items + new.lost = λ less.
@@ -212,9 +212,9 @@ ran_lost workers allowed meaning start w v e old new may place taken grows loses
     rw fates_len (omega (arith, was, more)) in
     record {
       fates = ran.fates ++ (e, None) ∷ [];
-      place = place ∙ ran.place;
+      queue = queue ∙ ran.queue;
       taken = taken ∙ taken_next start w ran.fates e None ran.taken;
-      rule = rule_next workers start w ran.fates e None ran.place ran.taken ran.rule may;
+      rule = rule_next workers start w ran.fates e None ran.queue ran.taken ran.rule may;
       found = loses.results ∙ (sym (append_nil old.results.items) ∙ results_next ran.fates e None old.results.items ran.found);
       pages = rw loses.results ran.pages;
       counted = rw loses.results counted;
@@ -224,19 +224,19 @@ ran_lost workers allowed meaning start w v e old new may place taken grows loses
     }
 
 -- a turn with a URL takes it
-pub taken_one : (w v : WorkerId) (b b' : BusyId) → (b.worker ≡ worker w.place w.seat (w.taken ++ b.message.entry ∷ []) w.empty_pops w.book) → SameBusy b b' → v.taken ≡ b'.worker.taken → length v.taken ≡ length w.taken + 1
+pub taken_one : (w v : WorkerId) (b b' : BusyId) → (b.worker ≡ worker w.queue w.seat (w.taken ++ b.message.entry ∷ []) w.empty_pops w.book) → SameBusy b b' → v.taken ≡ b'.worker.taken → length v.taken ≡ length w.taken + 1
 taken_one w v b b' takes same taken =
     let all : v.taken ≡ w.taken ++ b.message.entry ∷ [] = taken ∙ (ap (λ (x : WorkerId). x.taken) same.worker ∙ ap (λ (x : WorkerId). x.taken) takes) in
     ap (λ (es : List Entry). length es) all ∙ rw length_push (omega arith)
 
 -- a turn with a URL
 pub ran_worked : (workers : ℕ) (allowed : List ℕ → Bool) (meaning : List ℕ → Page) (start w v : WorkerId) (b b' : BusyId) (old new : WorkerOutput)
-    → (b.worker ≡ worker w.place w.seat (w.taken ++ b.message.entry ∷ []) w.empty_pops w.book) → MayFollow workers w.place w.taken b.message.entry
+    → (b.worker ≡ worker w.queue w.seat (w.taken ++ b.message.entry ∷ []) w.empty_pops w.book) → MayFollow workers w.queue w.taken b.message.entry
     → SameBusy b b' → Finds workers allowed meaning b.message.entry.url b'.worker.book.log old new ⊎ Loses (most_lost_at allowed (links_of (meaning b.message.entry.url)) None) old new
-    → v.place ≡ b'.worker.place → v.taken ≡ b'.worker.taken → v.book ≡ b'.worker.book
+    → v.queue ≡ b'.worker.queue → v.taken ≡ b'.worker.taken → v.book ≡ b'.worker.book
     → Ran workers allowed meaning start w old.results.items old.lost → Ran workers allowed meaning start v new.results.items new.lost
-ran_worked workers allowed meaning start w v b b' old new takes may same finds place taken book ran =
-    let at : v.place ≡ w.place = place ∙ (ap (λ (x : WorkerId). x.place) same.worker ∙ ap (λ (x : WorkerId). x.place) takes) in
+ran_worked workers allowed meaning start w v b b' old new takes may same finds queue taken book ran =
+    let at : v.queue ≡ w.queue = queue ∙ (ap (λ (x : WorkerId). x.queue) same.worker ∙ ap (λ (x : WorkerId). x.queue) takes) in
     let all : v.taken ≡ w.taken ++ b.message.entry ∷ [] = taken ∙ (ap (λ (x : WorkerId). x.taken) same.worker ∙ ap (λ (x : WorkerId). x.taken) takes) in
     let was : b.worker.book ≡ w.book = ap (λ (x : WorkerId). x.book) takes in
     let grows : Grows w.book v.book = rw (← was, book) same.grows in

@@ -40,15 +40,15 @@ abbrev pub most_lost : (List ℕ → Bool) → (List ℕ → Page) → List Fate
 most_lost allowed meaning fates = sum_by (λ (f : Fate). most_lost_at allowed (links_of (meaning f.0.url)) f.1) fates
 
 -- From `start` to `now`, on a frontier with this number of workers and this filter, over pages with this meaning: the worker
--- keeps its place; it took more entries, each with a URL that is new there and belongs there; the results are those of
+-- keeps its queue; it took more entries, each with a URL that is new there and belongs there; the results are those of
 -- the entries that have a page, in order, and each page is the one that its URL means; what has no result is lost, and
 -- beside it no more than links that are allowed, each once; its books have only grown; and where nothing was lost, each
 -- allowed link of each result stands in its log.
 pub record Ran (workers : ℕ) (allowed : List ℕ → Bool) (meaning : List ℕ → Page) (start now : WorkerId) (results : List PageResult) (lost : ℕ) : Type 0 where
   pub fates : List Fate
-  pub place : now.place ≡ start.place
+  pub queue : now.queue ≡ start.queue
   pub taken : now.taken ≡ start.taken ++ taken_in fates
-  pub rule : KeepsRule workers start.place start.taken (taken_in fates)
+  pub rule : KeepsRule workers start.queue start.taken (taken_in fates)
   pub found : results ≡ results_of fates
   pub pages : All (λ r. r.page ≡ meaning r.url) results
   pub counted : lost < 2 ^ 64 - 1 → length fates ≤ length results + lost

@@ -8,7 +8,7 @@ use Rattle.crawl_workers.specs.declared.turns.Runner.TheVariants.{Going, Ended, 
 use Rattle.crawl_workers.specs.Turn.{Goes}
 use Rattle.crawl_workers.specs.Runs.{RanTo}
 
--- how far one came; while it is moved out of its place nothing is known
+-- how far one came; while it is moved out of the list nothing is known
 abbrev pub RunnerRan : {K : _} → ℕ → (List ℕ → Bool) → (List ℕ → Page) → WorkerId → Runner K → Type 0
 RunnerRan workers allowed meaning start (Going w h) = Goes workers allowed meaning start w h
 RunnerRan workers allowed meaning start (Ended e) = RanTo workers allowed meaning start e
@@ -22,6 +22,6 @@ IsEnded _ = ⊥
 abbrev pub EndedBelow : {K : _} → ℕ → List (Runner K) → Type 0
 EndedBelow n runners = (k : ℕ) (r : Runner _) → k < n → slice_get runners k ≡ Some r → IsEnded r
 
--- as many as workers, each so far as the worker at its place came
+-- as many as workers, each so far as the worker at its index came
 abbrev pub AllGo : {K : _} → ℕ → (List ℕ → Bool) → (List ℕ → Page) → List WorkerId → List (Runner K) → Type 0
 AllGo workers allowed meaning starts runners = AllZip (λ (w : WorkerId) (r : Runner _). RunnerRan workers allowed meaning w r) starts runners

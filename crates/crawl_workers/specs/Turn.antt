@@ -65,5 +65,5 @@ pub record Finds (workers : ℕ) (allowed : List ℕ → Bool) (meaning : List �
 -- the same worker and entry; the pass may be another, and the books have grown
 pub record SameBusy (b b' : BusyId) : Type 0 where
   pub entry : b'.message.entry ≡ b.message.entry
-  pub worker : b'.worker ≡ worker b.worker.place b'.worker.seat b.worker.taken b.worker.empty_pops b'.worker.book
+  pub worker : b'.worker ≡ worker b.worker.queue b'.worker.seat b.worker.taken b.worker.empty_pops b'.worker.book
   pub grows : Grows b.worker.book b'.worker.book

@@ -21,7 +21,7 @@ pub fn worker_without_loss()
     ensures fetched { (workers : ℕ) (allowed : List ℕ → Bool) (meaning : List ℕ → Page) (closed : List WorkerId) (senders : List SenderId) (queues : List (List Entry))
         → Accounts workers closed senders queues
         → (k : ℕ) (start now : WorkerId) (results : List PageResult) → At closed k now → Ran workers allowed meaning start now results 0 → start.taken ≡ []
-        → (es : List Entry) × At queues now.place es × (result_urls results ≡ entry_urls es) }
+        → (es : List Entry) × At queues now.queue es × (result_urls results ≡ entry_urls es) }
     ensures linked { (workers : ℕ) (allowed : List ℕ → Bool) (meaning : List ℕ → Page) (closed : List WorkerId) (senders : List SenderId) (queues : List (List Entry))
         → Accounts workers closed senders queues
         → (k : ℕ) (start now : WorkerId) (results : List PageResult) → At closed k now → Ran workers allowed meaning start now results 0

@@ -77,8 +77,8 @@ fn offer_links<K: Name, R: Wait>(
     ensures counts { CountsLinks result output.old output.new }
 {
     let mut refused = 0;
-    for place in 0..links.len() {
-        if is_refused(rt, alloc, frontier, busy, output, &mut links[place]) {
+    for index in 0..links.len() {
+        if is_refused(rt, alloc, frontier, busy, output, &mut links[index]) {
             refused += 1;
         }
     }

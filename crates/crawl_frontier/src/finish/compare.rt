@@ -4,7 +4,7 @@ ghost use Rattle.std.specs.Ordering.{nat_cmp};
 ghost use Rattle.std.specs.BTreeSet.{contains};
 ghost use Rattle.crawl_frontier.specs.declared.entry.Entry.{Entry};
 ghost use Rattle.crawl_frontier.specs.Logs.{accepted_in};
-ghost use Rattle.crawl_frontier.specs.Books.{IsBook, book_of, logged_by, place_of};
+ghost use Rattle.crawl_frontier.specs.Books.{IsBook, book_of, logged_by, queue_of};
 ghost use Rattle.crawl_frontier.specs.Accounts.{At};
 ghost use Rattle.crawl_frontier.specs.Finishing.{StandsAt, FailsAt, LineStands, LogStands, LogFails, CountsStand, CountFails, AgreesBelow, DisagreesAt, OneDisagrees, KeepRuleBelow, AllAre, IdsOf, SendersIn, Stranger};
 
@@ -55,17 +55,17 @@ pub fn all_senders_in(lists: &[AcceptedList], ids: &BTreeSet<u64>) -> bool
 
 // Whether the line of a log is true of its subqueue's list.
 fn stands(lists: &[AcceptedList], logged: Logged) -> bool
-    requires { place_of logged < length lists.now }
+    requires { queue_of logged < length lists.now }
     ensures stands { result ≡ true → StandsAt lists.now logged }
     ensures fails { result ≡ false → FailsAt lists.now logged }
 {
     match logged {
-        Logged::Accepted(entry, place) => lists[place as usize].has_entry(&entry),
-        Logged::Seen(url, place) => lists[place as usize].has_url(&url),
+        Logged::Accepted(entry, queue) => lists[queue as usize].has_entry(&entry),
+        Logged::Seen(url, queue) => lists[queue as usize].has_url(&url),
     }
 }
 
-// The place of a line of the log of part `id`, where that is less and the line is false. Of the lines before it
+// The queue of a line of the log of part `id`, where that is less and the line is false. Of the lines before it
 // `accepted` were accepted.
 fn line_stands(
     lists: &[AcceptedList],
@@ -80,15 +80,15 @@ fn line_stands(
     requires accepted { accepted ≡ accepted_in (take at log.now.lines.items) }
     ensures { IfOk result (λ r. (r ≤ least) × LineStands r lists.now (logged_by id log.now) at × (r < least → LogFails r lists.now (logged_by id log.now))) }
 {
-    let place = log.lines[at].place;
-    if place >= least {
+    let queue = log.lines[at].queue;
+    if queue >= least {
         return Ok(least);
     }
     let is_true = stands(lists, log.line(id, at, accepted)?);
-    Ok(least_of(is_true, place, least))
+    Ok(least_of(is_true, queue, least))
 }
 
-// The least place at which a line of the log of part `id` is false, where that is less.
+// The least queue for which a line of the log of part `id` is false, where that is less.
 fn log_stands(lists: &[AcceptedList], log: &Log, id: u64, mut least: u32) -> Result<u32, AllocError>
     requires { least ≤ length lists.now }
     ensures { IfOk result (λ r. (r ≤ least) × LogStands r lists.now (logged_by id log.now) × (r < least → LogFails r lists.now (logged_by id log.now))) }
@@ -103,7 +103,7 @@ fn log_stands(lists: &[AcceptedList], log: &Log, id: u64, mut least: u32) -> Res
     Ok(least)
 }
 
-// The least place at which a count is another, where that is less.
+// The least queue for which a count is another, where that is less.
 fn counts_stand(lists: &[AcceptedList], book: &Book, least: u32) -> u32
     requires lists { least ≤ length lists.now }
     requires counts { least ≤ length book.now.counts.items }
@@ -111,15 +111,15 @@ fn counts_stand(lists: &[AcceptedList], book: &Book, least: u32) -> u32
     ensures stands { CountsStand result lists.now (book_of book.now) }
     ensures fails { result < least → CountFails result lists.now (book_of book.now) }
 {
-    for place in 0..least {
-        if book.counts[place as usize] != lists[place as usize].count(book.id) {
-            return place;
+    for queue in 0..least {
+        if book.counts[queue as usize] != lists[queue as usize].count(book.id) {
+            return queue;
         }
     }
     least
 }
 
-// The least place at which the books disagree, where that is less.
+// The least queue for which the books disagree, where that is less.
 fn book_agrees(
     lists: &[AcceptedList],
     book: &Book,
@@ -136,7 +136,7 @@ fn book_agrees(
     Ok(counts_stand(lists, book, below))
 }
 
-/// The least place at which some part's books disagree with the list, where that is less.
+/// The least queue for which some part's books disagree with the list, where that is less.
 pub fn books_agree(
     lists: &[AcceptedList],
     books: &[Book],

@@ -12,7 +12,7 @@ use crate::sender::Sender;
 use std::alloc::{AllocError, Global};
 use std::collections::BTreeMap;
 
-// The rights to pop by place, the books of all parts, and the least place that two workers have, or `workers`.
+// The rights to pop by queue, the books of all parts, and the least queue that two workers have, or `workers`.
 pub fn gather<K: Name>(
     alloc: Global,
     mut closed: Vec<ClosedWorker<K>>,
@@ -29,10 +29,10 @@ pub fn gather<K: Name>(
     let mut books = Vec::new(alloc);
     let mut alone = workers;
     while let Some(worker) = closed.pop() {
-        let place = worker.queue();
+        let queue = worker.queue();
         let (right, book) = worker.into_parts();
-        let old = rights.insert(place, right)?;
-        alone = least_of(old.is_none(), place, alone);
+        let old = rights.insert(queue, right)?;
+        alone = least_of(old.is_none(), queue, alone);
         books.push(book)?;
     }
     while let Some(sender) = senders.pop() {

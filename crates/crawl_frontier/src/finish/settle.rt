@@ -16,35 +16,35 @@ use std::alloc::{AllocError, Global};
 use std::collections::BTreeMap;
 use std::sync::Mutex;
 
-/// Why a place is in doubt.
+/// Why a queue is in doubt.
 #[derive(Drop)]
 pub enum Doubt {
-    /// Behind its lock stands the shard of this other place.
+    /// Behind its lock stands the shard of this other queue.
     Elsewhere(u32),
     /// Its worker was not seen to have taken all that was sent.
     Holds(Held),
 }
 
-/// The lesser of the two, where this place is not good.
-pub fn least_of(is_good: bool, place: u32, least: u32) -> u32
+/// The lesser of the two, where this queue is not good.
+pub fn least_of(is_good: bool, queue: u32, least: u32) -> u32
     ensures below { result ≤ least }
-    ensures good { place < result → is_good ≡ true }
-    ensures named { result < least → (result ≡ place) × (is_good ≡ false) }
+    ensures good { queue < result → is_good ≡ true }
+    ensures named { result < least → (result ≡ queue) × (is_good ≡ false) }
 {
-    if !is_good && place < least {
-        place
+    if !is_good && queue < least {
+        queue
     } else {
         least
     }
 }
 
-/// Whether each place has its right to pop.
+/// Whether each queue has its right to pop.
 pub fn all_there(rights: &BTreeMap<u32, PopRight>, workers: u32) -> bool
     ensures all { result ≡ true → (q : ℕ) → q < workers → is_some (get nat_cmp rights.now q) ≡ true }
     ensures missing { result ≡ false → (q : ℕ) × (q < workers) × (is_some (get nat_cmp rights.now q) ≡ false) }
 {
-    for place in 0..workers {
-        if !rights.contains_key(&place) {
+    for queue in 0..workers {
+        if !rights.contains_key(&queue) {
             return false;
         }
     }
@@ -65,52 +65,52 @@ pub fn unlock<K: Name>(
     Ok(shards)
 }
 
-// The list of a shard, and why the place where it stood is in doubt, if it is.
+// The list of a shard, and why the queue behind whose lock it stood is in doubt, if it is.
 fn settle<K: Name>(
-    queue: &Subqueue,
+    subqueue: &Subqueue,
     shard: Shard<K>,
-    place: u32,
+    queue: u32,
     right: PopRight,
 ) -> (AcceptedList, Option<Doubt>)
-    requires queue { slice_get K.queues place ≡ Some queue.now }
-    requires right { slice_get K.queues place ≡ Some right.queue }
-    ensures { Settles K.workers K.queues place shard right result.0 result.1 }
+    requires subqueue { slice_get K.queues queue ≡ Some subqueue.now }
+    requires right { slice_get K.queues queue ≡ Some right.subqueue }
+    ensures { Settles K.workers K.queues queue shard right result.0 result.1 }
 {
-    let found = shard.place();
+    let found = shard.queue();
     let (list, push) = shard.into_parts();
-    if found != place {
+    if found != queue {
         return (list, Some(Doubt::Elsewhere(found)));
     }
-    match queue.held(push, right) {
+    match subqueue.held(push, right) {
         Some(held) => (list, Some(Doubt::Holds(held))),
         None => (list, None),
     }
 }
 
-// The last of the shards, settled with the right to pop of this place.
+// The last of the shards, settled with the right to pop of this queue.
 fn settle_last<K: Name>(
-    queue: &Subqueue,
+    subqueue: &Subqueue,
     shards: &mut Vec<Shard<K>>,
     rights: &mut BTreeMap<u32, PopRight>,
-    place: u32,
+    queue: u32,
 ) -> (AcceptedList, Option<Doubt>)
-    requires queue { slice_get K.queues place ≡ Some queue.now }
+    requires subqueue { slice_get K.queues queue ≡ Some subqueue.now }
     requires some { 0 < length shards.old.items }
-    requires right { (p : PassId) → get nat_cmp rights.old place ≡ Some p → slice_get K.queues place ≡ Some p.queue }
-    requires there { is_some (get nat_cmp rights.old place) ≡ true }
-    ensures last { SettlesLast K.workers K.queues place shards.old.items shards.new.items rights.old result.0 result.1 }
-    ensures others { (q : ℕ) → place < q → get nat_cmp rights.new q ≡ get nat_cmp rights.old q }
+    requires right { (p : PassId) → get nat_cmp rights.old queue ≡ Some p → slice_get K.queues queue ≡ Some p.subqueue }
+    requires there { is_some (get nat_cmp rights.old queue) ≡ true }
+    ensures last { SettlesLast K.workers K.queues queue shards.old.items shards.new.items rights.old result.0 result.1 }
+    ensures others { (q : ℕ) → queue < q → get nat_cmp rights.new q ≡ get nat_cmp rights.old q }
 {
-    let Some(right) = rights.remove(&place) else {
+    let Some(right) = rights.remove(&queue) else {
         unreachable!()
     };
     let Some(shard) = shards.pop() else {
         unreachable!()
     };
-    settle(queue, shard, place, right)
+    settle(subqueue, shard, queue, right)
 }
 
-/// The lists by place, and why a place is in doubt, where one is. The shards come last first.
+/// The lists by queue, and why a queue is in doubt, where one is. The shards come last first.
 pub fn settle_all<K: Name>(
     alloc: Global,
     queues: &Vec<Subqueue>,
@@ -125,37 +125,37 @@ pub fn settle_all<K: Name>(
 {
     let mut lists = Vec::new(alloc);
     let mut doubts = Vec::new(alloc);
-    for place in 0..queues.len() as u32 {
-        let queue = &queues[place as usize];
-        let (list, doubt) = settle_last(queue, &mut shards, &mut rights, place);
+    for queue in 0..queues.len() as u32 {
+        let subqueue = &queues[queue as usize];
+        let (list, doubt) = settle_last(subqueue, &mut shards, &mut rights, queue);
         lists.push(list)?;
         doubts.push(doubt)?;
     }
     Ok((lists, doubts))
 }
 
-// Whether the place is in doubt.
-fn is_in_doubt(doubts: &[Option<Doubt>], place: u32) -> bool
-    requires { place < length doubts.now }
-    ensures yes { result ≡ true → (why : Doubt) × At doubts.now place (Some why) }
-    ensures no { result ≡ false → At doubts.now place None }
+// Whether the queue is in doubt.
+fn is_in_doubt(doubts: &[Option<Doubt>], queue: u32) -> bool
+    requires { queue < length doubts.now }
+    ensures yes { result ≡ true → (why : Doubt) × At doubts.now queue (Some why) }
+    ensures no { result ≡ false → At doubts.now queue None }
 {
-    match &doubts[place as usize] {
+    match &doubts[queue as usize] {
         Some(_) => true,
         None => false,
     }
 }
 
-/// The least place that is in doubt, where that is less.
+/// The least queue that is in doubt, where that is less.
 pub fn first_doubt(doubts: &[Option<Doubt>], least: u32) -> u32
     requires { least ≤ length doubts.now }
     ensures below { result ≤ least }
     ensures none { (q : ℕ) → q < result → At doubts.now q None }
     ensures named { result < least → (why : Doubt) × At doubts.now result (Some why) }
 {
-    for place in 0..least {
-        if is_in_doubt(doubts, place) {
-            return place;
+    for queue in 0..least {
+        if is_in_doubt(doubts, queue) {
+            return queue;
         }
     }
     least

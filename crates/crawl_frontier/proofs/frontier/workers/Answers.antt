@@ -10,9 +10,9 @@ loop-right-preserved g c =
     let i = c.loop-right.invariant in
     let w = c.new-worker.result in
     let is = c.new-worker.ensures in
-    let at : w.place ≡ length c.loop-right.made.items = omega (arith, ap (λ z. z.place) is, i.2, c.loop-right.made.ok.0) in
+    let at : w.queue ≡ length c.loop-right.made.items = omega (arith, ap (λ z. z.queue) is, i.2, c.loop-right.made.ok.0) in
     let same : c.args.count ≡ g.K.Name.workers = c.requires.count in
-    let book : w.book ≡ fresh_book w.place g.K.Name.workers = search (rules, same) in (
+    let book : w.book ≡ fresh_book w.queue g.K.Name.workers = search (rules, same) in (
       search rules,
       search rules,
       search rules,

@@ -4,8 +4,8 @@ use Rattle.crawl_frontier.proofs.frontier.workers.Given as goal
 
 abbrev pub invariant-loop-right : goal.invariant-loop-right
 invariant-loop-right g l =
-    AllPop g.K.Name.gate g.K.Name.workers g.K.Name.queues l.place l.rights.items
-    × (l.place + length l.rights.items ≡ length l.fn.rights.items) × (vec_len l.made ≡ l.place)
+    AllPop g.K.Name.gate g.K.Name.workers g.K.Name.queues l.queue l.rights.items
+    × (l.queue + length l.rights.items ≡ length l.fn.rights.items) × (vec_len l.made ≡ l.queue)
     × (l.opening ≡ l.initial.opening) × AllFresh g.K.Name.gate g.K.Name.workers 0 l.made.items
 
 abbrev pub decreases-loop-right : goal.decreases-loop-right

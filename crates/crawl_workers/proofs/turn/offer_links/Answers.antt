@@ -10,11 +10,11 @@ use Rattle.crawl_workers.proofs.Tallies.{counts_on}
 use Rattle.crawl_workers.proofs.turn.offer_links.Goals.{then-is_refused, else-is_refused}
 use Rattle.crawl_workers.proofs.turn.offer_links.Goals as goal
 
-pub loop-place-preserved : goal.loop-place-preserved
-loop-place-preserved g c =
-    let inv = c.loop-place.invariant in
-    let i = c.loop-place.place in
-    let x = c.index-links-place.result in
+pub loop-index-preserved : goal.loop-index-preserved
+loop-index-preserved g c =
+    let inv = c.loop-index.invariant in
+    let i = c.loop-index.index in
+    let x = c.index-links-index.result in
     let links = c.args.links.now in
     let same = c.is_refused.ensures.same in
     let log = c.is_refused.new.busy.worker.book.log in (
@@ -28,29 +28,29 @@ loop-place-preserved g c =
             elim c.if-is_refused.branch [
               | then-is_refused w ↦ λ none. absurd (omega (arith, w.refused-is, none))
               | else-is_refused w ↦ λ none.
-                  rw (take_more links i x c.loop-place-test.true)
+                  rw (take_more links i x c.loop-index-test.true)
                   (all_logged_more g.K.Name.workers (allows g.K.Name.filter) _ _ (take i links) (slice_index_or links i x) same.grows (before.0 (omega (arith, w.refused-is, none)))
                   (subst (λ ls. allows g.K.Name.filter (slice_index_or ls i x) ≡ true → HasLine g.K.Name.workers log (slice_index_or ls i x)) inv.3 (c.is_refused.ensures.line before.1 w.if-is_refused.false)))
             ],
             c.is_refused.ensures.recent before.1,
           ),
-      unchanged_at c.loop-place.links i x c.is_refused.new.url c.is_refused.ensures.url ∙ inv.3,
+      unchanged_at c.loop-index.links i x c.is_refused.new.url c.is_refused.ensures.url ∙ inv.3,
       elim c.if-is_refused.branch [
         | then-is_refused w ↦
             let may = subst (λ ls. allows g.K.Name.filter (slice_index_or ls i x) ≡ false → c.is_refused.result ≡ false) inv.3 c.is_refused.ensures.filtered in
-            let one = count_by_more_yes (allows g.K.Name.filter) links i x c.loop-place-test.true (is_allowed _ _ may w.if-is_refused.true) in
+            let one = count_by_more_yes (allows g.K.Name.filter) links i x c.loop-index-test.true (is_allowed _ _ may w.if-is_refused.true) in
             omega (arith, w.refused-is, one, inv.4)
         | else-is_refused w ↦
-            let more = count_more (allows g.K.Name.filter) links i x c.loop-place-test.true in
+            let more = count_more (allows g.K.Name.filter) links i x c.loop-index-test.true in
             omega (arith, w.refused-is, more, inv.4)
       ],
       elim c.if-is_refused.branch [
         | then-is_refused w ↦
-            let one : CountsLinks 1 c.loop-place.output c.is_refused.new.output = subst (λ b. CountsLinks (if b then 1 else 0) c.loop-place.output c.is_refused.new.output) w.if-is_refused.true c.is_refused.ensures.counts in
-            subst (λ n. CountsLinks n c.args.output.now c.is_refused.new.output) (sym w.refused-is) (counts_on c.loop-place.refused 1 c.args.output.now c.loop-place.output c.is_refused.new.output inv.5 one)
+            let one : CountsLinks 1 c.loop-index.output c.is_refused.new.output = subst (λ b. CountsLinks (if b then 1 else 0) c.loop-index.output c.is_refused.new.output) w.if-is_refused.true c.is_refused.ensures.counts in
+            subst (λ n. CountsLinks n c.args.output.now c.is_refused.new.output) (sym w.refused-is) (counts_on c.loop-index.refused 1 c.args.output.now c.loop-index.output c.is_refused.new.output inv.5 one)
         | else-is_refused w ↦
-            let none : CountsLinks 0 c.loop-place.output c.is_refused.new.output = subst (λ b. CountsLinks (if b then 1 else 0) c.loop-place.output c.is_refused.new.output) w.if-is_refused.false c.is_refused.ensures.counts in
-            let same : c.loop-place.refused + 0 ≡ c.loop-place.refused = omega arith in
-            subst (λ n. CountsLinks n c.args.output.now c.is_refused.new.output) (same ∙ sym w.refused-is) (counts_on c.loop-place.refused 0 c.args.output.now c.loop-place.output c.is_refused.new.output inv.5 none)
+            let none : CountsLinks 0 c.loop-index.output c.is_refused.new.output = subst (λ b. CountsLinks (if b then 1 else 0) c.loop-index.output c.is_refused.new.output) w.if-is_refused.false c.is_refused.ensures.counts in
+            let same : c.loop-index.refused + 0 ≡ c.loop-index.refused = omega arith in
+            subst (λ n. CountsLinks n c.args.output.now c.is_refused.new.output) (same ∙ sym w.refused-is) (counts_on c.loop-index.refused 0 c.args.output.now c.loop-index.output c.is_refused.new.output inv.5 none)
       ],
     )

@@ -6,13 +6,13 @@ use Rattle.crawl_workers.specs.Recent.{Knows}
 use Rattle.crawl_workers.specs.Turn.{SameBusy, CountsLinks}
 use Rattle.crawl_workers.proofs.turn.offer_links.Given as goal
 
-abbrev pub invariant-loop-place : goal.invariant-loop-place
-invariant-loop-place g l =
-    (l.refused ≤ l.place)
+abbrev pub invariant-loop-index : goal.invariant-loop-index
+invariant-loop-index g l =
+    (l.refused ≤ l.index)
     × SameBusy l.fn.busy l.busy
     × (Knows g.K.Name.workers l.fn.busy.worker.book.log l.fn.output.recent
-    → (l.refused ≡ 0 → AllLogged g.K.Name.workers (allows g.K.Name.filter) l.busy.worker.book.log (take l.place l.fn.links))
+    → (l.refused ≡ 0 → AllLogged g.K.Name.workers (allows g.K.Name.filter) l.busy.worker.book.log (take l.index l.fn.links))
     × Knows g.K.Name.workers l.busy.worker.book.log l.output.recent)
     × (l.links ≡ l.fn.links)
-    × (l.refused ≤ count_by (allows g.K.Name.filter) (take l.place l.fn.links))
+    × (l.refused ≤ count_by (allows g.K.Name.filter) (take l.index l.fn.links))
     × CountsLinks l.refused l.fn.output l.output

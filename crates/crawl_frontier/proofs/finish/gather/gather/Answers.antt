@@ -38,19 +38,19 @@ loop-worker-preserved g c =
     let after = gather-worker g.K.Name.workers c.args.closed.items c.args.senders.items left w c.args.senders.items (map book_of c.loop-worker.books.items) before (subst (IsBook g.K.Name.workers) book parts.ensures.is_book) in
     let books : map book_of c.push.new.self.items ≡ map book_of c.loop-worker.books.items ++ w.book ∷ [] =
     ap (map book_of) c.in_ok-push.ensures.items ∙ (map-append book_of c.loop-worker.books.items (parts.result.1 ∷ []) ∙ ap (λ (b : BookId). map book_of c.loop-worker.books.items ++ b ∷ []) book) in
-    let place : c.queue-place.result ≡ w.place = c.queue-place.ensures.0 in
+    let queue : c.queue-queue.result ≡ w.queue = c.queue-queue.ensures.0 in
     let here : At c.args.closed.items (length left) w = before.begin (length left) w (get_last left w) in
-    let updates : (q : ℕ) → get nat_cmp c.insert.new.self q ≡ cond (is_at (nat_cmp w.place) q) (Some parts.result.0) (get nat_cmp c.loop-worker.rights q) =
-    λ q. c.in_ok-old.ensures.updates.0 q ∙ ap (λ (k : ℕ). cond (is_at (nat_cmp k) q) (Some parts.result.0) (get nat_cmp c.loop-worker.rights q)) place in
+    let updates : (q : ℕ) → get nat_cmp c.insert.new.self q ≡ cond (is_at (nat_cmp w.queue) q) (Some parts.result.0) (get nat_cmp c.loop-worker.rights q) =
+    λ q. c.in_ok-old.ensures.updates.0 q ∙ ap (λ (k : ℕ). cond (is_at (nat_cmp k) q) (Some parts.result.0) (get nat_cmp c.loop-worker.rights q)) queue in
     let placed : Placed g.K.Name.gate g.K.Name.workers c.args.closed.items (length left + 1) c.loop-worker.rights c.loop-worker.alone =
     subst (λ (n : ℕ). Placed g.K.Name.gate g.K.Name.workers c.args.closed.items n c.loop-worker.rights c.loop-worker.alone) (ap length all ∙ length-append left (w ∷ [])) i.1 in
-    let none : w.place < c.least_of-alone.result → get nat_cmp c.loop-worker.rights w.place ≡ None =
-    λ lt. search (rules, c.least_of-alone.ensures.good, lt, place) in
-    let named : c.least_of-alone.result < c.loop-worker.alone → (c.least_of-alone.result ≡ w.place) × (is_some (get nat_cmp c.loop-worker.rights w.place) ≡ true) =
-    λ lt. let p = c.least_of-alone.ensures.named lt in (p.0 ∙ place, search (rules, p.1, place)) in (
+    let none : w.queue < c.least_of-alone.result → get nat_cmp c.loop-worker.rights w.queue ≡ None =
+    λ lt. search (rules, c.least_of-alone.ensures.good, lt, queue) in
+    let named : c.least_of-alone.result < c.loop-worker.alone → (c.least_of-alone.result ≡ w.queue) × (is_some (get nat_cmp c.loop-worker.rights w.queue) ≡ true) =
+    λ lt. let p = c.least_of-alone.ensures.named lt in (p.0 ∙ queue, search (rules, p.1, queue)) in (
       slots_more g.K.Name.gate g.K.Name.workers g.K.Name.queues c.args.closed.items c.loop-worker.rights c.insert.new.self (length left) w parts.result.0 i.0 updates here parts.ensures.right.0 parts.ensures.right.1,
       placed_more g.K.Name.gate g.K.Name.workers c.args.closed.items c.loop-worker.rights c.insert.new.self (length left) w parts.result.0 c.loop-worker.alone c.least_of-alone.result placed here
-          (subst (λ (k : ℕ). k < g.K.Name.workers) place c.queue-place.ensures.1) updates parts.ensures.right.0 c.least_of-alone.ensures.below none,
+          (subst (λ (k : ℕ). k < g.K.Name.workers) queue c.queue-queue.ensures.1) updates parts.ensures.right.0 c.least_of-alone.ensures.below none,
       subst (λ (l : List BookId). Gathered g.K.Name.workers c.args.closed.items c.args.senders.items left c.args.senders.items l) (sym books) after,
       omega (arith, i.3, c.least_of-alone.ensures.below),
       shared_more g.K.Name.gate g.K.Name.workers c.args.closed.items c.loop-worker.rights (length left) w c.args.workers c.loop-worker.alone c.least_of-alone.result placed here c.least_of-alone.ensures.below named i.4,
@@ -69,19 +69,19 @@ loop-worker-preserved-in_ok-push g c =
     let after = gather-worker g.K.Name.workers c.args.closed.items c.args.senders.items left w c.args.senders.items (map book_of c.loop-worker.books.items) before (subst (IsBook g.K.Name.workers) book parts.ensures.is_book) in
     let books : map book_of c.push.new.self.items ≡ map book_of c.loop-worker.books.items ++ w.book ∷ [] =
     ap (map book_of) c.in_ok-push.ensures.items ∙ (map-append book_of c.loop-worker.books.items (parts.result.1 ∷ []) ∙ ap (λ (b : BookId). map book_of c.loop-worker.books.items ++ b ∷ []) book) in
-    let place : c.queue-place.result ≡ w.place = c.queue-place.ensures.0 in
+    let queue : c.queue-queue.result ≡ w.queue = c.queue-queue.ensures.0 in
     let here : At c.args.closed.items (length left) w = before.begin (length left) w (get_last left w) in
-    let updates : (q : ℕ) → get nat_cmp c.insert.new.self q ≡ cond (is_at (nat_cmp w.place) q) (Some parts.result.0) (get nat_cmp c.loop-worker.rights q) =
-    λ q. c.in_ok-old.ensures.updates.0 q ∙ ap (λ (k : ℕ). cond (is_at (nat_cmp k) q) (Some parts.result.0) (get nat_cmp c.loop-worker.rights q)) place in
+    let updates : (q : ℕ) → get nat_cmp c.insert.new.self q ≡ cond (is_at (nat_cmp w.queue) q) (Some parts.result.0) (get nat_cmp c.loop-worker.rights q) =
+    λ q. c.in_ok-old.ensures.updates.0 q ∙ ap (λ (k : ℕ). cond (is_at (nat_cmp k) q) (Some parts.result.0) (get nat_cmp c.loop-worker.rights q)) queue in
     let placed : Placed g.K.Name.gate g.K.Name.workers c.args.closed.items (length left + 1) c.loop-worker.rights c.loop-worker.alone =
     subst (λ (n : ℕ). Placed g.K.Name.gate g.K.Name.workers c.args.closed.items n c.loop-worker.rights c.loop-worker.alone) (ap length all ∙ length-append left (w ∷ [])) i.1 in
-    let none : w.place < c.least_of-alone.result → get nat_cmp c.loop-worker.rights w.place ≡ None =
-    λ lt. search (rules, c.least_of-alone.ensures.good, lt, place) in
-    let named : c.least_of-alone.result < c.loop-worker.alone → (c.least_of-alone.result ≡ w.place) × (is_some (get nat_cmp c.loop-worker.rights w.place) ≡ true) =
-    λ lt. let p = c.least_of-alone.ensures.named lt in (p.0 ∙ place, search (rules, p.1, place)) in (
+    let none : w.queue < c.least_of-alone.result → get nat_cmp c.loop-worker.rights w.queue ≡ None =
+    λ lt. search (rules, c.least_of-alone.ensures.good, lt, queue) in
+    let named : c.least_of-alone.result < c.loop-worker.alone → (c.least_of-alone.result ≡ w.queue) × (is_some (get nat_cmp c.loop-worker.rights w.queue) ≡ true) =
+    λ lt. let p = c.least_of-alone.ensures.named lt in (p.0 ∙ queue, search (rules, p.1, queue)) in (
       slots_more g.K.Name.gate g.K.Name.workers g.K.Name.queues c.args.closed.items c.loop-worker.rights c.insert.new.self (length left) w parts.result.0 i.0 updates here parts.ensures.right.0 parts.ensures.right.1,
       placed_more g.K.Name.gate g.K.Name.workers c.args.closed.items c.loop-worker.rights c.insert.new.self (length left) w parts.result.0 c.loop-worker.alone c.least_of-alone.result placed here
-          (subst (λ (k : ℕ). k < g.K.Name.workers) place c.queue-place.ensures.1) updates parts.ensures.right.0 c.least_of-alone.ensures.below none,
+          (subst (λ (k : ℕ). k < g.K.Name.workers) queue c.queue-queue.ensures.1) updates parts.ensures.right.0 c.least_of-alone.ensures.below none,
       subst (λ (l : List BookId). Gathered g.K.Name.workers c.args.closed.items c.args.senders.items left c.args.senders.items l) (sym books) after,
       omega (arith, i.3, c.least_of-alone.ensures.below),
       shared_more g.K.Name.gate g.K.Name.workers c.args.closed.items c.loop-worker.rights (length left) w c.args.workers c.loop-worker.alone c.least_of-alone.result placed here c.least_of-alone.ensures.below named i.4,

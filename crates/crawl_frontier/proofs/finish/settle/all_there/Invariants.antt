@@ -4,5 +4,5 @@ use Rattle.std.specs.Ordering.{nat_cmp}
 use Rattle.std.specs.BTreeMap.{get}
 use Rattle.crawl_frontier.proofs.finish.settle.all_there.Given as goal
 
-abbrev pub invariant-loop-place : goal.invariant-loop-place
-invariant-loop-place l = (q : ℕ) → q < l.place-counter → is_some (get nat_cmp l.rights q) ≡ true
+abbrev pub invariant-loop-queue : goal.invariant-loop-queue
+invariant-loop-queue l = (q : ℕ) → q < l.queue-counter → is_some (get nat_cmp l.rights q) ≡ true

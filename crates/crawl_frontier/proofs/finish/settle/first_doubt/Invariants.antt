@@ -2,5 +2,5 @@ use Rattle.std.proofs.Common.{◌<◌, ℕ, None}
 use Rattle.crawl_frontier.specs.Accounts.{At}
 use Rattle.crawl_frontier.proofs.finish.settle.first_doubt.Given as goal
 
-abbrev pub invariant-loop-place : goal.invariant-loop-place
-invariant-loop-place l = (q : ℕ) → q < l.place → At l.doubts q None
+abbrev pub invariant-loop-queue : goal.invariant-loop-queue
+invariant-loop-queue l = (q : ℕ) → q < l.queue → At l.doubts q None

@@ -4,10 +4,10 @@ use Rattle.std.specs.BTreeMap.{get}
 use Rattle.crawl_frontier.specs.Finishing.{Begins, AllSettle}
 use Rattle.crawl_frontier.proofs.finish.settle.settle_all.Given as goal
 
-abbrev pub invariant-loop-place : goal.invariant-loop-place
-invariant-loop-place g l =
-    (vec_len l.lists ≡ l.place) × (vec_len l.doubts ≡ l.place)
-    × (vec_len l.shards + l.place ≡ g.K.Name.workers)
+abbrev pub invariant-loop-queue : goal.invariant-loop-queue
+invariant-loop-queue g l =
+    (vec_len l.lists ≡ l.queue) × (vec_len l.doubts ≡ l.queue)
+    × (vec_len l.shards + l.queue ≡ g.K.Name.workers)
     × Begins l.shards.items l.fn.shards.items
-    × ((q : ℕ) → l.place ≤ q → get nat_cmp l.rights q ≡ get nat_cmp l.fn.rights q)
+    × ((q : ℕ) → l.queue ≤ q → get nat_cmp l.rights q ≡ get nat_cmp l.fn.rights q)
     × AllSettle g.K.Name.workers g.K.Name.queues l.fn.shards.items l.fn.rights l.lists.items l.doubts.items

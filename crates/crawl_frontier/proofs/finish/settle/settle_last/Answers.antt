@@ -10,4 +10,4 @@ returns-clause-last g c =
     (c.in-Some-pop.shard, c.in-Some.right, c.in-Some-pop.ensures.items, sym c.in-Some.ensures.value, c.settle.ensures)
 
 pub returns-clause-others : goal.returns-clause-others
-returns-clause-others g c = removed c.args.place c.args.rights.now c.remove.new.self c.remove.ensures.updates.0
+returns-clause-others g c = removed c.args.queue c.args.rights.now c.remove.new.self c.remove.ensures.updates.0

@@ -13,7 +13,7 @@ returns-then-not-line c =
     let at : slice_get ls c.args.at ≡ Some l = slice_get_read ls (length ls) c.args.at l refl c.requires.within c.index-line.ensures in
     let seen : l.accepted ≡ false = search (rules, c.if-not-line.true) in
     let url : c.in-Ok.url ≡ l.url = search rules in
-    seen_at c.args.id ls log.acceptances.items c.args.at l log.in_step at seen ∙ ap (λ u. Some (Seen u l.place)) (sym url)
+    seen_at c.args.id ls log.acceptances.items c.args.at l log.in_step at seen ∙ ap (λ u. Some (Seen u l.queue)) (sym url)
 
 pub index-requires : goal.index-requires
 index-requires c =
@@ -37,4 +37,4 @@ returns c =
     let within : c.args.before < length xs = omega (arith, accepted_before ls c.args.at l at taken, c.requires.before, log.in_step) in
     let has : slice_get xs c.args.before ≡ Some x = slice_get_read xs (length xs) c.args.before x refl within c.index.ensures in
     accepted_at c.args.id ls xs c.args.at l x log.in_step at taken (subst (λ n. slice_get xs n ≡ Some x) c.requires.before has)
-    ∙ ap (λ u. Some (Accepted (entry u c.args.id x.number x.hops) l.place)) (sym url)
+    ∙ ap (λ u. Some (Accepted (entry u c.args.id x.number x.hops) l.queue)) (sym url)

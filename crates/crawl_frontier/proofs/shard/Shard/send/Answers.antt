@@ -47,16 +47,16 @@ push-requires-clause-follows g c =
     let own : count_of c.args.sender before ≡ c.args.own = search rules in
     let none : c.in-Ok.found ≡ None = search rules in
     let new : has_url url before ≡ false = sym (has_index before url) ∙ ap is_some (sym c.in-Ok.ensures.found ∙ none) in
-    let may : MayFollow g.K.Name.workers c.self.inside.place before e = record { new = new; here = search rules; number = sym own } in
-    subst (λ (v : PassView). MayFollow v.home.workers v.home.place v.sent c.in-Ok-copies.sent) (sym c.self.invariant.0)
-    (subst (MayFollow g.K.Name.workers c.self.inside.place before) (sym sent) may)
+    let may : MayFollow g.K.Name.workers c.self.inside.queue before e = record { new = new; here = search rules; number = sym own } in
+    subst (λ (v : PassView). MayFollow v.home.workers v.home.queue v.sent c.in-Ok-copies.sent) (sym c.self.invariant.0)
+    (subst (MayFollow g.K.Name.workers c.self.inside.queue before) (sym sent) may)
 
 pub invariant_of-self-in_default-reserve : goal.invariant_of-self-in_default-reserve
 invariant_of-self-in_default-reserve g c =
     let items : c.reserve.new.self.items ≡ c.self.inside.sent.items = c.reserve.ensures.items in (
       search (rules, c.self.invariant.0),
       c.self.invariant.1,
-      subst (KeepsRule g.K.Name.workers c.self.inside.place []) (sym items) c.self.invariant.2,
+      subst (KeepsRule g.K.Name.workers c.self.inside.queue []) (sym items) c.self.invariant.2,
       subst (λ (es : List Entry). IsIndexOf hash_of (map (λ e. e.url) es) c.find_or_insert.new.self) (sym items) c.find_or_insert.ensures.before,
       λ id. c.self.invariant.4 id ∙ ap (count_of id) (sym items),
     )
@@ -66,7 +66,7 @@ invariant_of-self-in_default-enter_sender g c =
     let items : c.reserve.new.self.items ≡ c.self.inside.sent.items = c.reserve.ensures.items in (
       search (rules, c.self.invariant.0),
       c.self.invariant.1,
-      subst (KeepsRule g.K.Name.workers c.self.inside.place []) (sym items) c.self.invariant.2,
+      subst (KeepsRule g.K.Name.workers c.self.inside.queue []) (sym items) c.self.invariant.2,
       subst (λ (es : List Entry). IsIndexOf hash_of (map (λ e. e.url) es) c.find_or_insert.new.self) (sym items) c.find_or_insert.ensures.before,
       λ id. c.enter_sender.ensures.same id ∙ c.self.invariant.4 id ∙ ap (count_of id) (sym items),
     )
@@ -76,7 +76,7 @@ invariant_of-self-in-Err-push g c =
     let items : c.reserve.new.self.items ≡ c.self.inside.sent.items = c.reserve.ensures.items in (
       search (rules, c.self.invariant.0),
       search rules,
-      subst (KeepsRule g.K.Name.workers c.self.inside.place []) (sym items) c.self.invariant.2,
+      subst (KeepsRule g.K.Name.workers c.self.inside.queue []) (sym items) c.self.invariant.2,
       subst (λ (es : List Entry). IsIndexOf hash_of (map (λ e. e.url) es) c.find_or_insert.new.self) (sym items) c.find_or_insert.ensures.before,
       λ id. c.in-Ok-enter_sender.ensures.same id ∙ c.self.invariant.4 id ∙ ap (count_of id) (sym items),
     )
@@ -94,10 +94,10 @@ invariant_of-self-in-Ok-push g c =
     let new : has_url url before ≡ false = sym (has_index before url) ∙ ap is_some (sym c.in-Ok.ensures.found ∙ none) in
     let known : IsIndexOf hash_of (map (λ e. e.url) before ++ url ∷ []) c.find_or_insert.new.self = c.in-Ok.ensures.pushed none in
     let pushed = c.in-Ok-push.ensures.sent in
-    let may : MayFollow g.K.Name.workers c.self.inside.place before e = record { new = new; here = search rules; number = sym own } in (
+    let may : MayFollow g.K.Name.workers c.self.inside.queue before e = record { new = new; here = search rules; number = sym own } in (
       search (rules, c.self.invariant.0),
       search rules,
-      subst (KeepsRule g.K.Name.workers c.self.inside.place []) (sym all) (rule-snoc g.K.Name.workers c.self.inside.place [] before e c.self.invariant.2 may),
+      subst (KeepsRule g.K.Name.workers c.self.inside.queue []) (sym all) (rule-snoc g.K.Name.workers c.self.inside.queue [] before e c.self.invariant.2 may),
       pushed_item (λ e. e.url) hash_of c.find_or_insert.new.self before c.push_reserved.new.self.items e all known,
       λ id.
           c.raise.ensures id

@@ -11,4 +11,4 @@ push_as-requires-clause-rule g c =
     let x = c.args.message in
     λ n. sends n _ c.right.inside.pass.me.view.client x c.right.invariant.2
     (subst (λ (v : PassView). IsSeatOf v.home.gate x.unit) is c.requires.unit)
-    (subst (λ (v : PassView). MayFollow v.home.workers v.home.place v.sent x.entry) is c.requires.follows)
+    (subst (λ (v : PassView). MayFollow v.home.workers v.home.queue v.sent x.entry) is c.requires.follows)
