@@ -1,8 +1,8 @@
 -- Where a list of rising numbers is parted.
-use Rattle.std.proofs.Common.{◌≡◌, ℕ, zero, suc, ◌+◌, ◌-◌, ◌<◌, ◌≤◌, true, false, List, [], ◌∷◌, length, get_or, slice_get, Some, leb, sym, ap, ◌∙◌, arith, inl, inr, zero-le}
+use Rattle.std.proofs.Common.{◌≡◌, ℕ, zero, suc, ◌+◌, ◌-◌, ◌<◌, ◌≤◌, true, false, List, [], ◌∷◌, length, get_or, slice_get, Some, leb, ltb, sym, ap, ◌∙◌, arith, inl, inr, zero-le}
 use Rattle.std.specs.List.{Contains}
 use Rattle.std.specs.List.Sorted.{IsNonDecreasingBy, IsPartitionPoint}
-use Rattle.std.proofs.lemmas.Bool.{leb-true, leb-false, cases_lt}
+use Rattle.std.proofs.lemmas.Bool.{leb-true, leb-false, ltb-true, ltb-false, cases_lt}
 use Rattle.std.proofs.lemmas.List.{length-take-le, length-drop, get_or-take, get_or-drop}
 use Rattle.crawl_certificate.specs.declared.sorting.Numbered.{Numbered}
 use Rattle.crawl_certificate.specs.Sorting.{AllEqual, ArePartedAt}
@@ -68,3 +68,63 @@ parted_by_mean pages first last mean index is_first is_last low high bound point
       let above = leb-false _ _ (point.1 (index + in_b.0) b (omega arith) (omega (arith, in_b.1, length-drop index pages))) in
       omega (arith, below, above, ap (λ (x : Numbered). x.number) at_a, ap (λ (x : Numbered). x.number) at_b);
 }
+
+-- ---- parted about the middle
+
+-- the numbers before the index are less than one that stands somewhere
+pub parted_before : (pages : List Numbered) (at index : ℕ) (here : Numbered) → at < length pages → here ≡ get_or pages at here → 0 < index → index ≤ length pages
+    → IsPartitionPoint (λ c. ltb c.number here.number ≡ true) (λ c. ltb c.number here.number ≡ false) pages index → ArePartedAt pages index
+parted_before pages at index here there is_here some bound point = record {
+  some = some;
+  more = elim (cases_lt index (length pages)) [
+    | inl more ↦ more
+    | inr all ↦
+        let less = ltb-true _ _ (point.0 at here zero-le (omega (arith, there, all))) in
+        absurd (omega (arith, less, ap (λ (x : Numbered). x.number) (sym is_here)))
+  ];
+  less = λ a b in_a in_b.
+      let long = length-take-le index pages bound in
+      let before : in_a.0 < index = omega (arith, in_a.1, long) in
+      let at_a = sym (get_or-take index pages in_a.0 a before) ∙ in_a.2 in
+      let at_b = sym (get_or-drop index pages in_b.0 b) ∙ in_b.2 in
+      let below = ltb-true _ _ (point.0 in_a.0 a zero-le before) in
+      let above = ltb-false _ _ (point.1 (index + in_b.0) b (omega arith) (omega (arith, in_b.1, length-drop index pages))) in
+      omega (arith, below, above, ap (λ (x : Numbered). x.number) at_a, ap (λ (x : Numbered). x.number) at_b);
+}
+
+-- the numbers behind the index are more than one that stands somewhere
+pub parted_behind : (pages : List Numbered) (at index : ℕ) (here : Numbered) → at < length pages → here ≡ get_or pages at here → index < length pages
+    → IsPartitionPoint (λ c. leb c.number here.number ≡ true) (λ c. leb c.number here.number ≡ false) pages index → ArePartedAt pages index
+parted_behind pages at index here there is_here more point = record {
+  some = elim (cases_lt at index) [
+    | inl before ↦ omega (arith, before)
+    | inr behind ↦
+        let above = leb-false _ _ (point.1 at here behind there) in
+        absurd (omega (arith, above, ap (λ (x : Numbered). x.number) (sym is_here)))
+  ];
+  more = more;
+  less = λ a b in_a in_b.
+      let long = length-take-le index pages (omega (arith, more)) in
+      let before : in_a.0 < index = omega (arith, in_a.1, long) in
+      let at_a = sym (get_or-take index pages in_a.0 a before) ∙ in_a.2 in
+      let at_b = sym (get_or-drop index pages in_b.0 b) ∙ in_b.2 in
+      let below = leb-true _ _ (point.0 in_a.0 a zero-le before) in
+      let above = leb-false _ _ (point.1 (index + in_b.0) b (omega arith) (omega (arith, in_b.1, length-drop index pages))) in
+      omega (arith, below, above, ap (λ (x : Numbered). x.number) at_a, ap (λ (x : Numbered). x.number) at_b);
+}
+
+-- no number is less than one, and none is more
+pub equal_to_one : (pages : List Numbered) (first behind number : ℕ) → first ≡ 0 → length pages ≤ behind
+    → IsPartitionPoint (λ c. ltb c.number number ≡ true) (λ c. ltb c.number number ≡ false) pages first
+    → IsPartitionPoint (λ c. leb c.number number ≡ true) (λ c. leb c.number number ≡ false) pages behind → AllEqual pages
+equal_to_one pages first behind number none all low high = λ a b in_a in_b. same a in_a ∙ sym (same b in_b)
+  where
+    same : (a : Numbered) → Contains pages a → a.number ≡ number
+    same a in_a =
+        let is = ap (λ (x : Numbered). x.number) in_a.2 in
+        let above = ltb-false _ _ (low.1 in_a.0 a (omega (arith, none)) in_a.1) in
+        let below = leb-true _ _ (high.0 in_a.0 a zero-le (omega (arith, in_a.1, all))) in
+        omega (arith, above, below, is)
+
+pub none_equal : (pages : List Numbered) → length pages ≡ 0 → AllEqual pages
+none_equal pages none = λ a b in_a in_b. absurd (omega (arith, in_a.1, none))

@@ -1,17 +1,17 @@
 -- Results with their numbers: what begins alike, and what is sorted in two parts.
-use Rattle.std.proofs.Common.{◌≡◌, ℕ, zero, suc, ◌+◌, ◌-◌, ◌*◌, ◌<◌, ◌≤◌, Bool, false, List, [], ◌∷◌, ◌++◌, length, take, drop, get_or, set, refl, sym, ap, subst, ◌∙◌, arith, inl, inr}
+use Rattle.std.proofs.Common.{◌≡◌, ℕ, zero, suc, ◌+◌, ◌-◌, ◌*◌, ◌<◌, ◌≤◌, Bool, false, List, [], ◌∷◌, ◌++◌, length, take, drop, get_or, set, slice_index, refl, sym, ap, subst, ◌∙◌, arith, inl, inr}
 use Rattle.std.specs.List.{All, Contains}
 use Rattle.std.specs.List.Sorted.{IsPermutation, IsNonDecreasingBy, IsSortedBy, IsSortedByKey}
 use Rattle.std.specs.Cmp.Lexicographic.{slice_cmp}
 use Rattle.std.specs.Ordering.{nat_cmp, is_lt}
-use Rattle.std.proofs.lemmas.Bool.{cases_order}
+use Rattle.std.proofs.lemmas.Bool.{cases_lt, cases_order}
 use Rattle.std.proofs.lemmas.List.{map-append, length-append, length-map, take-append-drop, get_or_append_left, get_or-append_right, map-set, set-get_or, get_or-map}
-use Rattle.std.proofs.lemmas.List.Elements.{All-contains, All-take, All-drop, Contains-get_or, Contains-append_left, Contains-append_right}
+use Rattle.std.proofs.lemmas.List.Elements.{All-append, All-contains, All-take, All-weaker, All-drop, Contains-get_or, Contains-append_left, Contains-append_right}
 use Rattle.std.proofs.lemmas.List.Sorted.{All-permutation, IsPermutation-append, IsPermutation-map, IsPermutation-sym, IsNonDecreasingBy-take, IsNonDecreasingBy-drop, Contains-permutation}
 use Rattle.crawl_web.specs.declared.page.PageResult.{PageResult}
 use Rattle.crawl_certificate.specs.declared.sorting.Numbered.{Numbered}
-use Rattle.crawl_certificate.specs.Eights.{BeginAlike}
-use Rattle.crawl_certificate.specs.Sorting.{AllBeginAlike, AreInOrder, ArePrepared, AllEqual, ArePartedAt, IsNumbered, pages_of}
+use Rattle.crawl_certificate.specs.Eights.{AreAlikeWithin, BeginAlike}
+use Rattle.crawl_certificate.specs.Sorting.{AllBeginAlike, AreInOrder, ArePrepared, AllEqual, ArePartedAt, IsAlikeUntil, IsNumbered, pages_of}
 use Rattle.crawl_certificate.proofs.EightBytes.{less_number, equal_number}
 
 -- ---- pages and the numbers beside them
@@ -80,9 +80,32 @@ alike_further from pages alike numbered equal = λ a b in_a in_b.
     (All-contains (IsNumbered from) pages one.numbered numbered one.among) (All-contains (IsNumbered from) pages other.numbered numbered other.among) (equal one.numbered other.numbered one.among other.among) in
     subst (λ p. BeginAlike (from + 8) p.url b.url) one.is (subst (λ p. BeginAlike (from + 8) one.numbered.page.url p.url) other.is further)
 
-pub one_number : (number : ℕ) (pages : List Numbered) → All (λ (p : Numbered). p.number ≡ number) pages → AllEqual pages
-one_number number pages all = λ a b in_a in_b.
-    All-contains (λ (p : Numbered). p.number ≡ number) pages a all in_a ∙ sym (All-contains (λ (p : Numbered). p.number ≡ number) pages b all in_b)
+pub alike_up_to : (from end : ℕ) (text : List ℕ) (pages : List Numbered) → AllBeginAlike from (pages_of pages) → All (λ (p : Numbered). AreAlikeWithin from end text p.page.url) pages → AllBeginAlike end (pages_of pages)
+alike_up_to from end text pages alike all = λ a b in_a in_b k below. elim (cases_lt k from) [
+  | inl early ↦ alike a b in_a in_b k early
+  | inr late ↦ sym (same a in_a k late below) ∙ same b in_b k late below
+]
+  where
+    same : (a : PageResult) → Contains (pages_of pages) a → (k : ℕ) → from ≤ k → k < end → slice_index text k ≡ slice_index a.url k
+    same a in_a k late below =
+        let one = has_page pages a in_a in
+        subst (λ (p : PageResult). slice_index text k ≡ slice_index p.url k) one.is (All-contains (λ (p : Numbered). AreAlikeWithin from end text p.page.url) pages one.numbered all one.among k late below)
+
+-- what holds up to an index holds up to one before it
+pub alike_before : (from end less : ℕ) (text : List ℕ) (pages : List Numbered) → less ≤ end → All (λ (p : Numbered). AreAlikeWithin from end text p.page.url) pages → All (λ (p : Numbered). AreAlikeWithin from less text p.page.url) pages
+alike_before from end less text pages le all =
+    All-weaker (λ (p : Numbered). AreAlikeWithin from end text p.page.url) (λ (p : Numbered). AreAlikeWithin from less text p.page.url)
+    (λ p same k late below. same k late (omega (arith, below, le))) pages all
+
+pub alike_in_both : (from most : ℕ) (text : List ℕ) (front back pages : List Numbered) (first second end : ℕ) → front ++ back ≡ pages
+    → IsAlikeUntil from most text front first → IsAlikeUntil from most text back second → from ≤ end → end ≤ first → end ≤ second → IsAlikeUntil from most text pages end
+alike_in_both from most text front back pages first second end parts of_front of_back least le_first le_second = record {
+  least = least;
+  within = omega (arith, le_first, of_front.within);
+  alike =
+      subst (All (λ (p : Numbered). AreAlikeWithin from end text p.page.url)) parts
+      (All-append (λ (p : Numbered). AreAlikeWithin from end text p.page.url) front back (alike_before from first end text front le_first of_front.alike) (alike_before from second end text back le_second of_back.alike));
+}
 
 -- ---- two sorted lists, one behind the other
 
@@ -148,6 +171,13 @@ same_pages pages i next d within same =
     map-set (λ (c : Numbered). c.page) pages i next
     ∙ ap (set (pages_of pages) i) (same ∙ sym (get_or-map (λ (c : Numbered). c.page) pages i d d.page within))
     ∙ set-get_or (pages_of pages) i d.page
+
+pub each_page_same : (old new : List Numbered) → length new ≡ length old → ((i : ℕ) (d : Numbered) → i < length old → (get_or new i d).page ≡ (get_or old i d).page) → pages_of new ≡ pages_of old
+each_page_same [] [] long each = refl
+each_page_same [] (y ∷ new) long each = absurd (omega arith)
+each_page_same (x ∷ old) [] long each = absurd (omega arith)
+each_page_same (x ∷ old) (y ∷ new) long each =
+    λ i. each zero x (omega arith) i ∷ each_page_same old new (omega arith) (λ k d within. each (suc k) d (omega arith)) i
 
 pub pages_in_order : (pages : List Numbered) → AreInOrder pages → IsSortedByKey (λ (r : PageResult). r.url) (slice_cmp nat_cmp) (pages_of pages)
 pages_in_order pages sorted = λ k d least below.

@@ -1,10 +1,14 @@
 -- Eight bytes of a text as a number.
-use Rattle.std.specs.Prelude.{◌≡◌, ℕ, zero, suc, ◌<◌, List, [], ◌∷◌, slice_index}
+use Rattle.std.specs.Prelude.{◌≡◌, ℕ, zero, suc, ◌<◌, ◌≤◌, List, [], ◌∷◌, slice_index}
 use Rattle.std.specs.Int.Digits.{number_from_digits, AllBelowBase}
 
 -- the first so many bytes of two texts are the same; behind the end of a text stand zeros
 abbrev pub BeginAlike : ℕ → List ℕ → List ℕ → Type 0
 BeginAlike count a b = (k : ℕ) → k < count → slice_index a k ≡ slice_index b k
+
+-- two texts have the same bytes from one index up to another
+abbrev pub AreAlikeWithin : ℕ → ℕ → List ℕ → List ℕ → Type 0
+AreAlikeWithin from end a b = (k : ℕ) → from ≤ k → k < end → slice_index a k ≡ slice_index b k
 
 -- so many bytes of a text from an index on
 abbrev pub bytes_from : List ℕ → ℕ → ℕ → List ℕ

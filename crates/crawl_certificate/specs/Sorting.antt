@@ -6,7 +6,7 @@ use Rattle.std.specs.Cmp.Lexicographic.{slice_cmp}
 use Rattle.std.specs.Ordering.{nat_cmp}
 use Rattle.crawl_web.specs.declared.page.PageResult.{PageResult}
 use Rattle.crawl_certificate.specs.declared.sorting.Numbered.{Numbered}
-use Rattle.crawl_certificate.specs.Eights.{BeginAlike, IsEight}
+use Rattle.crawl_certificate.specs.Eights.{BeginAlike, AreAlikeWithin, IsEight}
 
 -- the results without their numbers
 abbrev pub pages_of : List Numbered → List PageResult
@@ -16,9 +16,20 @@ pages_of pages = map (λ p. p.page) pages
 abbrev pub AllBeginAlike : ℕ → List PageResult → Type 0
 AllBeginAlike count pages = (a b : PageResult) → Contains pages a → Contains pages b → BeginAlike count a.url b.url
 
+-- from one index up to an end, which is at most `most`, all URLs have the bytes of a text
+pub record IsAlikeUntil (from most : ℕ) (text : List ℕ) (pages : List Numbered) (end : ℕ) : Type 0 where
+  pub least : from ≤ end
+  pub within : end ≤ most
+  pub alike : All (λ p. AreAlikeWithin from end text p.page.url) pages
+
 -- the number has the eight bytes of the URL from an index on
 abbrev pub IsNumbered : ℕ → Numbered → Type 0
 IsNumbered from numbered = IsEight numbered.page.url from numbered.number
+
+-- the number is set to the eight bytes of the URL from an index on, and the page is the same
+pub record IsNumberSet (from : ℕ) (old new : Numbered) : Type 0 where
+  pub same : new.page ≡ old.page
+  pub numbered : IsNumbered from new
 
 -- no URL is above the next one, byte by byte
 abbrev pub AreInOrder : List Numbered → Type 0

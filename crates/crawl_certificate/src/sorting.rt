@@ -1,7 +1,8 @@
 //! Results in the order of their URLs, by a sort that mostly compares numbers: eight bytes of each URL, beside the result.
 //!
-//! To compare two texts, both are looked for in memory; a number is at hand. Those that have the same number are sorted by
-//! the next eight bytes, and so on. Few, and those that begin alike for long, are sorted by their texts.
+//! To compare two texts, both are looked for in memory; a number is at hand. What all begin with is passed over. Those that
+//! have the same number are sorted by the bytes behind it, and so on. Few, and those that have been parted often, are sorted by
+//! their texts.
 ghost use Rattle.std.specs.Prelude.{◌≡◌, ◌+◌, ◌*◌, ◌≤◌, slice_index, IfOk, IfSome, IsNone};
 ghost use Rattle.std.specs.List.{All};
 ghost use Rattle.std.specs.List.Sorted.{IsPermutation, IsNonDecreasingBy, IsSortedByKey};
@@ -10,9 +11,11 @@ ghost use Rattle.std.specs.Ordering.{nat_cmp};
 ghost use Rattle.crawl_certificate.specs.Eights.{IsEight};
 ghost use Rattle.crawl_certificate.specs.Sorting.{AllBeginAlike, AllEqual, AreInOrder, ArePartedAt, ArePrepared, IsNumbered, pages_of};
 
+use beginning::beginning_of;
 use crawl_web::PageResult;
 use std::alloc::{AllocError, Global};
 
+mod beginning;
 mod threads;
 
 pub use threads::in_order_by_threads;
@@ -22,6 +25,9 @@ const BYTES: usize = 8;
 
 /// How many numbers of a URL are compared before its text is.
 const LEVELS: usize = 32;
+
+/// No number has bytes of a URL from this index on.
+const END: usize = 4096;
 
 /// Fewer than these are sorted by their texts.
 const FEW: usize = 12;
@@ -78,6 +84,7 @@ fn sort_from(pages: &mut [Numbered], from: usize, levels: usize)
         pages.sort_unstable_by(|a, b| a.page.url.cmp(&b.page.url));
         return;
     }
+    let from = beginning_of(pages, from, levels);
     set_numbers(pages, from);
     pages.sort_unstable_by_key(|one| one.number);
     sort_runs(pages, from, levels - 1);
@@ -125,8 +132,14 @@ fn set_numbers(pages: &mut [Numbered], from: usize)
     ensures numbered { All (IsNumbered from) pages.new }
 {
     for numbered in pages.iter_mut() {
-        numbered.number = number_at(numbered.page.url.as_str().as_bytes(), from);
+        numbered.number = number_at(text_of(numbered), from);
     }
+}
+
+fn text_of(numbered: &Numbered) -> &[u8]
+    ensures { result.now ≡ numbered.now.page.url }
+{
+    numbered.page.url.as_str().as_bytes()
 }
 
 /// Eight bytes of a text as a number, the first of which weighs most. Behind the text's end stand zeros.

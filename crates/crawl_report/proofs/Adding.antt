@@ -91,15 +91,15 @@ pointed_lines_all f out more xs k past is = adds_same out more _ _ (ap (λ ys. m
 
 -- ---- a whole report
 
-pub report_printed : (json : Bool) (a b c d e f g : Out) (results queues sources moved unreached : List Line) (sum : Line) → bytes_of a ≡ [] → is_json a ≡ json
-    → Adds a b results → Adds b c (sum ∷ []) → Adds c d queues → Adds d e sources → Adds e f moved → Adds f g unreached
-    → bytes_of g ≡ flat_map (printed_line json) (results ++ (sum ∷ queues) ++ sources ++ moved ++ unreached)
-report_printed json a b c d e f g results queues sources moved unreached sum empty kind of_results of_sum of_queues of_sources of_moved of_unreached =
-    let first = adds_both a b d results (sum ∷ queues) of_results (adds_both b c d (sum ∷ []) queues of_sum of_queues) in
-    let second = adds_both a d e (results ++ (sum ∷ queues)) sources first of_sources in
-    let third = adds_both a e f (results ++ (sum ∷ queues) ++ sources) moved second of_moved in
-    let whole = adds_both a f g (results ++ (sum ∷ queues) ++ sources ++ moved) unreached third of_unreached in
-    whole.added ∙ (λ i. empty i ++ flat_map (printed_line (kind i)) (results ++ (sum ∷ queues) ++ sources ++ moved ++ unreached))
+-- the lines behind those of the results
+pub rest_printed : (b c d e f g : Out) (queues sources moved unreached : List Line) (sum : Line)
+    → Adds b c (sum ∷ []) → Adds c d queues → Adds d e sources → Adds e f moved → Adds f g unreached
+    → bytes_of g ≡ bytes_of b ++ flat_map (printed_line (is_json b)) ((sum ∷ queues) ++ sources ++ moved ++ unreached)
+rest_printed b c d e f g queues sources moved unreached sum of_sum of_queues of_sources of_moved of_unreached =
+    let first = adds_both b c d (sum ∷ []) queues of_sum of_queues in
+    let second = adds_both b d e (sum ∷ queues) sources first of_sources in
+    let third = adds_both b e f ((sum ∷ queues) ++ sources) moved second of_moved in
+    (adds_both b f g ((sum ∷ queues) ++ sources ++ moved) unreached third of_unreached).added
 
 -- lines more, for one result more
 pub told_more : (f : PageResult → List Line) (out mid more : Out) (xs : List (Bor PageResult)) (k : ℕ) (x : Bor PageResult) → k < length xs → x ≡ get_or xs k x → Adds out mid (flat_map f (pointed (take k xs))) → Adds mid more (f x.now) → Adds out more (flat_map f (pointed (take (k + 1) xs)))

@@ -18,3 +18,8 @@ is_json (Json text) = true
 pub record Adds (out more : Out) (lines : List Line) : Type 0 where
   pub same : is_json more ≡ is_json out
   pub added : bytes_of more ≡ bytes_of out ++ flat_map (printed_line (is_json out)) lines
+
+-- these lines are printed and nothing else, as JSON or as text
+pub record IsPrinted (as_json : Bool) (lines : List Line) (out : Out) : Type 0 where
+  pub kind : is_json out ≡ as_json
+  pub bytes : bytes_of out ≡ flat_map (printed_line as_json) lines

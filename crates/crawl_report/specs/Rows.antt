@@ -85,6 +85,12 @@ rows_with pages queues told with_moved unreached =
 abbrev pub rows_of : Report → List Line
 rows_of report = rows_with report.pages.now report.queues.now report.sources report.moved (pointed report.unreached.now)
 
+-- the lines behind those of the results
+abbrev pub rows_behind : Report → List Line
+rows_behind report =
+    (total_of report.pages.now ∷ queue_lines report.queues.now)
+    ++ source_lines report.sources report.moved report.pages.now ++ moved_lines report.moved report.pages.now ++ map line.unreached (pointed report.unreached.now)
+
 -- the report's bytes, as JSON or as text
 abbrev pub printed : Bool → Report → List ℕ
 printed as_json report = flat_map (printed_line as_json) (rows_of report)

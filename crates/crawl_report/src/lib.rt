@@ -11,11 +11,12 @@ mod report;
 mod row;
 mod sources;
 mod tally;
+mod threads;
 mod unseen;
 mod web_urls;
 
 pub use crawl_web::NoMemory;
-pub use printing::print;
+pub use printing::{print, print_in_threads};
 pub use report::{Report, Sources};
 pub use row::Row;
 pub use unseen::unreached;

@@ -1,20 +1,24 @@
 //! A report as bytes.
-ghost use Rattle.std.specs.Prelude.{◌≡◌, ℕ, ◌∷◌, [], true, IfOk, length, map, filter, count_by};
+ghost use Rattle.std.specs.Prelude.{◌≡◌, ℕ, ◌∷◌, ◌++◌, [], true, IfOk, length, map, filter, count_by};
+ghost use Rattle.std.specs.List.{flat_map};
 ghost use Rattle.std.specs.Option.{option_map};
 ghost use Rattle.crawl_web.specs.ReportText.{is_found, is_missing, is_moved};
+ghost use Rattle.crawl_report.specs.Json.{printed_line};
 ghost use Rattle.crawl_report.specs.Lines as line;
 ghost use Rattle.crawl_report.specs.Lines.{line_of};
-ghost use Rattle.crawl_report.specs.Printing.{Adds};
-ghost use Rattle.crawl_report.specs.Rows.{printed, page_line, result_lines, total_of, queue_lines, moved_lines, target};
+ghost use Rattle.crawl_report.specs.Printing.{Adds, bytes_of, is_json};
+ghost use Rattle.crawl_report.specs.Rows.{printed, rows_behind, page_line, result_lines, total_of, queue_lines, moved_lines, target};
 ghost use Rattle.crawl_report.specs.Tallies.{pointed};
 
 use crate::out::Out;
 use crate::report::Report;
 use crate::row::Row;
 use crate::sources::with_sources;
+use crate::threads::results_in_threads;
 use crawl_keys::CanonUrl;
 use crawl_web::{NoMemory, Page, PageResult};
 use std::alloc::Global;
+use std::thread::Threads;
 
 /// The report's bytes: a line for each row, as text or as a JSON object, each ended by LF.
 ///
@@ -27,6 +31,29 @@ pub fn print(alloc: Global, report: &Report<'_>, json: bool) -> Result<Vec<u8>, 
 {
     let empty = Out::new(alloc, json);
     let results = with_results(empty, report.pages)?;
+    with_rest(alloc, results, report)
+}
+
+/// As [`print`], where four threads print the lines of the results, if there are many.
+///
+/// # Errors
+/// Out of memory alone. A thread that cannot be started is none: its part is printed by the thread that wanted it.
+pub fn print_in_threads<R: Threads + Sync>(
+    rt: &R,
+    alloc: Global,
+    report: &Report<'_>,
+    json: bool,
+) -> Result<Vec<u8>, NoMemory>
+    ensures { IfOk result (λ text. text.items ≡ printed json report.now) }
+{
+    let results = results_in_threads(rt, alloc, json, report.pages)?;
+    with_rest(alloc, results, report)
+}
+
+/// The bytes of what is printed, and behind it of all lines but those of the results.
+fn with_rest(alloc: Global, results: Out, report: &Report<'_>) -> Result<Vec<u8>, NoMemory>
+    ensures { IfOk result (λ text. text.items ≡ bytes_of results ++ flat_map (printed_line (is_json results)) (rows_behind report.now)) }
+{
     let total = results.with(total_of(report.pages))?;
     let queues = with_queues(total, report.queues)?;
     let sources = with_sources(alloc, queues, report.pages, report.sources, report.moved)?;
@@ -35,7 +62,8 @@ pub fn print(alloc: Global, report: &Report<'_>, json: bool) -> Result<Vec<u8>, 
     Ok(all.into_bytes())
 }
 
-fn with_results(mut out: Out, pages: &[PageResult]) -> Result<Out, NoMemory>
+/// What is printed, and behind it a line for each result.
+pub(crate) fn with_results(mut out: Out, pages: &[PageResult]) -> Result<Out, NoMemory>
     ensures { IfOk result (λ more. Adds out more (result_lines pages.now)) }
 {
     for one in pages {

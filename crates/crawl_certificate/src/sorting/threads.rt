@@ -1,26 +1,30 @@
 //! The sort by threads: numbers are sorted by all of them, and then each takes a part of the results.
-ghost use Rattle.std.specs.Prelude.{◌≡◌, ◌↔◌, ◌+◌, ◌*◌, ◌≤◌, IsTrue, IfOk};
+ghost use Rattle.std.specs.Prelude.{◌≡◌, ◌+◌, ◌*◌, ◌≤◌, IfOk, IfSome, IsNone};
 ghost use Rattle.std.specs.List.{All};
-ghost use Rattle.std.specs.List.Sorted.{IsPermutation, IsSortedByKey};
+ghost use Rattle.std.specs.List.Sorted.{IsPermutation, IsNonDecreasingBy, IsSortedByKey};
 ghost use Rattle.std.specs.Cmp.Lexicographic.{slice_cmp};
 ghost use Rattle.std.specs.Ordering.{nat_cmp};
 ghost use Rattle.std.specs.Thread.{IsSync};
-ghost use Rattle.crawl_certificate.specs.Sorting.{AllBeginAlike, AreInOrder, ArePrepared, pages_of};
+ghost use Rattle.crawl_certificate.specs.Sorting.{AllBeginAlike, AllEqual, AreInOrder, ArePartedAt, ArePrepared, IsNumbered, IsNumberSet, pages_of};
 
+use super::beginning::beginning_by_threads;
 use super::{
-    BYTES, LEVELS, Numbered, middle, set_numbers, sort_from, sort_runs, with_numbers,
+    BYTES, LEVELS, Numbered, number_at, sort_from, sort_runs, text_of, with_numbers,
     without_numbers,
 };
 use crawl_web::PageResult;
 use rayon::slice::par_sort_unstable_by_key;
 use std::alloc::{AllocError, Global};
-use std::thread::{Threads, join_mut};
+use std::thread::{Threads, for_each_mut, join_mut};
 
 /// Fewer results than this are not worth a thread.
 const MANY: usize = 4096;
 
 /// How often results are parted, so that as many threads take a part as two to this power.
 const HALVINGS: u32 = 3;
+
+/// So many threads read the numbers.
+const THREADS: usize = 8;
 
 /// As [`super::in_order`], by threads.
 pub fn in_order_by_threads<R: Threads + Sync>(
@@ -55,21 +59,23 @@ fn sort_in_threads<R: Threads + Sync>(
         sort_from(pages, from, levels);
         return;
     }
-    set_numbers(pages, from);
-    let number = pages[0].number;
-    if have_number(pages, number) {
-        sort_in_threads(rt, halvings, pages, from + BYTES, levels - 1);
-        return;
-    }
+    let from = beginning_by_threads(rt, pages, from, levels);
+    set_numbers_in_threads(rt, pages, from);
     par_sort_unstable_by_key(rt, pages, |one| one.number);
     sort_runs_in_threads(rt, halvings, pages, from, levels - 1);
 }
 
-/// Whether all have this number.
-fn have_number(pages: &[Numbered], number: u64) -> bool
-    ensures { IsTrue result ↔ All (λ p. p.number ≡ number) pages.now }
+/// As [`super::set_numbers`], by threads.
+fn set_numbers_in_threads<R: Threads + Sync>(rt: &R, pages: &mut [Numbered], from: usize)
+    requires { from + 8 ≤ 4096 }
+    ensures same { pages_of pages.new ≡ pages_of pages.old }
+    ensures numbered { All (IsNumbered from) pages.new }
 {
-    pages.iter().all(|one| one.number == number)
+    let set = move |_: usize, numbered: &mut Numbered|
+        requires { from + 8 ≤ 4096 }
+        ensures { IsNumberSet from numbered.entry.now numbered.exit.now }
+    { numbered.number = number_at(text_of(numbered), from) };
+    for_each_mut(rt, pages, THREADS, &set);
 }
 
 /// As [`super::sort_runs`], by threads where there are many.
@@ -89,12 +95,34 @@ fn sort_runs_in_threads<R: Threads + Sync>(
         sort_runs(pages, from, levels);
         return;
     }
-    match middle(pages) {
+    match middle_by_count(pages) {
         None => sort_in_threads(rt, halvings, pages, from + BYTES, levels),
         Some(index) => {
             let (low, high) = pages.split_at_mut(index);
             sort_parts(rt, halvings - 1, low, high, from, levels);
         }
+    }
+}
+
+/// Where one part of these is about as long as the other, and its numbers, which rise, are less than those of the other; `None`
+/// where all are equal.
+///
+/// By [`super::middle`] one part can have nearly all, since many URLs can be of few hosts.
+fn middle_by_count(pages: &[Numbered]) -> Option<usize>
+    requires { IsNonDecreasingBy (λ p. p.number) pages.now }
+    ensures none { IsNone result → AllEqual pages.now }
+    ensures some { IfSome result (ArePartedAt pages.now) }
+{
+    let number = pages.get(pages.len() / 2)?.number;
+    let first = pages.partition_point(|one| one.number < number);
+    if first > 0 {
+        return Some(first);
+    }
+    let behind = pages.partition_point(|one| one.number <= number);
+    if behind < pages.len() {
+        Some(behind)
+    } else {
+        None
     }
 }
 

@@ -22,7 +22,7 @@ sort_from-sort_runs-requires t c =
     let sorted = c.sort_unstable_by_key.new.self in
     let rising = IsNonDecreasingBy-from_sort_by_key (λ (p : Numbered). p.number) sorted c.sort_unstable_by_key.ensures.sorted (λ a r q k. search rules) in (
       omega (arith, c.decreases),
-      prepared c.args.from _ c.args.pages.now numbered sorted c.requires.alike (omega (arith, c.requires.room, c.if-levels-eq0.false)) c.set_numbers.ensures.same
+      prepared c.beginning_of-from.result _ c.args.pages.now numbered sorted c.beginning_of-from.ensures.alike (omega (arith, c.beginning_of-from.ensures.room, c.if-levels-eq0.false)) c.set_numbers.ensures.same
           c.set_numbers.ensures.numbered c.sort_unstable_by_key.ensures.permutation rising,
     )
 

@@ -13,7 +13,7 @@ loop-numbered-preserved c =
     let here = get_or pages i c.numbered-item.result in
     let next : Numbered = record { number = c.number_at-numbered.result; page = here.page } in
     let within : i < length pages = omega arith in
-    let eight : IsEight here.page.url c.args.from c.number_at-numbered.result = subst (λ text. IsEight text c.args.from c.number_at-numbered.result) (c.as_bytes.ensures.value ∙ c.as_str.ensures.value) c.number_at-numbered.ensures in
+    let eight : IsEight here.page.url c.args.from c.number_at-numbered.result = subst (λ text. IsEight text c.args.from c.number_at-numbered.result) c.text_of.ensures c.number_at-numbered.ensures in
     record {
       same = same_pages pages i next c.numbered-item.result within refl ∙ c.loop-numbered.invariant.same;
       numbered = AllWithin-more_set pages i next within (IsNumbered c.args.from) c.loop-numbered.invariant.numbered eight;

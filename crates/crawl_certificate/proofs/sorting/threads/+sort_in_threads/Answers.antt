@@ -1,31 +1,25 @@
-use Rattle.std.proofs.Common.{refl, sym, subst, arith, rules}
+use Rattle.std.proofs.Common.{refl, subst, arith, rules}
 use Rattle.std.specs.List.Sorted.{IsPermutation}
 use Rattle.std.proofs.lemmas.List.Sorted.{IsPermutation-map, IsPermutation-trans, IsNonDecreasingBy-from_sort_by_key}
 use Rattle.crawl_certificate.specs.declared.sorting.Numbered.{Numbered}
-use Rattle.crawl_certificate.specs.Sorting.{AllBeginAlike, pages_of}
-use Rattle.crawl_certificate.proofs.SortedParts.{prepared, prepared_front, prepared_back, alike_further, one_number, parted_in_order, parts_permuted}
+use Rattle.crawl_certificate.specs.Sorting.{pages_of}
+use Rattle.crawl_certificate.proofs.SortedParts.{prepared, prepared_front, prepared_back, alike_further, parted_in_order, parts_permuted}
 use Rattle.crawl_certificate.proofs.sorting.threads.+sort_in_threads.Goals as goal
 
 pub sort_in_threads-sort_runs_in_threads-requires-after_bounds : goal.sort_in_threads-sort_runs_in_threads-requires-after_bounds
 sort_in_threads-sort_runs_in_threads-requires-after_bounds g t c κs within =
-    let numbered = c.set_numbers.new.pages in
+    let numbered = c.set_numbers_in_threads.new.pages in
     let sorted = c.par_sort_unstable_by_key.new.s in
     let rising = IsNonDecreasingBy-from_sort_by_key (λ (p : Numbered). p.number) sorted c.par_sort_unstable_by_key.ensures.sorted (λ a r q k. search rules) in
-    prepared c.args.from _ c.args.pages.now numbered sorted c.requires.alike (omega (arith, c.requires.room, c.if-levels-eq0.false)) c.set_numbers.ensures.same
-    c.set_numbers.ensures.numbered c.par_sort_unstable_by_key.ensures.permutation rising
-
-pub sort_in_threads-sort_in_threads-requires-clause-alike : goal.sort_in_threads-sort_in_threads-requires-clause-alike
-sort_in_threads-sort_in_threads-requires-clause-alike g t c κs within =
-    let numbered = c.set_numbers.new.pages in
-    alike_further c.args.from numbered (subst (AllBeginAlike c.args.from) (sym c.set_numbers.ensures.same) c.requires.alike) c.set_numbers.ensures.numbered
-    (one_number _ numbered (c.have_number.ensures.0 c.if-have_number.true))
+    prepared c.beginning_by_threads-from.result _ c.args.pages.now numbered sorted c.beginning_by_threads-from.ensures.alike (omega (arith, c.beginning_by_threads-from.ensures.room, c.if-levels-eq0.false))
+    c.set_numbers_in_threads.ensures.same c.set_numbers_in_threads.ensures.numbered c.par_sort_unstable_by_key.ensures.permutation rising
 
 pub sort_in_threads-returns-clause-same : goal.sort_in_threads-returns-clause-same
 sort_in_threads-returns-clause-same g t c =
-    let numbered = c.set_numbers.new.pages in
+    let numbered = c.set_numbers_in_threads.new.pages in
     let sorted = c.par_sort_unstable_by_key.new.s in
     let moved = IsPermutation-map (λ (p : Numbered). p.page) numbered sorted c.par_sort_unstable_by_key.ensures.permutation in
-    IsPermutation-trans _ _ _ (subst (λ ps. IsPermutation ps (pages_of sorted)) c.set_numbers.ensures.same moved) c.sort_runs_in_threads.ensures.same
+    IsPermutation-trans _ _ _ (subst (λ ps. IsPermutation ps (pages_of sorted)) c.set_numbers_in_threads.ensures.same moved) c.sort_runs_in_threads.ensures.same
 
 pub sort_runs_in_threads-sort_in_threads-requires-clause-alike : goal.sort_runs_in_threads-sort_in_threads-requires-clause-alike
 sort_runs_in_threads-sort_in_threads-requires-clause-alike g t c κs within =

@@ -1,0 +1,18 @@
+use Rattle.std.proofs.Common.{◌++◌, ◌∙◌}
+use Rattle.std.proofs.lemmas.List.{take-append-drop}
+use Rattle.std.proofs.lemmas.Result.{IfOk-at_ok}
+use Rattle.crawl_report.specs.Printing.{IsPrinted}
+use Rattle.crawl_report.specs.Rows.{result_lines}
+use Rattle.crawl_report.proofs.Printed.{put_together}
+use Rattle.crawl_report.proofs.threads.+fn-lines_of_part-of_back+fn-lines_of_part-of_front+lines_of_part.Goals as goal
+
+pub returns : goal.returns
+returns g t c =
+    let json = c.args.json in
+    let front = c.split_at.result.0.now in
+    let back = c.split_at.result.1.now in
+    let halves = c.split_at.ensures in
+    let of_front = IfOk-at_ok (IsPrinted json (result_lines front)) c.in_ok-first.was c.join-first.ensures.first in
+    let of_back = IfOk-at_ok (IsPrinted json (result_lines back)) c.in_ok-second.was c.join-first.ensures.second in
+    put_together c.and.result json c.in_ok-first.first c.in_ok-second.second front back c.args.pages.now
+    ((λ i. halves.front i ++ halves.back i) ∙ take-append-drop _ c.args.pages.now) of_front of_back c.and.ensures.kind c.and.ensures.bytes

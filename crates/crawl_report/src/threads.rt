@@ -1,0 +1,57 @@
+//! The lines of the results by threads: each prints a part, and the parts are put together in their order.
+ghost use Rattle.std.specs.Prelude.{IfOk};
+ghost use Rattle.crawl_report.specs.Printing.{IsPrinted};
+ghost use Rattle.crawl_report.specs.Rows.{result_lines};
+
+use crate::out::Out;
+use crate::printing::with_results;
+use crawl_web::{NoMemory, PageResult};
+use std::alloc::Global;
+use std::thread::{Threads, join};
+
+/// Fewer results than this are not worth a thread.
+const LEAST: usize = 4096;
+
+/// How often results are halved, so that as many threads print a part as two to this power.
+const HALVINGS: u32 = 2;
+
+/// A line for each result, by four threads where there are many.
+pub fn results_in_threads<R: Threads + Sync>(
+    rt: &R,
+    alloc: Global,
+    json: bool,
+    pages: &[PageResult],
+) -> Result<Out, NoMemory>
+    ensures { IfOk result (IsPrinted json (result_lines pages.now)) }
+{
+    let halvings = if pages.len() < LEAST { 0 } else { HALVINGS };
+    lines_of_part(rt, alloc, json, halvings, pages)
+}
+
+/// A line for each result, by a thread for each half of them, as often as they are halved. Where none can be started this
+/// one prints both.
+fn lines_of_part<R: Threads + Sync>(
+    rt: &R,
+    alloc: Global,
+    json: bool,
+    halvings: u32,
+    pages: &[PageResult],
+) -> Result<Out, NoMemory>
+    ensures { IfOk result (IsPrinted json (result_lines pages.now)) }
+{
+    if halvings == 0 {
+        return with_results(Out::new(alloc, json), pages);
+    }
+    let fewer = halvings - 1;
+    let (front, back) = pages.split_at(pages.len() / 2);
+    let of_front = move || -> Result<Out, NoMemory>
+        ensures { IfOk result (IsPrinted json (result_lines front.entry.now)) }
+    { lines_of_part(rt, alloc, json, fewer, front) };
+    let of_back = move || -> Result<Out, NoMemory>
+        ensures { IfOk result (IsPrinted json (result_lines back.entry.now)) }
+    { lines_of_part(rt, alloc, json, fewer, back) };
+    let (first, second) = join(rt, of_front, of_back);
+    let first = first?;
+    let second = second?;
+    first.and(second)
+}
