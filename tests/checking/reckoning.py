@@ -176,22 +176,11 @@ class Reckoning:
         self.leads: Dict[str, List[Lead]] = {}
         self.skipped = 0
         waiting = [str(drawn.url_of(seed, self.site.base)) for seed in asked.seeds] or [str(self.site.base)]
-        self.answers.update(self.unlinked_queries(waiting))
         while waiting:
             url = waiting.pop()
             if url not in self.answers and self.is_within(url):
                 self.answers[url] = self.site.answer(url)
                 waiting += self.followed(url)
-
-    def unlinked_queries(self, seeds: List[str]) -> Dict[str, Answer]:
-        """The seeds with a query that no page of the site links to: they are missing, since a page with a query is that of a link."""
-        asked = {url for url in seeds if drawn.url_of(url).query}
-        if not asked:
-            return {}
-        documents = [(url, name, self.site.document(name)) for url, name in self.site.pages()]
-        linked = {lead.url for url, name, one in documents if one for lead in self.leads_of(one, url, os.fsdecode(name))}
-        self.skipped = 0
-        return {url: None for url in asked - linked}
 
     def is_within(self, url: str) -> bool:
         """Whether the crawl takes a URL."""

@@ -46,7 +46,7 @@ pub fn read_places<L: PlacedLinks>(
 }
 
 /// Gives the links of a tag in a document of this length.
-fn push_placed<L: PlacedLinks>(
+pub(crate) fn push_placed<L: PlacedLinks>(
     length: usize,
     tag: NextTag<'_>,
     decoded: &mut Vec<u8>,
@@ -54,11 +54,22 @@ fn push_placed<L: PlacedLinks>(
 ) -> Result<(), AllocError>
     ensures { OnOk result (L.texts links.new ≡ L.texts links.old ++ links_with tag.entry.element (values_at tag.entry.values)) }
 {
-    let left = left_of(wanted_of(tag.element), tag.inside);
+    let left = left_in(tag);
     links.begin_at(index_of(length, left.first));
     push_first(tag.element, tag.values, decoded, links)?;
     links.begin_at(index_of(length, left.second));
     push_second(tag.element, tag.values, decoded, links)
+}
+
+/// Where the values of a tag begin, where it has one.
+fn left_in(tag: NextTag<'_>) -> Left {
+    if tag.values.first.is_none() && tag.values.second.is_none() {
+        return Left {
+            first: None,
+            second: None,
+        };
+    }
+    left_of(wanted_of(tag.element), tag.inside)
 }
 
 fn index_of(length: usize, left: Option<usize>) -> usize {

@@ -10,7 +10,9 @@ ghost use Rattle.html_links.specs.declared.reader.Form.TheVariants.{Link};
 use crate::bytes::parts;
 use crate::element::Element;
 use crate::found::Values;
+use crate::links::PlacedLinks;
 use crate::next_tag::{NextTag, next_tag};
+use crate::placed::push_placed;
 use crate::raw_text::{raw_text, same_name};
 use crate::references::{decode, is_coded};
 use crate::refresh::target_of;
@@ -56,18 +58,17 @@ pub fn read_links<L: Links>(
     Ok(base)
 }
 
-/// Gives the links of a document as `read_links` does, and its ids: each `id` of a tag, and each `name` of an `a`.
+/// Gives the links of a document as `read_places` does, and its ids: each `id` of a tag, and each `name` of an `a`.
 ///
 /// # Errors
 /// Where a growth was refused.
-pub fn read_page<L: Links, I: Links>(
+pub fn read_page<L: PlacedLinks, I: Links>(
     alloc: Global,
     document: &[u8],
-    styles: bool,
     links: &mut L,
     ids: &mut I,
 ) -> Result<Base, AllocError>
-    ensures links { OnOk result (styles ≡ false → L.texts links.new ≡ L.texts links.old ++ links_of document.now) }
+    ensures links { OnOk result (L.texts links.new ≡ L.texts links.old ++ links_of document.now) }
     ensures ids { OnOk result (I.texts ids.new ≡ I.texts ids.old ++ ids_of document.now) }
     ensures base { IfOk result (λ base. base_at base ≡ base_of document.now) }
 {
@@ -75,10 +76,7 @@ pub fn read_page<L: Links, I: Links>(
     let mut base = None;
     let mut rest = document;
     'tags: while let Some(tag) = next_tag(rest) {
-        if styles {
-            push_styles(alloc, tag, &mut decoded, links)?;
-        }
-        push_values(tag.element, tag.values, &mut decoded, links)?;
+        push_placed(document.len(), tag, &mut decoded, links)?;
         push_ids(tag.name, tag.values, &mut decoded, ids)?;
         base = or_base(alloc, base, tag.element, tag.values)?;
         rest = tag.rest;

@@ -20,6 +20,7 @@ use mercator::{CrawlSettings, Crawled, Fault, Mode, crawl_saved_web};
 use saved_site::{Rules, SiteFiles, SiteNames, Web, site_web};
 use site_check::{Asked, Bodies, check_site};
 use std::alloc::Global;
+use std::mem::forget;
 use std::sync::Wait;
 use std::thread::Threads;
 
@@ -71,6 +72,7 @@ pub fn report_of_files<R: Threads + Wait + Sync>(
         names: files.names,
         base,
         rules,
+        seeds: settings.seeds,
     };
     let web = site_web(rt, alloc, input, files.bodies)?;
     let pages = SiteFiles::new(alloc, input)?;
@@ -109,11 +111,14 @@ pub fn report_of_site<R: Threads + Wait + Sync, B: Bodies>(
         front: settings.front,
         ignores: settings.ignores,
         anchors: web.anchors.as_slice(),
+        places: web.places.as_slice(),
         unreached: settings.unreached,
     };
     let checked = check_site(rt, alloc, found.result.pages(), files, bodies, asked)?;
     let findings = checked.findings(settings.name);
     let text = print_check(alloc, &findings, told, settings.form, settings.all)?;
+    // The process ends soon, and gives it back at once.
+    forget(found);
     Ok(CheckReport {
         text,
         is_broken: checked.is_broken(),

@@ -16,20 +16,29 @@ use site_check::read_ignores;
 use std::alloc::{AllocError, Global};
 use std::fs::{self, Files};
 use std::io::{Read, Write};
+use std::mem::forget;
 use std::sync::Wait;
 use std::thread::Threads;
 
 /// How many threads read documents.
 const THREADS: usize = 4;
 
-fn rules_of(alloc: Global, asked: &SiteAsked, anchors: bool) -> Result<Rules, AllocError> {
+fn rules_of(alloc: Global, asked: &SiteAsked) -> Result<Rules, AllocError> {
     Ok(Rules {
         index: String::from_str(alloc, "index.html")?,
         queries: asked.queries,
         exact: asked.exact,
-        anchors,
+        anchors: false,
+        places: false,
         threads: THREADS,
     })
+}
+
+fn check_rules(alloc: Global, asked: &CheckAsked) -> Result<Rules, AllocError> {
+    let mut rules = rules_of(alloc, &asked.site)?;
+    rules.anchors = asked.anchors;
+    rules.places = true;
+    Ok(rules)
 }
 
 /// The saved web of a folder. What is not written as it was found is told to `err`.
@@ -44,7 +53,7 @@ pub fn web_of_folder<R: Files + Threads + Sync, E: Write>(
 ) -> Result<Vec<u8>, SiteFault>
     ensures { IfOk result (λ text. IsSiteWeb text.items) }
 {
-    let rules = rules_of(alloc, asked, false)?;
+    let rules = rules_of(alloc, asked)?;
     let web = folder_web(
         rt,
         alloc,
@@ -70,12 +79,13 @@ pub fn report_of_folder<R: Files + Threads + Wait + Sync, E: Write>(
     ensures { IfOk result (λ report. (front : List ℕ) × (entries : List (List ℕ)) × IsSiteCheck (asks_of asked.now front entries) report.is_broken report.text.items) }
 {
     let known = known_entries(rt, alloc, &asked.known)?;
-    let rules = rules_of(alloc, &asked.site, asked.anchors)?;
+    let rules = check_rules(alloc, asked)?;
     let FolderNames { names, notes } = folder_names(rt, alloc, asked.site.folder.as_str())?;
     let input = SiteNames {
         names: names.as_slice(),
         base: asked.site.base.as_str(),
         rules: &rules,
+        seeds: asked.seeds.as_slice(),
     };
     tell_notes(alloc, err, notes.as_slice())?;
     report_of_names(rt, alloc, asked, input, known.as_slice(), err)
@@ -97,7 +107,10 @@ fn report_of_names<R: Files + Threads + Wait + Sync, E: Write>(
     let files = SiteFiles::new(alloc, input)?;
     let mut bodies = OnDisk { rt, alloc, folder };
     let settings = settings_of(asked, files.top(), known);
-    report_of_site(rt, alloc, &web, &files, &mut bodies, settings)
+    let report = report_of_site(rt, alloc, &web, &files, &mut bodies, settings)?;
+    // As the pages, by `report_of_site`.
+    forget(web);
+    Ok(report)
 }
 
 /// How the check is made and told: without BASE the folder names the site, and what is behind the top's URL is told.

@@ -1,5 +1,6 @@
 //! The parts of documents, and links to parts.
 use crate::cleaning::{has_breaks, push_without_breaks, trimmed};
+use crate::found_links::Found;
 use crate::targets::Targets;
 use crate::texts::Texts;
 use crawl_keys::CanonUrl;
@@ -11,8 +12,16 @@ use std::alloc::{AllocError, Global};
 pub struct AnchorLinks {
     /// The page.
     pub url: CanonUrl,
-    /// What is behind the first `#` of each.
-    pub fragments: Vec<Vec<u8>>,
+    pub links: Vec<AnchorLink>,
+}
+
+/// A link to a part of a page.
+#[derive(Drop)]
+pub struct AnchorLink {
+    /// What is behind its first `#`.
+    pub fragment: Vec<u8>,
+    /// The index in the document's text at which the attribute's value begins.
+    pub index: usize,
 }
 
 /// The parts that a document has, and its links to parts of pages.
@@ -24,14 +33,14 @@ pub struct Anchors {
     pub links: Vec<AnchorLinks>,
 }
 
-/// The anchors of a document at a URL, by its ids and the texts of its links; `texts` says what these mean.
+/// The anchors of a document at a URL, by its ids and its links; `texts` says what these mean.
 ///
 /// # Errors
 /// Where a growth was refused.
 pub(crate) fn anchors_of(
     alloc: Global,
     ids: Vec<Vec<u8>>,
-    found: &[Vec<u8>],
+    found: &Found,
     texts: Texts,
     url: &CanonUrl,
 ) -> Result<Anchors, AllocError> {
@@ -40,48 +49,49 @@ pub(crate) fn anchors_of(
     let mut targets = Targets::new(alloc, texts, url)?;
     let parts = parts_by_target(alloc, found, &mut targets)?;
     let mut links = Vec::new(alloc);
-    for (url, fragments) in targets.into_urls().into_iter().zip(parts) {
+    for (url, parts) in targets.into_urls().into_iter().zip(parts) {
         if let Some(url) = url {
-            links.push(AnchorLinks { url, fragments })?;
+            links.push(AnchorLinks { url, links: parts })?;
         }
     }
     Ok(Anchors { ids, links })
 }
 
-/// What is behind the `#` of links that have one, by the numbers of their targets.
+/// The links with a `#`, by the numbers of their targets.
 fn parts_by_target<'t>(
     alloc: Global,
-    found: &'t [Vec<u8>],
+    found: &'t Found,
     targets: &mut Targets<'t>,
-) -> Result<Vec<Vec<Vec<u8>>>, AllocError> {
+) -> Result<Vec<Vec<AnchorLink>>, AllocError> {
     let mut parts = Vec::new(alloc);
-    for link in found {
+    for (link, index) in found.texts.iter().zip(found.indices.iter()) {
         if let Some(fragment) = fragment_of(alloc, link.as_slice())? {
             let number = targets.number_of(link.as_slice())?;
-            push_at(alloc, &mut parts, number, fragment)?;
+            let index = *index;
+            push_at(alloc, &mut parts, number, AnchorLink { fragment, index })?;
         }
     }
     Ok(parts)
 }
 
 /// Appends to the list with this number, which is the next one where it is not there.
-pub(crate) fn push_at<T: Drop>(
+fn push_at(
     alloc: Global,
-    lists: &mut Vec<Vec<T>>,
+    lists: &mut Vec<Vec<AnchorLink>>,
     number: usize,
-    item: T,
+    link: AnchorLink,
 ) -> Result<(), AllocError> {
     if number >= lists.len() {
         lists.push(Vec::new(alloc))?;
     }
     if let Some(list) = lists.get_mut(number) {
-        list.push(item)?;
+        list.push(link)?;
     }
     Ok(())
 }
 
 /// What is behind the first `#` of a link.
-pub(crate) fn fragment_of(alloc: Global, link: &[u8]) -> Result<Option<Vec<u8>>, AllocError> {
+fn fragment_of(alloc: Global, link: &[u8]) -> Result<Option<Vec<u8>>, AllocError> {
     let Some(fragment) = behind_mark(trimmed(link)) else {
         return Ok(None);
     };

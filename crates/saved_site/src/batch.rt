@@ -3,8 +3,8 @@ use std::alloc::{AllocError, Global};
 use std::io;
 use std::io::Read;
 
-/// About how many bytes are read before they are looked at.
-const BATCH_LENGTH: usize = 1 << 25;
+/// About how many bytes are read before they are looked at: few enough that they are near the processor still.
+const BATCH_LENGTH: usize = 1 << 23;
 
 /// By how many bytes the room for documents grows at least.
 const GROWTH: usize = 1 << 20;
@@ -27,6 +27,27 @@ impl Batch {
             used: 0,
             bounds: Vec::new(alloc),
         }
+    }
+
+    /// One with room for a file of about this length.
+    pub(crate) fn with_room(alloc: Global, length: usize) -> Result<Batch, AllocError> {
+        let mut batch = Batch::new(alloc);
+        // One byte more, so that the end is met without more room.
+        batch
+            .bytes
+            .resize(length.min(BATCH_LENGTH).saturating_add(1), 0)?;
+        Ok(batch)
+    }
+
+    /// All that was read.
+    pub(crate) fn into_bytes(self) -> Vec<u8> {
+        let Batch {
+            mut bytes,
+            used,
+            ..
+        } = self;
+        bytes.truncate(used);
+        bytes
     }
 
     pub(crate) fn clear(&mut self) {

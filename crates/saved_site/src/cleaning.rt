@@ -53,6 +53,11 @@ pub(crate) fn scheme_of(text: &[u8]) -> Option<&[u8]> {
     if is_scheme { Some(scheme) } else { None }
 }
 
+/// Whether a text without a scheme begins with a host: behind two slashes of either kind.
+pub(crate) fn names_host(text: &[u8]) -> bool {
+    matches!(text, [b'/' | b'\\', b'/' | b'\\', ..])
+}
+
 /// Whether a link with this scheme, or with none, may lead to a page.
 pub(crate) fn is_web(scheme: Option<&[u8]>) -> bool {
     match scheme {

@@ -3,6 +3,7 @@ use crate::anchors::Anchors;
 use crate::charset::{Charset, charset_of, declared, from_utf16, from_windows};
 use crate::kinds::start_of;
 use crate::link_lines::LinkLines;
+use crate::site::Rules;
 use crate::texts::{LinkCounts, Read, links_at};
 use crawl_keys::CanonUrl;
 use std::alloc::{AllocError, Global};
@@ -14,6 +15,8 @@ pub(crate) struct Document {
     pub(crate) counts: LinkCounts,
     /// Its anchors, where they are wanted.
     pub(crate) anchors: Option<Anchors>,
+    /// Where its links stand, where that is wanted.
+    pub(crate) indices: Vec<usize>,
     /// The name of its encoding, where that is not known here.
     pub(crate) encoding: Option<String>,
 }
@@ -25,12 +28,13 @@ impl Document {
             links: LinkLines::new(alloc),
             counts: LinkCounts::default(),
             anchors: None,
+            indices: Vec::new(alloc),
             encoding: None,
         }
     }
 }
 
-/// The lines of the links of a document at a URL, and its anchors where they are wanted.
+/// The lines of the links of a document at a URL, and its anchors and where links stand where the rules want them.
 ///
 /// # Errors
 /// Where a growth was refused.
@@ -38,16 +42,17 @@ pub(crate) fn document_at(
     alloc: Global,
     body: &[u8],
     url: &CanonUrl,
-    wants_anchors: bool,
+    rules: &Rules,
 ) -> Result<Document, AllocError> {
     let charset = charset_of(body);
     let Read {
         lines: links,
         counts,
         anchors,
+        indices,
     } = match made_text(alloc, body, charset)? {
-        Some(text) => links_at(alloc, text.as_slice(), charset, url, wants_anchors)?,
-        None => links_at(alloc, without_mark(body), charset, url, wants_anchors)?,
+        Some(text) => links_at(alloc, text.as_slice(), charset, url, rules)?,
+        None => links_at(alloc, without_mark(body), charset, url, rules)?,
     };
     let encoding = match charset {
         Charset::Other => {
@@ -60,6 +65,7 @@ pub(crate) fn document_at(
         links,
         counts,
         anchors,
+        indices,
         encoding,
     })
 }

@@ -2,12 +2,9 @@
 ghost use Rattle.std.specs.Prelude.{◌≡◌, string_bytes};
 
 use crate::error::SiteError;
-use crate::kinds::{is_document, kind_of};
-use crate::located::{LinksTo, located_links};
-use crate::site::{Rules, Site, Source, split_name};
+use crate::site::{Rules, Site, Source};
 use crate::spellings::plain_of;
 use crate::web::SiteNames;
-use crawl_keys::CanonUrl;
 use std::alloc::{AllocError, Global};
 
 /// The pages of a site by their URLs, and the files that they are made of.
@@ -24,7 +21,12 @@ impl<'a> SiteFiles<'a> {
     /// # Errors
     /// `BadBase`, `NoFiles`; `NoMemory` where a growth was refused.
     pub fn new(alloc: Global, input: SiteNames<'a>) -> Result<SiteFiles<'a>, SiteError> {
-        let SiteNames { names, base, rules } = input;
+        let SiteNames {
+            names,
+            base,
+            rules,
+            ..
+        } = input;
         let mut notes = Vec::new(alloc);
         let site = Site::new(alloc, base, names, rules, &mut notes)?;
         Ok(SiteFiles { site, names, rules })
@@ -91,33 +93,8 @@ impl<'a> SiteFiles<'a> {
         }
     }
 
-    /// The links of the page at a URL, whose file with this index has these bytes. Those with the same text before a `#` stand
-    /// together.
-    ///
-    /// # Errors
-    /// Where a growth was refused.
-    pub fn links(
-        &self,
-        alloc: Global,
-        index: usize,
-        body: &[u8],
-        url: &CanonUrl,
-    ) -> Result<Vec<LinksTo>, AllocError> {
-        if self.is_document(index, body) {
-            located_links(alloc, body, url)
-        } else {
-            Ok(Vec::new(alloc))
-        }
-    }
-
     /// By how many threads its pages are made.
     pub fn threads(&self) -> usize {
         self.rules.threads
-    }
-
-    fn is_document(&self, index: usize, body: &[u8]) -> bool {
-        let name = self.name(index).unwrap_or("");
-        let (path, _) = split_name(name, self.rules.queries);
-        is_document(kind_of(path), body)
     }
 }

@@ -56,6 +56,8 @@ pub(crate) struct Made {
     pub(crate) counts: LinkCounts,
     /// Its anchors, where they are wanted and the page is a document.
     pub(crate) anchors: Option<Anchors>,
+    /// Where its links stand, where that is wanted.
+    pub(crate) indices: Vec<usize>,
     pub(crate) notes: Vec<Note>,
 }
 
@@ -108,7 +110,7 @@ fn file_document(
     };
     let (path, _) = split_name(name, given.rules.queries);
     if is_document(kind_of(path), body) {
-        document_at(alloc, body, &task.url, given.rules.anchors)
+        document_at(alloc, body, &task.url, given.rules)
     } else {
         Ok(Document::empty(alloc))
     }
@@ -125,6 +127,7 @@ fn linked_page(
         links,
         counts,
         anchors,
+        indices,
         encoding,
     } = document;
     let mut notes = Vec::new(alloc);
@@ -145,6 +148,7 @@ fn linked_page(
     )?;
     let mut made = Made::new(task, Under::Links(links), found, counts, notes)?;
     made.anchors = anchors;
+    made.indices = indices;
     Ok(made)
 }
 
@@ -201,8 +205,9 @@ impl Made {
     ) -> Result<Made, AllocError> {
         let page = SitePage::new(task.url.clone()?, under);
         let mut notes = notes;
+        let alloc = *notes.allocator();
         if page.is_none() {
-            notes.push(Note::at(*notes.allocator(), Left::LongUrl, &task.url)?)?;
+            notes.push(Note::at(alloc, Left::LongUrl, &task.url)?)?;
         }
         Ok(Made {
             url: task.url.clone()?,
@@ -210,6 +215,7 @@ impl Made {
             spellings,
             counts,
             anchors: None,
+            indices: Vec::new(alloc),
             notes,
         })
     }

@@ -57,6 +57,7 @@ pub fn folder_web<R: Files + Threads + Sync>(
         names: names.as_slice(),
         base,
         rules,
+        seeds: &[],
     };
     folder_web_of(rt, alloc, folder, input, notes)
 }
@@ -89,9 +90,10 @@ pub fn folder_body<R: Files>(
     name: &str,
 ) -> io::Result<Vec<u8>> {
     let path = format!(in alloc; "{folder}/{name}")?;
-    let mut body = Vec::new(alloc);
-    fs::open(rt, path.as_str())?.read_to_end(&mut body)?;
-    Ok(body)
+    let length = fs::metadata(rt, path.as_str())?.len();
+    let mut batch = Batch::with_room(alloc, usize::try_from(length).unwrap_or(0))?;
+    batch.read(&mut fs::open(rt, path.as_str())?)?;
+    Ok(batch.into_bytes())
 }
 
 /// Files below a folder, whose documents are read.

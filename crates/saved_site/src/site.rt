@@ -18,6 +18,8 @@ pub struct Rules {
     pub exact: bool,
     /// Whether the parts of documents and links to parts are read too.
     pub anchors: bool,
+    /// Whether it is kept where the links of documents stand.
+    pub places: bool,
     /// How many threads make pages; one where this is 0.
     pub threads: usize,
 }
@@ -84,11 +86,7 @@ impl Site {
     }
 
     fn at(alloc: Global, base: &str) -> Result<Site, SiteError> {
-        let page = match canonical(alloc, base) {
-            Ok(page) => page,
-            Err(KeyError::NoMemory) => return Err(SiteError::NoMemory),
-            Err(_) => return Err(SiteError::BadBase),
-        };
+        let page = url_at(alloc, base)?;
         let Some((origin, path)) = split_origin(page.as_str()) else {
             return Err(SiteError::BadBase);
         };
@@ -144,12 +142,7 @@ impl Site {
     }
 
     fn add(&mut self, url: &str, source: Source) -> Result<(), SiteError> {
-        let alloc = *self.top.allocator();
-        let url = match canonical(alloc, url) {
-            Ok(url) => url,
-            Err(KeyError::NoMemory) => return Err(SiteError::NoMemory),
-            Err(_) => return Err(SiteError::BadBase),
-        };
+        let url = url_at(*self.top.allocator(), url)?;
         self.entries.push(Entry { url, source })?;
         Ok(())
     }
@@ -176,6 +169,11 @@ impl Site {
         })
     }
 
+    /// The URL of the top as that of a page.
+    pub(crate) fn top_url(&self) -> Result<CanonUrl, SiteError> {
+        url_at(*self.top.allocator(), self.top.as_str())
+    }
+
     /// The URL of the top.
     pub(crate) fn top(&self) -> &str
         ensures { result.now ≡ string_bytes self.now.top }
@@ -189,6 +187,15 @@ impl Site {
             .as_slice()
             .binary_search_by(|entry| entry.url.as_str().cmp(url))
             .ok()
+    }
+}
+
+/// The canonical URL of a text.
+fn url_at(alloc: Global, text: &str) -> Result<CanonUrl, SiteError> {
+    match canonical(alloc, text) {
+        Ok(url) => Ok(url),
+        Err(KeyError::NoMemory) => Err(SiteError::NoMemory),
+        Err(_) => Err(SiteError::BadBase),
     }
 }
 

@@ -45,6 +45,27 @@ pub(crate) fn spellings(
     Ok(found)
 }
 
+/// The other spellings of pages among links of the top.
+pub(crate) fn seed_spellings(
+    alloc: Global,
+    site: &Site,
+    rules: &Rules,
+    top: &CanonUrl,
+    seeds: &[String],
+) -> Result<Vec<Spelling>, AllocError> {
+    let mut found = Vec::new(alloc);
+    if rules.exact {
+        return Ok(found);
+    }
+    let base = base_of(alloc, top)?;
+    for seed in seeds {
+        if let Some(spelling) = spelling_at(alloc, site, rules, &base, seed.as_str().as_bytes())? {
+            found.push(spelling)?;
+        }
+    }
+    Ok(found)
+}
+
 /// The text of the line of a link or of a redirect.
 fn text_of(line: &[u8]) -> Option<&[u8]> {
     match line.strip_prefix(b"link ") {

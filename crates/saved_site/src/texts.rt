@@ -1,5 +1,5 @@
-//! The links of a document: the one module that `html_links` gives texts to.
-ghost use Rattle.std.specs.Prelude.{◌≡◌, true, map};
+//! The links of a document: their lines, and where they stand.
+ghost use Rattle.std.specs.Prelude.{◌≡◌, true};
 ghost use Rattle.saved_site.specs.Texts.{fits};
 
 use crate::anchors::{Anchors, anchors_of};
@@ -9,11 +9,14 @@ use crate::cleaning::{
     before_fragment, cut, has_breaks, is_over_lines, is_web, push_without_breaks, scheme_of,
     trimmed,
 };
+use crate::found_links::Found;
 use crate::in_query::push_with_query;
+use crate::indices::Indices;
 use crate::link_lines::LinkLines;
+use crate::site::Rules;
 use crate::text::{LINK_FRONT, TEXT_LIMIT, fits};
 use crawl_keys::CanonUrl;
-use html_links::{Base, Links, read_links, read_page};
+use html_links::{Base, read_links, read_page, read_places};
 use std::alloc::{AllocError, Global};
 use std::mem;
 
@@ -50,10 +53,12 @@ pub(crate) struct Texts {
     given: Given,
     links: LinkLines,
     counts: LinkCounts,
+    /// Where they stand, where that is wanted.
+    indices: Option<Indices>,
 }
 
-/// What a document in UTF-8 at a URL has: the lines of its links, and its anchors where they are wanted; `charset` is the
-/// encoding that it had.
+/// What a document in UTF-8 at a URL has: the lines of its links, and its anchors and where links stand where the rules want
+/// them; `charset` is the encoding that it had.
 ///
 /// # Errors
 /// Where a growth was refused.
@@ -62,25 +67,23 @@ pub(crate) fn links_at(
     text: &[u8],
     charset: Charset,
     url: &CanonUrl,
-    wants_anchors: bool,
+    rules: &Rules,
 ) -> Result<Read, AllocError> {
     let mut found = Found::new(alloc);
     let mut ids = Found::new(alloc);
-    let base = if wants_anchors {
-        read_page(alloc, text, false, &mut found, &mut ids)?
-    } else {
-        read_links(alloc, text, false, &mut found)?
-    };
+    let base = found_in(alloc, text, rules, &mut found, &mut ids)?;
     // The base also holds for the links before it, so all are read first.
     let mut texts = Texts::under(alloc, charset, base, url)?;
-    for text in &found.texts {
-        texts.push(text.as_slice())?;
+    if rules.places {
+        texts.indices = Some(Indices::new(alloc, url)?);
     }
+    texts.push_all(&found)?;
     let lines = mem::replace(&mut texts.links, LinkLines::new(alloc));
+    let indices = texts.take_indices();
     let counts = texts.counts;
     let Found { texts: ids, .. } = ids;
-    let anchors = if wants_anchors {
-        Some(anchors_of(alloc, ids, found.texts.as_slice(), texts, url)?)
+    let anchors = if rules.anchors {
+        Some(anchors_of(alloc, ids, &found, texts, url)?)
     } else {
         None
     };
@@ -88,7 +91,25 @@ pub(crate) fn links_at(
         lines,
         counts,
         anchors,
+        indices,
     })
+}
+
+/// Finds the links of a document, and its ids where its anchors are wanted.
+fn found_in(
+    alloc: Global,
+    text: &[u8],
+    rules: &Rules,
+    found: &mut Found,
+    ids: &mut Found,
+) -> Result<Base, AllocError> {
+    if rules.anchors {
+        read_page(alloc, text, found, ids)
+    } else if rules.places {
+        read_places(alloc, text, found)
+    } else {
+        read_links(alloc, text, false, found)
+    }
 }
 
 /// What is read of a document.
@@ -97,31 +118,7 @@ pub(crate) struct Read {
     pub(crate) lines: LinkLines,
     pub(crate) counts: LinkCounts,
     pub(crate) anchors: Option<Anchors>,
-}
-
-/// The texts of a document's links, as they were found.
-#[derive(Drop)]
-struct Found {
-    alloc: Global,
-    texts: Vec<Vec<u8>>,
-}
-
-impl Found {
-    fn new(alloc: Global) -> Found {
-        Found {
-            alloc,
-            texts: Vec::new(alloc),
-        }
-    }
-}
-
-impl Links for Found {
-    ghost texts = { λ found. map (λ text. text.items) found.texts.items };
-
-    fn push(&mut self, text: &[u8]) -> Result<(), AllocError> {
-        self.texts.push(Vec::from_slice(self.alloc, text)?)?;
-        Ok(())
-    }
+    pub(crate) indices: Vec<usize>,
 }
 
 impl Texts {
@@ -137,6 +134,25 @@ impl Texts {
             None => Given::None,
         };
         Ok(Texts::new(alloc, charset, given))
+    }
+
+    /// The lines of these links.
+    fn push_all(&mut self, found: &Found) -> Result<(), AllocError> {
+        for (text, index) in found.texts.iter().zip(found.indices.iter()) {
+            if let Some(indices) = &mut self.indices {
+                indices.begin_at(*index);
+            }
+            self.push(text.as_slice())?;
+        }
+        Ok(())
+    }
+
+    /// Where the links stand whose lines were pushed. No more are kept from then on.
+    fn take_indices(&mut self) -> Vec<usize> {
+        match self.indices.take() {
+            Some(indices) => indices.into_list(),
+            None => Vec::new(self.alloc),
+        }
     }
 
     /// The line of this link's text alone, if it has one.
@@ -166,6 +182,7 @@ impl Texts {
             given,
             links: LinkLines::new(alloc),
             counts: LinkCounts::default(),
+            indices: None,
         }
     }
 
@@ -216,6 +233,9 @@ impl Texts {
         requires { fits 5 text.now ≡ true }
     {
         self.counts.links = self.counts.links.saturating_add(1);
+        if let Some(indices) = &mut self.indices {
+            indices.push(text)?;
+        }
         self.links.push(text)
     }
 }

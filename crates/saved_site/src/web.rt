@@ -10,6 +10,7 @@ use crate::notes::Note;
 use crate::page::SitePage;
 use crate::print::site_text;
 use crate::site::{Rules, Site};
+use crate::tasks::{first_tasks, new_tasks, seed_tasks};
 use crate::texts::LinkCounts;
 use crawl_keys::CanonUrl;
 use std::alloc::{AllocError, Global};
@@ -31,6 +32,16 @@ pub struct Web {
     pub notes: Vec<Note>,
     /// The anchors of its documents where the rules want them, ascending by URL.
     pub anchors: Vec<PageAnchors>,
+    /// Where the links of its documents stand where the rules want that, ascending by URL.
+    pub places: Vec<LinkPlaces>,
+}
+
+/// Where the links of the document at a URL stand.
+#[derive(Drop)]
+pub struct LinkPlaces {
+    pub url: CanonUrl,
+    /// The indices in the document's text at which the values of its links begin: of those that have a canonical URL, in order.
+    pub indices: Vec<usize>,
 }
 
 /// The anchors of the document at a URL.
@@ -69,6 +80,8 @@ pub struct SiteNames<'a> {
     pub names: &'a [String],
     pub base: &'a str,
     pub rules: &'a Rules,
+    /// Links of the top beside those of documents, which also spell pages: where a crawl begins.
+    pub seeds: &'a [String],
 }
 
 /// The saved web of files with these names and bytes.
@@ -124,6 +137,7 @@ struct Making {
     summary: Summary,
     notes: Vec<Note>,
     anchors: Vec<PageAnchors>,
+    places: Vec<LinkPlaces>,
 }
 
 /// The saved web of files with these names, whose bytes are read.
@@ -136,12 +150,18 @@ pub(crate) fn web_of<R: Threads + Sync, C: Contents>(
 ) -> Result<Web, SiteError>
     ensures { IfOk result (λ web. IsSiteWeb web.bytes.items) }
 {
-    let SiteNames { names, base, rules } = input;
+    let SiteNames {
+        names,
+        base,
+        rules,
+        seeds,
+    } = input;
     let mut making = Making {
         pages: Vec::new(alloc),
         summary: Summary::default(),
         notes: told,
         anchors: Vec::new(alloc),
+        places: Vec::new(alloc),
     };
     let site = Site::new(alloc, base, names, rules, &mut making.notes)?;
     let given = Given {
@@ -149,7 +169,7 @@ pub(crate) fn web_of<R: Threads + Sync, C: Contents>(
         names,
         rules,
     };
-    make_all(rt, alloc, given, contents, &mut making)?;
+    make_all(rt, alloc, given, seeds, contents, &mut making)?;
     finish(alloc, making)
 }
 
@@ -161,7 +181,9 @@ fn finish(alloc: Global, making: Making) -> Result<Web, SiteError>
         summary,
         notes,
         mut anchors,
+        mut places,
     } = making;
+    places.sort_by(|a: &LinkPlaces, b: &LinkPlaces| a.url.as_str().cmp(b.url.as_str()))?;
     anchors.sort_by(|a: &PageAnchors, b: &PageAnchors| a.url.as_str().cmp(b.url.as_str()))?;
     pages.sort_by(|a: &SitePage, b: &SitePage| a.url().as_str().cmp(b.url().as_str()))?;
     let bytes = site_text(alloc, pages.as_slice())?;
@@ -173,19 +195,25 @@ fn finish(alloc: Global, making: Making) -> Result<Web, SiteError>
         summary,
         notes,
         anchors,
+        places,
     })
 }
 
-/// Makes all pages, and then those that are other spellings of them, until no page links to a new one.
+/// Makes all pages and those that seeds spell otherwise, and then those that are other spellings of them, until no page links to
+/// a new one.
 fn make_all<R: Threads + Sync, C: Contents>(
     rt: &R,
     alloc: Global,
     given: Given<'_>,
+    seeds: &[String],
     contents: &mut C,
     making: &mut Making,
 ) -> Result<(), SiteError> {
     let mut tasks = first_tasks(alloc, given)?;
     let mut known = BTreeSet::new(alloc);
+    let mut more = seed_tasks(alloc, given, seeds, &mut known)?;
+    making.summary.spellings = more.len() as u64;
+    tasks.append(&mut more)?;
     let mut batch = Batch::new(alloc);
     for _ in 0..u64::MAX {
         if tasks.is_empty() {
@@ -204,18 +232,6 @@ fn make_all<R: Threads + Sync, C: Contents>(
         making.keep(made)?;
     }
     Ok(())
-}
-
-fn first_tasks(alloc: Global, given: Given<'_>) -> Result<Vec<Task>, AllocError> {
-    let mut tasks = Vec::new(alloc);
-    for (entry, found) in given.site.entries.iter().enumerate() {
-        tasks.push(Task {
-            url: found.url.clone()?,
-            entry,
-            is_plain: true,
-        })?;
-    }
-    Ok(tasks)
 }
 
 /// Makes the page of each task, batch by batch, in the order of URLs.
@@ -270,28 +286,6 @@ fn make_in_threads<R: Threads + Sync>(
     Ok(all)
 }
 
-/// The pages that are spelled in new ways, each once.
-fn new_tasks(
-    alloc: Global,
-    made: &[Made],
-    known: &mut BTreeSet<CanonUrl>,
-) -> Result<Vec<Task>, AllocError> {
-    let mut tasks = Vec::new(alloc);
-    for page in made {
-        for spelling in &page.spellings {
-            if !known.contains(&spelling.url) {
-                known.insert(spelling.url.clone()?)?;
-                tasks.push(Task {
-                    url: spelling.url.clone()?,
-                    entry: spelling.entry,
-                    is_plain: false,
-                })?;
-            }
-        }
-    }
-    Ok(tasks)
-}
-
 impl Making {
     /// Keeps pages that are made.
     fn keep(&mut self, made: Vec<Made>) -> Result<(), SiteError> {
@@ -301,9 +295,14 @@ impl Making {
                 page,
                 counts,
                 anchors,
+                indices,
                 notes,
                 ..
             } = one;
+            if !indices.is_empty() {
+                let url = url.clone()?;
+                self.places.push(LinkPlaces { url, indices })?;
+            }
             if let Some(anchors) = anchors {
                 self.anchors.push(PageAnchors { url, anchors })?;
             }

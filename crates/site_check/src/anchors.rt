@@ -3,12 +3,13 @@ ghost use Rattle.std.specs.Prelude.{◌≡◌, [], IfOk, OnOk};
 ghost use Rattle.site_check.specs.Told.{rows_in};
 
 use crate::ignored::is_ignored;
+use crate::leads::Lead;
 use crate::located::Located;
 use crate::shown::shown;
 use check_report::{Broken, Kind};
 use crawl_web::{NoMemory, Page, PageResult};
 use page_anchors::is_indicated;
-use saved_site::{Anchors, PageAnchors};
+use saved_site::{AnchorLink, Anchors, PageAnchors};
 use std::alloc::Global;
 use std::collections::BTreeMap;
 
@@ -84,14 +85,15 @@ fn is_found(page: &Page) -> bool {
     matches!(page, Page::Found { .. })
 }
 
-/// A part that a document lacks, and the number of a result that links to it.
+/// A part that a document lacks, and a link to it: the number of the result that has it, and the index of its value.
 #[derive(Drop)]
 pub(crate) struct Lacked {
     part: Part,
     source: usize,
+    index: usize,
 }
 
-/// The parts that documents lack and that a result links to whose number leaves this rest by `of`, result by result.
+/// The links to parts that documents lack, of each result whose number leaves this rest by `of`, result by result.
 pub(crate) fn every_lacked(
     alloc: Global,
     pages: Pages<'_>,
@@ -109,7 +111,7 @@ pub(crate) fn every_lacked(
     Ok(all)
 }
 
-/// Appends the parts that a result links to and documents lack.
+/// Appends a result's links to parts that documents lack.
 fn push_lacked(
     alloc: Global,
     pages: Pages<'_>,
@@ -117,13 +119,11 @@ fn push_lacked(
     anchors: &Anchors,
     all: &mut Vec<Lacked>,
 ) -> Result<(), NoMemory> {
-    for links in &anchors.links {
-        if let Some(page) = pages.find(links.url.as_str()) {
-            for fragment in &links.fragments {
-                if !pages.has_part(alloc, page, fragment.as_slice())? {
-                    let fragment = fragment.clone()?;
-                    let part = Part { page, fragment };
-                    all.push(Lacked { part, source })?;
+    for to in &anchors.links {
+        if let Some(page) = pages.find(to.url.as_str()) {
+            for link in &to.links {
+                if !pages.has_part(alloc, page, link.fragment.as_slice())? {
+                    all.push(Lacked::new(page, source, link)?)?;
                 }
             }
         }
@@ -131,26 +131,44 @@ fn push_lacked(
     Ok(())
 }
 
-/// The parts that documents lack, with how many results link to each; and of each of so many results whether it links to one.
+impl Lacked {
+    fn new(page: usize, source: usize, link: &AnchorLink) -> Result<Lacked, NoMemory> {
+        let fragment = link.fragment.clone()?;
+        Ok(Lacked {
+            part: Part { page, fragment },
+            source,
+            index: link.index,
+        })
+    }
+}
+
+/// The parts that documents lack, with how many results link to each. Appends the links to them, whose numbers come behind so
+/// many others.
 pub(crate) fn lacking(
     alloc: Global,
     all: Vec<Lacked>,
-    results: usize,
-) -> Result<(LackedParts, Vec<bool>), NoMemory> {
+    before: usize,
+    leads: &mut Vec<Lead>,
+) -> Result<LackedParts, NoMemory> {
     let mut lacking = BTreeMap::new(alloc);
-    let mut leading = vec![in alloc; false; results]?;
     for lacked in all {
-        let Lacked { part, source } = lacked;
-        count_part(&mut lacking, part, source)?;
-        if let Some(leads) = leading.get_mut(source) {
-            *leads = true;
-        }
+        let Lacked {
+            part,
+            source,
+            index,
+        } = lacked;
+        let number = count_part(&mut lacking, part, source)?;
+        leads.push(Lead {
+            source,
+            index,
+            number: before.saturating_add(number),
+        })?;
     }
-    Ok((lacking, leading))
+    Ok(lacking)
 }
 
-/// Counts a result for a part, once.
-fn count_part(lacking: &mut LackedParts, part: Part, source: usize) -> Result<(), NoMemory> {
+/// Counts a result for a part, once, and answers the part's number.
+fn count_part(lacking: &mut LackedParts, part: Part, source: usize) -> Result<usize, NoMemory> {
     let number = lacking.len();
     let known = lacking.entry(part)?.or_insert(Count {
         pages: 0,
@@ -161,7 +179,7 @@ fn count_part(lacking: &mut LackedParts, part: Part, source: usize) -> Result<()
         known.pages = known.pages.saturating_add(1);
         known.last = source;
     }
-    Ok(())
+    Ok(known.number)
 }
 
 /// The texts of the parts that pages lack, in order.

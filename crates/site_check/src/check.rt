@@ -4,12 +4,11 @@ ghost use Rattle.std.specs.List.{flat_map};
 ghost use Rattle.site_check.specs.Broken.{broken_of, linked_at, redirects_of, rows_with, ways_with};
 ghost use Rattle.site_check.specs.Told.{rows_in, way_of};
 
-use crate::anchors::{Lacked, LackedParts, Pages, anchor_rows, every_lacked, lacking, part_texts};
+use crate::anchors::{LackedParts, Pages, anchor_rows, lacking, part_texts};
 use crate::ignored::unused;
+use crate::leads::{Lead, Links, leads, targets};
 use crate::linked::{Linked, linked_results};
-use crate::located::{
-    PlaceOf, TargetNumbers, Wanted, add_places, locate_all, none_located, targets, with_wanted,
-};
+use crate::located::{PlaceOf, add_places, none_located};
 use crate::names::name_all;
 use crate::rows::{broken_rows, redirect_rows};
 use crate::shown::shown;
@@ -18,7 +17,7 @@ use crate::unreached::unreached;
 use crate::worst::{place_count, worst};
 use check_report::{Broken, FileCount, Findings, Kind, Redirect, Totals};
 use crawl_web::{NoMemory, Page, PageResult};
-use saved_site::{PageAnchors, SiteFiles};
+use saved_site::{LinkPlaces, PageAnchors, SiteFiles};
 use std::alloc::Global;
 use std::thread::Threads;
 
@@ -40,6 +39,8 @@ pub struct Asked<'a> {
     pub ignores: &'a [String],
     /// The anchors of the site's documents, ascending by URL; where there are none, no part is told that a page lacks.
     pub anchors: &'a [PageAnchors],
+    /// Where the links of the site's documents stand, ascending by URL; where there are none, no place is told of a link to a page.
+    pub places: &'a [LinkPlaces],
     /// Whether files that no link leads to are told.
     pub unreached: bool,
 }
@@ -80,11 +81,13 @@ impl Checked {
     }
 }
 
-/// What the results of a crawl of a site's saved web tell of its links. The results ascend, and each URL has one at most.
+/// What the results of a crawl of a site's saved web tell of its links. The results ascend, and each URL has one at most. As many
+/// threads as make the pages of the site look for parts, and for places in pages that are read again.
 ///
 /// # Errors
 /// Where a growth was refused.
-pub fn check_results<'f, B: Bodies>(
+pub fn check_site<'f, R: Threads + Sync, B: Bodies>(
+    rt: &R,
     alloc: Global,
     results: &[PageResult],
     files: &'f SiteFiles<'f>,
@@ -100,54 +103,17 @@ pub fn check_results<'f, B: Bodies>(
     let site = site_of(results, files, asked);
     let linked = linked_results(alloc, results)?;
     let all = linked.as_slice();
-    let lacked = every_lacked(alloc, site.pages, 0, 1)?;
-    let sought = sought_of(alloc, asked, site, all, lacked)?;
-    let places = locate_all(
-        alloc,
-        wanted(site, &sought, all.len()),
-        sought.pages.as_slice(),
-        bodies,
-    )?;
-    let checked = told(alloc, asked, site, all, &sought, places)?;
-    Ok(checked)
-}
-
-/// What `check_results` answers. As many threads as make the pages of the site look for parts, and read pages again.
-///
-/// # Errors
-/// Where a growth was refused.
-pub fn check_site<'f, R: Threads + Sync, B: Bodies>(
-    rt: &R,
-    alloc: Global,
-    results: &[PageResult],
-    files: &'f SiteFiles<'f>,
-    bodies: &mut B,
-    asked: Asked<'_>,
-) -> Result<Checked, NoMemory>
-    ensures broken { IfOk result (λ checked. rows_in checked.broken.items ≡ broken_of asked.entry.front.now (map string_bytes asked.entry.ignores.now) results.now) }
-    ensures redirects { IfOk result (λ checked. map way_of checked.redirects.items ≡ redirects_of asked.entry.front.now results.now) }
-{
-    let site = site_of(results, files, asked);
-    let linked = linked_results(alloc, results)?;
-    let all = linked.as_slice();
-    let lacked = lacked_by(rt, alloc, site.pages, files.threads().max(1))?;
-    let sought = sought_of(alloc, asked, site, all, lacked)?;
-    let places = locate_by(
-        rt,
-        alloc,
-        wanted(site, &sought, all.len()),
-        sought.pages.as_slice(),
-        bodies,
-    )?;
+    let sought = sought_by(rt, alloc, asked, site, all)?;
+    let places = locate_by(rt, alloc, site, sought.leads.as_slice(), bodies)?;
     let checked = told(alloc, asked, site, all, &sought, places)?;
     Ok(checked)
 }
 
 /// The results of a crawl of a site, and its files.
 #[derive(Clone, Copy)]
-struct Site<'p, 'f> {
-    pages: Pages<'p>,
-    files: &'f SiteFiles<'f>,
+pub(crate) struct Site<'p, 'f> {
+    pub(crate) pages: Pages<'p>,
+    pub(crate) files: &'f SiteFiles<'f>,
 }
 
 fn site_of<'p, 'f>(
@@ -164,45 +130,31 @@ fn site_of<'p, 'f>(
     }
 }
 
-/// What is looked for in pages that are read again.
+/// The links whose places are told.
 #[derive(Drop)]
-struct Sought<'p> {
-    targets: TargetNumbers<'p>,
+struct Sought {
     lacking: LackedParts,
-    /// The results that have such a link.
-    pages: Vec<&'p PageResult>,
+    /// Those to pages that are not there and to such parts, page by page.
+    leads: Vec<Lead>,
 }
 
-fn sought_of<'p>(
+fn sought_by<'p, R: Threads + Sync>(
+    rt: &R,
     alloc: Global,
-    asked: Asked<'_>,
+    asked: Asked<'p>,
     site: Site<'p, '_>,
     linked: &[Linked<'p>],
-    lacked: Vec<Lacked>,
-) -> Result<Sought<'p>, NoMemory> {
-    let (lacking, leading) = lacking(alloc, lacked, site.pages.results.len())?;
+) -> Result<Sought, NoMemory> {
+    let links = Links {
+        results: site.pages.results,
+        places: asked.places,
+    };
     let targets = targets(alloc, asked.front, asked.ignores, linked)?;
-    let pages = with_wanted(alloc, site.pages.results, &targets, leading.as_slice())?;
-    Ok(Sought {
-        targets,
-        lacking,
-        pages,
-    })
-}
-
-/// What is looked for, where the numbers of parts come behind so many others.
-fn wanted<'p, 'f, 's>(
-    site: Site<'p, 'f>,
-    sought: &'s Sought<'p>,
-    before: usize,
-) -> Wanted<'p, 'f, 'p, 's> {
-    Wanted {
-        pages: site.pages,
-        files: site.files,
-        targets: &sought.targets,
-        lacking: &sought.lacking,
-        before,
-    }
+    let mut leads = leads(alloc, links, &targets)?;
+    let lacked = lacked_by(rt, alloc, site.pages, site.files.threads().max(1))?;
+    let lacking = lacking(alloc, lacked, linked.len(), &mut leads)?;
+    leads.sort_by(|a: &Lead, b: &Lead| a.source.cmp(&b.source))?;
+    Ok(Sought { lacking, leads })
 }
 
 /// What a check tells where the links that were sought stand at these places.
@@ -211,7 +163,7 @@ fn told(
     asked: Asked<'_>,
     site: Site<'_, '_>,
     linked: &[Linked<'_>],
-    sought: &Sought<'_>,
+    sought: &Sought,
     places: Vec<PlaceOf>,
 ) -> Result<Checked, NoMemory>
     ensures broken { IfOk result (λ checked. rows_in checked.broken.items ≡ flat_map (rows_with asked.entry.front.now (map string_bytes asked.entry.ignores.now)) (map linked_at linked.now)) }

@@ -4,6 +4,7 @@
 mod anchors;
 mod check;
 mod ignored;
+mod leads;
 mod linked;
 mod located;
 mod names;
@@ -14,5 +15,5 @@ mod threads;
 mod unreached;
 mod worst;
 
-pub use check::{Asked, Bodies, Checked, check_results, check_site};
+pub use check::{Asked, Bodies, Checked, check_site};
 pub use ignored::read_ignores;

@@ -4,16 +4,18 @@ ghost use Rattle.std.specs.List.{list_any};
 ghost use Rattle.std.specs.Option.{option_map};
 ghost use Rattle.std.specs.Str.{bytes_eq};
 ghost use Rattle.crawl_web.specs.declared.page.PageResult.{PageResult};
-ghost use Rattle.crawl_sources.specs.Tallies.{pointed, counted, count_of, IsTally};
+ghost use Rattle.crawl_sources.specs.Tallies.{pointed, counted, IsTally};
 ghost use Rattle.site_check.specs.Broken.{is_unfound, linked, linked_at};
+ghost use Rattle.site_check.specs.Tallies.{count_of};
 
 use crate::tally::Tally;
 use crawl_keys::CanonUrl;
 use crawl_web::{NoMemory, Page, PageResult, links_of};
+use hash_order::HashedText;
 use std::alloc::Global;
 use std::collections::BTreeMap;
 
-type Tallies<'a> = BTreeMap<&'a str, Tally<'a>>;
+type Tallies<'a> = BTreeMap<HashedText<'a>, Tally<'a>>;
 
 /// A result, and how many results link to its URL.
 #[derive(Clone, Copy)]
@@ -58,7 +60,7 @@ fn no_tallies<'a>(alloc: Global, unfound: &[&'a PageResult]) -> Result<Tallies<'
 {
     let mut tallies = BTreeMap::new(alloc);
     for one in unfound {
-        tallies.insert(one.url.as_str(), Tally::new())?;
+        tallies.insert(one.url.hashed(), Tally::new())?;
     }
     Ok(tallies)
 }
@@ -76,7 +78,7 @@ fn count_results<'a>(tallies: &mut Tallies<'a>, results: &'a [PageResult])
 }
 
 /// Counts the result with this number and this URL for each URL that is among its links.
-fn count_links<'a>(tallies: &mut Tallies<'a>, number: u64, page: &'a str, links: &[CanonUrl])
+fn count_links<'a>(tallies: &mut Tallies<'a>, number: u64, page: &'a str, links: &'a [CanonUrl])
     ensures { (url : List ℕ) → count_of tallies.new url ≡ option_map (λ c. if list_any (λ link. bytes_eq link url) links.now then counted number page.now c else c) (count_of tallies.old url) }
 {
     for link in links {
@@ -84,10 +86,10 @@ fn count_links<'a>(tallies: &mut Tallies<'a>, number: u64, page: &'a str, links:
     }
 }
 
-fn count_link<'a>(tallies: &mut Tallies<'a>, number: u64, page: &'a str, link: &CanonUrl)
+fn count_link<'a>(tallies: &mut Tallies<'a>, number: u64, page: &'a str, link: &'a CanonUrl)
     ensures { (url : List ℕ) → count_of tallies.new url ≡ option_map (λ c. if bytes_eq link.now url then counted number page.now c else c) (count_of tallies.old url) }
 {
-    if let Some(tally) = tallies.get_mut(link.as_str()) {
+    if let Some(tally) = tallies.get_mut(&link.hashed()) {
         tally.add(number, page);
     }
 }
@@ -96,7 +98,7 @@ fn count_link<'a>(tallies: &mut Tallies<'a>, number: u64, page: &'a str, link: &
 fn with_counts<'a>(
     alloc: Global,
     unfound: &[&'a PageResult],
-    tallies: &Tallies<'_>,
+    tallies: &Tallies<'a>,
 ) -> Result<Vec<Linked<'a>>, NoMemory>
     requires { (url : List ℕ) → list_any (λ r. bytes_eq r.url url) (pointed unfound.now) ≡ true → IsSome (count_of tallies.now url) }
     ensures { (results : List PageResult) → ((url : List ℕ) → IsTally results url (count_of tallies.now url)) → IfOk result (λ all. map linked_at all.items ≡ map (linked results) (pointed unfound.now)) }
@@ -108,12 +110,11 @@ fn with_counts<'a>(
     Ok(all)
 }
 
-fn with_count<'a>(one: &'a PageResult, tallies: &Tallies<'_>) -> Linked<'a>
+fn with_count<'a>(one: &'a PageResult, tallies: &Tallies<'a>) -> Linked<'a>
     requires { IsSome (count_of tallies.now one.now.url) }
     ensures { (results : List PageResult) → ((url : List ℕ) → IsTally results url (count_of tallies.now url)) → linked_at result ≡ linked results one.now }
 {
-    let url = one.url.as_str();
-    match tallies.get(url) {
+    match tallies.get(&one.url.hashed()) {
         Some(tally) => Linked {
             result: one,
             pages: tally.pages(),

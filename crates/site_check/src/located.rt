@@ -1,14 +1,10 @@
 //! Where broken links stand: the pages that have one are read again, and no others.
-use crate::anchors::{LackedParts, Pages, Part};
-use crate::check::Bodies;
-use crate::ignored::is_ignored;
-use crate::linked::Linked;
-use crate::shown::shown;
+use crate::check::{Bodies, Site};
+use crate::leads::Lead;
 use check_report::Place;
-use crawl_web::{NoMemory, Page, PageResult};
-use saved_site::{LinkAt, LinksTo, SiteFiles, text_places};
+use crawl_web::NoMemory;
+use saved_site::text_places;
 use std::alloc::Global;
-use std::collections::BTreeMap;
 use std::mem;
 
 /// About how many bytes of pages are read before they are looked at.
@@ -20,9 +16,6 @@ pub(crate) struct Located {
     pub(crate) places: Vec<Place>,
     pub(crate) same_name: Option<String>,
 }
-
-/// Which URLs lead to a page that is not there, by that page's number.
-pub(crate) type TargetNumbers<'a> = BTreeMap<&'a str, usize>;
 
 impl Located {
     /// Nothing found.
@@ -55,53 +48,10 @@ pub(crate) fn none_located(
     Ok(all)
 }
 
-/// The URLs of pages that are not there and not known to be so, and of pages that moved to one of them.
-pub(crate) fn targets<'a>(
-    alloc: Global,
-    front: &str,
-    ignores: &[String],
-    linked: &[Linked<'a>],
-) -> Result<TargetNumbers<'a>, NoMemory> {
-    let mut targets = BTreeMap::new(alloc);
-    for (index, one) in linked.iter().enumerate() {
-        let url = one.result.url.as_str();
-        if one.result.page == Page::Missing && !is_ignored(ignores, shown(front, url)) {
-            targets.insert(url, index)?;
-        }
-    }
-    for one in linked {
-        if let Some(index) = moved_to(&targets, one.result) {
-            targets.insert(one.result.url.as_str(), index)?;
-        }
-    }
-    Ok(targets)
-}
-
-/// The number of the page that is not there and that this one moved to.
-fn moved_to(targets: &TargetNumbers<'_>, one: &PageResult) -> Option<usize> {
-    match &one.page {
-        Page::Moved { to: Some(url) } => targets.get(url.as_str()).copied(),
-        _ => None,
-    }
-}
-
-/// What is looked for in pages: links that lead to no page, and links to parts that pages lack.
-#[derive(Clone, Copy)]
-pub(crate) struct Wanted<'p, 'f, 'n, 't> {
-    pub(crate) pages: Pages<'p>,
-    pub(crate) files: &'f SiteFiles<'f>,
-    pub(crate) targets: &'t TargetNumbers<'n>,
-    pub(crate) lacking: &'t LackedParts,
-    /// How many numbers are before those of parts.
-    pub(crate) before: usize,
-}
-
-/// A page that was read again.
+/// A page that was read again, and its links that lead to what is told.
 #[derive(Drop)]
-pub(crate) struct ReadPage<'p, 'f> {
-    one: &'p PageResult,
-    /// The index of its file among the names, and its name.
-    file: usize,
+pub(crate) struct ReadPage<'l, 'f> {
+    leads: &'l [Lead],
     name: &'f str,
     body: Vec<u8>,
 }
@@ -113,101 +63,70 @@ pub(crate) struct PlaceOf {
     place: Place,
 }
 
-/// Where the links of these results stand that are wanted.
-pub(crate) fn locate_all<B: Bodies>(
+/// Reads the first of the pages that have these links, which stand together by their pages, and answers the links of the others.
+pub(crate) fn read_some<'l, 'f, B: Bodies>(
     alloc: Global,
-    wanted: Wanted<'_, '_, '_, '_>,
-    pages: &[&PageResult],
+    site: Site<'_, 'f>,
+    leads: &'l [Lead],
     bodies: &mut B,
-) -> Result<Vec<PlaceOf>, NoMemory> {
-    let mut all = Vec::new(alloc);
-    for one in pages {
-        if let Some(page) = read_page(alloc, wanted.files, *one, bodies)? {
-            push_places(alloc, wanted, &page, &mut all)?;
-        }
-    }
-    Ok(all)
-}
-
-/// The results that have a link that is wanted, where `lead_to_parts` says which have one to a part that a page lacks.
-pub(crate) fn with_wanted<'p>(
-    alloc: Global,
-    results: &'p [PageResult],
-    targets: &TargetNumbers<'_>,
-    lead_to_parts: &[bool],
-) -> Result<Vec<&'p PageResult>, NoMemory> {
-    let mut pages = Vec::new(alloc);
-    for (number, one) in results.iter().enumerate() {
-        let to_part = lead_to_parts.get(number).copied().unwrap_or(false);
-        if to_part || leads_to(targets, &one.page) {
-            pages.push(one)?;
-        }
-    }
-    Ok(pages)
-}
-
-/// Whether a link of a page leads to a target.
-fn leads_to(targets: &TargetNumbers<'_>, page: &Page) -> bool {
-    if targets.is_empty() {
-        return false;
-    }
-    match page {
-        Page::Found { links, .. } => links
-            .as_slice()
-            .iter()
-            .any(|link| targets.contains_key(link.as_str())),
-        _ => false,
-    }
-}
-
-/// Reads the first of these pages, and answers how many.
-pub(crate) fn read_some<'p, 'f, B: Bodies>(
-    alloc: Global,
-    files: &'f SiteFiles<'f>,
-    pages: &[&'p PageResult],
-    bodies: &mut B,
-) -> Result<(Vec<ReadPage<'p, 'f>>, usize), NoMemory> {
+) -> Result<(Vec<ReadPage<'l, 'f>>, &'l [Lead]), NoMemory> {
     let mut read = Vec::new(alloc);
     let mut length: usize = 0;
-    for (number, one) in pages.iter().enumerate() {
-        if length > READ_LENGTH {
-            return Ok((read, number));
+    let mut rest = leads;
+    for _ in 0..leads.len() {
+        if rest.is_empty() || length > READ_LENGTH {
+            break;
         }
-        if let Some(page) = read_page(alloc, files, *one, bodies)? {
+        let (own, more) = split_page(rest);
+        if let Some(page) = read_page(alloc, site, own, bodies)? {
             length = length.saturating_add(page.body.len());
             read.push(page)?;
         }
+        rest = more;
     }
-    Ok((read, pages.len()))
+    Ok((read, rest))
 }
 
-fn read_page<'p, 'f, B: Bodies>(
+/// The links of the first page, and those of the others.
+fn split_page(leads: &[Lead]) -> (&[Lead], &[Lead]) {
+    let Some(first) = leads.first() else {
+        return (leads, &[]);
+    };
+    let count = leads
+        .iter()
+        .position(|lead| lead.source != first.source)
+        .unwrap_or(leads.len());
+    leads.split_at(count.min(leads.len()))
+}
+
+/// Reads the page that has these links, where it is made of a file that can be read.
+fn read_page<'l, 'f, B: Bodies>(
     alloc: Global,
-    files: &'f SiteFiles<'f>,
-    one: &'p PageResult,
+    site: Site<'_, 'f>,
+    leads: &'l [Lead],
     bodies: &mut B,
-) -> Result<Option<ReadPage<'p, 'f>>, NoMemory> {
-    let Some(file) = files.file_of(alloc, one.url.as_str())? else {
+) -> Result<Option<ReadPage<'l, 'f>>, NoMemory> {
+    let Some(one) = leads
+        .first()
+        .and_then(|lead| site.pages.results.get(lead.source))
+    else {
         return Ok(None);
     };
-    let Some(name) = files.name(file) else {
+    let Some(file) = site.files.file_of(alloc, one.url.as_str())? else {
         return Ok(None);
     };
-    let Some(body) = bodies.body(name)? else {
+    let Some(name) = site.files.name(file) else {
         return Ok(None);
     };
-    Ok(Some(ReadPage {
-        one,
-        file,
-        name,
-        body,
-    }))
+    match bodies.body(name)? {
+        Some(body) => Ok(Some(ReadPage { leads, name, body })),
+        None => Ok(None),
+    }
 }
 
-/// Where the links stand that are wanted, in each page whose number leaves this rest by `of`.
+/// Where the links stand, in each page whose number leaves this rest by `of`.
 pub(crate) fn every_place(
     alloc: Global,
-    wanted: Wanted<'_, '_, '_, '_>,
     read: &[ReadPage<'_, '_>],
     rest: usize,
     of: usize,
@@ -215,7 +134,7 @@ pub(crate) fn every_place(
     let mut all = Vec::new(alloc);
     for (number, page) in read.iter().enumerate() {
         if number.checked_rem(of) == Some(rest) {
-            push_places(alloc, wanted, page, &mut all)?;
+            push_places(alloc, page, &mut all)?;
         }
     }
     Ok(all)
@@ -223,70 +142,24 @@ pub(crate) fn every_place(
 
 fn push_places(
     alloc: Global,
-    wanted: Wanted<'_, '_, '_, '_>,
     page: &ReadPage<'_, '_>,
     all: &mut Vec<PlaceOf>,
 ) -> Result<(), NoMemory> {
-    let body = page.body.as_slice();
-    let mut numbers = Vec::new(alloc);
     let mut indices = Vec::new(alloc);
-    for links in wanted.files.links(alloc, page.file, body, &page.one.url)? {
-        push_wanted(wanted, links, &mut numbers, &mut indices)?;
+    for lead in page.leads {
+        indices.push(lead.index)?;
     }
-    let places = text_places(alloc, body, indices.as_slice())?;
-    for (number, place) in numbers.iter().zip(places.iter()) {
+    let places = text_places(alloc, page.body.as_slice(), indices.as_slice())?;
+    for (lead, place) in page.leads.iter().zip(places.iter()) {
         let place = Place {
             file: String::from_str(alloc, page.name)?,
             line: place.line,
             column: place.column,
         };
-        let number = *number;
+        let number = lead.number;
         all.push(PlaceOf { number, place })?;
     }
     Ok(())
-}
-
-/// Appends the numbers of what these links lead to where that is wanted, and the indices of those links.
-fn push_wanted(
-    wanted: Wanted<'_, '_, '_, '_>,
-    links: LinksTo,
-    numbers: &mut Vec<usize>,
-    indices: &mut Vec<usize>,
-) -> Result<(), NoMemory> {
-    let LinksTo { url, links } = links;
-    let target = wanted.targets.get(url.as_str()).copied();
-    let page = wanted.page_with_parts(url.as_str());
-    for link in links {
-        let LinkAt { fragment, index } = link;
-        if let Some(number) = target.or(number_of(wanted, page, fragment)) {
-            numbers.push(number)?;
-            indices.push(index)?;
-        }
-    }
-    Ok(())
-}
-
-impl Wanted<'_, '_, '_, '_> {
-    /// The number of the document at a URL, where any document lacks a part.
-    fn page_with_parts(&self, url: &str) -> Option<usize> {
-        if self.lacking.is_empty() {
-            None
-        } else {
-            self.pages.find(url)
-        }
-    }
-}
-
-/// The number of a part of a document, where the document lacks it.
-fn number_of(
-    wanted: Wanted<'_, '_, '_, '_>,
-    page: Option<usize>,
-    fragment: Option<Vec<u8>>,
-) -> Option<usize> {
-    let page = page?;
-    let fragment = fragment?;
-    let count = wanted.lacking.get(&Part { page, fragment })?;
-    Some(wanted.before.saturating_add(count.number))
 }
 
 /// Adds these places to what is found, in order.

@@ -1,8 +1,9 @@
 //! Pages gone through by threads: of n, the k-th takes each page whose number leaves k.
 use crate::anchors::{Lacked, Pages, every_lacked};
-use crate::check::Bodies;
-use crate::located::{PlaceOf, ReadPage, Wanted, every_place, read_some};
-use crawl_web::{NoMemory, PageResult};
+use crate::check::{Bodies, Site};
+use crate::leads::Lead;
+use crate::located::{PlaceOf, ReadPage, every_place, read_some};
+use crawl_web::NoMemory;
 use std::alloc::Global;
 use std::thread;
 use std::thread::Threads;
@@ -23,25 +24,24 @@ pub(crate) fn lacked_by<R: Threads + Sync>(
     joined(alloc, parts)
 }
 
-/// Where the links of these results stand that are wanted. The caller reads the pages.
+/// Where these links stand, which stand together by their pages. The caller reads the pages.
 pub(crate) fn locate_by<R: Threads + Sync, B: Bodies>(
     rt: &R,
     alloc: Global,
-    wanted: Wanted<'_, '_, '_, '_>,
-    pages: &[&PageResult],
+    site: Site<'_, '_>,
+    leads: &[Lead],
     bodies: &mut B,
 ) -> Result<Vec<PlaceOf>, NoMemory> {
     let mut all = Vec::new(alloc);
-    let mut done: usize = 0;
-    for _ in 0..pages.len() {
-        if done >= pages.len() {
+    let mut rest = leads;
+    for _ in 0..leads.len() {
+        if rest.is_empty() {
             break;
         }
-        let rest = &pages[done..];
-        let (read, count) = read_some(alloc, wanted.files, rest, bodies)?;
-        let mut places = places_by(rt, alloc, wanted, read.as_slice())?;
+        let (read, more) = read_some(alloc, site, rest, bodies)?;
+        let mut places = places_by(rt, alloc, read.as_slice(), site.files.threads().max(1))?;
         all.append(&mut places)?;
-        done = done.saturating_add(count);
+        rest = more;
     }
     Ok(all)
 }
@@ -49,15 +49,14 @@ pub(crate) fn locate_by<R: Threads + Sync, B: Bodies>(
 fn places_by<R: Threads + Sync>(
     rt: &R,
     alloc: Global,
-    wanted: Wanted<'_, '_, '_, '_>,
     read: &[ReadPage<'_, '_>],
+    count: usize,
 ) -> Result<Vec<PlaceOf>, NoMemory> {
-    let count = wanted.files.threads().max(1);
     let parts = thread::map_indices(
         rt,
         alloc,
         count,
-        &|rest: usize| { every_place(alloc, wanted, read, rest, count) },
+        &|rest: usize| { every_place(alloc, read, rest, count) },
     )?;
     joined(alloc, parts)
 }

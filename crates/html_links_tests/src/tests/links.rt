@@ -1,7 +1,7 @@
 //! The links of documents, each with a bar behind it.
 ghost use Rattle.std.specs.Prelude.{map};
 
-use html_links::{Links, read_links, read_page};
+use html_links::{Links, read_links};
 use std::alloc::{AllocError, Global};
 use std::process::Abort;
 use std::test::Fail;
@@ -130,23 +130,4 @@ fn styles(rt: HostRuntime) -> Result<(), Fail> {
             ("<style>url(a</style><a href=b>", "a|b|"),
         ],
     )
-}
-
-#[test]
-fn ids(rt: HostRuntime) -> Result<(), Fail> {
-    let mut links = Texts {
-        alloc: rt.alloc(),
-        texts: Vec::new(rt.alloc()),
-    };
-    let mut ids = Texts {
-        alloc: rt.alloc(),
-        texts: Vec::new(rt.alloc()),
-    };
-    let html = b"<p id=a id=b><a name=c id='&amp;' href=x><img name=d><A NAME='e&NotEqualTilde;'>";
-    read_page(rt.alloc(), html, false, &mut links, &mut ids)?;
-    let all = joined(rt.alloc(), links.texts.as_slice())?;
-    assert_eq!(rt; all.as_slice(), "x|".as_bytes());
-    let all = joined(rt.alloc(), ids.texts.as_slice())?;
-    assert_eq!(rt; all.as_slice(), "a|&|c|e\u{2242}\u{338}|".as_bytes());
-    Ok(())
 }

@@ -1,7 +1,7 @@
 //! Where the values of links begin: each link is told with its index behind an `@`.
 ghost use Rattle.std.specs.Prelude.{map};
 
-use html_links::{Links, PlacedLinks, read_places};
+use html_links::{Links, PlacedLinks, read_page, read_places};
 use std::alloc::{AllocError, Global};
 use std::test::Fail;
 
@@ -29,21 +29,32 @@ impl PlacedLinks for Places {
     }
 }
 
-fn told(alloc: Global, html: &str) -> Result<String, AllocError> {
-    let mut places = Places {
-        alloc,
-        index: 0,
-        texts: Vec::new(alloc),
-        indices: Vec::new(alloc),
-    };
-    read_places(alloc, html.as_bytes(), &mut places)?;
-    let mut all = String::new(alloc);
-    for (text, index) in places.texts.iter().zip(places.indices.iter()) {
-        let text = String::from_utf8_lossy(alloc, text.as_slice())?;
-        let place = format!(in alloc; "{text}@{index}|")?;
-        all.push_str(place.as_str())?;
+impl Places {
+    fn new(alloc: Global) -> Places {
+        Places {
+            alloc,
+            index: 0,
+            texts: Vec::new(alloc),
+            indices: Vec::new(alloc),
+        }
     }
-    Ok(all)
+
+    fn told(&self) -> Result<String, AllocError> {
+        let alloc = self.alloc;
+        let mut all = String::new(alloc);
+        for (text, index) in self.texts.iter().zip(self.indices.iter()) {
+            let text = String::from_utf8_lossy(alloc, text.as_slice())?;
+            let place = format!(in alloc; "{text}@{index}|")?;
+            all.push_str(place.as_str())?;
+        }
+        Ok(all)
+    }
+}
+
+fn told(alloc: Global, html: &str) -> Result<String, AllocError> {
+    let mut places = Places::new(alloc);
+    read_places(alloc, html.as_bytes(), &mut places)?;
+    places.told()
 }
 
 #[test]
@@ -62,5 +73,16 @@ fn values(rt: HostRuntime) -> Result<(), Fail> {
     for (html, wanted) in &rows {
         assert_eq!(rt; told(rt.alloc(), html)?.as_str(), *wanted);
     }
+    Ok(())
+}
+
+#[test]
+fn ids(rt: HostRuntime) -> Result<(), Fail> {
+    let mut links = Places::new(rt.alloc());
+    let mut ids = Places::new(rt.alloc());
+    let html = b"<p id=a id=b><a name=c id='&amp;' href=x><img name=d><A NAME='e&NotEqualTilde;'>";
+    read_page(rt.alloc(), html, &mut links, &mut ids)?;
+    assert_eq!(rt; links.told()?.as_str(), "x@39|");
+    assert_eq!(rt; ids.told()?.as_str(), "a@0|&@0|c@0|e\u{2242}\u{338}@0|");
     Ok(())
 }

@@ -1,4 +1,4 @@
-use Rattle.std.proofs.Common.{◌≡◌, ◌++◌, false, length}
+use Rattle.std.proofs.Common.{◌≡◌, ◌++◌, length}
 use Rattle.html_links.specs.Seen.{seen_in}
 use Rattle.html_links.specs.Links.{links_in, links_of, ids_in, ids_of, base_in, base_of, or_later}
 use Rattle.html_links.specs.Reads.{base_at}
@@ -6,7 +6,7 @@ use Rattle.html_links.proofs.reader.read_page.Given as goal
 
 -- the links and ids so far and those of what is left are the whole, and so is the base
 abbrev pub invariant-tags : goal.invariant-tags
-invariant-tags g l = (l.styles ≡ false → g.L.Links.texts l.links ++ links_in (seen_in l.rest) ≡ g.L.Links.texts l.initial.links ++ links_of l.fn.document) ×
+invariant-tags g l = (g.L.Links.texts l.links ++ links_in (seen_in l.rest) ≡ g.L.Links.texts l.initial.links ++ links_of l.fn.document) ×
     (g.I.Links.texts l.ids ++ ids_in (seen_in l.rest) ≡ g.I.Links.texts l.initial.ids ++ ids_of l.fn.document) ×
     (or_later (base_at l.base) (base_in (seen_in l.rest)) ≡ base_of l.fn.document)
 

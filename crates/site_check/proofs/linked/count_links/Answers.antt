@@ -3,7 +3,8 @@ use Rattle.std.proofs.lemmas.List.{take_more}
 use Rattle.std.specs.List.{list_any}
 use Rattle.std.specs.Option.{option_map}
 use Rattle.std.specs.Str.{bytes_eq}
-use Rattle.crawl_sources.specs.Tallies.{counted, count_of}
+use Rattle.crawl_sources.specs.Tallies.{counted}
+use Rattle.site_check.specs.Tallies.{count_of}
 use Rattle.crawl_sources.proofs.Counts.{link_more}
 use Rattle.site_check.proofs.linked.count_links.Goals as goal
 

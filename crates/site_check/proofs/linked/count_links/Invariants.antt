@@ -2,7 +2,8 @@ use Rattle.std.proofs.Common.{◌≡◌, ℕ, List, take, if◌then◌else◌}
 use Rattle.std.specs.List.{list_any}
 use Rattle.std.specs.Option.{option_map}
 use Rattle.std.specs.Str.{bytes_eq}
-use Rattle.crawl_sources.specs.Tallies.{counted, count_of}
+use Rattle.crawl_sources.specs.Tallies.{counted}
+use Rattle.site_check.specs.Tallies.{count_of}
 use Rattle.site_check.proofs.linked.count_links.Given as goal
 
 abbrev pub invariant-loop-link : goal.invariant-loop-link

@@ -3,7 +3,8 @@ use Rattle.std.proofs.lemmas.List.{take_more, length-take-le}
 use Rattle.std.specs.List.{list_any}
 use Rattle.std.specs.Str.{bytes_eq}
 use Rattle.crawl_web.specs.declared.page.PageResult.{PageResult}
-use Rattle.crawl_sources.specs.Tallies.{counted, count_of, IsTally}
+use Rattle.crawl_sources.specs.Tallies.{counted, IsTally}
+use Rattle.site_check.specs.Tallies.{count_of}
 use Rattle.crawl_sources.proofs.Counts.{tally_more, kept_some}
 use Rattle.site_check.proofs.linked.count_results.Goals as goal
 

@@ -1,5 +1,6 @@
 use Rattle.std.proofs.Common.{◌≡◌, ℕ, List, [], take, IsSome}
-use Rattle.crawl_sources.specs.Tallies.{count_of, IsTally}
+use Rattle.crawl_sources.specs.Tallies.{IsTally}
+use Rattle.site_check.specs.Tallies.{count_of}
 use Rattle.site_check.proofs.linked.count_results.Given as goal
 
 abbrev pub invariant-loop-one : goal.invariant-loop-one

@@ -2,7 +2,8 @@ use Rattle.std.proofs.Common.{◌≡◌, ℕ, List, take, Some, None, if◌then�
 use Rattle.std.specs.List.{list_any}
 use Rattle.std.specs.Str.{bytes_eq}
 use Rattle.crawl_web.specs.declared.page.PageResult.{PageResult}
-use Rattle.crawl_sources.specs.Tallies.{pointed, count_of, none_counted}
+use Rattle.crawl_sources.specs.Tallies.{pointed, none_counted}
+use Rattle.site_check.specs.Tallies.{count_of}
 use Rattle.site_check.proofs.linked.no_tallies.Given as goal
 
 abbrev pub invariant-loop-one : goal.invariant-loop-one

@@ -1,0 +1,55 @@
+//! Where the links of a document stand that a crawl of its saved web follows.
+use crate::base_href::{base_of, resolved};
+use crate::cleaning::{is_web, names_host, scheme_of};
+use crawl_keys::{Base, CanonUrl};
+use std::alloc::{AllocError, Global};
+
+/// The indices of links whose lines lead to a canonical URL, in order.
+#[derive(Drop)]
+pub(crate) struct Indices {
+    alloc: Global,
+    /// The page's own URL, against which a line is resolved.
+    page: Base,
+    /// The index of the link whose line comes next.
+    index: usize,
+    kept: Vec<usize>,
+}
+
+impl Indices {
+    /// None yet, of the page at a URL.
+    pub(crate) fn new(alloc: Global, url: &CanonUrl) -> Result<Indices, AllocError> {
+        Ok(Indices {
+            alloc,
+            page: base_of(alloc, url)?,
+            index: 0,
+            kept: Vec::new(alloc),
+        })
+    }
+
+    /// The next link stands at this index.
+    pub(crate) fn begin_at(&mut self, index: usize) {
+        self.index = index;
+    }
+
+    /// Keeps the index of the link with this text in its line, where that leads to a canonical URL.
+    pub(crate) fn push(&mut self, text: &[u8]) -> Result<(), AllocError> {
+        if self.has_url(text)? {
+            self.kept.push(self.index)?;
+        }
+        Ok(())
+    }
+
+    /// A text without a scheme and a host always leads to one.
+    fn has_url(&self, text: &[u8]) -> Result<bool, AllocError> {
+        match scheme_of(text) {
+            None if !names_host(text) => Ok(true),
+            scheme if is_web(scheme) => Ok(resolved(self.alloc, &self.page, text)?.is_some()),
+            _ => Ok(false),
+        }
+    }
+
+    pub(crate) fn into_list(self) -> Vec<usize> {
+        let Indices { kept, .. } = self;
+        kept
+    }
+}
