@@ -40,7 +40,7 @@ pub enum Mode {
 pub struct Crawled {
     /// The pages of all URLs that can be reached, in ascending order of the bytes of their URLs, each URL once.
     pub result: CrawlResult,
-    /// How many of these URLs belong to each subqueue, by its place.
+    /// How many of these URLs belong to each subqueue, by its number.
     pub counts: Vec<u64>,
 }
 

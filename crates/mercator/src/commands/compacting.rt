@@ -78,7 +78,7 @@ fn compact_to<F: Read + Seek, O: Write>(
     compact_lines(alloc, session, &mut log.file, ends, out)
 }
 
-/// Gives the session the lines between these places of the file, and writes those that are needed.
+/// Gives the session the lines between these positions of the file, and writes those that are needed.
 fn compact_lines<F: Read + Seek, O: Write>(
     alloc: Global,
     session: &mut Session,
@@ -117,7 +117,7 @@ fn compact_by<F: Read + Seek, O: Write>(
     Err(Fault::Log(LogFault::CannotRead))
 }
 
-/// Reads whole lines from this place of the file, and answers how many bytes they have.
+/// Reads whole lines from this position of the file, and answers how many bytes they have.
 fn read_lines<F: Read + Seek>(
     file: &mut F,
     buffer: &mut [u8],

@@ -26,7 +26,7 @@ use std::thread::Threads;
 pub struct Report {
     /// The report, by the format of [`report_text`].
     pub text: Vec<u8>,
-    /// How many of its URLs belong to each subqueue, by its place.
+    /// How many of its URLs belong to each subqueue, by its number.
     pub counts: Vec<u64>,
 }
 

@@ -1,4 +1,4 @@
-//! Words as `clap` reads them: options in every place, and the defaults, which no run tells.
+//! Words as `clap` reads them: options in every position, and the defaults, which no run tells.
 use crate::tests::runs::words;
 use mercator::{CrawlOptions, LogPlan, Plan, SessionPlan, plan};
 use std::alloc::{AllocError, Global};
