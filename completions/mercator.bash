@@ -14,7 +14,7 @@ _mercator() {
         ;;
     site) options="--exact --queries --help" ;;
     crawl)
-        options="--workers --max-pending --queues --sources --all-sources --moved --unreached --json --explain --within --seeds --help"
+        options="--workers --max-pending --queues --sources --all-sources --moved --unreached --json --explain --progress --within --seeds --help"
         ;;
     key) options="--workers --help" ;;
     replay) options="--help" ;;

@@ -126,6 +126,17 @@ else
     echo "not shown, because the user cannot be changed here: how many threads a crawl has, and its end where one cannot be started"
 fi
 
+(echo savedweb 1; paste -d '\n' <(seq -f 'page http://a.test/%.0f' 0 2999) <(seq -f 'link %.0f' 3000)) > "$scratch/row.web"
+run crawl "$scratch/row.web" http://a.test/0
+mv "$scratch/out" "$scratch/row.report"
+run crawl --progress --workers 1 "$scratch/row.web" http://a.test/0
+expect "progress" 0 "@$scratch/row.report" "~mercator: 64 pages, "
+
+got=0
+"$program" crawl --progress "$scratch/row.web" http://a.test/0 > "$scratch/out" 2> /dev/full || got=$?
+: > "$scratch/err"
+expect "progress that a full device refuses" 0 "@$scratch/row.report" ""
+
 run crawl --sources --within site.test "$data/site.web" http://site.test/
 expect "the sources of missing URLs" 0 "@$data/site.broken" ""
 

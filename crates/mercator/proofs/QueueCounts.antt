@@ -7,7 +7,7 @@ use Rattle.std.specs.List.{enumerate_from, flat_map}
 use Rattle.mercator.specs.Crawls.{AreCounts}
 use Rattle.mercator.specs.QueueLines.{queue_line}
 
--- the lines of counts whose first place is this one
+-- the lines of counts whose first number is this one
 abbrev pub lines_from : ℕ → List ℕ → List ℕ
 lines_from at counts = flat_map (λ (x : ℕ × ℕ). queue_line x.0 x.1) (enumerate_from at counts)
 

@@ -7,28 +7,28 @@ use Rattle.crawl_keys.specs.declared.error.KeyError.TheVariants as key
 use Rattle.mercator.specs.Faults.{of_seed}
 use Rattle.mercator.specs.WebCrawl.{AreSeeds, IsFirstBadSeed, IsSeedFault}
 
-split_at : {S : Type 0} (xs : List S) (place : ℕ) (one : S) → place < length xs → one ≡ get_or xs place one → xs ≡ take place xs ++ one ∷ drop (place + 1) xs
-split_at xs place one within is =
-    let front = take-append-drop place xs in
-    let rest : drop place xs ≡ one ∷ drop (place + 1) xs = rw add-one (drop-cons xs place one within ∙ ap (λ x. x ∷ drop (suc place) xs) (sym is)) in
-    sym front ∙ ap (λ ys. take place xs ++ ys) rest
+split_at : {S : Type 0} (xs : List S) (index : ℕ) (one : S) → index < length xs → one ≡ get_or xs index one → xs ≡ take index xs ++ one ∷ drop (index + 1) xs
+split_at xs index one within is =
+    let front = take-append-drop index xs in
+    let rest : drop index xs ≡ one ∷ drop (index + 1) xs = rw add-one (drop-cons xs index one within ∙ ap (λ x. x ∷ drop (suc index) xs) (sym is)) in
+    sym front ∙ ap (λ ys. take index xs ++ ys) rest
 
-bad_at : {S : Type 0} (text : S → List ℕ) (texts : List S) (place : ℕ) (one : S) (seeds : List (List ℕ)) (refusal : KeyError) → place < length texts → one ≡ get_or texts place one → AreSeeds (map text (take place texts)) seeds → canonical (text one) ≡ Err refusal → IsFirstBadSeed (map text texts) (place + 1) refusal
-bad_at text texts place one seeds refusal within is named refused = record {
-  front = map text (take place texts);
+bad_at : {S : Type 0} (text : S → List ℕ) (texts : List S) (index : ℕ) (one : S) (seeds : List (List ℕ)) (refusal : KeyError) → index < length texts → one ≡ get_or texts index one → AreSeeds (map text (take index texts)) seeds → canonical (text one) ≡ Err refusal → IsFirstBadSeed (map text texts) (index + 1) refusal
+bad_at text texts index one seeds refusal within is named refused = record {
+  front = map text (take index texts);
   text = text one;
-  rest = map text (drop (place + 1) texts);
-  split = ap (map text) (split_at texts place one within is) ∙ map-append text (take place texts) (one ∷ drop (place + 1) texts);
-  counted = rw (length-map (take place texts) text, length-take-le place texts (omega arith)) refl;
+  rest = map text (drop (index + 1) texts);
+  split = ap (map text) (split_at texts index one within is) ∙ map-append text (take index texts) (one ∷ drop (index + 1) texts);
+  counted = rw (length-map (take index texts) text, length-take-le index texts (omega arith)) refl;
   seeds = seeds;
   named = named;
   refused = refused;
 }
 
 -- its fault, want of memory aside
-pub seed_fault : {S : Type 0} (text : S → List ℕ) (texts : List S) (place : ℕ) (one : S) (seeds : List (List ℕ)) (refusal : KeyError) → place < length texts → one ≡ get_or texts place one → AreSeeds (map text (take place texts)) seeds → (canonical (text one) ≡ Err refusal) ⊎ (refusal ≡ key.NoMemory) → IsSeedFault (map text texts) (of_seed (place + 1) refusal)
-seed_fault text texts place one seeds key.NoMemory within is named why = tt
-seed_fault text texts place one seeds key.NotUrl within is named (inl refused) = bad_at text texts place one seeds key.NotUrl within is named refused
-seed_fault text texts place one seeds key.NotUrl within is named (inr memory) = absurd (cc)
-seed_fault text texts place one seeds key.NotHttp within is named (inl refused) = bad_at text texts place one seeds key.NotHttp within is named refused
-seed_fault text texts place one seeds key.NotHttp within is named (inr memory) = absurd (cc)
+pub seed_fault : {S : Type 0} (text : S → List ℕ) (texts : List S) (index : ℕ) (one : S) (seeds : List (List ℕ)) (refusal : KeyError) → index < length texts → one ≡ get_or texts index one → AreSeeds (map text (take index texts)) seeds → (canonical (text one) ≡ Err refusal) ⊎ (refusal ≡ key.NoMemory) → IsSeedFault (map text texts) (of_seed (index + 1) refusal)
+seed_fault text texts index one seeds key.NoMemory within is named why = tt
+seed_fault text texts index one seeds key.NotUrl within is named (inl refused) = bad_at text texts index one seeds key.NotUrl within is named refused
+seed_fault text texts index one seeds key.NotUrl within is named (inr memory) = absurd (cc)
+seed_fault text texts index one seeds key.NotHttp within is named (inl refused) = bad_at text texts index one seeds key.NotHttp within is named refused
+seed_fault text texts index one seeds key.NotHttp within is named (inr memory) = absurd (cc)

@@ -82,7 +82,7 @@ named_of bytes listed texts suffixes meaning seeds crawl.NoMemory None sound sam
 pub unread_named : (bytes listed : List ℕ) (texts suffixes : List (List ℕ)) (fault : Fault) → IsUnread bytes listed texts fault → IsNamedAt bytes listed texts suffixes fault None
 unread_named bytes listed texts suffixes (wrong.Web fault) is = tt
 unread_named bytes listed texts suffixes (wrong.Seeds fault) is = tt
-unread_named bytes listed texts suffixes (wrong.Seed place refusal) is = tt
+unread_named bytes listed texts suffixes (wrong.Seed number refusal) is = tt
 unread_named bytes listed texts suffixes wrong.NoMemory is = tt
 unread_named bytes listed texts suffixes wrong.CannotRead is = tt
 unread_named bytes listed texts suffixes wrong.CannotReadSeeds is = tt

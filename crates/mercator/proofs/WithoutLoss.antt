@@ -68,22 +68,22 @@ accepted_listed workers queues url accepted =
 
 seeds_kept : (workers : ℕ) (allowed : List ℕ → Bool) (seeds : List (List ℕ)) (closed : List WorkerId) (senders : List SenderId) (queues : List (List Entry)) → 0 < workers → Accounts workers closed senders queues → (sender : SenderId) → Contains senders sender → AllLogged workers allowed sender.book.log seeds → AllowedAreIn allowed (entry_urls (entries_in queues)) seeds
 seeds_kept workers allowed seeds closed senders queues some account sender among logged =
-    let place = place_among senders sender among in
+    let index = place_among senders sender among in
     All-weaker (λ (url : List ℕ). IsTrue (allowed url) → HasLine workers sender.book.log url) (λ (url : List ℕ). IsTrue (allowed url) → Contains (entry_urls (entries_in queues)) url)
-    (λ url line may. accepted_listed workers queues url (logged_accepted workers closed senders queues some account sender.book (inr (place.0, sender, place.1, refl)) url (line may)))
+    (λ url line may. accepted_listed workers queues url (logged_accepted workers closed senders queues some account sender.book (inr (index.0, sender, index.1, refl)) url (line may)))
     seeds logged
 
 entry_fetched : (workers : ℕ) (allowed : List ℕ → Bool) (meaning : List ℕ → Page) (shares : List Share) (senders : List SenderId) (queues : List (List Entry)) → Accounts workers (map (λ share. share.now) shares) senders queues → All (IsWithoutLoss workers allowed meaning) shares → (e : Entry) → Contains (entries_in queues) e → Contains (result_urls (flat_map (λ share. share.found) shares)) e.url
 entry_fetched workers allowed meaning shares senders queues account whole e has =
     let closed = map (λ (share : Share). share.now) shares in
     let own = from_flat (λ (queue : List Entry). queue) queues e has in
-    let place = place_among queues own.0 own.1 in
-    let less = subst (λ n. place.0 < n) account.len (slice_get_within queues place.0 own.0 place.1) in
-    let worker = account.worked place.0 less in
+    let queue = place_among queues own.0 own.1 in
+    let less = subst (λ n. queue.0 < n) account.len (slice_get_within queues queue.0 own.0 queue.1) in
+    let worker = account.worked queue.0 less in
     let share = from_map (λ (share : Share). share.now) shares worker.1 (among_at closed worker.0 worker.1 worker.2) in
     let without = All-contains (IsWithoutLoss workers allowed meaning) shares share.0 whole share.1 in
     let taken = account.taken worker.0 worker.1 worker.2 in
-    let same : own.0 ≡ worker.1.taken = same_list own.0 worker.1.taken (sym place.1 ∙ ap (slice_get queues) (sym worker.3) ∙ taken) in
+    let same : own.0 ≡ worker.1.taken = same_list own.0 worker.1.taken (sym queue.1 ∙ ap (slice_get queues) (sym worker.3) ∙ taken) in
     let listed : Contains (entry_urls own.0) e.url = in_map (λ (x : Entry). x.url) own.0 e own.2 in
     let urls : entry_urls own.0 ≡ result_urls share.0.found =
     ap entry_urls (same ∙ ap (λ (w : WorkerId). w.taken) (sym share.2)) ∙ sym (all_taken_found workers allowed meaning share.0.start share.0.now share.0.found without.1 without.0) in
@@ -96,8 +96,8 @@ links_kept workers allowed meaning shares senders queues account whole r has =
     let closed = map (λ (share : Share). share.now) shares in
     let share = from_flat (λ (x : Share). x.found) shares r has in
     let without = All-contains (IsWithoutLoss workers allowed meaning) shares share.0 whole share.1 in
-    let place = place_among closed share.0.now (in_map (λ (x : Share). x.now) shares share.0 share.1) in
-    let all = links_accepted workers allowed meaning closed senders queues account place.0 share.0.start share.0.now share.0.found place.1 without.1 in
+    let index = place_among closed share.0.now (in_map (λ (x : Share). x.now) shares share.0 share.1) in
+    let all = links_accepted workers allowed meaning closed senders queues account index.0 share.0.start share.0.now share.0.found index.1 without.1 in
     let own = All-contains (λ (x : PageResult). AllAccepted workers allowed queues (links_of x.page)) share.0.found r all share.2 in
     All-weaker (λ (url : List ℕ). IsTrue (allowed url) → IsAccepted workers queues url) (λ (url : List ℕ). IsTrue (allowed url) → Contains (entry_urls (entries_in queues)) url)
     (λ url accepted may. accepted_listed workers queues url (accepted may)) (links_of r.page) own

@@ -32,7 +32,7 @@ pub record AreCounts (workers : ℕ) (urls : List (List ℕ)) (counts : List ℕ
   pub len : length counts ≡ workers
   pub each : (queue : ℕ) → queue < workers → slice_get counts queue ≡ Some (count_by (λ url. subqueue_of url workers == queue) urls)
 
--- so many counts, each the number of entries of the account's subqueue at its place
+-- so many counts, each the number of entries of the account's queue with its number
 pub record CountedBelow (some : ℕ) (account : AccountId) (counts : List ℕ) : Type 0 where
   pub len : length counts ≡ some
   pub each : (queue : ℕ) → queue < some → (entries : List Entry) × ((slice_get account.queues queue ≡ Some entries) × (slice_get counts queue ≡ Some (length entries)))

@@ -47,7 +47,7 @@ of_url key.NoMemory = wrong.NoMemory
 of_url refusal = wrong.Url refusal
 
 abbrev pub of_filter : FilterError → Fault
-of_filter (filter.BadSuffix place) = wrong.BadSuffix
+of_filter (filter.BadSuffix index) = wrong.BadSuffix
 of_filter filter.NoMemory = wrong.NoMemory
 
 abbrev pub of_session : ServeError → Fault
@@ -72,5 +72,5 @@ status_of_fault fault = 1
 
 -- the fault of the seed with this number
 abbrev pub of_seed : ℕ → KeyError → Fault
-of_seed place key.NoMemory = wrong.NoMemory
-of_seed place refusal = wrong.Seed place refusal
+of_seed number key.NoMemory = wrong.NoMemory
+of_seed number refusal = wrong.Seed number refusal

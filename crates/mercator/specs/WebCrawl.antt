@@ -56,19 +56,19 @@ pub record IsBegun (bytes listed : List ℕ) (texts : List (List ℕ)) : Type 0 
   pub some : 1 ≤ length seeds
 
 -- the seed with this number, counted from 1, is the first that has no canonical URL, by this refusal
-pub record IsFirstBadSeed (texts : List (List ℕ)) (place : ℕ) (refusal : KeyError) : Type 0 where
+pub record IsFirstBadSeed (texts : List (List ℕ)) (number : ℕ) (refusal : KeyError) : Type 0 where
   pub front : List (List ℕ)
   pub text : List ℕ
   pub rest : List (List ℕ)
   pub split : texts ≡ front ++ text ∷ rest
-  pub counted : place ≡ length front + 1
+  pub counted : number ≡ length front + 1
   pub seeds : List (List ℕ)
   pub named : AreSeeds front seeds
   pub refused : canonical text ≡ Err refusal
 
 -- why seeds are refused: by the first that has no canonical URL, or want of memory
 abbrev pub IsSeedFault : List (List ℕ) → Fault → Type 0
-IsSeedFault texts (wrong.Seed place refusal) = IsFirstBadSeed texts place refusal
+IsSeedFault texts (wrong.Seed number refusal) = IsFirstBadSeed texts number refusal
 IsSeedFault texts wrong.NoMemory = Unit {0}
 IsSeedFault texts _ = ⊥
 
@@ -77,7 +77,7 @@ IsSeedFault texts _ = ⊥
 abbrev pub IsUnread : List ℕ → List ℕ → List (List ℕ) → Fault → Type 0
 IsUnread bytes listed texts (wrong.Web fault) = IsWebFault (lines bytes) fault
 IsUnread bytes listed texts (wrong.Seeds fault) = IsSound (lines bytes) × (seeds_in (lines listed) ≡ Err fault)
-IsUnread bytes listed texts (wrong.Seed place refusal) = IsSound (lines bytes) × IsOk (seeds_in (lines listed)) × IsFirstBadSeed texts place refusal
+IsUnread bytes listed texts (wrong.Seed number refusal) = IsSound (lines bytes) × IsOk (seeds_in (lines listed)) × IsFirstBadSeed texts number refusal
 IsUnread bytes listed texts wrong.NoMemory = Unit {0}
 IsUnread bytes listed texts _ = ⊥
 

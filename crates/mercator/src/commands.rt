@@ -22,6 +22,7 @@ mod input;
 mod log_file;
 mod opening;
 mod planned;
+mod platform;
 mod queues;
 mod resuming;
 mod serving;
@@ -32,13 +33,14 @@ mod window;
 mod words;
 mod writing;
 
+use crate::crawling::{Observe, Unobserved};
 use compacting::compact_log;
 use crawl_keys::CanonUrl;
 pub use fault::Fault;
 pub use input::{INPUT_LIMIT, InputLimits, READ_LIMIT, Unread, read_input};
-use log_file::NoLocks;
-pub use log_file::{LockFile, LogFault};
+pub use log_file::{LockFile, LogFault, NoLocks};
 pub use planned::{CrawlOptions, LogPlan, Plan, SessionPlan};
+pub use platform::Platform;
 pub use queues::queue_text;
 use resuming::serve_log;
 use serving::serve_plan;
@@ -85,17 +87,25 @@ pub fn run_words<R: Files + Threads + Wait + Sync, I: Read, O: Write, E: Write>(
     ensures bad_command { result ≡ 3 → (input.new ≡ input.old) × (out.new ≡ out.old) }
     ensures bad_words { result ≡ 3 → (error : PlanError) × TellsWords error (E.contents err.old) (E.contents err.new) }
 {
-    run_words_with(rt, &NoLocks, alloc, words, input, out, err)
+    run_words_with(&alone(rt), alloc, words, input, out, err)
 }
 
-/// The same, with what locks the files of logs.
+/// The same on a platform, which may lock the files of logs, and have an observer of crawls.
 pub fn run_words_with<
     R: Files + Threads + Wait + Sync,
     L: LockFile<R::File>,
+    V: Observe + Sync,
     I: Read,
     O: Write,
     E: Write,
->(rt: &R, locks: &L, alloc: Global, words: &[String], input: &mut I, out: &mut O, err: &mut E) -> u8
+>(
+    platform: &Platform<'_, R, L, V>,
+    alloc: Global,
+    words: &[String],
+    input: &mut I,
+    out: &mut O,
+    err: &mut E,
+) -> u8
     ensures statuses { result ≤ 3 }
 
     // Done: help is written, or all that the plan within the limits tells which the words are.
@@ -118,7 +128,7 @@ pub fn run_words_with<
     ensures bad_words { result ≡ 3 → (error : PlanError) × TellsWords error (E.contents err.old) (E.contents err.new) }
 {
     match plan(alloc, words) {
-        Ok(plan) => run_plan_with(rt, locks, alloc, &plan, input, out, err),
+        Ok(plan) => run_plan_with(platform, alloc, &plan, input, out, err),
         Err(error) => show(alloc, error, out, err),
     }
 }
@@ -158,17 +168,25 @@ pub fn run_plan<R: Files + Threads + Wait + Sync, I: Read, O: Write, E: Write>(
     ensures unreported { result ≡ 2 → out.new ≡ out.old }
     ensures unread { reads_input plan.now ≡ false → input.new ≡ input.old }
 {
-    run_plan_with(rt, &NoLocks, alloc, plan, input, out, err)
+    run_plan_with(&alone(rt), alloc, plan, input, out, err)
 }
 
-/// The same, with what locks the files of logs.
+/// The same on a platform, which may lock the files of logs, and have an observer of crawls.
 pub fn run_plan_with<
     R: Files + Threads + Wait + Sync,
     L: LockFile<R::File>,
+    V: Observe + Sync,
     I: Read,
     O: Write,
     E: Write,
->(rt: &R, locks: &L, alloc: Global, plan: &Plan, input: &mut I, out: &mut O, err: &mut E) -> u8
+>(
+    platform: &Platform<'_, R, L, V>,
+    alloc: Global,
+    plan: &Plan,
+    input: &mut I,
+    out: &mut O,
+    err: &mut E,
+) -> u8
     requires { IsWithinLimits plan.now }
     ensures statuses { result ≤ 2 }
 
@@ -190,7 +208,7 @@ pub fn run_plan_with<
     ensures unreported { result ≡ 2 → out.new ≡ out.old }
     ensures unread { reads_input plan.now ≡ false → input.new ≡ input.old }
 {
-    let ended = run(rt, locks, alloc, plan, input, out, err);
+    let ended = run(platform, alloc, plan, input, out, err);
     match ended.how {
         Ok(()) => 0,
         Err(fault) => {
@@ -216,10 +234,25 @@ impl Ended {
     }
 }
 
+/// What locks nothing and has no observer.
+fn alone<R>(rt: &R) -> Platform<'_, R, NoLocks, Unobserved> {
+    Platform {
+        rt,
+        locks: &NoLocks,
+        observer: None,
+    }
+}
+
 /// Runs a plan, but for what is told of its fault.
-fn run<R: Files + Threads + Wait + Sync, L: LockFile<R::File>, I: Read, O: Write, E: Write>(
-    rt: &R,
-    locks: &L,
+fn run<
+    R: Files + Threads + Wait + Sync,
+    L: LockFile<R::File>,
+    V: Observe + Sync,
+    I: Read,
+    O: Write,
+    E: Write,
+>(
+    platform: &Platform<'_, R, L, V>,
     alloc: Global,
     plan: &Plan,
     input: &mut I,
@@ -238,11 +271,11 @@ fn run<R: Files + Threads + Wait + Sync, L: LockFile<R::File>, I: Read, O: Write
 {
     match plan {
         Plan::Serve(asked) => Ended::at_none(serve_plan(alloc, asked, input, out)),
-        Plan::ServeLog(asked) => Ended::at_none(serve_log(
-            rt, locks, alloc, asked, input, out, err,
-        )),
-        Plan::Compact { log, new } => Ended::at_none(compact_log(rt, locks, alloc, log, new)),
-        _ => match tell(rt, alloc, plan, input) {
+        Plan::ServeLog(asked) => {
+            Ended::at_none(serve_log(platform, alloc, asked, input, out, err))
+        }
+        Plan::Compact { log, new } => Ended::at_none(compact_log(platform, alloc, log, new)),
+        _ => match tell(platform, alloc, plan, input) {
             Ok(text) => Ended::at_none(end(out, &text)),
             Err(failure) => Ended {
                 how: Err(failure.fault),

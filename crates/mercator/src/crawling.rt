@@ -12,6 +12,7 @@ mod failure;
 mod gather;
 mod named;
 mod settings;
+mod watched;
 
 use crawl_certificate::CrawlResult;
 use crawl_frontier::Setup;
@@ -25,6 +26,7 @@ use std::alloc::Global;
 use std::marker::Brand;
 use std::sync::Wait;
 use std::thread::Threads;
+pub use watched::{Observe, Unobserved, Watched, WatchedSession};
 
 /// How the workers of a crawl run. What a crawl finds does not depend on it.
 #[derive(Clone, Copy, Debug, PartialEq, Eq)]
@@ -40,7 +42,7 @@ pub enum Mode {
 pub struct Crawled {
     /// The pages of all URLs that can be reached, in ascending order of the bytes of their URLs, each URL once.
     pub result: CrawlResult,
-    /// How many of these URLs belong to each subqueue, by its place.
+    /// How many of these URLs belong to each subqueue, by its number.
     pub counts: Vec<u64>,
 }
 
@@ -131,4 +133,27 @@ pub fn crawl_explained<F: SessionFetch + Sync, R: Threads + Wait + Sync>(
         Ok(setup) => crawl_named::<Brand, F, R>(rt, alloc, setup, fetcher, settings, seeds),
         Err(error) => Err(CrawlFailure::from(CrawlError::from(error))),
     }
+}
+
+/// As [`crawl_explained`], and the observer, where there is one, is told how many pages were fetched.
+///
+/// # Errors
+/// Those of [`crawl_explained`].
+pub fn crawl_watched<F: SessionFetch + Sync, V: Observe + Sync, R: Threads + Wait + Sync>(
+    rt: &R,
+    alloc: Global,
+    fetcher: &F,
+    observer: Option<&V>,
+    settings: &CrawlSettings<'_>,
+    seeds: &[CanonUrl],
+) -> Result<Crawled, CrawlFailure>
+    ensures pages { IfOk result (λ crawled. IsCrawl (F.meaning fetcher.now) (allows settings.now.filter.now) seeds.now crawled.result) }
+    ensures counts { IfOk result (λ crawled. AreCounts settings.now.workers (result_urls crawled.result) crawled.counts.items) }
+    ensures numbers { MatchResult result (λ _. IsWorkers settings.now.workers × IsMaximum settings.now.max_pending) (λ failure. CrawlFails settings.now.workers settings.now.max_pending failure.error) }
+    ensures mode { IfErr result (λ failure. ComesIn settings.now.mode failure.error) }
+    // A fault of the certificate is the first one of some entries and of results that have the fetcher's pages, and no lesser URL has it.
+    ensures judged { IfErr result (λ failure. IsJudgedAt (F.meaning fetcher.now) (allows settings.now.filter.now) seeds.now failure.error failure.culprit) }
+{
+    let source = Watched::new(fetcher, observer);
+    crawl_explained(rt, alloc, &source, settings, seeds)
 }

@@ -10,9 +10,9 @@ pub mod laws;
 
 pub use commands::{
     BAD_COMMAND_LINE, CrawlOptions, Fault, INPUT_LIMIT, InputLimits, LockFile, LogFault, LogPlan,
-    Plan, PlanError, READ_LIMIT, Report, SessionPlan, Unread, crawl_saved_web, fault_line, plan,
-    queue_text, read_input, report_of_saved_web, run_plan, run_plan_with, run_words,
-    run_words_with, whole_command,
+    NoLocks, Plan, PlanError, Platform, READ_LIMIT, Report, SessionPlan, Unread, crawl_saved_web,
+    fault_line, plan, queue_text, read_input, report_of_saved_web, run_plan, run_plan_with,
+    run_words, run_words_with, whole_command,
 };
 pub use crawl_certificate::{CertError, CrawlResult, certify};
 pub use crawl_replay::{Script, ScriptError, read_script, replay_text};
@@ -20,6 +20,7 @@ pub use crawl_report::Sources;
 pub use crawl_web::{LINE_LIMIT, SessionFetch};
 pub use crawl_workers::{RunError, WorkerEnd, run_threads, run_turns, run_worker};
 pub use crawling::{
-    CrawlError, CrawlFailure, CrawlSettings, Crawled, Mode, crawl, crawl_explained, crawl_with,
+    CrawlError, CrawlFailure, CrawlSettings, Crawled, Mode, Observe, Unobserved, Watched,
+    WatchedSession, crawl, crawl_explained, crawl_watched, crawl_with,
 };
 pub use key::key_line;

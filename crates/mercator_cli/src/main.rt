@@ -1,8 +1,11 @@
 //! The program `mercator`.
 #![tactic(auto)]
 
-use mercator::{BAD_COMMAND_LINE, Fault, run_words_with};
+mod progress;
+
+use mercator::{BAD_COMMAND_LINE, Fault, Platform, run_words_with};
 use mercator_site::run_site_words;
+use progress::Progress;
 use std::env::VarError;
 use std::io::{ErrorKind, IsTerminal, Write};
 use std::process::ExitCode;
@@ -25,9 +28,14 @@ fn main(rt: HostRuntime) -> ExitCode {
     if let Some(status) = folder {
         return ExitCode::from(status);
     }
+    let progress = Progress::new(&rt);
+    let platform = Platform {
+        rt: &rt,
+        locks: &rt,
+        observer: Some(&progress),
+    };
     ExitCode::from(run_words_with(
-        &rt,
-        &rt,
+        &platform,
         rt.alloc(),
         &words,
         &mut rt.reader(),

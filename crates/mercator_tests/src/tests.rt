@@ -8,4 +8,5 @@ mod rows;
 mod runs;
 mod sources;
 mod threads;
+mod watched;
 mod webs;

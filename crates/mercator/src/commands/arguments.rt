@@ -20,7 +20,7 @@ pub fn option<'a>(alloc: Global, name: &'a str, value: &'a str, help: &'a str) -
         .help(help)
 }
 
-/// A word by its place, which may be left out.
+/// A word by its position, which may be left out.
 pub fn word<'a>(alloc: Global, name: &'a str, value: &'a str, help: &'a str) -> Arg<'a> {
     Arg::new(alloc, name).value_name(value).help(help)
 }

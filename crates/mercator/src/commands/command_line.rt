@@ -121,6 +121,11 @@ fn crawl_parts<'a>(alloc: Global) -> Result<Vec<Arg<'a>>, AllocError> {
             "explain",
             "Where the crawl is incomplete, also tells the first URL at fault",
         ),
+        flag(
+            alloc,
+            "progress",
+            "Tells on standard error how many pages were fetched, at most once a second",
+        ),
     ]?)
 }
 

@@ -12,6 +12,7 @@ use crate::commands::fault::Fault;
 use crate::commands::log_file::{LockFile, LogFault};
 use crate::commands::opening::{OpenedLog, open_log};
 use crate::commands::planned::LogPlan;
+use crate::commands::platform::Platform;
 use crate::commands::serving::session_of;
 use crate::commands::tell::filter_of;
 use crate::commands::window::READ_SIZE;
@@ -24,9 +25,8 @@ use std::io::{self, Read, Seek, SeekFrom, Write};
 ///
 /// # Errors
 /// `BadSuffix`; `Log`, where the log is at fault, or the new file is there or cannot be written; `NoMemory`.
-pub fn compact_log<R: Files, L: LockFile<R::File>>(
-    rt: &R,
-    locks: &L,
+pub fn compact_log<R: Files, L: LockFile<R::File>, V>(
+    platform: &Platform<'_, R, L, V>,
     alloc: Global,
     asked: &LogPlan,
     new: &String,
@@ -38,15 +38,15 @@ pub fn compact_log<R: Files, L: LockFile<R::File>>(
     ensures plain { IfErr result (λ fault. status_of_fault fault ≡ 1) }
 {
     let filter = filter_of(alloc, &asked.session.within)?;
-    let mut log = open_log(rt, locks, alloc, asked, false)?;
+    let mut log = open_log(platform, alloc, asked, false)?;
     let mut session = session_of(alloc, &asked.session, filter, log.identity.as_str())?;
-    let Ok(mut file) = File::create_new(rt, new.as_str()) else {
+    let Ok(mut file) = File::create_new(platform.rt, new.as_str()) else {
         return Err(Fault::Log(LogFault::CannotMakeNew));
     };
     let written = compact_to(alloc, &mut session, &mut log, &mut file);
     let synced = file.sync_all();
     if written.is_err() || synced.is_err() {
-        let _ = fs::remove_file(rt, new.as_str());
+        let _ = fs::remove_file(platform.rt, new.as_str());
     }
     finish(written, synced)
 }
@@ -78,7 +78,7 @@ fn compact_to<F: Read + Seek, O: Write>(
     compact_lines(alloc, session, &mut log.file, ends, out)
 }
 
-/// Gives the session the lines between these places of the file, and writes those that are needed.
+/// Gives the session the lines between these positions of the file, and writes those that are needed.
 fn compact_lines<F: Read + Seek, O: Write>(
     alloc: Global,
     session: &mut Session,
@@ -117,7 +117,7 @@ fn compact_by<F: Read + Seek, O: Write>(
     Err(Fault::Log(LogFault::CannotRead))
 }
 
-/// Reads whole lines from this place of the file, and answers how many bytes they have.
+/// Reads whole lines from this position of the file, and answers how many bytes they have.
 fn read_lines<F: Read + Seek>(
     file: &mut F,
     buffer: &mut [u8],

@@ -57,12 +57,12 @@ impl Fault {
     }
 
     /// The fault of the seed with this number that was refused so.
-    pub fn of_seed(place: usize, refusal: KeyError) -> Fault
-        ensures { result ≡ spec.of_seed place refusal }
+    pub fn of_seed(number: usize, refusal: KeyError) -> Fault
+        ensures { result ≡ spec.of_seed number refusal }
     {
         match refusal {
             KeyError::NoMemory => Fault::NoMemory,
-            KeyError::NotUrl | KeyError::NotHttp => Fault::Seed(place, refusal),
+            KeyError::NotUrl | KeyError::NotHttp => Fault::Seed(number, refusal),
         }
     }
 

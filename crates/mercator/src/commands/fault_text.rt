@@ -35,7 +35,7 @@ impl fmt::Display for FaultText<'_> {
             Fault::NoMemory => f.write_str("out of memory"),
             Fault::BadSuffix => f.write_str("bad suffix"),
             Fault::Url(why) => write!(f, "URL: {why}"),
-            Fault::Seed(place, why) => write!(f, "seed {place}: {why}"),
+            Fault::Seed(number, why) => write!(f, "seed {number}: {why}"),
             Fault::Seeds(fault) => {
                 let words = seeds_words(fault);
                 write!(f, "seeds: {words}")

@@ -5,6 +5,7 @@ ghost use Rattle.mercator.specs.LogFile.{IsLogFault};
 use crate::commands::fault::Fault;
 use crate::commands::log_file::{LockFile, LogFault};
 use crate::commands::planned::LogPlan;
+use crate::commands::platform::Platform;
 use crate::commands::window::READ_SIZE;
 use crawl_replay::Header;
 use crawl_session::{settings_line, start_text, whole_len};
@@ -34,18 +35,17 @@ pub struct OpenedLog<F> {
 ///
 /// # Errors
 /// `CannotOpen`, `InUse`; `OtherSettings` where it begins otherwise; `CannotRead`; `NoMemory`.
-pub fn open_log<R: Files, L: LockFile<R::File>>(
-    rt: &R,
-    locks: &L,
+pub fn open_log<R: Files, L: LockFile<R::File>, V>(
+    platform: &Platform<'_, R, L, V>,
     alloc: Global,
     asked: &LogPlan,
     makes: bool,
 ) -> Result<OpenedLog<R::File>, Fault>
     ensures { IfErr result IsLogFault }
 {
-    let mut file = open_file(rt, locks, asked.file.as_str(), makes)?;
+    let mut file = open_file(platform, asked.file.as_str(), makes)?;
     let identity = match asked.session.part {
-        Some(part) => identity_of(rt, alloc, part, &mut file)?,
+        Some(part) => identity_of(platform.rt, alloc, part, &mut file)?,
         None => String::new(alloc),
     };
     let first = first_line_of(alloc, asked, identity.as_str())?;
@@ -60,9 +60,8 @@ pub fn open_log<R: Files, L: LockFile<R::File>>(
 }
 
 /// The file, locked.
-fn open_file<R: Files, L: LockFile<R::File>>(
-    rt: &R,
-    locks: &L,
+fn open_file<R: Files, L: LockFile<R::File>, V>(
+    platform: &Platform<'_, R, L, V>,
     name: &str,
     makes: bool,
 ) -> Result<R::File, LogFault> {
@@ -70,11 +69,11 @@ fn open_file<R: Files, L: LockFile<R::File>>(
         .read(true)
         .append(makes)
         .create(makes)
-        .open(rt, name);
+        .open(platform.rt, name);
     let Ok(file) = opened else {
         return Err(LogFault::CannotOpen);
     };
-    match locks.try_lock(&file) {
+    match platform.locks.try_lock(&file) {
         Ok(true) => Ok(file),
         Ok(false) => Err(LogFault::InUse),
         Err(_) => Err(LogFault::CannotOpen),

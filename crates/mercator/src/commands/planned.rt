@@ -66,6 +66,8 @@ pub struct CrawlOptions {
     pub json: bool,
     /// Whether it tells at which URL it is incomplete.
     pub explain: bool,
+    /// Whether it tells how far it is while it runs.
+    pub progress: bool,
 }
 
 /// A session.

@@ -4,7 +4,7 @@ ghost use Rattle.mercator.specs.QueueLines.{queue_line, queue_lines};
 
 use std::alloc::{AllocError, Global};
 
-/// A line `queue Q COUNT` for each count in order, Q its place from 0, each ended by LF.
+/// A line `queue Q COUNT` for each count in order, Q its number from 0, each ended by LF.
 pub fn queue_text(alloc: Global, counts: &[u64]) -> Result<Vec<u8>, AllocError>
     ensures { IfOk result (λ text. text.items ≡ queue_lines counts.now) }
 {

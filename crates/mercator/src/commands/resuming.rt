@@ -15,6 +15,7 @@ use crate::commands::fault::Fault;
 use crate::commands::log_file::{LockFile, Log, LogFault, LoggedInput};
 use crate::commands::opening::{OpenedLog, open_log};
 use crate::commands::planned::LogPlan;
+use crate::commands::platform::Platform;
 use crate::commands::serving::session_of;
 use crate::commands::tell::filter_of;
 use crate::commands::writing::begin;
@@ -28,9 +29,8 @@ use std::io::{self, Read, Seek, SeekFrom, Write};
 /// # Errors
 /// `BadSuffix`; `Log`, which leaves the log as it was; `CannotRead` and `CannotWrite`, which leave what was answered before
 /// written; `NoMemory`.
-pub fn serve_log<R: Files, L: LockFile<R::File>, I: Read, O: Write, E: Write>(
-    rt: &R,
-    locks: &L,
+pub fn serve_log<R: Files, L: LockFile<R::File>, V, I: Read, O: Write, E: Write>(
+    platform: &Platform<'_, R, L, V>,
     alloc: Global,
     asked: &LogPlan,
     input: &mut I,
@@ -46,7 +46,7 @@ pub fn serve_log<R: Files, L: LockFile<R::File>, I: Read, O: Write, E: Write>(
     ensures noted { Begins (E.contents err.old) (E.contents err.new) (torn_line (string_bytes asked.now.file)) }
 {
     let filter = filter_of(alloc, &asked.session.within)?;
-    let opened = open_log(rt, locks, alloc, asked, true)?;
+    let opened = open_log(platform, alloc, asked, true)?;
     let mut session = session_of(alloc, &asked.session, filter, opened.identity.as_str())?;
     let log = resume(alloc, asked, opened, &mut session, err)?;
     let syncs = asked.session.part.is_some();

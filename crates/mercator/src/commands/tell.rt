@@ -15,9 +15,10 @@ use crate::commands::crawl_text::crawl_text;
 use crate::commands::failure::Failure;
 use crate::commands::fault::Fault;
 use crate::commands::planned::{CrawlOptions, Plan};
+use crate::commands::platform::Platform;
 use crate::commands::source::read_file;
 use crate::commands::web_crawl::crawl_with_web;
-use crate::crawling::{CrawlSettings, Crawled, Mode};
+use crate::crawling::{CrawlSettings, Crawled, Mode, Observe};
 use crate::key::key_line;
 use crawl_keys::{Filter, FilterError};
 use crawl_replay::replay_text;
@@ -34,8 +35,8 @@ use std::thread::Threads;
 /// # Errors
 /// `BadSuffix`; `CannotRead`; `CannotReadSeeds`; the faults of the script, of the saved web, of the file of seeds, of the first bad
 /// seed; `NoSeed`; those of an incomplete crawl, or of the URL; `NoMemory`.
-pub fn tell<R: Files + Threads + Wait + Sync, I: Read>(
-    rt: &R,
+pub fn tell<R: Files + Threads + Wait + Sync, L, V: Observe + Sync, I: Read>(
+    platform: &Platform<'_, R, L, V>,
     alloc: Global,
     plan: &Plan,
     input: &mut I,
@@ -48,7 +49,7 @@ pub fn tell<R: Files + Threads + Wait + Sync, I: Read>(
     ensures unread { reads_input plan.now ≡ false → input.new ≡ input.old }
 {
     match plan {
-        Plan::Replay { file } => Ok(tell_replay(rt, alloc, file, input)?),
+        Plan::Replay { file } => Ok(tell_replay(platform.rt, alloc, file, input)?),
         Plan::Crawl {
             workers,
             max,
@@ -66,7 +67,8 @@ pub fn tell<R: Files + Threads + Wait + Sync, I: Read>(
                 seeds,
                 within,
             };
-            let found = crawl_files(rt, alloc, &asked, input)?;
+            let watching = platform.watching(options.progress);
+            let found = crawl_files(&watching, alloc, &asked, input)?;
             let text = text_of(alloc, &found, *queues, options)?;
             // The process ends soon, and gives it back at once.
             forget(found);
@@ -121,8 +123,8 @@ struct WebFound {
 }
 
 /// What a crawl of its files finds.
-fn crawl_files<R: Files + Threads + Wait + Sync, I: Read>(
-    rt: &R,
+fn crawl_files<R: Files + Threads + Wait + Sync, L, V: Observe + Sync, I: Read>(
+    platform: &Platform<'_, R, L, V>,
     alloc: Global,
     asked: &AskedCrawl<'_>,
     input: &mut I,
@@ -135,8 +137,8 @@ fn crawl_files<R: Files + Threads + Wait + Sync, I: Read>(
     ensures unfiltered { is_bad_suffix asked.now.within.now ≡ true → input.new ≡ input.old }
     ensures unread { (is_input asked.now.file.now || lists_input asked.now.listed.now) ≡ false → input.new ≡ input.old }
 {
-    let inputs = read_inputs(rt, alloc, asked, input)?;
-    crawl_inputs(rt, alloc, asked, inputs)
+    let inputs = read_inputs(platform.rt, alloc, asked, input)?;
+    crawl_inputs(platform, alloc, asked, inputs)
 }
 
 /// Reads the suffix of a crawl, then its web, then its file of seeds.
@@ -165,8 +167,8 @@ fn read_inputs<R: Files, I: Read>(
 }
 
 /// What a crawl of these inputs finds.
-fn crawl_inputs<R: Threads + Wait + Sync>(
-    rt: &R,
+fn crawl_inputs<R: Threads + Wait + Sync, L, V: Observe + Sync>(
+    platform: &Platform<'_, R, L, V>,
     alloc: Global,
     asked: &AskedCrawl<'_>,
     inputs: Inputs,
@@ -188,7 +190,7 @@ fn crawl_inputs<R: Threads + Wait + Sync>(
         mode: Mode::Threads,
         filter: &filter,
     };
-    let (web, crawled) = crawl_with_web(rt, alloc, &bytes, &list, asked.seeds, &settings)?;
+    let (web, crawled) = crawl_with_web(platform, alloc, &bytes, &list, asked.seeds, &settings)?;
     // As the pages, by `tell`.
     forget(web);
     Ok(WebFound {

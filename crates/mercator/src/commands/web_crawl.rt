@@ -13,7 +13,8 @@ ghost use Rattle.mercator.specs.WebCrawl.{AreAllSeeds, AreSeeds, ComesOf, IsBegu
 
 use crate::commands::failure::Failure;
 use crate::commands::fault::Fault;
-use crate::crawling::{CrawlSettings, Crawled, Mode, crawl_explained, crawl_with};
+use crate::commands::platform::Platform;
+use crate::crawling::{CrawlSettings, Crawled, Mode, Observe, crawl_watched, crawl_with};
 use crawl_keys::{CanonUrl, canonical};
 use crawl_sources::read_seeds;
 use crawl_web::{SavedWeb, WebError, report_text};
@@ -26,7 +27,7 @@ use std::thread::Threads;
 pub struct Report {
     /// The report, by the format of [`report_text`].
     pub text: Vec<u8>,
-    /// How many of its URLs belong to each subqueue, by its place.
+    /// How many of its URLs belong to each subqueue, by its number.
     pub counts: Vec<u64>,
 }
 
@@ -84,12 +85,12 @@ pub fn crawl_saved_web<R: Threads + Wait + Sync>(
     Ok(found)
 }
 
-/// As [`crawl_saved_web`], and the web that was crawled, from one seed at least.
+/// As [`crawl_saved_web`], and the web that was crawled, from one seed at least. The platform's observer is told of it.
 ///
 /// # Errors
 /// `NoSeed` behind those of web and seeds; else those of [`crawl_saved_web`].
-pub(in crate::commands) fn crawl_with_web<'a, R: Threads + Wait + Sync>(
-    rt: &R,
+pub(in crate::commands) fn crawl_with_web<'a, R: Threads + Wait + Sync, L, V: Observe + Sync>(
+    platform: &Platform<'_, R, L, V>,
     alloc: Global,
     bytes: &'a [u8],
     listed: &[u8],
@@ -101,11 +102,12 @@ pub(in crate::commands) fn crawl_with_web<'a, R: Threads + Wait + Sync>(
     ensures refused { IfErr result (λ failure. IsUnbegun settings.now.workers settings.now.max_pending bytes.now listed.now (map string_bytes seeds.now) failure.fault) }
     ensures named { IfErr result (λ failure. IsNamedAt bytes.now listed.now (map string_bytes seeds.now) settings.now.filter.now failure.fault failure.culprit) }
 {
+    let rt = platform.rt;
     let (web, urls) = read_site(rt, alloc, settings, bytes, listed, seeds)?;
     if urls.is_empty() {
         return Err(Failure::from(Fault::NoSeed));
     }
-    let found = crawl_explained(rt, alloc, &web, settings, &urls)?;
+    let found = crawl_watched(rt, alloc, &web, platform.observer, settings, &urls)?;
     Ok((web, found))
 }
 

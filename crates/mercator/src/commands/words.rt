@@ -174,6 +174,7 @@ fn options_of(found: &ArgMatches<'_>, listed: Option<String>) -> CrawlOptions
         unreached: found.get_flag("unreached"),
         json: found.get_flag("json"),
         explain: found.get_flag("explain"),
+        progress: found.get_flag("progress"),
     }
 }
 

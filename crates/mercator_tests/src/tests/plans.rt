@@ -1,59 +1,63 @@
-//! Words as `clap` reads them: options in every place, and the defaults, which no run tells.
+//! Words as `clap` reads them: options in every position, and the defaults, which no run tells.
 use crate::tests::runs::words;
 use mercator::{CrawlOptions, LogPlan, Plan, SessionPlan, plan};
 use std::alloc::{AllocError, Global};
 
 /// Words, and all of their plan: workers, maximum, queues, sources, suffix, FILE, file of seeds, seeds, and whether moved and unreached
-/// pages are told, and JSON; or which part, the log, whether
+/// pages are told, JSON, the URL at fault and progress; or which part, the log, whether
 /// it is synced, and the new one.
-const ROWS: [(&str, &str); 23] = [
+const ROWS: [(&str, &str); 24] = [
     (
         "crawl - x",
-        "crawl 4 1048576 false None None - None [\"x\"] false false false false",
+        "crawl 4 1048576 false None None - None [\"x\"] false false false false false",
     ),
     (
         "crawl w.web x y",
-        "crawl 4 1048576 false None None w.web None [\"x\", \"y\"] false false false false",
+        "crawl 4 1048576 false None None w.web None [\"x\", \"y\"] false false false false false",
     ),
     (
         "crawl --workers 2 --max-pending 7 --queues --within b.test --seeds l - x y",
-        "crawl 2 7 true None Some(\"b.test\") - Some(\"l\") [\"x\", \"y\"] false false false false",
+        "crawl 2 7 true None Some(\"b.test\") - Some(\"l\") [\"x\", \"y\"] false false false false false",
     ),
     (
         "crawl - --workers=2 x --queues y --max-pending=7 --seeds=l --within=b.test",
-        "crawl 2 7 true None Some(\"b.test\") - Some(\"l\") [\"x\", \"y\"] false false false false",
+        "crawl 2 7 true None Some(\"b.test\") - Some(\"l\") [\"x\", \"y\"] false false false false false",
     ),
     (
         "crawl --workers +2 - --max-pending 007 --sources x",
-        "crawl 2 7 false First None - None [\"x\"] false false false false",
+        "crawl 2 7 false First None - None [\"x\"] false false false false false",
     ),
     (
         "crawl --workers 512 --max-pending 1099511627776 - x",
-        "crawl 512 1099511627776 false None None - None [\"x\"] false false false false",
+        "crawl 512 1099511627776 false None None - None [\"x\"] false false false false false",
     ),
     (
         "crawl --workers 1 --max-pending 1 --seeds - w.web",
-        "crawl 1 1 false None None w.web Some(\"-\") [] false false false false",
+        "crawl 1 1 false None None w.web Some(\"-\") [] false false false false false",
     ),
     (
         "crawl -- - --workers 2",
-        "crawl 4 1048576 false None None - None [\"--workers\", \"2\"] false false false false",
+        "crawl 4 1048576 false None None - None [\"--workers\", \"2\"] false false false false false",
     ),
     (
         "crawl --sources --all-sources --json - x",
-        "crawl 4 1048576 false All None - None [\"x\"] false false true false",
+        "crawl 4 1048576 false All None - None [\"x\"] false false true false false",
     ),
     (
         "crawl --all-sources --moved - x",
-        "crawl 4 1048576 false All None - None [\"x\"] true false false false",
+        "crawl 4 1048576 false All None - None [\"x\"] true false false false false",
     ),
     (
         "crawl - x --unreached",
-        "crawl 4 1048576 false None None - None [\"x\"] false true false false",
+        "crawl 4 1048576 false None None - None [\"x\"] false true false false false",
+    ),
+    (
+        "crawl --progress - x",
+        "crawl 4 1048576 false None None - None [\"x\"] false false false false true",
     ),
     (
         "crawl --explain - x",
-        "crawl 4 1048576 false None None - None [\"x\"] false false false true",
+        "crawl 4 1048576 false None None - None [\"x\"] false false false true false",
     ),
     ("key x", "key x 4"),
     ("key --workers=512 x", "key x 512"),
@@ -120,7 +124,9 @@ fn plan_line(alloc: Global, plan: &Plan) -> Result<String, AllocError> {
 fn push_parts(line: &mut String, options: &CrawlOptions) -> Result<(), AllocError> {
     let (moved, unreached) = (options.moved, options.unreached);
     let (json, explain) = (options.json, options.explain);
+    let progress = options.progress;
     write!(line, " {moved} {unreached} {json} {explain}")?;
+    write!(line, " {progress}")?;
     Ok(())
 }
 

@@ -55,5 +55,11 @@ returns-in_err-logged-clause-unread g c = λ bad. absurd (true≢false (sym bad 
 pub returns-in-Ok-clause-refused : goal.returns-in-Ok-clause-refused
 returns-in-Ok-clause-refused g c = λ bad. absurd (true≢false (sym bad ∙ (filter_is c.args.asked.now.session.within _ c.in_ok-filter.ensures).0))
 
+pub returns-clause-refused : goal.returns-clause-refused
+returns-clause-refused g c = λ bad. absurd (true≢false (sym bad ∙ (filter_is c.args.asked.now.session.within _ c.in_ok-filter.ensures).0))
+
+pub returns-clause-unread : goal.returns-clause-unread
+returns-clause-unread g c = λ bad. absurd (true≢false (sym bad ∙ (filter_is c.args.asked.now.session.within _ c.in_ok-filter.ensures).0))
+
 pub returns-in-Ok-clause-unread : goal.returns-in-Ok-clause-unread
 returns-in-Ok-clause-unread g c = λ bad. absurd (true≢false (sym bad ∙ (filter_is c.args.asked.now.session.within _ c.in_ok-filter.ensures).0))
