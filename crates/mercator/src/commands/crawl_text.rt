@@ -1,39 +1,59 @@
 //! The text of what a crawl found.
 ghost use Rattle.std.specs.Prelude.{◌≡◌, [], IfOk, if◌then◌else◌};
 ghost use Rattle.std.specs.Str.Lines.{lines};
+ghost use Rattle.crawl_report.specs.Rows.{printed};
 ghost use Rattle.mercator.specs.WebCrawl.{IsTextOf, asked_pages};
 
 use crate::commands::planned::CrawlOptions;
-use crate::crawling::Crawled;
-use crawl_keys::{CanonUrl, Filter};
-use crawl_report::{NoMemory, Report, page_urls, print, unreached};
+use crate::commands::tell::WebFound;
+use crawl_keys::CanonUrl;
+use crawl_report::{NoMemory, Report, page_urls, print, print_in_threads, unreached};
 use std::alloc::Global;
+use std::thread::Threads;
 
-/// The text of what a crawl of this saved web by this filter found: its report, with the parts that are asked for.
+/// The text of what a crawl of a saved web found: its report, with the parts that are asked for, made by threads where the crawl
+/// had several workers.
 ///
 /// # Errors
 /// Out of memory alone.
-pub fn crawl_text(
+pub fn crawl_text<R: Threads + Sync>(
+    rt: &R,
     alloc: Global,
-    web: &[u8],
-    filter: &Filter,
-    found: &Crawled,
+    found: &WebFound,
     queues: bool,
     options: &CrawlOptions,
 ) -> Result<Vec<u8>, NoMemory>
-    ensures { IfOk result (λ text. IsTextOf queues options.now web.now filter.now found.now.result found.now.counts.items text.items) }
+    ensures { IfOk result (λ text. IsTextOf queues options.now found.now.bytes.items found.now.filter found.now.crawled.result found.now.crawled.counts.items text.items) }
 {
-    let pages = found.result.pages();
-    let urls = asked_pages(alloc, options.unreached, web)?;
-    let unseen = unreached(alloc, filter, pages, &urls)?;
+    let crawled = &found.crawled;
+    let pages = crawled.result.pages();
+    let urls = asked_pages(alloc, options.unreached, found.bytes.as_slice())?;
+    let unseen = unreached(alloc, &found.filter, pages, &urls)?;
     let report = Report {
         pages,
-        queues: asked_counts(queues, &found.counts),
+        queues: asked_counts(queues, &crawled.counts),
         sources: options.sources,
         moved: options.moved,
         unreached: &unseen,
     };
-    print(alloc, &report, options.json)
+    printed(rt, alloc, &report, options.json, crawled.counts.len())
+}
+
+/// The report's bytes, as so many workers found it: one starts no thread.
+fn printed<R: Threads + Sync>(
+    rt: &R,
+    alloc: Global,
+    report: &Report<'_>,
+    json: bool,
+    workers: usize,
+) -> Result<Vec<u8>, NoMemory>
+    ensures { IfOk result (λ text. text.items ≡ printed json report.now) }
+{
+    if workers > 1 {
+        print_in_threads(rt, alloc, report, json)
+    } else {
+        print(alloc, report, json)
+    }
 }
 
 /// The URLs of the web's pages, where they are asked for.

@@ -69,7 +69,7 @@ pub fn tell<R: Files + Threads + Wait + Sync, L, V: Observe + Sync, I: Read>(
             };
             let watching = platform.watching(options.progress);
             let found = crawl_files(&watching, alloc, &asked, input)?;
-            let text = text_of(alloc, &found, *queues, options)?;
+            let text = text_of(platform.rt, alloc, &found, *queues, options)?;
             // The process ends soon, and gives it back at once.
             forget(found);
             Ok(text)
@@ -116,10 +116,10 @@ struct Inputs {
 
 /// What a crawl of its files found, the web's bytes and the filter.
 #[derive(Drop)]
-struct WebFound {
-    filter: Filter,
-    bytes: Vec<u8>,
-    crawled: Crawled,
+pub struct WebFound {
+    pub filter: Filter,
+    pub bytes: Vec<u8>,
+    pub crawled: Crawled,
 }
 
 /// What a crawl of its files finds.
@@ -232,7 +232,8 @@ pub fn filter_of(alloc: Global, within: &Option<String>) -> Result<Filter, Filte
 }
 
 /// The text of what was found.
-fn text_of(
+fn text_of<R: Threads + Sync>(
+    rt: &R,
     alloc: Global,
     found: &WebFound,
     queues: bool,
@@ -241,14 +242,7 @@ fn text_of(
     ensures text { IfOk result (λ text. IsTextOf queues options.now found.now.bytes.items found.now.filter found.now.crawled.result found.now.crawled.counts.items text.items) }
     ensures fault { IfErr result (λ fault. fault ≡ wrong.NoMemory) }
 {
-    let text = crawl_text(
-        alloc,
-        &found.bytes,
-        &found.filter,
-        &found.crawled,
-        queues,
-        options,
-    )?;
+    let text = crawl_text(rt, alloc, found, queues, options)?;
     Ok(text)
 }
 

@@ -1,14 +1,17 @@
 use Rattle.std.proofs.Common.{[], ap, ◌∙◌, if◌then◌else◌}
+use Rattle.std.specs.Str.Lines.{lines}
 use Rattle.crawl_report.specs.Tallies.{pointed}
+use Rattle.mercator.specs.WebCrawl.{asked_pages}
 use Rattle.mercator.proofs.CrawlTexts.{text_told, unreached_told}
 use Rattle.mercator.proofs.commands.crawl_text.crawl_text.Goals as goal
 
 pub returns : goal.returns
-returns c =
-    let pages = c.args.found.now.result in
-    let web = c.args.web.now in
+returns g c =
+    let found = c.args.found.now in
+    let pages = found.crawled.result in
     let options = c.args.options.now in
-    text_told c.print.result c.args.queues options web c.args.filter.now pages c.pages-pages.result.now c.args.found.now.counts.items c.asked_counts.result.now (pointed c.deref-3.result.now) c.pages-pages.ensures
+    text_told c.printed.result c.args.queues options found.bytes.items found.filter pages c.pages-pages.result.now found.crawled.counts.items c.asked_counts.result.now (pointed c.deref-3.result.now) c.pages-pages.ensures
     (c.asked_counts.ensures ∙ ap (λ counts. if c.args.queues then counts else []) c.deref-2.ensures.value)
-    (unreached_told options.unreached web c.args.filter.now pages c.pages-pages.result.now c.deref.result.now c.in_ok-unseen.unseen.items c.deref-3.result.now c.pages-pages.ensures (c.deref.ensures.value ∙ c.in_ok-urls.ensures) c.deref-3.ensures.value c.in_ok-unseen.ensures.same c.in_ok-unseen.ensures.sorted)
-    c.print.ensures
+    (unreached_told options.unreached found.bytes.items found.filter pages c.pages-pages.result.now c.deref.result.now c.in_ok-unseen.unseen.items c.deref-3.result.now c.pages-pages.ensures
+    (c.deref.ensures.value ∙ c.in_ok-urls.ensures ∙ ap (λ web. asked_pages options.unreached (lines web)) c.as_slice.ensures.value) c.deref-3.ensures.value c.in_ok-unseen.ensures.same c.in_ok-unseen.ensures.sorted)
+    c.printed.ensures
