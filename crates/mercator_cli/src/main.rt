@@ -29,19 +29,23 @@ fn main(rt: HostRuntime) -> ExitCode {
         return ExitCode::from(status);
     }
     let progress = Progress::new(&rt);
-    let platform = Platform {
-        rt: &rt,
-        locks: &rt,
-        observer: Some(&progress),
-    };
     ExitCode::from(run_words_with(
-        &platform,
+        &watched(&rt, &progress),
         rt.alloc(),
         &words,
         &mut rt.reader(),
         &mut io::writer(&rt),
         &mut rt.stderr(),
     ))
+}
+
+/// The platform that a runtime is, with this observer.
+fn watched<'p, R, V>(rt: &'p R, observer: &'p V) -> Platform<'p, R, R, V> {
+    Platform {
+        rt,
+        locks: rt,
+        observer: Some(observer),
+    }
 }
 
 /// Whether texts may have colour: on a terminal, where `NO_COLOR` is not in the environment or is empty.
