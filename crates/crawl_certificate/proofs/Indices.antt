@@ -195,12 +195,6 @@ module _ (account : AccountId) (all : List Entry) (firsts : List ℕ) (are : Are
       let is : before account all firsts are url queue own below ≡ first = sym (at ∙ get_or_from_slice_get firsts queue (before account all firsts are url queue own below) first there.2) in
       answer all (laid_apart account all firsts are) url (Some (first + i)) (in_account account all firsts are url queue own below (Some i) told ∙ ap (λ n. Some (n + i)) is)
 
--- with no queue there is no entry
-pub answers_none : (account : AccountId) (all : List Entry) (firsts : List ℕ) → AreLaidOut account all firsts → (url : List ℕ) → account.workers ≡ 0 → IsAnswer all url None
-answers_none account all firsts are url is =
-    let empty : all ≡ [] = are.whole ∙ ap (λ n. entries_in (take n account.queues)) is in
-    subst (λ es. IsAnswer es url None) (sym empty) (record { found = λ k e at. absurd (cc); accepted = refl })
-
 -- what stands at a guess
 pub answers_guess : (account : AccountId) (all : List Entry) (firsts : List ℕ) → AreLaidOut account all firsts → (url : List ℕ) (k : ℕ) → stands_at all k url ≡ true → IsAnswer all url (Some k)
 answers_guess account all firsts are url k stands = of_this (slice_get all k) refl stands

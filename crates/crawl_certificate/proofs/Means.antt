@@ -125,6 +125,3 @@ equal_to_one pages first behind number none all low high = λ a b in_a in_b. sam
         let above = ltb-false _ _ (low.1 in_a.0 a (omega (arith, none)) in_a.1) in
         let below = leb-true _ _ (high.0 in_a.0 a zero-le (omega (arith, in_a.1, all))) in
         omega (arith, above, below, is)
-
-pub none_equal : (pages : List Numbered) → length pages ≡ 0 → AllEqual pages
-none_equal pages none = λ a b in_a in_b. absurd (omega (arith, in_a.1, none))

@@ -1,5 +1,5 @@
 -- What is known while entries, seeds and results are looked up.
-use Rattle.std.proofs.Common.{◌≡◌, ◌⊎◌, inl, inr, ℕ, zero, suc, ◌+◌, ◌<◌, ◌==◌, Bool, true, false, ◌||◌, ◌&&◌, cond, List, [], ◌∷◌, ◌++◌, length, map, take, replicate, get_or, set, slice_get, Option, Some, None, refl, sym, ap, subst, ◌∙◌, arith, suc-le-suc, zero-le}
+use Rattle.std.proofs.Common.{◌≡◌, ◌⊎◌, inl, inr, ℕ, zero, suc, ◌+◌, ◌<◌, ◌==◌, Bool, true, false, ◌||◌, ◌&&◌, cond, List, [], ◌∷◌, ◌++◌, length, map, take, replicate, get_or, set, slice_get, Option, Some, None, refl, sym, ap, subst, ◌∙◌, arith}
 use Rattle.std.specs.Borrow.{Bor}
 use Rattle.std.specs.BTreeSet as sorted
 use Rattle.hash_order.specs.HashOrder.{by_hash, by_hash_ties}
@@ -44,16 +44,6 @@ place_among (y ∷ ys) x has = elim (first_or_later y x ys has) [
 
 pub among_at : {X : Type 0} (xs : List X) (k : ℕ) (x : X) → slice_get xs k ≡ Some x → Contains xs x
 among_at xs k x at = (k, slice_get_within xs k x at, get_or_from_slice_get xs k x x at)
-
--- an element of a list with one more
-pub push_cases : {X : Type 0} (xs : List X) (y : X) (k : ℕ) (x : X) → slice_get (xs ++ y ∷ []) k ≡ Some x → ((k < length xs) × (slice_get xs k ≡ Some x)) ⊎ ((k ≡ length xs) × (y ≡ x))
-push_cases [] y zero x at = inr (refl, cc)
-push_cases [] y (suc k) x at = absurd (cc)
-push_cases (z ∷ zs) y zero x at = inl (suc-le-suc zero-le, at)
-push_cases (z ∷ zs) y (suc k) x at = elim (push_cases zs y k x at) [
-  | inl before ↦ inl (suc-le-suc before.0, before.1)
-  | inr last ↦ inr (ap suc last.0, last.1)
-]
 
 pub get_push : {X : Type 0} (xs : List X) (y : X) (k : ℕ) (x : X) → slice_get xs k ≡ Some x → slice_get (xs ++ y ∷ []) k ≡ Some x
 get_push [] y k x at = absurd (cc)
@@ -240,9 +230,6 @@ linked_push entries results r known =
     maps_agree _ _ entries (λ i e here'.
     or_steps (known e) (is_linked entries results e) (stands_in (links_of r.page) e.url && is_behind entries r.url e)
     ∙ ap (λ b. known e || b) (sym (any_push (λ (x : PageResult). stands_in (links_of x.page) e.url && is_behind entries x.url e) results r)))
-
-pub or_together : {a b p q : Bool} → a ≡ p → b ≡ q → (a || b) ≡ (p || q)
-or_together e f = λ i. e i || f i
 
 -- ---- entries with a result
 

@@ -28,9 +28,6 @@ pub Run-push : (old : State) (xs : List (Event × Reply)) (mid : State) (x : Eve
 Run-push old [] mid x new run step = (new, rw (← run) step, refl)
 Run-push old (first ∷ xs) mid x new run step = (run.0, run.1, Run-push run.0 xs mid x new run.2 step)
 
-pub run_none : (workers max : ℕ) (kept : Kept) → Shows kept (start workers max) → RunTo workers max [] [] kept
-run_none workers max kept shown = record { as_many = refl; state = start workers max; run = refl; shown = shown }
-
 pub run_more : (workers max : ℕ) (events : List Event) (replies : List Reply) (old new : Kept) (event : Event) (reply : Reply) → RunTo workers max events replies old → Makes old event reply new → RunTo workers max (events ++ event ∷ []) (replies ++ reply ∷ []) new
 run_more workers max events replies old new event reply to makes =
     let made = makes.step to.state to.shown in

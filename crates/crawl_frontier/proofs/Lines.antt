@@ -11,10 +11,6 @@ use Rattle.crawl_frontier.specs.Books.{fresh_book}
 use Rattle.crawl_frontier.specs.FreshParts.{Line, AllPush, AllPop, AllFresh}
 use Rattle.crawl_frontier.proofs.Gets.{get_both}
 
-get_past : {A : Type 0} (xs : List A) (a : A) → slice_get xs (length xs) ≡ Some a → ⊥
-get_past [] a e = absurd (cc (e))
-get_past (x ∷ xs) a e = get_past xs a e
-
 pub line-snoc : (gate : GateId) (workers : ℕ) (qs : List QueueId) (ss ts : List PassId) (n : ℕ) (q : QueueId) (s t : PassId) → Line gate workers qs ss ts n
     → (s.subqueue ≡ q) × (s.view ≡ pushing (home gate workers n) []) → (t.subqueue ≡ q) × (t.view ≡ popping (home gate workers n) [] 0)
     → Line gate workers (qs ++ q ∷ []) (ss ++ s ∷ []) (ts ++ t ∷ []) (n + 1)
@@ -31,15 +27,6 @@ line-snoc gate workers qs ss ts n q s t l hs ht =
           (λ x. let at : n ≡ k = omega (arith, x.0) in (ap (λ z. z.subqueue) (sym x.2) ∙ ht.0 ∙ x.1, ap (λ z. z.view) (sym x.2) ∙ ht.1 ∙ ap (λ j. popping (home gate workers j) [] 0) at))
           (get_both qs ts q q' t p k (omega arith) e f);
     }
-
-pub line-nil : (gate : GateId) (workers : ℕ) → Line gate workers [] [] [] 0
-line-nil gate workers = record {
-  queues_len = refl;
-  sending_len = refl;
-  taking_len = refl;
-  sends = λ k q p e f. absurd (cc (e));
-  takes = λ k q p e f. absurd (cc (e));
-}
 
 has_same : {A B : Type 0} (xs : List A) (ys : List B) (k : ℕ) (b : B) → length xs ≡ length ys → slice_get ys k ≡ Some b → (a : A) × (slice_get xs k ≡ Some a)
 has_same [] [] k b same e = absurd (cc (e))

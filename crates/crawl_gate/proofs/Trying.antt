@@ -81,9 +81,6 @@ abbrev pub LostSoFarBeside : SeatId → SeatId → SeatId → SeatId → Type 0
 LostSoFarBeside held held' pass now =
     (ts : List LostTry) × AllLost pass.view.max_pending ts × (held' ≡ after_loading held ts) × (now ≡ after_exchanging pass ts)
 
-pub none_lost_beside : (held pass : SeatId) → LostSoFarBeside held held pass pass
-none_lost_beside held pass = ([], tt, refl, refl)
-
 pub lost_of_beside : (gate : GateId) (held held' pass now : SeatId) → LostSoFarBeside held held' pass now
     → IsSeatOf gate held → IsSeatOf gate pass → IsSeatOf gate held' × IsSeatOf gate now
 lost_of_beside gate held held' pass now so_far held_of pass_of = (

@@ -1,17 +1,15 @@
 -- A canonical text parses to the very URL that it is the text of.
-use Rattle.std.proofs.Common.{◌≡◌, List, ℕ, None, Ok, Err, refl, ap, sym, subst, ◌∙◌, true, false}
+use Rattle.std.proofs.Common.{◌≡◌, List, ℕ, None, Ok, Err, refl, ap, sym, ◌∙◌, true, false}
 use Rattle.std.proofs.lemmas.Bool.{or_cases, cond-true, cond-false}
 use Rattle.std.proofs.lemmas.Slice.Eq.{bytes_eq-Decides}
 use Rattle.std.proofs.Common.{⊎_elim}
-use Rattle.std.specs.Prelude.{Result, codes}
+use Rattle.std.specs.Prelude.{codes}
 use Rattle.url.specs.declared.scheme.SchemeType.TheVariants.{SpecialNotFile}
 use Rattle.url.specs.Scheme.{scheme_type, default_port}
 use Rattle.url.specs.Parts.{Parts, IsValid, kind_of, serialize}
 use Rattle.url.specs.Parser.{parse_url}
-use Rattle.url.specs.Setters.{set_fragment}
-use Rattle.url.proofs.ValidLemmas.{with_own_tail}
 use Rattle.url.proofs.Theorems.{parse_url-serialize_special}
-use Rattle.crawl_keys.specs.CanonicalText.{IsCanonical, IsPage, canonical, is_web, text_of, text_of_parse, without_fragment}
+use Rattle.crawl_keys.specs.CanonicalText.{IsCanonical, canonical, is_web, text_of, text_of_parse, without_fragment}
 use Rattle.crawl_keys.specs.declared.error.KeyError.TheVariants.{NotHttp}
 
 -- the standard calls the scheme of a web URL special, and it is no file
@@ -70,42 +68,3 @@ pub canonical-canonical : (text : List ℕ) → IsCanonical text → canonical t
 canonical-canonical text key =
     ap text_of_parse key.parses ∙ text_of-web key.url key.web
     ∙ ap Ok ((λ i. serialize (record key.url { fragment = sym key.bare i })) ∙ key.spelled)
-
--- the URL that a canonical text parses to has that text
-pub serialize-parsed : (text : List ℕ) (url : Parts) → IsCanonical text → parse_url None text ≡ Ok url → serialize url ≡ text
-serialize-parsed text url key parsed =
-    let both : Ok key.url ≡ Ok url = sym key.parses ∙ parsed in
-    let same : key.url ≡ url = cc in
-    ap serialize (sym same) ∙ key.spelled
-
--- and it is that of a page
-pub page-parsed : (text : List ℕ) (url : Parts) → IsCanonical text → parse_url None text ≡ Ok url → IsPage url
-page-parsed text url key parsed =
-    let both : Ok key.url ≡ Ok url = sym key.parses ∙ parsed in
-    let same : key.url ≡ url = cc in
-    let own : IsPage key.url = record {
-      web = key.web;
-      bare = key.bare;
-      parses = ap (parse_url None) key.spelled ∙ key.parses;
-    } in
-    subst IsPage same own
-
--- a web URL without its fragment is that of a page
-pub page-without_fragment : (url : Parts) → IsValid url → is_web url ≡ true → IsPage (without_fragment url)
-page-without_fragment url valid web = record {
-  web = web;
-  bare = refl;
-  parses = parse_url-without_fragment url valid web;
-}
-
--- the text of a page's URL is its canonical text
-pub text_of-page : (url : Parts) → IsPage url → text_of url ≡ Ok (serialize url)
-text_of-page url page = text_of-web url page.web ∙ ap Ok (λ i. serialize (record url { fragment = sym page.bare i }))
-
--- the URL that is given is the one that was expected
-pub given_url : {E : Type 0} (expected given : Parts) → ◌≡◌ {A = Result Parts E} (Ok expected) (Ok given) → expected ≡ given
-given_url expected given both = cc
-
--- to take the fragment away escapes nothing again
-pub set_fragment-none : (url : Parts) → IsValid url → set_fragment url None ≡ without_fragment url
-set_fragment-none url valid = ap without_fragment (with_own_tail url valid)

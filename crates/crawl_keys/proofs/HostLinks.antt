@@ -1,14 +1,13 @@
 -- Where links that begin with two slashes lead: the page's scheme stands before them.
-use Rattle.std.proofs.Common.{◌≡◌, ◌⊎◌, ℕ, ◌+◌, ◌==◌, Bool, true, not, ◌&&◌, ◌≢◌, List, [], ◌∷◌, ◌++◌, length, get_or, take, drop, refl, ap, sym, subst, ◌∙◌, ⊎_elim, inl, inr, All, Some, None, Ok, arith, append_assoc, length-append, take-append-drop}
+use Rattle.std.proofs.Common.{◌≡◌, ◌⊎◌, ℕ, ◌+◌, ◌==◌, Bool, true, not, ◌&&◌, ◌≢◌, List, [], ◌∷◌, ◌++◌, length, take, drop, refl, ap, sym, subst, ◌∙◌, ⊎_elim, inl, inr, All, Some, None, Ok, arith, append_assoc, length-append, take-append-drop}
 use Rattle.std.specs.Prelude.{Option, codes}
-use Rattle.std.specs.List.{concat}
 use Rattle.std.proofs.lemmas.Bool.{and_from, and_left, and_parts, cond-false, cond-true, ne_eqb, or_cases}
 use Rattle.std.proofs.lemmas.Bool.Decides.{nat_tests}
 use Rattle.std.proofs.lemmas.List.Elements.{All-append, All-cons, All-head, All-tail, All-weaker}
 use Rattle.std.proofs.lemmas.Slice.Eq.{bytes_eq-Decides}
 use Rattle.url.specs.Input.{split_once}
 use Rattle.url.specs.Parser.{base_for_scheme, parse_by_scheme, parse_parts, parse_url, split_scheme}
-use Rattle.url.specs.Parts.{Parts, IsValid, pieces, serialize}
+use Rattle.url.specs.Parts.{Parts, IsValid, serialize}
 use Rattle.url.specs.Scheme.{IsScheme, is_special}
 use Rattle.url.proofs.InputLemmas.{All-take-prefix_len, All_from_list_all, IsNot, Passes}
 use Rattle.url.proofs.RoundTrip.{split_own_scheme}
@@ -18,7 +17,7 @@ use Rattle.crawl_keys.specs.CanonicalText.{IsCanonical, IsPage, is_web, resolve,
 use Rattle.crawl_keys.specs.Links.{IsByHost}
 use Rattle.crawl_keys.specs.Plain.{host_len, is_host_byte, is_kept, is_plain_host}
 use Rattle.crawl_keys.specs.Spelled.{IsSpelled}
-use Rattle.crawl_keys.proofs.BaseLemmas.{one_url, page_of}
+use Rattle.crawl_keys.proofs.BaseLemmas.{page_of}
 use Rattle.crawl_keys.proofs.FolderLemmas.{IsWeb, web_url}
 use Rattle.crawl_keys.proofs.PlainLemmas.{all_kept}
 use Rattle.crawl_keys.proofs.PlainLinks.{parse_url-kept, rooted_scheme, uncut}
@@ -40,30 +39,6 @@ scheme_bytes base web =
     ⊎_elim (λ http. subst (All (Passes stands)) (sym http) (All_from_list_all stands (codes "http") refl))
     (λ https. subst (All (Passes stands)) (sym https) (All_from_list_all stands (codes "https") refl))
     (http_or_https base web)
-
-abbrev behind_scheme : Parts → List ℕ
-behind_scheme url = concat (drop 1 (pieces url))
-
-fifth : (url : Parts) (scheme : List ℕ) (b : ℕ) → url.scheme ≡ scheme → get_or (scheme ++ behind_scheme url) 4 0 ≡ b → get_or (serialize url) 4 0 ≡ b
-fifth url scheme b is at = ap (λ s. get_or (s ++ behind_scheme url) 4 0) is ∙ at
-
--- the fifth byte of the text tells the scheme
-pub https_scheme : (text : List ℕ) → IsCanonical text → get_or text 4 0 ≡ 115 → IsSchemeOf text (codes "https:")
-https_scheme text k at url parses =
-    let own = one_url text k.url url k.parses parses in
-    let authority = (web_url k.url k.valid k.web).authority in
-    ⊎_elim
-    (λ http. absurd (let colon = fifth k.url (codes "http") 58 http (rw authority refl) in omega (arith, at, colon, ap (λ t. get_or t 4 0) k.spelled)))
-    (λ https. ap (λ s. s ++ 58 ∷ []) (sym https ∙ ap (λ (u : Parts). u.scheme) own))
-    (http_or_https k.url k.web)
-
-pub http_scheme : (text : List ℕ) → IsCanonical text → get_or text 4 0 ≢ 115 → IsSchemeOf text (codes "http:")
-http_scheme text k other url parses =
-    let own = one_url text k.url url k.parses parses in
-    ⊎_elim
-    (λ http. ap (λ s. s ++ 58 ∷ []) (sym http ∙ ap (λ (u : Parts). u.scheme) own))
-    (λ https. absurd (other (ap (λ t. get_or t 4 0) (sym k.spelled) ∙ fifth k.url (codes "https") 115 https refl)))
-    (http_or_https k.url k.web)
 
 -- ---- the parser reads a link behind the page's scheme as it reads the link
 

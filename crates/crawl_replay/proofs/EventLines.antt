@@ -80,9 +80,6 @@ admit_from workers number sender address line is =
     let parts = admit_parts-is (is.number ++ 32 ∷ address) is.number address sender is.sent refl in
     ap (event_from workers number line) split ∙ ap (admit_with workers number) parts
 
-numbered_said : (workers number : ℕ) (word : List ℕ) (bits value : ℕ) (line : List ℕ) (is : IsNumbered word bits value line) → at_space line ≡ Some (word, is.number) → event_of workers number line ≡ event_from workers number line (Some (word, is.number))
-numbered_said workers number word bits value line is split = ap (event_from workers number line) split
-
 pub event_said : (workers number : ℕ) (event : Event) (line : List ℕ) → IsEventLine workers event line → event_of workers number line ≡ Ok event
 event_said workers number (Look sender) line is =
     let split = at_space-joined line (codes "look") is.number refl is.written in

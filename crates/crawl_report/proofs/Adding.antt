@@ -1,11 +1,9 @@
 -- Lines that are printed one behind the other.
-use Rattle.std.proofs.Common.{◌≡◌, ℕ, ◌+◌, ◌<◌, ◌≤◌, Bool, true, false, List, [], ◌∷◌, ◌++◌, length, map, take, filter, get_or, Result, Ok, Err, IfOk, append-nil, refl, sym, ap, subst, ◌∙◌, arith}
+use Rattle.std.proofs.Common.{◌≡◌, ℕ, ◌+◌, ◌<◌, ◌≤◌, List, [], ◌∷◌, ◌++◌, length, map, take, get_or, Result, Ok, Err, IfOk, append-nil, refl, sym, ap, subst, ◌∙◌, arith}
 use Rattle.std.proofs.lemmas.List.{append_assoc, map-append, map_more, take_more, take_all, length-take-le}
-use Rattle.std.proofs.lemmas.List.Elements.{filter-append}
 use Rattle.std.proofs.lemmas.List.Concat.{flat_map-append}
 use Rattle.std.specs.Borrow.{Bor}
 use Rattle.std.specs.List.{enumerate_from, flat_map}
-use Rattle.crawl_web.proofs.ReportOrder.{filter-kept, filter-dropped}
 use Rattle.crawl_web.specs.declared.page.PageResult.{PageResult}
 use Rattle.crawl_report.specs.Json.{printed_line}
 use Rattle.crawl_report.specs.Lines as line
@@ -42,25 +40,6 @@ pub lines_all : {X : Type 0} (lines : List X → List Line) (out more : Out) (xs
 lines_all lines out more xs k past is = adds_same out more _ _ (ap lines (take_all k xs past)) is
 
 -- ---- elements that pass a test
-
-pub kept_more : {X : Type 0} (p : X → Bool) (xs : List X) (k : ℕ) (x : X) → k < length xs → x ≡ get_or xs k x → p x ≡ true → filter p (take (k + 1) xs) ≡ filter p (take k xs) ++ x ∷ []
-kept_more p xs k x below at passes =
-    ap (filter p) (take_more xs k x below ∙ ap (λ y. take k xs ++ y ∷ []) (sym at))
-    ∙ filter-append p (take k xs) (x ∷ []) ∙ ap (λ t. filter p (take k xs) ++ t) (filter-kept p x [] passes)
-
-pub dropped_more : {X : Type 0} (p : X → Bool) (xs : List X) (k : ℕ) (x : X) → k < length xs → x ≡ get_or xs k x → p x ≡ false → filter p (take (k + 1) xs) ≡ filter p (take k xs)
-dropped_more p xs k x below at fails =
-    ap (filter p) (take_more xs k x below ∙ ap (λ y. take k xs ++ y ∷ []) (sym at))
-    ∙ filter-append p (take k xs) (x ∷ []) ∙ ap (λ t. filter p (take k xs) ++ t) (filter-dropped p x [] fails) ∙ append-nil (filter p (take k xs))
-
-pub line_kept : {X : Type 0} (f : X → Line) (p : X → Bool) (out mid more : Out) (xs : List X) (k : ℕ) (x : X) → k < length xs → x ≡ get_or xs k x → p x ≡ true → Adds out mid (map f (filter p (take k xs))) → Adds mid more (f x ∷ []) → Adds out more (map f (filter p (take (k + 1) xs)))
-line_kept f p out mid more xs k x below at passes before now =
-    adds_same out more _ _ (sym (map-append f (filter p (take k xs)) (x ∷ [])) ∙ ap (map f) (sym (kept_more p xs k x below at passes)))
-    (adds_both out mid more (map f (filter p (take k xs))) (f x ∷ []) before now)
-
-pub line_dropped : {X : Type 0} (f : X → Line) (p : X → Bool) (out mid : Out) (xs : List X) (k : ℕ) (x : X) → k < length xs → x ≡ get_or xs k x → p x ≡ false → Adds out mid (map f (filter p (take k xs))) → Adds out mid (map f (filter p (take (k + 1) xs)))
-line_dropped f p out mid xs k x below at fails before =
-    adds_same out mid _ _ (ap (map f) (sym (dropped_more p xs k x below at fails))) before
 
 -- ---- queues
 

@@ -111,9 +111,3 @@ so_far_more had old out_old all rest next mid out line more is last new out_new 
   written = Appends-trans out_old out out_new so_far.text (added is line) so_far.written written;
   compacts = compacts_more had old so_far.front so_far.text next mid line is last new so_far.compacts one;
 }
-
-pub so_far_all : (had : Had) (old : SessionView) (out_old : Option (List ℕ)) (all rest : List (List ℕ)) (next : Had) (mid : SessionView) (out : Option (List ℕ)) → SoFar had old out_old all rest next mid out → rest ≡ []
-    → (text : List ℕ) × Appends out_old out text × Compacts had old all text next mid
-so_far_all had old out_old all rest next mid out so_far none =
-    let same : so_far.front ≡ all = sym (so_far.split ∙ ap (λ l. so_far.front ++ l) none ∙ append-nil so_far.front) in
-    (so_far.text, so_far.written, subst (λ ls. Compacts had old ls so_far.text next mid) same so_far.compacts)

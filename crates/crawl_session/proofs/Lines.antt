@@ -1,5 +1,5 @@
 -- Lines, one after another.
-use Rattle.std.proofs.Common.{◌≡◌, ℕ, List, [], ◌∷◌, ◌++◌, Result, refl, sym, ap, subst, ◌∙◌, append_assoc, append-nil}
+use Rattle.std.proofs.Common.{◌≡◌, ℕ, List, [], ◌∷◌, ◌++◌, Result, refl, sym, ap, subst, ◌∙◌, append_assoc}
 use Rattle.std.proofs.lemmas.Grind.{flat_map-append}
 use Rattle.crawl_core.specs.State.{State}
 use Rattle.crawl_core.specs.Shows.{Shows}
@@ -7,7 +7,7 @@ use Rattle.crawl_session.specs.declared.answer.Answer.{Answer}
 use Rattle.crawl_session.specs.declared.request.Request.{Request}
 use Rattle.crawl_session.specs.declared.request.RequestError.{RequestError}
 use Rattle.crawl_session.specs.Answers.{answer_line, answer_lines}
-use Rattle.crawl_session.specs.Serving.{Serves, ServesAll}
+use Rattle.crawl_session.specs.Serving.{ServesAll}
 use Rattle.crawl_session.specs.Sessions.{answered, line_exchange, answers, state_after, history_of}
 use Rattle.crawl_session.specs.Settings.{Settings, SessionView}
 use Rattle.crawl_session.proofs.Cuts.{requests}
@@ -56,16 +56,6 @@ state_alike settings state ls others same = state_as settings state ls ∙ ap (s
 
 pub serves_none : (old : SessionView) → ServesAll old [] [] old
 serves_none old = record { settings = refl; comes = λ state shown. (refl, shown) }
-
-pub serves_line : (old : SessionView) (line : List ℕ) (answer : Answer) (new : SessionView) → Serves old line answer new → ServesAll old (line ∷ []) (answer_line answer) new
-serves_line old line answer new one = record {
-  settings = one.settings;
-  comes = λ state shown.
-      let came = one.comes state shown in (
-        sym (append-nil (answer_line answer)) ∙ ap (λ a. answer_lines (a ∷ [])) (sym came.0),
-        came.1,
-      );
-}
 
 pub serves_more : (old : SessionView) (front : List (List ℕ)) (text : List ℕ) (mid : SessionView) (back : List (List ℕ)) (more : List ℕ) (new : SessionView)
     → ServesAll old front text mid → ServesAll mid back more new → ServesAll old (front ++ back) (text ++ more) new

@@ -1,5 +1,5 @@
 -- Logs: what they give back, and their first lines.
-use Rattle.std.proofs.Common.{◌≡◌, ℕ, suc, ◌+◌, ◌<◌, ◌≤◌, ◌^◌, Bool, true, false, not, if◌then◌else◌, List, [], ◌∷◌, ◌++◌, length, nat_lt, codes, Option, Some, None, option_and_then, refl, sym, ap, subst, ◌∙◌, arith, append_assoc, append-nil}
+use Rattle.std.proofs.Common.{◌≡◌, ℕ, ◌+◌, ◌<◌, ◌≤◌, ◌^◌, Bool, true, false, not, if◌then◌else◌, List, [], ◌∷◌, ◌++◌, length, nat_lt, codes, Option, Some, None, option_and_then, refl, sym, ap, subst, ◌∙◌, arith, append_assoc, append-nil}
 use Rattle.std.specs.Fmt.{decimal}
 use Rattle.std.specs.List.{All, list_all}
 use Rattle.std.specs.Str.{bytes_eq}
@@ -7,7 +7,6 @@ use Rattle.std.proofs.lemmas.Bool.{and_parts}
 use Rattle.std.proofs.lemmas.Bool.Decides.{nat_tests}
 use Rattle.std.proofs.lemmas.Fmt.{decimal_is_IsNumeral, length-decimal-le}
 use Rattle.std.proofs.lemmas.Grind.{flat_map-append}
-use Rattle.std.proofs.lemmas.List.{length-append}
 use Rattle.std.proofs.lemmas.List.Elements.{All-head, All-tail}
 use Rattle.std.proofs.lemmas.Slice.Eq.{bytes_eq-Decides}
 use Rattle.std.proofs.lemmas.Str.Parse.{digit_at}
@@ -18,7 +17,7 @@ use Rattle.crawl_keys.specs.HostFilter.{is_good, is_suffix_byte}
 use Rattle.crawl_replay.specs.Script.{header_of}
 use Rattle.crawl_replay.specs.ScriptLines.{IsNumber}
 use Rattle.crawl_replay.specs.declared.script.header.Header.{Header}
-use Rattle.crawl_replay.proofs.HeaderWords.{header_said, header_stands}
+use Rattle.crawl_replay.proofs.HeaderWords.{header_said}
 use Rattle.crawl_replay.proofs.NumberText.{at_space-joined, joined-at_space}
 use Rattle.crawl_web.specs.Parts.{at_space, is_space}
 use Rattle.crawl_session.specs.declared.answer.Answer.{Answer}
@@ -30,9 +29,6 @@ use Rattle.crawl_session.proofs.Ends.{any_other}
 use Rattle.crawl_session.proofs.Lines.{state_after-append}
 
 -- ---- the state after the lines
-
-pub reruns_none : (old : SessionView) → Reruns old [] old
-reruns_none old = record { settings = refl; comes = λ state shown. shown }
 
 pub reruns_more : (old : SessionView) (front : List (List ℕ)) (mid : SessionView) (line : List ℕ) (answer : Answer) (new : SessionView) → Reruns old front mid → Serves mid line answer new → Reruns old (front ++ line ∷ []) new
 reruns_more old front mid line answer new reruns one = record {
@@ -82,9 +78,6 @@ pub record Reads (line : List ℕ) (so_far : List (List ℕ)) (rest : List ℕ) 
   pub follows : (workers max : ℕ) (suffixes : List (List ℕ)) → All IsGood suffixes → line ≡ settings_line workers max suffixes
       → (back : List (List ℕ)) × (suffixes ≡ so_far ++ back) × (All IsGood back × (rest ≡ settings_line workers max back))
 
-pub reads_none : (line : List ℕ) → Reads line [] line
-reads_none line = record { written = refl; follows = λ workers max suffixes good is. (suffixes, refl, (good, is)) }
-
 pub front_of : (suffix : List ℕ) (more : List (List ℕ)) (rest : List ℕ) → within_text (suffix ∷ more) ++ rest ≡ codes "within " ++ (suffix ++ (codes " " ++ (within_text more ++ rest)))
 front_of suffix more rest =
     append_assoc (codes "within " ++ suffix ++ codes " ") (within_text more) rest
@@ -102,20 +95,6 @@ next_stands text suffix more (Some p) cut e =
     let both = from_word p (bytes_eq p.0 (codes "within")) (suffix, more) refl e in
     let word = (bytes_eq-Decides p.0 (codes "within")).0 both.0 in
     joined-at_space text p cut ∙ ap (λ w. w ++ 32 ∷ p.1) word ∙ ap (λ r. codes "within " ++ r) (joined-at_space p.1 (suffix, more) both.1)
-
-shorter_cut : (text : List ℕ) (p : List ℕ × List ℕ) → at_space text ≡ Some p → length p.1 < length text
-shorter_cut text p cut = let long : length text ≡ length p.0 + suc (length p.1) = ap length (joined-at_space text p cut) ∙ length-append p.0 (32 ∷ p.1) in omega (arith, long)
-
-shorter_from : (text suffix more : List ℕ) (p : Option (List ℕ × List ℕ)) → at_space text ≡ p → option_and_then suffix_from p ≡ Some (suffix, more) → length more < length text
-shorter_from text suffix more None cut e = absurd (cc)
-shorter_from text suffix more (Some p) cut e =
-    let both = from_word p (bytes_eq p.0 (codes "within")) (suffix, more) refl e in
-    let one = shorter_cut text p cut in
-    let two = shorter_cut p.1 (suffix, more) both.1 in
-    omega (arith, one, two)
-
-pub next_shorter : (text suffix more : List ℕ) → next_suffix text ≡ Some (suffix, more) → length more < length text
-next_shorter text suffix more e = shorter_from text suffix more (at_space text) refl e
 
 step_back : (workers max : ℕ) (suffixes so_far back : List (List ℕ)) (rest suffix more : List ℕ) → next_suffix rest ≡ Some (suffix, more) → suffixes ≡ so_far ++ back → All IsGood back → rest ≡ settings_line workers max back
     → (others : List (List ℕ)) × (suffixes ≡ (so_far ++ suffix ∷ []) ++ others) × (All IsGood others × (more ≡ settings_line workers max others))
@@ -194,6 +173,3 @@ back_none line so_far rest reads next found workers max suffixes limits good is 
     let made : Header = record { workers = workers; max = max } in
     let both : None ≡ Some made = sym found ∙ all.0 in
     absurd (cc)
-
-pub header_limits : (rest : List ℕ) (header : Header) → header_of rest ≡ Some header → AreLimits header.workers header.max
-header_limits rest header e = (header_stands rest header e).within

@@ -1,7 +1,6 @@
 -- What a line asks of a frontier that may be a part: what it asks of any, or nothing.
-use Rattle.std.proofs.Common.{◌≡◌, ℕ, Bool, true, false, if◌then◌else◌, List, codes, Option, Some, None, Result, Ok, Err, IfOk, refl, sym, ap, ◌∙◌, inl, inr}
+use Rattle.std.proofs.Common.{◌≡◌, ℕ, Bool, true, false, if◌then◌else◌, List, codes, Option, Some, None, Result, Ok, Err, IfOk, refl, ◌∙◌}
 use Rattle.std.specs.Str.{bytes_eq}
-use Rattle.crawl_keys.specs.Outcome.{Gives, IsRefusal}
 use Rattle.crawl_session.specs.declared.part.Part.{Part}
 use Rattle.crawl_session.specs.declared.request.Request.{Request}
 use Rattle.crawl_session.specs.declared.request.Request.TheVariants.{Offer, Next, Again, Done, EndSeeds}
@@ -48,19 +47,6 @@ pub for_keeps : (P : Request → Type 0) (settings : Settings) (line : List ℕ)
 for_keeps P settings line holds = asked_keeps P settings.part line (request_of settings.workers settings.suffixes line) holds
 
 -- ---- what calls give
-
-pub gives_ok : (part : Part) (asked r : Asked) (request : Request) → asked ≡ Ok request → r ≡ placed part request → Gives wrong.NoMemory (λ (q : Request). q) r (placed_if part asked)
-gives_ok part asked (Ok x) request is same = ap (placed_if part) is ∙ sym same
-gives_ok part asked (Err why) request is same = inl (ap (placed_if part) is ∙ sym same)
-
-pub gives_err : (part : Part) (asked : Asked) (why : RequestError) → IsRefusal wrong.NoMemory asked why → IsRefusal wrong.NoMemory (placed_if part asked) why
-gives_err part asked why (inl is) = inl (ap (placed_if part) is)
-gives_err part asked why (inr none) = inr none
-
-pub no_words : (part : Part) (line : List ℕ) (asked : Asked) → bytes_eq line (codes "sync") ≡ false → bytes_eq line (codes "identity") ≡ false → asked_by part line asked ≡ placed_if part asked
-no_words part line asked first second =
-    ap (λ b. if b then Err wrong.Sync else if bytes_eq line (codes "identity") then Err (wrong.Identity part.identity) else placed_if part asked) first
-    ∙ ap (λ b. if b then Err (wrong.Identity part.identity) else placed_if part asked) second
 
 -- ---- a part
 

@@ -23,32 +23,8 @@ use Rattle.crawl_core.specs.Shows.{Shows, Makes}
 use Rattle.crawl_core.specs.State.{State, unfinished_in}
 use Rattle.crawl_core.specs.Step.{turn}
 use Rattle.crawl_core.proofs.Sets.{list_any-insert_key}
-use Rattle.crawl_session.specs.declared.answer.Answer.{Answer}
-use Rattle.crawl_session.specs.declared.answer.Answer.TheVariants.{Told}
-use Rattle.crawl_session.specs.declared.request.Request.{Request}
-use Rattle.crawl_session.specs.Exchanges.{Exchange, client, is_entered, exchange, after, ends}
-use Rattle.crawl_session.specs.Parts.{request_for}
-use Rattle.crawl_session.specs.Sessions.{answered}
-use Rattle.crawl_session.specs.Settings.{Settings}
-use Rattle.crawl_session.specs.Serving.{Comes, Leads, GoesBack, GivenUp, GivesUp, Serves, returned}
-
--- an event, and then what comes by its reply
-pub comes_after : (event : Event) (more : Reply → State → Exchange) (old : Kept) (reply : Reply) (mid : Kept) (answer : Answer) (new : Kept)
-    → Makes old event reply mid → Comes (more reply) mid answer new → Comes (λ state. after state event more) old answer new
-comes_after event more old reply mid answer new makes comes state shown =
-    let made = makes.step state shown in
-    let at_next : ((more reply made.0).answer ≡ answer) × Shows new (more reply made.0).state = comes made.0 made.2 in
-    let P : Reply → State → Type 0 = λ r s. ((more r s).answer ≡ answer) × Shows new (more r s).state in
-    let by_reply : P (turn state event).reply made.0 = subst (λ r. P r made.0) made.1.reply_is at_next in
-    subst (λ s. P (turn state event).reply s) made.1.state_is by_reply
-
--- no event more
-pub comes_at_end : (reply : Reply) (kept : Kept) → Comes (ends reply) kept (Told reply) kept
-comes_at_end reply kept state shown = (refl, shown)
-
--- one event whose reply is the answer
-pub comes_at_once : (event : Event) (old : Kept) (reply : Reply) (new : Kept) → Makes old event reply new → Comes (λ state. after state event ends) old (Told reply) new
-comes_at_once event old reply new makes = comes_after event ends old reply new (Told reply) new makes (comes_at_end reply new)
+use Rattle.crawl_session.specs.Exchanges.{client, is_entered, after}
+use Rattle.crawl_session.specs.Serving.{Leads, GoesBack, GivenUp, GivesUp, returned}
 
 -- ---- out of memory
 
@@ -179,11 +155,3 @@ gives_up_looking old reply mid (Ok x) new makes more = tt
 gives_up_looking old reply mid (Err e) new makes more = looked_back old reply mid new makes more
 
 -- ---- a line
-
--- a line that asks something
-pub serves_request : (settings : Settings) (old : Kept) (line : List ℕ) (request : Request) (reply : Reply) (new : Kept) → request_for settings line ≡ Ok request
-    → Comes (λ state. exchange state request) old (Told reply) new → Serves (record { settings = settings; core = old }) line (Told reply) (record { settings = settings; core = new })
-serves_request settings old line request reply new asks comes = record {
-  settings = refl;
-  comes = subst (λ r. Comes (λ state. answered state r) old (Told reply) new) (sym asks) comes;
-}

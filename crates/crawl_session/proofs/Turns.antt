@@ -2,7 +2,7 @@
 use Rattle.std.proofs.Common.{◌≡◌, ℕ, inl, inr, List, [], ◌∷◌, ◌++◌, take, drop, Option, refl, sym, ap, subst, ◌∙◌, append_assoc, append-nil, take-append-drop}
 use Rattle.std.specs.Io.KnownBytes.{Appends, Consumes}
 use Rattle.std.specs.Str.Lines.{lines}
-use Rattle.std.proofs.KnownBytes.{Consumes-nil, Consumes-trans, Consumes-all, Appends-nil, Appends-trans}
+use Rattle.std.proofs.KnownBytes.{Consumes-trans, Consumes-all, Appends-trans}
 use Rattle.crawl_session.specs.Input.{held_limit, IsUnfinished, AreWhole, Holds, AnswersWhole, Turns, Ends, ServesInput}
 use Rattle.crawl_session.specs.Serving.{ServesAll}
 use Rattle.crawl_session.specs.Settings.{SessionView}
@@ -59,18 +59,6 @@ pub record Served (begun : SessionView) (input_old input_now out_old out_now : O
   pub holds : Holds held tail
   pub serves : ServesAll begun (lines front) text now
   pub written : Appends out_old out_now text
-
-pub served_none : (session : SessionView) (input out : Option (List ℕ)) (held : List ℕ) → held ≡ [] → IsUnfinished [] → Served session input input out out held session
-served_none session input out held is none = record {
-  front = [];
-  tail = [];
-  text = [];
-  read = Consumes-nil input;
-  whole = inl refl;
-  holds = record { beginning = is; unfinished = none };
-  serves = serves_none session;
-  written = Appends-nil out;
-}
 
 pub served_more : (begun : SessionView) (input_old input_mid input_new out_old out_mid out_new : Option (List ℕ)) (held new_held : List ℕ) (mid new : SessionView) → (so_far : Served begun input_old input_mid out_old out_mid held mid)
     → Turns mid so_far.tail input_mid input_new out_mid out_new new_held new → Served begun input_old input_new out_old out_new new_held new

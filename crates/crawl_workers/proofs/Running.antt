@@ -80,9 +80,6 @@ pub all_logged_more : (workers : ℕ) (allowed : List ℕ → Bool) (b b' : Book
 all_logged_more workers allowed b b' urls url grows all has =
     All-push (λ u. IsTrue (allowed u) → HasLine workers b'.log u) urls url (all_logged_on workers allowed b b' urls grows all) has
 
-pub all_logged_none : (workers : ℕ) (allowed : List ℕ → Bool) (log : List Logged) → AllLogged workers allowed log []
-all_logged_none workers allowed log = All-nil (λ u. IsTrue (allowed u) → HasLine workers log u)
-
 slot_on : (workers : ℕ) (b b' : BookId) (slot : Option (List ℕ)) → Grows b b' → IfSome slot (HasLine workers b.log) → IfSome slot (HasLine workers b'.log)
 slot_on workers b b' (Some url) grows has = has_line_on workers b b' url grows has
 slot_on workers b b' None grows has = tt
@@ -106,9 +103,6 @@ pub count_more : {X : Type 0} (p : X → Bool) (xs : List X) (i : ℕ) (x : X) �
 count_more p xs i x less = rw (take_more xs i x less, sum_by-append (λ y. cond (p y) 1 0) (take i xs) (slice_index_or xs i x ∷ [])) (omega arith)
 
 -- ## A busy worker
-
-pub busy_same : (b : BusyId) → SameBusy b b
-busy_same b = record { entry = refl; worker = refl; grows = grows_same b.worker.book b.worker.book refl }
 
 pub busy_on : (a b c : BusyId) → SameBusy a b → SameBusy b c → SameBusy a c
 busy_on a b c first next = record {

@@ -1,7 +1,5 @@
 -- How losses are counted.
-use Rattle.std.proofs.Common.{◌≡◌, ℕ, ◌+◌, ◌-◌, ◌^◌, min, true, List, [], ◌∷◌, ◌++◌, length, Some, refl, sym, ap, subst, ◌∙◌, arith}
-use Rattle.std.proofs.lemmas.List.{length_push}
-use Rattle.crawl_web.specs.declared.page.PageResult.{PageResult}
+use Rattle.std.proofs.Common.{◌≡◌, ℕ, ◌+◌, ◌-◌, ◌^◌, min, true, [], ◌∷◌, ◌++◌, length, Some, refl, sym, ap, subst, ◌∙◌, arith}
 use Rattle.crawl_frontier.specs.declared.error.OfferError.{OfferError}
 use Rattle.crawl_frontier.specs.declared.error.OfferError.TheVariants as refused
 use Rattle.crawl_frontier.specs.Parts.{WorkerId}
@@ -105,29 +103,6 @@ url_failed old new results lost losses =
       all = sum_on loss.Failed old new lost losses;
       below = λ less. omega (arith, failed, unkept, less);
       urls = λ less. omega (arith, failed, unkept, len, less);
-    }
-
-pub url_unkept : (old new : WorkerOutput) → new.results ≡ old.results → new.lost ≡ min (old.lost + 1) (2 ^ 64 - 1) → new.losses ≡ with_loss loss.Unkept old.losses → Tallies old new
-url_unkept old new results lost losses =
-    let failed : new.losses.failed ≡ old.losses.failed = ap (λ (l : Losses). l.failed) losses in
-    let unkept : new.losses.unkept ≡ min (old.losses.unkept + 1) (2 ^ 64 - 1) = ap (λ (l : Losses). l.unkept) losses in
-    let len : length new.results.items ≡ length old.results.items = ap (λ (v : _). length v.items) results in
-    record {
-      all = sum_on loss.Unkept old new lost losses;
-      below = λ less. omega (arith, failed, unkept, less);
-      urls = λ less. omega (arith, failed, unkept, len, less);
-    }
-
--- a URL has its result
-pub url_kept : (old new : WorkerOutput) (result : PageResult) → new.results.items ≡ old.results.items ++ result ∷ [] → new.lost ≡ old.lost → new.losses ≡ old.losses → Tallies old new
-url_kept old new result results lost losses =
-    let failed : new.losses.failed ≡ old.losses.failed = ap (λ (l : Losses). l.failed) losses in
-    let unkept : new.losses.unkept ≡ old.losses.unkept = ap (λ (l : Losses). l.unkept) losses in
-    let len : length new.results.items ≡ length old.results.items + 1 = ap (λ (rs : List PageResult). length rs) results ∙ rw length_push (omega arith) in
-    record {
-      all = λ is. lost ∙ is ∙ ap (λ (l : Losses). min (all_losses l) (2 ^ 64 - 1)) (sym losses);
-      below = λ less. omega (arith, failed, unkept, less);
-      urls = λ less. omega (arith, failed, unkept, len);
     }
 
 -- its links were offered before

@@ -1,5 +1,5 @@
 -- Workers in turn.
-use Rattle.std.proofs.Common.{◌≡◌, ◌⊎◌, inl, inr, ℕ, zero, suc, ◌+◌, ◌<◌, Bool, List, [], ◌∷◌, ◌++◌, length, Some, refl, ap, subst, ◌∙◌, arith, slice_get, slice_set, slice_index_or, take}
+use Rattle.std.proofs.Common.{◌≡◌, ◌⊎◌, ℕ, zero, suc, ◌+◌, ◌<◌, Bool, List, [], ◌∷◌, ◌++◌, length, Some, refl, ap, subst, ◌∙◌, arith, slice_get, slice_set, slice_index_or, take}
 use Rattle.std.proofs.lemmas.List.{length_push}
 use Rattle.std.proofs.Math.Seq.{take-append_seam}
 use Rattle.std.specs.List.{AllZip}
@@ -52,16 +52,6 @@ get_before (x ∷ xs) a b (suc k) at = get_before xs a b k at
 get_last : {A : Type 0} (xs : List A) (a : A) → slice_get (xs ++ a ∷ []) (length xs) ≡ Some a
 get_last [] a = refl
 get_last (x ∷ xs) a = get_last xs a
-
-get_set_cases : {X : Type 0} (xs : List X) (i k : ℕ) (x y : X) → slice_get (slice_set xs i x) k ≡ Some y → ((k ≡ i) × (x ≡ y)) ⊎ (slice_get xs k ≡ Some y)
-get_set_cases [] i k x y at = inr at
-get_set_cases (z ∷ xs) zero zero x y at = let same : x ≡ y = cc in inl (refl, same)
-get_set_cases (z ∷ xs) zero (suc k) x y at = inr at
-get_set_cases (z ∷ xs) (suc i) zero x y at = inr at
-get_set_cases (z ∷ xs) (suc i) (suc k) x y at = elim (get_set_cases xs i k x y at) [
-  | inl here ↦ inl (ap (λ n. suc n) here.0, here.1)
-  | inr there ↦ inr there
-]
 
 pub all_go_set : {K : _} (workers : ℕ) (allowed : List ℕ → Bool) (meaning : List ℕ → Page) (starts : List WorkerId) (rs : List (Runner K)) (i : ℕ) (r r' : Runner K) → slice_get rs i ≡ Some r
     → ((start : WorkerId) → RunnerRan workers allowed meaning start r → RunnerRan workers allowed meaning start r') → AllGo workers allowed meaning starts rs → AllGo workers allowed meaning starts (slice_set rs i r')

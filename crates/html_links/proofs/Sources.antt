@@ -3,7 +3,7 @@ use Rattle.std.proofs.Common.{◌≡◌, ℕ, zero, suc, ◌+◌, ◌<◌, ◌�
 use Rattle.std.proofs.lemmas.Bool.{eqb-true}
 use Rattle.html_links.specs.Shown.{front, behind, is_space, Stopped}
 use Rattle.html_links.proofs.Jumps.{stopped, shorter}
-use Rattle.html_links.specs.Candidates.{State, Between, Url, Descriptors, Next, Go, are_commas, without_commas, is_between, is_unspaced, behind_url, behind_shorter, step, at_end, follow, read, candidates_of}
+use Rattle.html_links.specs.Candidates.{Between, Url, Descriptors, Next, Go, are_commas, without_commas, is_between, is_unspaced, behind_url, behind_shorter, step, at_end, follow, read, candidates_of}
 
 refuted : (b : Bool) → (b ≡ true → ⊥) → b ≡ false
 refuted true never = absurd (never refl)
@@ -148,10 +148,6 @@ no_commas (c ∷ rest) x other = ap (λ b. cond (c == 44) b false) (no_commas re
 pub no_comma : (bytes : List ℕ) (x : ℕ) → (x == 44) ≡ false → without_commas (bytes ++ x ∷ []) ≡ bytes ++ x ∷ []
 no_comma [] x other = ap (λ b. cond b [] (x ∷ [])) (no_commas [] x other)
 no_comma (c ∷ rest) x other = ap (λ b. cond b [] (c ∷ without_commas (rest ++ x ∷ []))) (no_commas (c ∷ rest) x other) ∙ ap (λ t. c ∷ t) (no_comma rest x other)
-
-pub empty_url : (url : List ℕ) → length url ≡ 0 → without_commas url ≡ url
-empty_url [] none = refl
-empty_url (c ∷ rest) none = absurd (omega (arith, none))
 
 -- one candidate
 

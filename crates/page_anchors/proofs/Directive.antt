@@ -1,6 +1,6 @@
 -- What stands before a fragment directive, byte by byte.
-use Rattle.std.proofs.Common.{◌≡◌, ℕ, ◌+◌, ◌-◌, ◌<◌, ◌≤◌, true, false, List, [], ◌∷◌, ◌++◌, length, take, drop, get_or, append-nil, length-drop, arith, sym, ap, ◌∙◌, if◌then◌else◌}
-use Rattle.std.proofs.lemmas.List.{append_assoc, drop_more, take_more, take_all, drop_all}
+use Rattle.std.proofs.Common.{◌≡◌, ℕ, ◌+◌, ◌-◌, ◌<◌, ◌≤◌, false, List, [], ◌∷◌, ◌++◌, length, take, drop, get_or, length-drop, arith, sym, ap, ◌∙◌, if◌then◌else◌}
+use Rattle.std.proofs.lemmas.List.{append_assoc, drop_more, take_more, take_all}
 use Rattle.page_anchors.specs.Indicated.{before_directive, begins_directive}
 
 -- a rest up to the end
@@ -18,19 +18,3 @@ directive_more text i below begins before =
     ∙ ap (λ t. take i text ++ before_directive t) here
     ∙ ap (λ q. take i text ++ (if q then [] else b ∷ before_directive rest)) none
     ∙ sym (append_assoc (take i text) (b ∷ []) (before_directive rest)) ∙ ap (λ t. t ++ before_directive rest) (sym (take_more text i 0 below))
-
--- a directive begins here
-pub directive_here : (text : List ℕ) (i : ℕ) → i < length text → begins_directive (drop i text) ≡ true → before_directive text ≡ take i text ++ before_directive (drop i text) → take i text ≡ before_directive text
-directive_here text i below begins before =
-    let b = get_or text i 0 in
-    let rest = drop (i + 1) text in
-    let here : drop i text ≡ b ∷ rest = drop_more text i 0 below in
-    sym
-    (before
-    ∙ ap (λ t. take i text ++ before_directive t) here
-    ∙ ap (λ q. take i text ++ (if q then [] else b ∷ before_directive rest)) (ap begins_directive (sym here) ∙ begins) ∙ append-nil (take i text))
-
--- none begins
-pub directive_nowhere : (text : List ℕ) (i : ℕ) → length text ≤ i → before_directive text ≡ take i text ++ before_directive (drop i text) → text ≡ before_directive text
-directive_nowhere text i past before =
-    sym (before ∙ (λ k. take_all i text past k ++ before_directive (drop_all i text past k)) ∙ append-nil text)

@@ -1,8 +1,8 @@
 -- What is printed of pages while they are gone through.
-use Rattle.std.proofs.Common.{◌≡◌, ℕ, true, false, List, [], ◌∷◌, ◌++◌, codes, refl, sym, ap, subst, ◌∙◌, append_assoc, append-nil}
+use Rattle.std.proofs.Common.{◌≡◌, ℕ, true, List, [], ◌∷◌, ◌++◌, codes, refl, sym, ap, subst, ◌∙◌, append_assoc, append-nil}
 use Rattle.std.specs.List.{flat_map}
 use Rattle.std.specs.Str.Lines.{lines}
-use Rattle.std.proofs.lemmas.Bool.{cond-true, cond-false}
+use Rattle.std.proofs.lemmas.Bool.{cond-true}
 use Rattle.std.proofs.lemmas.List.Concat.{flat_map-append}
 use Rattle.crawl_web.specs.WebFaults.{IsSound}
 use Rattle.crawl_web.specs.SavedWeb.{page_of}
@@ -25,16 +25,6 @@ pub record Printed (web last : List ℕ) (rest pages : List SitePage) : Type 0 w
   pub up : AscendsBehind [] taken
   pub last_is : last_of [] taken ≡ last
   pub whole : taken ++ ascending_behind last rest ≡ ascending pages
-
-pub printed_none : (web : List ℕ) (pages : List SitePage) → web ≡ web_text [] → Printed web [] pages pages
-printed_none web pages is = record {
-  taken = [];
-  text = is;
-  all = tt;
-  up = tt;
-  last_is = refl;
-  whole = refl;
-}
 
 all_push : (taken : List SitePage) (page : SitePage) → AllPages taken → IsPage page → AllPages (taken ++ page ∷ [])
 all_push [] page all is = (is, tt)
@@ -67,24 +57,9 @@ printed_more web last new rest more pages page first behind is owes p =
           ∙ p.whole;
     }
 
-pub printed_skip : (web last : List ℕ) (rest more pages : List SitePage) (page : SitePage) → rest ≡ page ∷ more → is_behind last page.url ≡ false → Printed web last rest pages → Printed web last more pages
-printed_skip web last rest more pages page first before p = record {
-  taken = p.taken;
-  text = p.text;
-  all = p.all;
-  up = p.up;
-  last_is = p.last_is;
-  whole =
-      ap (λ (b : List SitePage). p.taken ++ b) (sym (ap (ascending_behind last) first ∙ cond-false (is_behind last page.url) (page ∷ ascending_behind page.url more) (ascending_behind last more) before))
-      ∙ p.whole;
-}
-
 printed_taken : (web last : List ℕ) (rest pages : List SitePage) → rest ≡ [] → (p : Printed web last rest pages) → p.taken ≡ ascending pages
 printed_taken web last rest pages none p =
     sym (append-nil p.taken) ∙ ap (λ (b : List SitePage). p.taken ++ b) (sym (ap (ascending_behind last) none)) ∙ p.whole
-
-pub printed_text : (web last : List ℕ) (rest pages : List SitePage) → rest ≡ [] → Printed web last rest pages → web ≡ web_text (ascending pages)
-printed_text web last rest pages none p = p.text ∙ ap web_text (printed_taken web last rest pages none p)
 
 pub printed_sound : (web last : List ℕ) (rest pages : List SitePage) → rest ≡ [] → Printed web last rest pages → IsSound (lines web)
 printed_sound web last rest pages none p =
