@@ -73,6 +73,7 @@ fn value<'a>(name: &'a [u8], bytes: &'a [u8]) -> Piece<'a>
 }
 
 /// The next piece of a tag.
+#[inline(always)]
 pub(crate) fn next_piece(bytes: &[u8]) -> Piece<'_>
     ensures reads { Reads result bytes.now }
     ensures leaves { Leaves result (length bytes.now) }
