@@ -1,9 +1,9 @@
 -- The machine of character references over runs of bytes.
-use Rattle.std.proofs.Common.{◌≡◌, ℕ, ◌==◌, ◌||◌, Bool, true, false, not, cond, List, [], ◌∷◌, ◌++◌, Option, None, Some, ◌+◌, ◌<◌, ◌≤◌, length, refl, ap, sym, ◌∙◌, append_assoc, append-nil, arith}
+use Rattle.std.proofs.Common.{◌≡◌, ℕ, ◌==◌, ◌||◌, Bool, true, false, not, cond, List, [], ◌∷◌, ◌++◌, None, Some, ◌<◌, ◌≤◌, length, refl, ap, sym, ◌∙◌, append_assoc, append-nil, arith}
 use Rattle.std.specs.Char.{is_ascii_alphanumeric, is_digit, digit_value, encode_utf8}
 use Rattle.html_links.specs.Shown.{front, behind, Stopped}
 use Rattle.html_links.specs.Names.{named}
-use Rattle.html_links.specs.References.{State, Text, Reference, Name, Hash, Start, Number, Next, Go, text_step, start_at, number_at, number_end, number_after, number_text, digit_in, closed_at, or_itself, name_text, name_end, is_x, step, at_end, follow, read}
+use Rattle.html_links.specs.References.{Text, Reference, Name, Number, Next, Go, text_step, number_at, number_end, number_after, number_text, digit_in, closed_at, name_text, name_end, step, follow, read}
 use Rattle.html_links.specs.Decoding.{is_plain, in_base}
 use Rattle.html_links.proofs.Jumps.{shorter}
 use Rattle.html_links.proofs.Sources.{front_all}

@@ -1,12 +1,9 @@
--- Links tag by tag, and the words of a `rel` over runs of bytes.
-use Rattle.std.proofs.Common.{◌≡◌, ◌==◌, ℕ, Bool, true, false, not, cond, List, [], ◌∷◌, ◌++◌, Option, None, Some, refl, ap, sym, ◌∙◌, append_assoc, append-nil, ◌<◌, ◌≤◌, ◌+◌, length, arith}
-use Rattle.html_links.specs.declared.next_tag.NextTag.{NextTag}
+-- The words of a `rel` over runs of bytes.
+use Rattle.std.proofs.Common.{◌≡◌, ℕ, Bool, true, false, not, cond, List, [], ◌∷◌, ◌++◌, refl, ap, sym, ◌∙◌, append_assoc, append-nil, ◌<◌, ◌≤◌, length, arith}
 use Rattle.html_links.specs.Shown.{front, behind, is_space, Stopped}
 use Rattle.html_links.specs.Candidates.{is_unspaced}
-use Rattle.html_links.specs.Values.{values_at}
-use Rattle.html_links.specs.Seen.{Seen, Sees, seen_in}
 use Rattle.html_links.proofs.Jumps.{stopped, shorter}
-use Rattle.html_links.specs.Links.{is_host_hint, hints_behind, links_with, links_in, base_with, base_in, or_later}
+use Rattle.html_links.specs.Links.{is_host_hint, hints_behind}
 
 -- the words of a `rel`
 
@@ -67,19 +64,3 @@ word_less rest spaced left c more cut =
     let b : length spaced ≡ length (c ∷ left) = ap length cut in
     let le : length (behind is_unspaced rest) ≤ length rest = shorter is_unspaced rest in
     omega arith
-
--- one tag more
-
-pub links_more : (seen : List Seen) (t : NextTag) → Sees (Some t) seen → links_in seen ≡ links_with t.element (values_at t.values) ++ links_in (seen_in t.rest.now)
-links_more seen t sees = ap links_in sees
-
-pub base_more : (seen : List Seen) (t : NextTag) → Sees (Some t) seen → base_in seen ≡ or_later (base_with t.element (values_at t.values)) (base_in (seen_in t.rest.now))
-base_more seen t sees = ap base_in sees
-
-pub later_later : (a b c : Option (List ℕ)) → or_later (or_later a b) c ≡ or_later a (or_later b c)
-later_later None b c = refl
-later_later (Some a) b c = refl
-
-pub later_none : (a : Option (List ℕ)) → or_later a None ≡ a
-later_none None = refl
-later_none (Some a) = refl

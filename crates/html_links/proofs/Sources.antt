@@ -3,7 +3,7 @@ use Rattle.std.proofs.Common.{◌≡◌, ℕ, zero, suc, ◌+◌, ◌<◌, ◌�
 use Rattle.std.proofs.lemmas.Bool.{eqb-true}
 use Rattle.html_links.specs.Shown.{front, behind, is_space, Stopped}
 use Rattle.html_links.proofs.Jumps.{stopped, shorter}
-use Rattle.html_links.specs.Candidates.{State, Between, Url, Descriptors, Next, Go, are_commas, without_commas, is_between, is_unspaced, behind_url, behind_shorter, step, at_end, follow, read, candidates_of}
+use Rattle.html_links.specs.Candidates.{Between, Url, Descriptors, Next, Go, are_commas, without_commas, is_between, is_unspaced, behind_url, behind_shorter, step, at_end, follow, read, candidates_of}
 
 refuted : (b : Bool) → (b ≡ true → ⊥) → b ≡ false
 refuted true never = absurd (never refl)

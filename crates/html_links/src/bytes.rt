@@ -5,7 +5,7 @@ ghost use Rattle.memchr.specs.Find.{IsFirstByte, is_byte};
 ghost use Rattle.html_links.specs.Tags.{class_of};
 ghost use Rattle.html_links.specs.Shown.{front, behind, is_space, in_name, in_unquoted, name_front, name_behind, BeginsName, Stopped};
 
-use memchr::memchr;
+use memchr::memchr_iter;
 
 /// What a byte means within a tag.
 #[derive(Clone, Copy)]
@@ -131,16 +131,17 @@ pub(crate) fn split_quoted(quote: u8, bytes: &[u8]) -> Option<(&[u8], &[u8])>
     ensures { MatchOption result (behind (λ c. not (c == quote)) bytes.now ≡ [])
         (λ x. (x.0.now ≡ front (λ c. not (c == quote)) bytes.now) × (quote ∷ x.1.now ≡ behind (λ c. not (c == quote)) bytes.now)) }
 {
-    match place_of(quote, bytes) {
+    match find_byte(quote, bytes) {
         Some(end) => Some((&bytes[..end], &bytes[end + 1..])),
         None => None,
     }
 }
 
-/// The search, once in the program: its answer stays in registers.
+/// The first index of a byte that is likely to be near. The search stands once in the program, and its answer in registers.
 #[inline(never)]
-fn place_of(byte: u8, bytes: &[u8]) -> Option<usize>
+fn find_byte(byte: u8, bytes: &[u8]) -> Option<usize>
     ensures { IsFirstByte (is_byte byte) bytes.now result }
 {
-    memchr(byte, bytes)
+    let mut found = memchr_iter(byte, bytes);
+    found.next()
 }
