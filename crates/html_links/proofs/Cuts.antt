@@ -1,12 +1,12 @@
 -- The runs that the code cuts by a length are `front` and `behind`.
-use Rattle.std.proofs.Common.{◌≡◌, ℕ, suc, ◌+◌, ◌-◌, ◌==◌, Bool, true, false, not, cond, List, [], ◌∷◌, length, take, drop, get_or, Some, None, refl, ap, sym, ◌∙◌, arith}
+use Rattle.std.proofs.Common.{◌≡◌, ℕ, zero, suc, ◌+◌, ◌-◌, ◌==◌, ⊎_elim, slice_index, subst, Option, Bool, true, false, not, cond, List, [], ◌∷◌, length, take, drop, get_or, Some, None, refl, ap, sym, ◌∙◌, arith}
 use Rattle.std.specs.List.{prefix_len, position_or_len, take_while}
 use Rattle.std.proofs.lemmas.List.Folds.{length-prefix_len}
 use Rattle.std.proofs.lemmas.List.Sums.{position_or_len_is}
 use Rattle.std.proofs.lemmas.List.{take_rest, drop_all}
-use Rattle.std.proofs.lemmas.Bool.{eqb-true}
+use Rattle.std.proofs.lemmas.Bool.{eqb-true, cases_eq}
 use Rattle.std.proofs.Math.Seq.{drop-cons}
-use Rattle.memchr.specs.Find.{IsFirstByte, is_byte}
+use Rattle.memchr.specs.Find.{IsFirstByte, is_byte, Nowhere, NoneBefore, Passes, places_from, places, TakesFirst}
 use Rattle.html_links.specs.Shown.{front, behind, in_name, BeginsName, name_front, name_behind}
 
 refuted : (b : Bool) → (b ≡ true → ⊥) → b ≡ false
@@ -86,3 +86,42 @@ no_quote quote bytes nowhere =
     let none : position_or_len (is_byte quote) bytes ≡ length bytes =
     position_or_len_is (is_byte quote) bytes (length bytes) 0 (omega arith) (λ k below. refuted (is_byte quote (get_or bytes k 0)) (nowhere k (omega arith) below)) (λ inside. absurd (omega (arith, inside))) in
     behind_prefix (λ c. not (c == quote)) bytes ∙ ap (λ n. drop n bytes) none ∙ drop_all (length bytes) bytes (omega arith)
+
+-- the first of the places where a test holds, by the list of them all
+module _ (test : ℕ → Bool) (hay : List ℕ) where
+  none_at : (b : Bool) (i n : ℕ) (later : List ℕ) → test (slice_index hay i) ≡ b → cond b (i ∷ later) later ≡ [] →
+      (later ≡ [] → Nowhere (Passes test hay) (i + 1) (i + 1 + n)) → Nowhere (Passes test hay) i (i + suc n)
+  none_at true i n later is e rest = absurd (cc)
+  none_at false i n later is e rest =
+      λ k low high. ⊎_elim (λ (same : k ≡ i). λ (p : Passes test hay k). cc) (λ other. rest e k (omega arith) (omega arith)) (cases_eq k i)
+
+  none_from : (i n : ℕ) → places_from test hay i n ≡ [] → Nowhere (Passes test hay) i (i + n)
+  unfolding places_from
+  none_from i zero e = λ k low high. absurd (omega arith)
+  none_from i (suc n) e = none_at (test (slice_index hay i)) i n (places_from test hay (i + 1) n) refl e (none_from (i + 1) n)
+
+  some_at : (b : Bool) (i n x : ℕ) (later t : List ℕ) → test (slice_index hay i) ≡ b → cond b (i ∷ later) later ≡ x ∷ t →
+      (later ≡ x ∷ t → NoneBefore (Passes test hay) (i + 1) (i + 1 + n) x × Passes test hay x) → NoneBefore (Passes test hay) i (i + suc n) x × Passes test hay x
+  some_at true i n x later t is e rest =
+      let same : i ≡ x = cc in
+      (record { low = omega arith; high = omega arith; before = λ k low high. absurd (omega arith) }, subst (λ (k : ℕ). test (slice_index hay k) ≡ true) same is)
+  some_at false i n x later t is e rest =
+      let found : NoneBefore (Passes test hay) (i + 1) (i + 1 + n) x × Passes test hay x = rest e in (
+        record {
+          low = omega (arith, found.0.low);
+          high = omega (arith, found.0.high);
+          before = λ k low high. ⊎_elim (λ (same : k ≡ i). λ (p : Passes test hay k). cc) (λ other. found.0.before k (omega arith) high) (cases_eq k i);
+        },
+        found.1,
+      )
+
+  some_from : (i n x : ℕ) (t : List ℕ) → places_from test hay i n ≡ x ∷ t → NoneBefore (Passes test hay) i (i + n) x × Passes test hay x
+  unfolding places_from
+  some_from i zero x t e = absurd (cc)
+  some_from i (suc n) x t e = some_at (test (slice_index hay i)) i n x (places_from test hay (i + 1) n) t refl e (some_from (i + 1) n x t)
+
+  pub first_byte : (r : Option ℕ) (all rest : List ℕ) → all ≡ places test hay → TakesFirst all r rest → IsFirstByte test hay r
+  first_byte None all rest is takes = λ k low high. none_from 0 (length hay - 0) (sym is ∙ takes.0) k low (omega arith)
+  first_byte (Some x) all rest is takes =
+      let found = some_from 0 (length hay - 0) x rest (sym is ∙ takes) in
+      (record { low = omega arith; high = omega (arith, found.0.high); before = found.0.before }, found.1)

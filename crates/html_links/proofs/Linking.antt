@@ -1,5 +1,5 @@
--- Links tag by tag, and the words of a `rel` over runs of bytes.
-use Rattle.std.proofs.Common.{◌≡◌, ◌==◌, ℕ, Bool, true, false, not, cond, List, [], ◌∷◌, ◌++◌, refl, ap, sym, ◌∙◌, append_assoc, append-nil, ◌<◌, ◌≤◌, ◌+◌, length, arith}
+-- The words of a `rel` over runs of bytes.
+use Rattle.std.proofs.Common.{◌≡◌, ℕ, Bool, true, false, not, cond, List, [], ◌∷◌, ◌++◌, refl, ap, sym, ◌∙◌, append_assoc, append-nil, ◌<◌, ◌≤◌, length, arith}
 use Rattle.html_links.specs.Shown.{front, behind, is_space, Stopped}
 use Rattle.html_links.specs.Candidates.{is_unspaced}
 use Rattle.html_links.proofs.Jumps.{stopped, shorter}
@@ -64,5 +64,3 @@ word_less rest spaced left c more cut =
     let b : length spaced ≡ length (c ∷ left) = ap length cut in
     let le : length (behind is_unspaced rest) ≤ length rest = shorter is_unspaced rest in
     omega arith
-
--- one tag more

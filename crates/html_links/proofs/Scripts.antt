@@ -1,5 +1,5 @@
 -- The machine of a script's text, and its first state over a run.
-use Rattle.std.proofs.Common.{◌≡◌, ℕ, ◌+◌, ◌<◌, ◌≤◌, ◌==◌, Bool, true, false, not, cond, List, [], ◌∷◌, length, Option, None, Some, refl, ap, sym, ◌∙◌, arith}
+use Rattle.std.proofs.Common.{◌≡◌, ℕ, ◌+◌, ◌<◌, ◌≤◌, ◌==◌, Bool, true, false, not, cond, List, [], ◌∷◌, length, None, Some, refl, ap, sym, ◌∙◌, arith}
 use Rattle.html_links.specs.declared.script.State.{State}
 use Rattle.html_links.specs.declared.script.State.TheVariants.{Text, LessThan}
 use Rattle.html_links.specs.declared.script.Next.{Next}

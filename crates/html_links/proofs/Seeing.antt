@@ -1,8 +1,8 @@
 -- What a reader of links sees, tag by tag.
-use Rattle.std.proofs.Common.{◌≡◌, ◌∙◌, ◌<◌, ◌≤◌, ◌+◌, sym, ap, refl, arith, ℕ, true, false, List, [], ◌∷◌, ◌++◌, length, map, Option, None, Some}
+use Rattle.std.proofs.Common.{◌≡◌, ◌∙◌, ◌<◌, ◌≤◌, sym, ap, refl, arith, ℕ, false, List, [], ◌∷◌, length, map, Option, None, Some}
 use Rattle.html_links.specs.declared.element.Element.{Element}
 use Rattle.html_links.specs.declared.next_tag.NextTag.{NextTag}
-use Rattle.html_links.specs.Tags.{Attribute, Tag, BeforeName, tag_of}
+use Rattle.html_links.specs.Tags.{Tag, BeforeName, tag_of}
 use Rattle.html_links.specs.Document.{StartTag, Data, InTag, behind_tag, read}
 use Rattle.html_links.specs.Elements.{Wanted, element_of, wanted_of}
 use Rattle.html_links.specs.Values.{Values, TagValues, tag_with, values_of, values_in}

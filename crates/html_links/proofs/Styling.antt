@@ -1,9 +1,9 @@
 -- Style sheets: comments over runs of bytes, and URLs one after another.
-use Rattle.std.proofs.Common.{◌≡◌, ℕ, zero, suc, ◌+◌, ◌<◌, ◌≤◌, ◌==◌, Bool, true, false, not, cond, List, [], ◌∷◌, ◌++◌, Option, None, Some, length, refl, ap, sym, ◌∙◌, append_assoc, append-nil, arith}
+use Rattle.std.proofs.Common.{◌≡◌, ℕ, zero, suc, ◌<◌, ◌≤◌, ◌==◌, Bool, true, false, not, cond, List, [], ◌∷◌, ◌++◌, Option, None, Some, length, refl, ap, sym, ◌∙◌, append_assoc, append-nil, arith}
 use Rattle.std.specs.Char.{to_ascii_lowercase}
 use Rattle.html_links.specs.Shown.{front, behind, Stopped}
 use Rattle.html_links.specs.Refresh.{behind_letter, and_then, is_quote}
-use Rattle.html_links.specs.Styles.{State, Text, Slash, Comment, Star, Next, Go, step, at_end, follow, read, is_wide_space, in_plain, Found, found_with, or_found, closed, quoted, some_url, plain, in_brackets, behind_url, behind_import, spaced, found_behind, found_at, urls_after, urls_within, urls_of}
+use Rattle.html_links.specs.Styles.{Text, Slash, Comment, Star, Next, Go, step, follow, read, is_wide_space, in_plain, Found, found_with, or_found, closed, quoted, some_url, plain, in_brackets, behind_url, behind_import, spaced, found_behind, found_at, urls_after, urls_within, urls_of}
 use Rattle.html_links.proofs.Jumps.{shorter}
 use Rattle.html_links.proofs.Sources.{front_all}
 

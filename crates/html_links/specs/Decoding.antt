@@ -1,6 +1,5 @@
 -- What is said of the code that reads character references.
 use Rattle.std.specs.Prelude.{◌≡◌, ℕ, ◌==◌, ◌||◌, not, Bool, List, ◌∷◌, ◌++◌}
-use Rattle.std.specs.Borrow.{Bor}
 use Rattle.std.specs.Char.{is_digit, encode_utf8}
 use Rattle.html_links.specs.declared.references.Decoded.{Decoded}
 use Rattle.html_links.specs.declared.references.Decoded.TheVariants as decoded

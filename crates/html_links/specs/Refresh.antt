@@ -1,6 +1,6 @@
 -- The target of a refresh, as the HTML Standard's shared declarative refresh steps find it (4.2.5.3).
 -- An empty target names the document itself, and counts as none.
-use Rattle.std.specs.Prelude.{ℕ, ◌==◌, ◌||◌, ◌&&◌, nat_le, not, Bool, true, false, if◌then◌else◌, List, [], ◌∷◌, Option, None, Some}
+use Rattle.std.specs.Prelude.{ℕ, ◌==◌, ◌||◌, ◌&&◌, nat_le, not, Bool, if◌then◌else◌, List, [], ◌∷◌, Option, None, Some}
 use Rattle.std.specs.Char.{to_ascii_lowercase}
 use Rattle.html_links.specs.Shown.{front, behind, is_space}
 

@@ -1,12 +1,11 @@
 -- What a reader of links sees of a document: of each start tag its name and element, and the values of its wanted attributes.
 use Rattle.std.specs.Prelude.{◌≡◌, ◌<◌, ℕ, List, [], ◌∷◌, length, map, false, Option, None, Some}
-use Rattle.std.specs.Borrow.{Bor}
 use Rattle.html_links.specs.declared.element.Element.{Element}
 use Rattle.html_links.specs.declared.next_tag.NextTag.{NextTag}
 use Rattle.html_links.specs.Tags.{lower, BeforeName}
-use Rattle.html_links.specs.Document.{StartTag, Data, InTag, read, tags_of}
+use Rattle.html_links.specs.Document.{StartTag, InTag, read, tags_of}
 use Rattle.html_links.specs.Elements.{element_of, wanted_of}
-use Rattle.html_links.specs.Values.{Values, values_of, values_at}
+use Rattle.html_links.specs.Values.{Values, values_of}
 
 pub record Seen : Type 0 where
   pub name : List ℕ
@@ -22,16 +21,16 @@ seen_of t = seen_with t.name (element_of t.name) (values_of (wanted_of (element_
 abbrev pub seen_in : List ℕ → List Seen
 seen_in document = map seen_of (tags_of document)
 
-abbrev pub seen_at : NextTag → Seen
-seen_at t = seen_with (map lower t.name.now) t.element (values_at t.values)
+abbrev pub seen_at : NextTag → Values → Seen
+seen_at t values = seen_with (map lower t.name.now) t.element values
 
--- What is said of the code: what is seen is the next tag, and what is seen behind it.
-abbrev pub Sees : Option NextTag → List Seen → Type 0
-Sees None seen = seen ≡ []
-Sees (Some t) seen = seen ≡ seen_at t ∷ seen_in t.rest.now
+-- What is said of the code: what is seen is the next tag with these values, and what is seen behind it.
+abbrev pub Sees : Option NextTag → Values → List Seen → Type 0
+Sees None values seen = seen ≡ []
+Sees (Some t) values seen = seen ≡ seen_at t values ∷ seen_in t.rest.now
 
-abbrev pub SeesTag : Option NextTag → List ℕ → List ℕ → Type 0
-SeesTag t name bytes = Sees t (map seen_of (read (InTag false (map lower name) BeforeName []) bytes))
+abbrev pub SeesTag : Option NextTag → Values → List ℕ → List ℕ → Type 0
+SeesTag t values name bytes = Sees t values (map seen_of (read (InTag false (map lower name) BeforeName []) bytes))
 
 abbrev pub LeavesTag : Option NextTag → List ℕ → Type 0
 LeavesTag None bytes = Unit {0}

@@ -53,9 +53,12 @@ values_at v = record {
   name = bytes_at v.name;
 }
 
-abbrev pub tag_values : Option (code.Values × Bor (List ℕ)) → Option TagValues
-tag_values None = None
-tag_values (Some x) = Some (tag_with (values_at x.0) x.1.now)
+abbrev pub tag_values : Values → Option (Bor (List ℕ)) → Option TagValues
+tag_values values None = None
+tag_values values (Some rest) = Some (tag_with values rest.now)
+
+abbrev pub no_values : Values
+no_values = record { first = None; second = None; third = None; style = None; id = None; name = None }
 
 abbrev pub or_named : Option (List ℕ) → List ℕ → Attribute → Option (List ℕ)
 or_named value name a = option_or value (if bytes_eq a.name (map lower name) then Some a.value else None)

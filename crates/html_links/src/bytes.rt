@@ -1,10 +1,11 @@
 //! Classes of bytes, and slices cut where they change.
 ghost use Rattle.std.specs.Prelude.{◌≡◌, ◌∷◌, ◌==◌, [], length, not, MatchOption};
 ghost use Rattle.std.specs.List.{take_while};
+ghost use Rattle.memchr.specs.Find.{IsFirstByte, is_byte};
 ghost use Rattle.html_links.specs.Tags.{class_of};
 ghost use Rattle.html_links.specs.Shown.{front, behind, is_space, in_name, in_unquoted, name_front, name_behind, BeginsName, Stopped};
 
-use memchr::memchr;
+use memchr::memchr_iter;
 
 /// What a byte means within a tag.
 #[derive(Clone, Copy)]
@@ -18,7 +19,14 @@ pub(crate) enum Class {
     Other,
 }
 
+/// The greatest byte that is white space.
+const LAST_SPACE: u8 = b' ';
+
+/// The greatest byte that is of a class but `Other`: the letters of most names are above it.
+pub(crate) const LAST_MARK: u8 = b'>';
+
 /// The class of a byte.
+#[inline(always)]
 pub(crate) fn class_of(byte: u8) -> Class
     ensures { result ≡ class_of byte }
 {
@@ -33,25 +41,29 @@ pub(crate) fn class_of(byte: u8) -> Class
     }
 }
 
+#[inline(always)]
 pub(crate) fn is_space(byte: u8) -> bool
     ensures { result ≡ is_space byte }
 {
-    matches!(class_of(byte), Class::Space)
+    byte <= LAST_SPACE && matches!(class_of(byte), Class::Space)
 }
 
+#[inline(always)]
 fn in_name(byte: u8) -> bool
     ensures { result ≡ in_name byte }
 {
-    !matches!(
-        class_of(byte),
-        Class::Space | Class::Slash | Class::Greater | Class::Equals
-    )
+    byte > LAST_MARK
+        || !matches!(
+            class_of(byte),
+            Class::Space | Class::Slash | Class::Greater | Class::Equals
+        )
 }
 
+#[inline(always)]
 fn in_unquoted(byte: u8) -> bool
     ensures { result ≡ in_unquoted byte }
 {
-    !matches!(class_of(byte), Class::Space | Class::Greater)
+    byte > LAST_MARK || !matches!(class_of(byte), Class::Space | Class::Greater)
 }
 
 fn space_len(bytes: &[u8]) -> usize
@@ -114,12 +126,22 @@ pub(crate) fn split_unquoted(bytes: &[u8]) -> (&[u8], &[u8])
 }
 
 /// What stands before the first such quote, and what behind it.
+#[inline(always)]
 pub(crate) fn split_quoted(quote: u8, bytes: &[u8]) -> Option<(&[u8], &[u8])>
     ensures { MatchOption result (behind (λ c. not (c == quote)) bytes.now ≡ [])
         (λ x. (x.0.now ≡ front (λ c. not (c == quote)) bytes.now) × (quote ∷ x.1.now ≡ behind (λ c. not (c == quote)) bytes.now)) }
 {
-    match memchr(quote, bytes) {
+    match find_byte(quote, bytes) {
         Some(end) => Some((&bytes[..end], &bytes[end + 1..])),
         None => None,
     }
+}
+
+/// The first index of a byte that is likely to be near. The search stands once in the program, and its answer in registers.
+#[inline(never)]
+fn find_byte(byte: u8, bytes: &[u8]) -> Option<usize>
+    ensures { IsFirstByte (is_byte byte) bytes.now result }
+{
+    let mut found = memchr_iter(byte, bytes);
+    found.next()
 }

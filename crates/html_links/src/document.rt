@@ -6,7 +6,7 @@ ghost use Rattle.html_links.specs.Comments.{bytes_at};
 ghost use Rattle.html_links.specs.Document.{opening_of, read, tags_of, behind_tag, content_of, is_raw, Bogus, MarkupDeclaration, raw_content, script_content};
 ghost use Rattle.html_links.specs.Markup.{in_tag_name, led_front, led_behind, start_tag_at, read_rest, rest_of, MarkupReads, MarkupEnds, other_markup, MarkupLeaves, RestLeaves};
 
-use crate::bytes::{Class, behind_byte, class_of, parts, split_quoted};
+use crate::bytes::{Class, LAST_MARK, behind_byte, class_of, parts, split_quoted};
 use crate::comments::after_comment;
 use crate::raw_text::{after_raw_text, same_name};
 use crate::script::after_script;
@@ -61,10 +61,11 @@ fn opening_of(byte: u8) -> Opening
     }
 }
 
+#[inline(always)]
 fn in_tag_name(byte: u8) -> bool
     ensures { result ≡ in_tag_name byte }
 {
-    !matches!(class_of(byte), Class::Space | Class::Slash | Class::Greater)
+    byte > LAST_MARK || !matches!(class_of(byte), Class::Space | Class::Slash | Class::Greater)
 }
 
 fn tag_name_len(bytes: &[u8]) -> usize
@@ -149,8 +150,18 @@ pub(crate) fn next_markup(bytes: &[u8]) -> Markup<'_>
     }
 }
 
-/// What is behind a tag, from behind its name.
+/// What is behind a tag, from behind its name. Most end tags end there.
+#[inline(always)]
 pub(crate) fn after_tag(bytes: &[u8]) -> Option<&[u8]>
+    ensures { bytes_at result ≡ rest_of (tag_of bytes.now) }
+{
+    match behind_byte(b'>', bytes) {
+        Some(last) => Some(last),
+        None => after_pieces(bytes),
+    }
+}
+
+fn after_pieces(bytes: &[u8]) -> Option<&[u8]>
     ensures { bytes_at result ≡ rest_of (tag_of bytes.now) }
 {
     let mut rest = bytes;

@@ -4,7 +4,7 @@ ghost use Rattle.html_links.specs.Tags.{tag_of};
 ghost use Rattle.html_links.specs.Comments.{bytes_at};
 ghost use Rattle.html_links.specs.Shown.{attribute_at};
 ghost use Rattle.html_links.specs.Elements.{wanted_at};
-ghost use Rattle.html_links.specs.Values.{or_named, values_at, with_attribute, values_in, tag_values};
+ghost use Rattle.html_links.specs.Values.{or_named, values_at, no_values, with_attribute, values_in, tag_values};
 
 use crate::element::Wanted;
 use crate::raw_text::same_name;
@@ -19,60 +19,94 @@ pub(crate) struct Values<'a> {
     pub(crate) style: Option<&'a [u8]>,
     pub(crate) id: Option<&'a [u8]>,
     pub(crate) name: Option<&'a [u8]>,
+    /// How many bytes are behind the first value and its quote.
+    pub(crate) first_left: usize,
+    /// The same of the second.
+    pub(crate) second_left: usize,
 }
 
-/// The value so far, or else that of the attribute where it has this name.
-fn or_named<'a>(
-    value: Option<&'a [u8]>,
-    name: &[u8],
+impl<'a> Values<'a> {
+    pub(crate) fn none() -> Values<'a>
+        ensures { values_at result ≡ no_values }
+    {
+        Values {
+            first: None,
+            second: None,
+            third: None,
+            style: None,
+            id: None,
+            name: None,
+            first_left: 0,
+            second_left: 0,
+        }
+    }
+
+    #[inline(always)]
+    fn clear(&mut self)
+        ensures { values_at self.new ≡ no_values }
+    {
+        self.first = None;
+        self.second = None;
+        self.third = None;
+        self.style = None;
+        self.id = None;
+        self.name = None;
+    }
+}
+
+/// Takes the attribute's value where none is there yet and the attribute has this name; whether it did.
+#[inline(always)]
+fn take_named<'a>(value: &mut Option<&'a [u8]>, name: &[u8], attribute: AttributeAt<'a>) -> bool
+    ensures { bytes_at value.new ≡ or_named (bytes_at value.old) name.now (attribute_at attribute.entry) }
+{
+    let takes = value.is_none() && same_name(attribute.name, name);
+    if takes {
+        *value = Some(attribute.value);
+    }
+    takes
+}
+
+/// Takes the values of one attribute more, behind which so many bytes are left.
+#[inline(always)]
+fn take_attribute<'a>(
+    values: &mut Values<'a>,
+    wanted: &Wanted,
     attribute: AttributeAt<'a>,
+    left: usize,
+)
+    ensures { values_at values.new ≡ with_attribute (values_at values.old) (wanted_at wanted.now) (attribute_at attribute.entry) }
+{
+    if take_named(&mut values.first, wanted.first, attribute) {
+        values.first_left = left;
+    }
+    if take_named(&mut values.second, wanted.second, attribute) {
+        values.second_left = left;
+    }
+    take_named(&mut values.third, wanted.third, attribute);
+    take_named(&mut values.style, b"style", attribute);
+    take_named(&mut values.id, b"id", attribute);
+    take_named(&mut values.name, b"name", attribute);
+}
+
+/// Finds the wanted values of a tag from behind its name; answers what is behind the tag, and nothing where the tag does not end.
+#[inline(always)]
+pub(crate) fn values_in<'a>(
+    wanted: &Wanted,
+    bytes: &'a [u8],
+    values: &mut Values<'a>,
 ) -> Option<&'a [u8]>
-    ensures { bytes_at result ≡ or_named (bytes_at value.entry) name.now (attribute_at attribute.entry) }
+    ensures { tag_values (values_at values.new) result ≡ values_in (wanted_at wanted.now) (tag_of bytes.now) }
 {
-    match value {
-        Some(first) => Some(first),
-        None => if same_name(attribute.name, name) {
-            Some(attribute.value)
-        } else {
-            None
-        },
-    }
-}
-
-fn with_attribute<'a>(values: Values<'a>, wanted: Wanted, attribute: AttributeAt<'a>) -> Values<'a>
-    ensures { values_at result ≡ with_attribute (values_at values.entry) (wanted_at wanted) (attribute_at attribute.entry) }
-{
-    Values {
-        first: or_named(values.first, wanted.first, attribute),
-        second: or_named(values.second, wanted.second, attribute),
-        third: or_named(values.third, wanted.third, attribute),
-        style: or_named(values.style, b"style", attribute),
-        id: or_named(values.id, b"id", attribute),
-        name: or_named(values.name, b"name", attribute),
-    }
-}
-
-/// The wanted values of a tag from behind its name, and what is behind the tag; nothing where the tag does not end.
-pub(crate) fn values_in<'a>(wanted: Wanted, bytes: &'a [u8]) -> Option<(Values<'a>, &'a [u8])>
-    ensures { tag_values result ≡ values_in (wanted_at wanted) (tag_of bytes.now) }
-{
-    let mut values = Values {
-        first: None,
-        second: None,
-        third: None,
-        style: None,
-        id: None,
-        name: None,
-    };
+    values.clear();
     let mut rest = bytes;
     'pieces: loop {
         match next_piece(rest) {
             Piece::Attribute(attribute, more) => {
-                values = with_attribute(values, wanted, attribute);
+                take_attribute(values, wanted, attribute, more.len());
                 rest = more;
             }
             Piece::Slash(more) => rest = more,
-            Piece::End(_, last) => return Some((values, last)),
+            Piece::End(_, last) => return Some(last),
             Piece::Unfinished => return None,
         }
     }

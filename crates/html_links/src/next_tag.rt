@@ -1,5 +1,6 @@
 //! The next start tag of a document.
 ghost use Rattle.std.specs.Prelude.{◌≡◌};
+ghost use Rattle.html_links.specs.Values.{values_at};
 ghost use Rattle.html_links.specs.Seen.{Sees, SeesTag, LeavesTag, seen_in};
 
 use crate::bytes::split_quoted;
@@ -7,21 +8,21 @@ use crate::document::{Markup, after_element, after_tag, next_markup};
 use crate::element::{Element, element_of, wanted_of};
 use crate::found::{Values, values_in};
 
-/// A start tag: what is behind its name, its element and wanted values, what is behind the tag, and what is behind the element
-/// where its text is raw.
+/// A start tag: what is behind its name, its element, what is behind the tag, and what is behind the element where its text is
+/// raw.
 #[derive(Clone, Copy)]
 pub(crate) struct NextTag<'a> {
     pub(crate) name: &'a [u8],
     pub(crate) inside: &'a [u8],
     pub(crate) element: Element,
-    pub(crate) values: Values<'a>,
     pub(crate) text: &'a [u8],
     pub(crate) rest: &'a [u8],
 }
 
-/// The first start tag that begins in these bytes and ends.
-pub(crate) fn next_tag(bytes: &[u8]) -> Option<NextTag<'_>>
-    ensures sees { Sees result (seen_in bytes.now) }
+/// The first start tag that begins in these bytes and ends, and its wanted values.
+#[inline(always)]
+pub(crate) fn next_tag<'a>(bytes: &'a [u8], values: &mut Values<'a>) -> Option<NextTag<'a>>
+    ensures sees { Sees result (values_at values.new) (seen_in bytes.now) }
     ensures leaves { LeavesTag result bytes.now }
 {
     let mut rest = bytes;
@@ -30,7 +31,7 @@ pub(crate) fn next_tag(bytes: &[u8]) -> Option<NextTag<'_>>
             return None;
         };
         match next_markup(opened) {
-            Markup::Start(name, more) => return start_tag(name, more),
+            Markup::Start(name, more) => return start_tag(name, more, values),
             Markup::End(_, more) => match after_tag(more) {
                 Some(last) => rest = last,
                 None => return None,
@@ -41,13 +42,14 @@ pub(crate) fn next_tag(bytes: &[u8]) -> Option<NextTag<'_>>
     }
 }
 
-/// A start tag from behind its name.
-fn start_tag<'a>(name: &'a [u8], bytes: &'a [u8]) -> Option<NextTag<'a>>
-    ensures sees { SeesTag result name.now bytes.now }
+/// A start tag from behind its name. It stands apart so that the values stay in the caller's memory, written where one is found.
+#[inline(never)]
+fn start_tag<'a>(name: &'a [u8], bytes: &'a [u8], values: &mut Values<'a>) -> Option<NextTag<'a>>
+    ensures sees { SeesTag result (values_at values.new) name.now bytes.now }
     ensures leaves { LeavesTag result bytes.now }
 {
     let element = element_of(name);
-    let Some((values, text)) = values_in(wanted_of(element), bytes) else {
+    let Some(text) = values_in(&wanted_of(element), bytes, values) else {
         return None;
     };
     match after_element(name, text) {
@@ -55,7 +57,6 @@ fn start_tag<'a>(name: &'a [u8], bytes: &'a [u8]) -> Option<NextTag<'a>>
             name,
             inside: bytes,
             element,
-            values,
             text,
             rest,
         }),
@@ -63,7 +64,6 @@ fn start_tag<'a>(name: &'a [u8], bytes: &'a [u8]) -> Option<NextTag<'a>>
             name,
             inside: bytes,
             element,
-            values,
             text,
             rest: &[],
         }),

@@ -5,21 +5,12 @@ ghost use Rattle.html_links.specs.Links.{links_of, links_with, base_of};
 ghost use Rattle.html_links.specs.Placed.{first_with, second_with};
 ghost use Rattle.html_links.specs.Reads.{base_at};
 
-use crate::element::{Element, Wanted, wanted_of};
+use crate::element::Element;
 use crate::found::Values;
 use crate::links::{Links, PlacedLinks};
 use crate::next_tag::{NextTag, next_tag};
-use crate::raw_text::same_name;
-use crate::reader::{Base, Form, is_refresh, names_host, or_base, push_value};
-use crate::tag::{Piece, next_piece};
+use crate::reader::{Base, Form, is_refresh, names_host, push_value, take_base};
 use std::alloc::{AllocError, Global};
-
-/// Where the values of a tag's wanted attributes begin: how many bytes are left there.
-#[derive(Clone, Copy)]
-struct Left {
-    first: Option<usize>,
-    second: Option<usize>,
-}
 
 /// Gives the links of a document as `read_links` does without `styles`, and before them the index at which their value begins;
 /// answers its base.
@@ -36,10 +27,11 @@ pub fn read_places<L: PlacedLinks>(
 {
     let mut decoded = Vec::new(alloc);
     let mut base = None;
+    let mut values = Values::none();
     let mut rest = document;
-    'tags: while let Some(tag) = next_tag(rest) {
-        push_placed(document.len(), tag, &mut decoded, links)?;
-        base = or_base(alloc, base, tag.element, tag.values)?;
+    'tags: while let Some(tag) = next_tag(rest, &mut values) {
+        push_placed(document.len(), tag, &values, &mut decoded, links)?;
+        take_base(alloc, &mut base, tag.element, &values)?;
         rest = tag.rest;
     }
     Ok(base)
@@ -49,41 +41,51 @@ pub fn read_places<L: PlacedLinks>(
 pub(crate) fn push_placed<L: PlacedLinks>(
     length: usize,
     tag: NextTag<'_>,
+    values: &Values<'_>,
     decoded: &mut Vec<u8>,
     links: &mut L,
 ) -> Result<(), AllocError>
-    ensures { OnOk result (L.texts links.new ≡ L.texts links.old ++ links_with tag.entry.element (values_at tag.entry.values)) }
+    ensures { OnOk result (L.texts links.new ≡ L.texts links.old ++ links_with tag.entry.element (values_at values.now)) }
 {
-    let left = left_in(tag);
-    links.begin_at(index_of(length, left.first));
-    push_first(tag.element, tag.values, decoded, links)?;
-    links.begin_at(index_of(length, left.second));
-    push_second(tag.element, tag.values, decoded, links)
+    begin(length, tag.inside, values.first, values.first_left, links);
+    push_first(tag.element, values, decoded, links)?;
+    begin(length, tag.inside, values.second, values.second_left, links);
+    push_second(tag.element, values, decoded, links)
 }
 
-/// Where the values of a tag begin, where it has one.
-fn left_in(tag: NextTag<'_>) -> Left {
-    if tag.values.first.is_none() && tag.values.second.is_none() {
-        return Left {
-            first: None,
-            second: None,
-        };
+/// Tells where a tag's value begins, where it has one, by the bytes that are left behind its attribute.
+fn begin<L: PlacedLinks>(
+    length: usize,
+    inside: &[u8],
+    value: Option<&[u8]>,
+    left: usize,
+    links: &mut L,
+)
+    ensures { L.texts links.new ≡ L.texts links.old }
+{
+    if let Some(value) = value {
+        links.begin_at(length.saturating_sub(value_left(inside, value, left)));
     }
-    left_of(wanted_of(tag.element), tag.inside)
 }
 
-fn index_of(length: usize, left: Option<usize>) -> usize {
-    length.saturating_sub(left.unwrap_or(length))
+/// How many bytes are left from a value on that ends a tag's attribute with so many bytes behind it. A value in quotes has one
+/// behind it.
+fn value_left(inside: &[u8], value: &[u8], left: usize) -> usize {
+    let end = inside.len().saturating_sub(left);
+    let before = end.saturating_sub(value.len()).saturating_sub(2);
+    let quoted = value.is_empty() || matches!(inside.get(before), Some(b'"' | b'\''));
+    left.saturating_add(value.len())
+        .saturating_add(usize::from(quoted))
 }
 
 /// Gives the links of the first wanted value.
 fn push_first<L: Links>(
     element: Element,
-    values: Values<'_>,
+    values: &Values<'_>,
     decoded: &mut Vec<u8>,
     links: &mut L,
 ) -> Result<(), AllocError>
-    ensures { OnOk result (L.texts links.new ≡ L.texts links.old ++ first_with element (values_at values.entry)) }
+    ensures { OnOk result (L.texts links.new ≡ L.texts links.old ++ first_with element (values_at values.now)) }
 {
     match element {
         Element::Base => Ok(()),
@@ -108,11 +110,11 @@ fn push_first<L: Links>(
 /// Gives the links of the second wanted value.
 fn push_second<L: Links>(
     element: Element,
-    values: Values<'_>,
+    values: &Values<'_>,
     decoded: &mut Vec<u8>,
     links: &mut L,
 ) -> Result<(), AllocError>
-    ensures { OnOk result (L.texts links.new ≡ L.texts links.old ++ second_with element (values_at values.entry)) }
+    ensures { OnOk result (L.texts links.new ≡ L.texts links.old ++ second_with element (values_at values.now)) }
 {
     match element {
         Element::Base => Ok(()),
@@ -127,48 +129,4 @@ fn push_second<L: Links>(
         Element::Image => push_value(Form::List, values.second, decoded, links),
         _ => push_value(Form::Link, values.second, decoded, links),
     }
-}
-
-/// Where the first values with these names begin, from behind the tag's name.
-fn left_of(wanted: Wanted, bytes: &[u8]) -> Left {
-    let mut left = Left {
-        first: None,
-        second: None,
-    };
-    let mut rest = bytes;
-    'pieces: loop {
-        match next_piece(rest) {
-            Piece::Attribute(attribute, more) => {
-                let value = value_left(rest, attribute.value, more);
-                left.first = or_left(left.first, wanted.first, attribute.name, value);
-                left.second = or_left(left.second, wanted.second, attribute.name, value);
-                rest = more;
-            }
-            Piece::Slash(more) => rest = more,
-            Piece::End(_, _) => return left,
-            Piece::Unfinished => return left,
-        }
-    }
-}
-
-/// What is known, or else what is left at the value of this attribute where it has the wanted name.
-fn or_left(known: Option<usize>, wanted: &[u8], name: &[u8], value: usize) -> Option<usize> {
-    match known {
-        Some(first) => Some(first),
-        None => if same_name(name, wanted) {
-            Some(value)
-        } else {
-            None
-        },
-    }
-}
-
-/// How many bytes are left from the value of the attribute on with which the bytes begin. A value in quotes has one behind it.
-fn value_left(bytes: &[u8], value: &[u8], more: &[u8]) -> usize {
-    let length = bytes.len().saturating_sub(more.len());
-    let piece = bytes.get(..length).unwrap_or(&[]);
-    let quotes = usize::from(value.is_empty() || !piece.ends_with(value));
-    more.len()
-        .saturating_add(value.len())
-        .saturating_add(quotes)
 }

@@ -46,13 +46,14 @@ pub fn read_links<L: Links>(
 {
     let mut decoded = Vec::new(alloc);
     let mut base = None;
+    let mut values = Values::none();
     let mut rest = document;
-    'tags: while let Some(tag) = next_tag(rest) {
+    'tags: while let Some(tag) = next_tag(rest, &mut values) {
         if styles {
-            push_styles(alloc, tag, &mut decoded, links)?;
+            push_styles(alloc, tag, &values, &mut decoded, links)?;
         }
-        push_values(tag.element, tag.values, &mut decoded, links)?;
-        base = or_base(alloc, base, tag.element, tag.values)?;
+        push_values(tag.element, &values, &mut decoded, links)?;
+        take_base(alloc, &mut base, tag.element, &values)?;
         rest = tag.rest;
     }
     Ok(base)
@@ -74,11 +75,12 @@ pub fn read_page<L: PlacedLinks, I: Links>(
 {
     let mut decoded = Vec::new(alloc);
     let mut base = None;
+    let mut values = Values::none();
     let mut rest = document;
-    'tags: while let Some(tag) = next_tag(rest) {
-        push_placed(document.len(), tag, &mut decoded, links)?;
-        push_ids(tag.name, tag.values, &mut decoded, ids)?;
-        base = or_base(alloc, base, tag.element, tag.values)?;
+    'tags: while let Some(tag) = next_tag(rest, &mut values) {
+        push_placed(document.len(), tag, &values, &mut decoded, links)?;
+        push_ids(tag.name, &values, &mut decoded, ids)?;
+        take_base(alloc, &mut base, tag.element, &values)?;
         rest = tag.rest;
     }
     Ok(base)
@@ -86,11 +88,11 @@ pub fn read_page<L: PlacedLinks, I: Links>(
 
 fn push_ids<I: Links>(
     name: &[u8],
-    values: Values<'_>,
+    values: &Values<'_>,
     decoded: &mut Vec<u8>,
     ids: &mut I,
 ) -> Result<(), AllocError>
-    ensures { OnOk result (I.texts ids.new ≡ I.texts ids.old ++ ids_with (map lower name.now) (values_at values.entry)) }
+    ensures { OnOk result (I.texts ids.new ≡ I.texts ids.old ++ ids_with (map lower name.now) (values_at values.now)) }
 {
     push_value(Form::Link, values.id, decoded, ids)?;
     push_anchor(name, values, decoded, ids)
@@ -98,11 +100,11 @@ fn push_ids<I: Links>(
 
 fn push_anchor<I: Links>(
     name: &[u8],
-    values: Values<'_>,
+    values: &Values<'_>,
     decoded: &mut Vec<u8>,
     ids: &mut I,
 ) -> Result<(), AllocError>
-    ensures { OnOk result (I.texts ids.new ≡ I.texts ids.old ++ anchors_with (map lower name.now) (values_at values.entry)) }
+    ensures { OnOk result (I.texts ids.new ≡ I.texts ids.old ++ anchors_with (map lower name.now) (values_at values.now)) }
 {
     if same_name(name, b"a") {
         push_value(Form::Link, values.name, decoded, ids)
@@ -115,10 +117,11 @@ fn push_anchor<I: Links>(
 fn push_styles<L: Links>(
     alloc: Global,
     tag: NextTag<'_>,
+    values: &Values<'_>,
     decoded: &mut Vec<u8>,
     links: &mut L,
 ) -> Result<(), AllocError> {
-    if let Some(style) = tag.values.style {
+    if let Some(style) = values.style {
         decoded.clear();
         decode(style, decoded)?;
         style_links(alloc, decoded.as_slice(), links)?;
@@ -129,38 +132,39 @@ fn push_styles<L: Links>(
     Ok(())
 }
 
-/// The base so far, or that of this tag.
-pub(crate) fn or_base(
+/// Takes the base of a tag where there is none yet.
+pub(crate) fn take_base(
     alloc: Global,
-    base: Base,
+    base: &mut Base,
     element: Element,
-    values: Values<'_>,
-) -> Result<Base, AllocError>
-    ensures { IfOk result (λ new. base_at new ≡ or_later (base_at base) (base_with element (values_at values.entry))) }
+    values: &Values<'_>,
+) -> Result<(), AllocError>
+    ensures { OnOk result (base_at base.new ≡ or_later (base_at base.old) (base_with element (values_at values.now))) }
 {
-    if let Some(first) = base {
-        return Ok(Some(first));
+    if base.is_some() {
+        return Ok(());
     }
     match element {
         Element::Base => match values.first {
             Some(href) => {
                 let mut text = Vec::new(alloc);
                 decode(href, &mut text)?;
-                Ok(Some(text))
+                *base = Some(text);
+                Ok(())
             }
-            None => Ok(None),
+            None => Ok(()),
         },
-        _ => Ok(None),
+        _ => Ok(()),
     }
 }
 
 fn push_values<L: Links>(
     element: Element,
-    values: Values<'_>,
+    values: &Values<'_>,
     decoded: &mut Vec<u8>,
     links: &mut L,
 ) -> Result<(), AllocError>
-    ensures { OnOk result (L.texts links.new ≡ L.texts links.old ++ links_with element (values_at values.entry)) }
+    ensures { OnOk result (L.texts links.new ≡ L.texts links.old ++ links_with element (values_at values.now)) }
 {
     match element {
         Element::Base => Ok(()),
@@ -186,11 +190,11 @@ fn push_values<L: Links>(
 /// Gives the link in the first value, and those of the second.
 fn push_both<L: Links>(
     second: Form,
-    values: Values<'_>,
+    values: &Values<'_>,
     decoded: &mut Vec<u8>,
     links: &mut L,
 ) -> Result<(), AllocError>
-    ensures { OnOk result (L.texts links.new ≡ L.texts links.old ++ (value_links Link (bytes_at values.entry.first) ++ value_links second (bytes_at values.entry.second))) }
+    ensures { OnOk result (L.texts links.new ≡ L.texts links.old ++ (value_links Link (bytes_at values.now.first) ++ value_links second (bytes_at values.now.second))) }
 {
     push_value(Form::Link, values.first, decoded, links)?;
     push_value(second, values.second, decoded, links)

@@ -33,6 +33,7 @@ pub(crate) enum Piece<'a> {
 }
 
 /// An attribute whose name begins here.
+#[inline(always)]
 fn attribute(bytes: &[u8]) -> Piece<'_>
     requires { BeginsName bytes.now }
     ensures reads { Reads result bytes.now }
@@ -47,6 +48,7 @@ fn attribute(bytes: &[u8]) -> Piece<'_>
 }
 
 /// The value of an attribute, behind the `=` and white space.
+#[inline(always)]
 fn value<'a>(name: &'a [u8], bytes: &'a [u8]) -> Piece<'a>
     requires { Stopped is_space bytes.now }
     ensures reads { ReadsValue result name.now bytes.now }
@@ -73,6 +75,7 @@ fn value<'a>(name: &'a [u8], bytes: &'a [u8]) -> Piece<'a>
 }
 
 /// The next piece of a tag.
+#[inline(always)]
 pub(crate) fn next_piece(bytes: &[u8]) -> Piece<'_>
     ensures reads { Reads result bytes.now }
     ensures leaves { Leaves result (length bytes.now) }

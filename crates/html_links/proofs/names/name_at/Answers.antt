@@ -1,5 +1,5 @@
 use Rattle.std.proofs.Common.{refl}
-use Rattle.html_links.specs.Names.{name_at, part_of}
+use Rattle.html_links.specs.Names.{name_at}
 use Rattle.html_links.proofs.names.name_at.Goals as goal
 
 pub returns : goal.returns

@@ -1,4 +1,5 @@
 use Rattle.std.proofs.Common.{◌∙◌, ◌<◌, ◌≤◌, ◌==◌, ap, arith, length, map, not, subst, sym}
+use Rattle.html_links.specs.Values.{values_at}
 use Rattle.html_links.specs.Seen.{seen_of, Sees}
 use Rattle.html_links.proofs.Documents.{read_text, read_less, read_end_tag, read_open_end_tag, end_less, cut_shorter}
 use Rattle.html_links.proofs.Seeing.{leaves_within, sought_on}
@@ -17,7 +18,7 @@ returns-in-None-clause-sees c =
 
 pub returns-in-Start-clause-sees : goal.returns-in-Start-clause-sees
 returns-in-Start-clause-sees c =
-    subst (Sees c.start_tag.result) (sym (c.markup.invariant.same ∙ ap (map seen_of) (read_less c.markup.rest.now c.in-Some.opened.now c.in-Some.ensures.1 ∙ c.in-Start.ensures.reads))) c.start_tag.ensures.sees
+    subst (Sees c.start_tag.result (values_at c.start_tag.new.values)) (sym (c.markup.invariant.same ∙ ap (map seen_of) (read_less c.markup.rest.now c.in-Some.opened.now c.in-Some.ensures.1 ∙ c.in-Start.ensures.reads))) c.start_tag.ensures.sees
 
 pub returns-in-Start-clause-leaves : goal.returns-in-Start-clause-leaves
 returns-in-Start-clause-leaves c =

@@ -1,4 +1,4 @@
-use Rattle.std.proofs.Common.{◌∙◌, ◌<◌, arith, length, map, []}
+use Rattle.std.proofs.Common.{◌<◌, arith, length, map, []}
 use Rattle.html_links.specs.Tags.{lower}
 use Rattle.html_links.specs.Elements.{wanted_at}
 use Rattle.html_links.specs.Values.{values_at}
@@ -11,20 +11,20 @@ returns-in_default-clause-sees c = open_start (map lower c.args.name.now) c.args
 
 pub returns-in-Some-after_element-clause-sees : goal.returns-in-Some-after_element-clause-sees
 returns-in-Some-after_element-clause-sees c =
-    seen_start (map lower c.args.name.now) c.args.bytes.now c.element_of-element.result (wanted_at c.wanted_of.result) (values_at c.in-Some.values) c.in-Some.text.now (read Data c.in-Some-after_element.rest.now)
+    seen_start (map lower c.args.name.now) c.args.bytes.now c.element_of-element.result (wanted_at c.wanted_of.result) (values_at c.values_in.new.values) c.in-Some.text.now (read Data c.in-Some-after_element.rest.now)
     c.element_of-element.ensures c.wanted_of.ensures c.in-Some.ensures c.in-Some-after_element.ensures.reads
 
 pub returns-in-Some-after_element-clause-leaves : goal.returns-in-Some-after_element-clause-leaves
 returns-in-Some-after_element-clause-leaves c =
-    let less : length c.in-Some.text.now < length c.args.bytes.now = text_less (wanted_at c.wanted_of.result) (values_at c.in-Some.values) c.in-Some.text.now c.args.bytes.now c.in-Some.ensures in
+    let less : length c.in-Some.text.now < length c.args.bytes.now = text_less (wanted_at c.wanted_of.result) (values_at c.values_in.new.values) c.in-Some.text.now c.args.bytes.now c.in-Some.ensures in
     omega (arith, c.in-Some-after_element.ensures.leaves)
 
 pub returns-in-None-clause-sees : goal.returns-in-None-clause-sees
 returns-in-None-clause-sees c =
-    seen_start (map lower c.args.name.now) c.args.bytes.now c.element_of-element.result (wanted_at c.wanted_of.result) (values_at c.in-Some.values) c.in-Some.text.now []
+    seen_start (map lower c.args.name.now) c.args.bytes.now c.element_of-element.result (wanted_at c.wanted_of.result) (values_at c.values_in.new.values) c.in-Some.text.now []
     c.element_of-element.ensures c.wanted_of.ensures c.in-Some.ensures c.in-None.ensures.reads
 
 pub returns-in-None-clause-leaves : goal.returns-in-None-clause-leaves
 returns-in-None-clause-leaves c =
-    let less : length c.in-Some.text.now < length c.args.bytes.now = text_less (wanted_at c.wanted_of.result) (values_at c.in-Some.values) c.in-Some.text.now c.args.bytes.now c.in-Some.ensures in
+    let less : length c.in-Some.text.now < length c.args.bytes.now = text_less (wanted_at c.wanted_of.result) (values_at c.values_in.new.values) c.in-Some.text.now c.args.bytes.now c.in-Some.ensures in
     omega arith

@@ -1,4 +1,3 @@
-use Rattle.std.proofs.Common.{◌∙◌, sym, arith}
 use Rattle.html_links.proofs.Decoding.{decoded_all, decoded_more, mark_less}
 use Rattle.html_links.proofs.references.decode.Goals as goal
 

@@ -1,4 +1,3 @@
-use Rattle.std.proofs.Common.{◌==◌, not}
 use Rattle.html_links.proofs.Scripts.{read_less, read_no_less, opened_less}
 use Rattle.html_links.proofs.script.open_text.Goals as goal
 

@@ -1,6 +1,6 @@
 use Rattle.std.proofs.Common.{◌≡◌, List, length, []}
 use Rattle.html_links.specs.Tags.{Attribute, run, BeforeName}
-use Rattle.html_links.proofs.document.after_tag.Given as goal
+use Rattle.html_links.proofs.document.after_pieces.Given as goal
 
 -- the tag ends where what is left of it ends, after some attributes
 abbrev pub invariant-pieces : goal.invariant-pieces
