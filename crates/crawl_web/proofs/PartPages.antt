@@ -4,6 +4,7 @@ use Rattle.std.specs.Bool.{if◌then◌else◌}
 use Rattle.std.specs.List.{flat_map}
 use Rattle.std.specs.Option.{option_or}
 use Rattle.std.specs.Str.{bytes_eq}
+use Rattle.std.proofs.lemmas.Bool.{or_parts}
 use Rattle.std.proofs.lemmas.List.{drop_more, take_more}
 use Rattle.std.proofs.lemmas.List.Concat.{flat_map-append}
 use Rattle.std.proofs.lemmas.Slice.Eq.{bytes_eq-Decides}
@@ -73,3 +74,13 @@ none_with_more list i page others below is before here url there =
     by_page true b is_a is_b e = before url is_a
     by_page false true is_a is_b e = subst (λ u. has others u ≡ false) ((bytes_eq-Decides page.url url).0 is_b) here
     by_page false false is_a is_b e = absurd (cc)
+
+-- two halves of a list
+pub none_in_halves : (list front back others : List PageRead) (first second : Bool) → front ++ back ≡ list → (first ≡ false → (url : List ℕ) → has front url ≡ true → has others url ≡ false) → (second ≡ false → (url : List ℕ) → has back url ≡ true → has others url ≡ false) → (first || second) ≡ false → (url : List ℕ) → has list url ≡ true → has others url ≡ false
+none_in_halves list front back others first second whole before behind none url there =
+    by_half (has front url) (has back url) refl refl (sym (has-append front back url) ∙ ap (λ ps. has ps url) whole ∙ there)
+  where
+    by_half : (a b : Bool) → has front url ≡ a → has back url ≡ b → (a || b) ≡ true → has others url ≡ false
+    by_half true b is_a is_b e = before (or_parts first second none).0 url is_a
+    by_half false true is_a is_b e = behind (or_parts first second none).1 url is_b
+    by_half false false is_a is_b e = absurd (cc)

@@ -56,14 +56,14 @@ pub fn split_line(text: &str) -> (&str, &str)
     }
 }
 
-/// The text, cut behind the first LF from here on; nothing where there is none.
-pub fn cut_line(text: &str, from: usize) -> Option<(&str, &str)>
-    requires { from ≤ length text.now }
-    ensures cut { IfSome result (λ x. lines text.now ≡ lines x.0.now ++ lines x.1.now) }
-    ensures within { IfSome result (λ x. (from < length x.0.now) × (length x.0.now ≤ length text.now)) }
+/// The bytes, cut behind the first LF from here on; nothing where there is none.
+pub fn cut_line(bytes: &[u8], from: usize) -> Option<(&[u8], &[u8])>
+    requires { from ≤ length bytes.now }
+    ensures cut { IfSome result (λ x. lines bytes.now ≡ lines x.0.now ++ lines x.1.now) }
+    ensures within { IfSome result (λ x. (from < length x.0.now) × (length x.0.now ≤ length bytes.now)) }
 {
-    let end = from + newline_in(&text.as_bytes()[from..])? + 1;
-    Some((&text[..end], &text[end..]))
+    let end = from + newline_in(&bytes[from..])? + 1;
+    Some((&bytes[..end], &bytes[end..]))
 }
 
 fn newline_in(bytes: &[u8]) -> Option<usize>

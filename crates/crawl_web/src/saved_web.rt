@@ -121,7 +121,7 @@ fn fault_in(alloc: Global, bytes: &[u8]) -> WebError
     requires { ¬ (IsUtf8 bytes.now) }
     ensures { IsWebRefusal (lines bytes.now) result }
 {
-    let mut pages = Pages::new(alloc);
+    let mut pages = Pages::new(alloc, 0);
     let mut rest = bytes;
     let mut number: u64 = 0;
     let mut above = Above::nothing();

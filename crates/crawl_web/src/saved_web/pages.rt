@@ -9,6 +9,13 @@ use crawl_keys::CanonUrl;
 use hash_index::HashIndex;
 use std::alloc::{AllocError, Global};
 use std::marker::Model;
+use std::thread::{Threads, join};
+
+/// Fewer pages than this are not worth a thread.
+const LEAST: usize = 4_096;
+
+/// How often a list is halved, so that as many threads look for a part of it as two to this power.
+const HALVINGS: u32 = 2;
 
 /// Pages in the order in which they were read, no two with one URL, and the index by which they are found.
 #[derive(Drop)]
@@ -35,13 +42,17 @@ impl<'a> Model for Pages<'a> {
 }
 
 impl<'a> Pages<'a> {
-    /// No pages.
-    pub fn new(alloc: Global) -> Pages<'a>
+    /// No pages, and an index that does not grow before there are so many; where there is no room for it, one that grows.
+    pub fn new(alloc: Global, count: usize) -> Pages<'a>
         ensures { result ≡ [] }
     {
+        let index = match HashIndex::with_capacity(alloc, count) {
+            Ok(index) => index,
+            Err(_) => HashIndex::new(alloc),
+        };
         Pages {
             list: Vec::new(alloc),
-            index: HashIndex::new(alloc),
+            index,
         }
     }
 
@@ -79,11 +90,16 @@ impl<'a> Pages<'a> {
         }
     }
 
-    /// Whether a page of each has one URL.
-    pub fn shares_url(&self, others: &Pages<'_>) -> bool
+    /// Whether a page of each has one URL. Where there are many others, threads look for some of them each.
+    pub fn shares_url<R: Threads + Sync>(&self, rt: &R, others: &Pages<'_>) -> bool
         ensures { result ≡ false → (url : List ℕ) → has others.now url ≡ true → has self.now url ≡ false }
     {
-        shares_url(self, &others.list)
+        let halvings = if others.list.len() < LEAST {
+            0
+        } else {
+            HALVINGS
+        };
+        some_has_in_threads(rt, halvings, self, &others.list)
     }
 
     /// Whether there is a page with the URL of this one.
@@ -96,8 +112,39 @@ impl<'a> Pages<'a> {
     }
 }
 
+/// Whether one of the pages in the list has the URL of a page, by a thread for each half of the list, as often as it is halved.
+/// Where none can be started this one looks for both.
+fn some_has_in_threads<R: Threads + Sync>(
+    rt: &R,
+    halvings: u32,
+    pages: &Pages<'_>,
+    list: &[KnownPage<'_>],
+) -> bool
+    ensures { result ≡ false → (url : List ℕ) → has list.now url ≡ true → has pages.now url ≡ false }
+{
+    if halvings == 0 {
+        return some_has(pages, list);
+    }
+    let fewer = halvings - 1;
+    let (front, back) = halves(list);
+    let in_front = move || -> bool
+        ensures { result ≡ false → (url : List ℕ) → has front.entry.now url ≡ true → has pages.entry.now url ≡ false }
+    { some_has_in_threads(rt, fewer, pages, front) };
+    let in_back = move || -> bool
+        ensures { result ≡ false → (url : List ℕ) → has back.entry.now url ≡ true → has pages.entry.now url ≡ false }
+    { some_has_in_threads(rt, fewer, pages, back) };
+    let (first, second) = join(rt, in_front, in_back);
+    first || second
+}
+
+fn halves<'l, 'a>(list: &'l [KnownPage<'a>]) -> (&'l [KnownPage<'a>], &'l [KnownPage<'a>])
+    ensures { result.0.now ++ result.1.now ≡ list.now }
+{
+    list.split_at(list.len() / 2)
+}
+
 /// Whether one of the pages in the list has the URL of a page.
-fn shares_url(pages: &Pages<'_>, list: &[KnownPage<'_>]) -> bool
+fn some_has(pages: &Pages<'_>, list: &[KnownPage<'_>]) -> bool
     ensures { result ≡ false → (url : List ℕ) → has list.now url ≡ true → has pages.now url ≡ false }
 {
     for page in list {

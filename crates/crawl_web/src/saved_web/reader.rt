@@ -10,6 +10,12 @@ use crate::saved_web::error::WebError;
 use crate::saved_web::pages::Pages;
 use std::alloc::Global;
 
+/// How many bytes are looked at to tell how many pages a text may have.
+const SAMPLE: usize = 1 << 14;
+
+/// A text is not taken to have more pages than one to so many bytes, so that no index is made that is large beside it.
+const LEAST_PAGE: usize = 32;
+
 /// The pages that the lines of this text are. So many lines come before them, and this is what their checks ask of those.
 pub fn pages_behind(
     alloc: Global,
@@ -22,7 +28,7 @@ pub fn pages_behind(
     ensures read { IfOk result (λ pages. (all : List (List ℕ)) → FoundTo all (lines text.now) before above [] → AreRead all pages) }
     ensures fault { IfErr result (λ told. (all : List (List ℕ)) → FoundTo all (lines text.now) before above [] → IsWebRefusal all told) }
 {
-    let mut pages = Pages::new(alloc);
+    let mut pages = Pages::new(alloc, likely_pages(text));
     let mut rest = text;
     let mut number = before;
     let mut above = above;
@@ -32,4 +38,16 @@ pub fn pages_behind(
         rest = more;
     }
     Ok(pages)
+}
+
+/// How many pages the text may have, if it goes on as it begins. An index with slots for them has not to grow.
+fn likely_pages(text: &str) -> usize {
+    let bytes = text.as_bytes();
+    let front = &bytes[..bytes.len().min(SAMPLE)];
+    let pages = front
+        .split(|byte| *byte == b'\n')
+        .filter(|line| line.starts_with(b"page "))
+        .count();
+    let samples = bytes.len() / SAMPLE + 1;
+    pages.saturating_mul(samples).min(bytes.len() / LEAST_PAGE)
 }

@@ -3,7 +3,7 @@ ghost use Rattle.std.specs.Prelude.{◌≡◌, ◌++◌, ◌<◌, length, IfSome
 ghost use Rattle.std.specs.Str.Lines.{lines};
 ghost use Rattle.crawl_web.specs.Reading.{AreRead, AreReadBehind, IsHeader};
 
-use crate::lines::{cut_line, first_text, short_text};
+use crate::lines::{cut_line, first_line, text_of};
 use crate::saved_web::add::{Above, header};
 use crate::saved_web::reader::pages_behind;
 use crate::saved_web::web_pages::WebPages;
@@ -22,23 +22,26 @@ const HALVINGS: u32 = 2;
 struct Part<'a> {
     /// The web has version 2.
     second: bool,
-    text: &'a str,
+    bytes: &'a [u8],
 }
 
 impl<'a> Part<'a> {
     /// Half of the lines each, about. The second half begins with a page, where there is one.
     fn halves(self) -> (Part<'a>, Part<'a>)
         ensures second { (result.0.second ≡ self.entry.second) × (result.1.second ≡ self.entry.second) }
-        ensures lines { lines self.entry.text.now ≡ lines result.0.text.now ++ lines result.1.text.now }
+        ensures lines { lines self.entry.bytes.now ≡ lines result.0.bytes.now ++ lines result.1.bytes.now }
     {
         let second = self.second;
-        let (front, back) = cut_before_page(self.text);
+        let (front, back) = cut_before_page(self.bytes);
         (
             Part {
                 second,
-                text: front,
+                bytes: front,
             },
-            Part { second, text: back },
+            Part {
+                second,
+                bytes: back,
+            },
         )
     }
 }
@@ -56,20 +59,20 @@ pub fn pages_in_threads<'a, R: Threads + Sync>(
     if bytes.len() < LEAST {
         return None;
     }
-    let Ok(text) = from_utf8(bytes) else {
-        return None;
-    };
-    let (line, more) = first_text(text)?;
+    let (line, more) = first_line(bytes)?;
     let second = version(line)?;
-    let behind = Part { second, text: more };
+    let behind = Part {
+        second,
+        bytes: more,
+    };
     pages_of_part(rt, alloc, HALVINGS, behind)
 }
 
 /// Whether the header, this line, says version 2; nothing where it is none.
-fn version(line: &str) -> Option<bool>
+fn version(line: &[u8]) -> Option<bool>
     ensures { IfSome result (λ second. IsHeader second line.now) }
 {
-    let Ok(text) = short_text(1, line) else {
+    let Ok(text) = text_of(1, line) else {
         return None;
     };
     match header(text) {
@@ -86,7 +89,7 @@ fn pages_of_part<'a, R: Threads + Sync>(
     halvings: u32,
     part: Part<'a>,
 ) -> Option<WebPages<'a>>
-    ensures { IfSome result (AreReadBehind part.entry.second (lines part.entry.text.now)) }
+    ensures { IfSome result (AreReadBehind part.entry.second (lines part.entry.bytes.now)) }
 {
     if halvings == 0 {
         return read_part(alloc, part);
@@ -94,27 +97,37 @@ fn pages_of_part<'a, R: Threads + Sync>(
     let fewer = halvings - 1;
     let (front, back) = part.halves();
     let of_front = move || -> Option<WebPages<'_>>
-        ensures { IfSome result (AreReadBehind front.entry.second (lines front.entry.text.now)) }
+        ensures { IfSome result (AreReadBehind front.entry.second (lines front.entry.bytes.now)) }
     { pages_of_part(rt, alloc, fewer, front) };
     let of_back = move || -> Option<WebPages<'_>>
-        ensures { IfSome result (AreReadBehind back.entry.second (lines back.entry.text.now)) }
+        ensures { IfSome result (AreReadBehind back.entry.second (lines back.entry.bytes.now)) }
     { pages_of_part(rt, alloc, fewer, back) };
     let (first, second) = join(rt, of_front, of_back);
     let first = first?;
     let second = second?;
-    first.and(second)
+    first.and(rt, second)
 }
 
-/// The pages of the part.
+/// The pages of the part; nothing where it is no text.
 fn read_part(alloc: Global, part: Part<'_>) -> Option<WebPages<'_>>
-    ensures { IfSome result (AreReadBehind part.entry.second (lines part.entry.text.now)) }
+    ensures { IfSome result (AreReadBehind part.entry.second (lines part.entry.bytes.now)) }
+{
+    match from_utf8(part.bytes) {
+        Ok(text) => read_text(alloc, part.second, text),
+        Err(_) => None,
+    }
+}
+
+/// The pages of a part that is this text.
+fn read_text(alloc: Global, second: bool, text: &str) -> Option<WebPages<'_>>
+    ensures { IfSome result (AreReadBehind second (lines text.now)) }
 {
     let above = Above {
-        second: part.second,
+        second,
         link: false,
         moved: false,
     };
-    let Ok(pages) = pages_behind(alloc, part.text, 1, above) else {
+    let Ok(pages) = pages_behind(alloc, text, 1, above) else {
         return None;
     };
     match WebPages::one(alloc, pages) {
@@ -123,16 +136,16 @@ fn read_part(alloc: Global, part: Part<'_>) -> Option<WebPages<'_>>
     }
 }
 
-/// The text, cut at the end of a line: of the first that ends behind the middle and is followed by a page.
-fn cut_before_page(text: &str) -> (&str, &str)
-    ensures { lines text.now ≡ lines result.0.now ++ lines result.1.now }
+/// The bytes, cut at the end of a line: of the first that ends behind the middle and is followed by a page.
+fn cut_before_page(bytes: &[u8]) -> (&[u8], &[u8])
+    ensures { lines bytes.now ≡ lines result.0.now ++ lines result.1.now }
 {
-    let mut from = text.len() / 2;
-    while let Some((front, back)) = cut_line(text, from) {
-        if back.starts_with("page ") {
+    let mut from = bytes.len() / 2;
+    while let Some((front, back)) = cut_line(bytes, from) {
+        if back.starts_with(b"page ") {
             return (front, back);
         }
         from = front.len();
     }
-    (text, "")
+    (bytes, &[])
 }

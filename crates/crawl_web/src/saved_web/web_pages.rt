@@ -9,6 +9,7 @@ use crate::saved_web::pages::Pages;
 use crawl_keys::CanonUrl;
 use std::alloc::{AllocError, Global};
 use std::marker::Model;
+use std::thread::Threads;
 
 /// The pages of a saved web: in one part, or in as many as threads have read, each with its own index.
 #[derive(Drop)]
@@ -49,11 +50,11 @@ impl<'a> WebPages<'a> {
     }
 
     /// The pages of both, these first; nothing where a page of each has one URL, or there is no room.
-    pub fn and(self, more: WebPages<'a>) -> Option<WebPages<'a>>
+    pub fn and<R: Threads + Sync>(self, rt: &R, more: WebPages<'a>) -> Option<WebPages<'a>>
         ensures both { IfSome result (λ web. web ≡ self.entry ++ more.entry) }
         ensures apart { IfSome result (λ _. (url : List ℕ) → has more.entry url ≡ true → has self.entry url ≡ false) }
     {
-        if some_known(&self.parts, &more.parts) {
+        if some_known(rt, &self.parts, &more.parts) {
             return None;
         }
         let WebPages { mut parts } = self;
@@ -79,11 +80,11 @@ fn first_with<'p, 'a>(parts: &'p [Pages<'a>], url: &CanonUrl) -> Option<&'p Know
 }
 
 /// Whether a page of each has one URL.
-fn some_known(parts: &[Pages<'_>], others: &[Pages<'_>]) -> bool
+fn some_known<R: Threads + Sync>(rt: &R, parts: &[Pages<'_>], others: &[Pages<'_>]) -> bool
     ensures { result ≡ false → (url : List ℕ) → has (flat_map (λ part. part) others.now) url ≡ true → has (flat_map (λ part. part) parts.now) url ≡ false }
 {
     for other in others {
-        if is_known(parts, other) {
+        if is_known(rt, parts, other) {
             return true;
         }
     }
@@ -91,11 +92,11 @@ fn some_known(parts: &[Pages<'_>], others: &[Pages<'_>]) -> bool
 }
 
 /// Whether a page of the parts and one of the other have one URL.
-fn is_known(parts: &[Pages<'_>], other: &Pages<'_>) -> bool
+fn is_known<R: Threads + Sync>(rt: &R, parts: &[Pages<'_>], other: &Pages<'_>) -> bool
     ensures { result ≡ false → (url : List ℕ) → has other.now url ≡ true → has (flat_map (λ part. part) parts.now) url ≡ false }
 {
     for part in parts {
-        if part.shares_url(other) {
+        if part.shares_url(rt, other) {
             return true;
         }
     }

@@ -5,7 +5,7 @@ use Rattle.crawl_web.proofs.PartPages.{none_of_more}
 use Rattle.crawl_web.proofs.saved_web.web_pages.some_known.Goals as goal
 
 pub loop-other-preserved : goal.loop-other-preserved
-loop-other-preserved c =
+loop-other-preserved g c =
     let part = c.other-item.result in
     let parts = flat_map (λ p. p) c.args.parts.now in
     let none : (url : List ℕ) → has part url ≡ true → has parts url ≡ false = search rules in

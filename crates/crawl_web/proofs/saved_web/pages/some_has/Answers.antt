@@ -1,7 +1,7 @@
 use Rattle.std.proofs.Common.{rules, ◌≡◌, false}
 use Rattle.crawl_web.specs.PageLists.{has}
 use Rattle.crawl_web.proofs.PartPages.{none_with_more}
-use Rattle.crawl_web.proofs.saved_web.pages.shares_url.Goals as goal
+use Rattle.crawl_web.proofs.saved_web.pages.some_has.Goals as goal
 
 pub loop-page-preserved : goal.loop-page-preserved
 loop-page-preserved c =

@@ -2,10 +2,10 @@ use Rattle.std.proofs.Common.{◌∷◌, sym, subst}
 use Rattle.std.specs.Str.Lines.{lines}
 use Rattle.crawl_web.proofs.ReadWeb.{header_read}
 use Rattle.crawl_web.specs.Reading.{AreRead}
-use Rattle.crawl_web.proofs.saved_web.threads.read_part.Goals as goal
+use Rattle.crawl_web.proofs.saved_web.threads.read_text.Goals as goal
 
 pub returns-in-Ok-one : goal.returns-in-Ok-one
 returns-in-Ok-one c = λ header h.
-    let behind = lines c.args.part.text.now in
+    let behind = lines c.args.text.now in
     subst (AreRead (header ∷ behind)) (sym c.in-Ok-one.ensures)
-    (c.in-Ok.ensures.read (header ∷ behind) (header_read c.args.part.second header behind h))
+    (c.in-Ok.ensures.read (header ∷ behind) (header_read c.args.second header behind h))
