@@ -1,16 +1,10 @@
-//! The worked rows that a run shows, and a second body that knows its history alone.
-ghost use Rattle.std.specs.Prelude.{◌<◌};
-
-mod draw;
-mod history;
+//! The worked rows of a machine that no script shows. `tests/drawn.py` draws scripts and reckons their replies by itself.
 mod steps;
 
 use crawl_core::{Core, CoreError, Text, Word, run};
-use draw::Draw;
-use history::History;
 use std::alloc::Global;
 use std::test::Fail;
-use steps::{Call, KINDS, Kind, Step, as_by_run, event_of, said_of};
+use steps::{Call, Kind, Step, as_by_run};
 
 const MOST_UNITS: u64 = 1_099_511_627_776;
 
@@ -92,52 +86,4 @@ fn texts_and_words(rt: HostRuntime) -> Result<(), Fail> {
             }
     );
     Ok(())
-}
-
-// Events drawn for machines of every small size, so many in each.
-const MACHINES: u32 = 50;
-
-const EVENTS_A_MACHINE: u32 = 400;
-
-// Draws the machine's next event. Answers which reply it gets, if the machine and its history give the same.
-fn draw_step(
-    alloc: Global,
-    draw: &mut Draw,
-    core: &mut Core,
-    history: &mut History,
-    workers: u32,
-) -> Option<Kind>
-    requires { workers < 512 }
-{
-    let call = draw.call(workers);
-    let said = history.step(call)?;
-    let reply = core.step(&event_of(alloc, call)?).ok()?;
-    if said_of(&reply) == said {
-        Some(said.0)
-    } else {
-        None
-    }
-}
-
-// All replies of one machine are those of its history. Marks the kinds of reply that it gets.
-fn agrees(alloc: Global, draw: &mut Draw, machine: u32, seen: &mut [bool; KINDS]) -> Option<()> {
-    let (workers, max) = (1 + machine % 4, 1 + u64::from(machine % 7));
-    let mut core = Core::new(alloc, workers, max).ok()?;
-    let mut history = History::new(alloc, workers, max);
-    for _ in 0..EVENTS_A_MACHINE {
-        let kind = draw_step(alloc, draw, &mut core, &mut history, workers)?;
-        seen[kind as usize] = true;
-    }
-    Some(())
-}
-
-#[test]
-fn agrees_with_a_body_that_knows_its_history_alone(rt: HostRuntime) {
-    let mut draw = Draw { state: 1999 };
-    let mut seen = [false; KINDS];
-    for machine in 0..MACHINES {
-        let agreed = agrees(rt.alloc(), &mut draw, machine, &mut seen);
-        assert!(rt; agreed.is_some(), "machine {machine}");
-    }
-    assert!(rt; seen == [true; KINDS]);
 }

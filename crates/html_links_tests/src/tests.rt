@@ -1,4 +1,3 @@
-//! A test for each subject: rows of a document and what it has.
-mod links;
-mod places;
+//! What no clause says and no command shows.
 mod start_tags;
+mod styles;

@@ -36,16 +36,13 @@ pub enum Kind {
     NoSuch,
 }
 
-/// How many kinds there are.
-pub const KINDS: usize = 16;
-
 /// A reply: its kind, its numbers in their order, and its URL.
-pub type Said<'a> = (Kind, u64, u64, &'a str);
+type Said<'a> = (Kind, u64, u64, &'a str);
 
 /// An event with the reply that it has to get.
 pub type Step = (Call, Said<'static>);
 
-pub fn event_of(alloc: Global, call: Call) -> Option<Event> {
+fn event_of(alloc: Global, call: Call) -> Option<Event> {
     Some(match call {
         Call::Look(sender) => Event::Look { sender },
         Call::Enter(sender) => Event::Enter { sender },
@@ -71,7 +68,7 @@ fn refused(why: Refusal) -> Kind {
     }
 }
 
-pub fn said_of(reply: &Reply) -> Said<'_> {
+fn said_of(reply: &Reply) -> Said<'_> {
     match reply {
         Reply::Word { count, closed } => {
             let kind = if *closed { Kind::Shut } else { Kind::Open };
