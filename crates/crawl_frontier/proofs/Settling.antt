@@ -196,14 +196,6 @@ ids_more books ids ids' n b old at h = (of_books, all)
         subst (λ (d : BookId). contains nat_cmp ids' d.id ≡ true) (same_at books k b c (subst (λ m. At books m b) same at) there) itself)
         (cases_lt k n)
 
--- one book more agrees
-pub agree_more : (books : List BookId) (lists : List (List Entry)) (least least' j : ℕ) (b : BookId) → ((k : ℕ) (c : BookId) → k < j → At books k c → AgreesBelow least lists c) → least' ≤ least → At books j b → AgreesBelow least' lists b
-    → (k : ℕ) (c : BookId) → k < j + 1 → At books k c → AgreesBelow least' lists c
-agree_more books lists least least' j b old le at now k c lt there = ⊎_elim
-    (λ before. λ q es below here. old k c before there q es (omega arith) here)
-    (λ after. let same : j ≡ k = omega arith in subst (AgreesBelow least' lists) (same_at books k b c (subst (λ m. At books m b) same at) there) now)
-    (cases_lt k j)
-
 known_some : (o : Option PassId) → is_some o ≡ true → (p : PassId) × (o ≡ Some p)
 known_some None e = absurd (cc (e))
 known_some (Some p) e = (p, refl)

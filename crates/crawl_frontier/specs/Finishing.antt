@@ -1,5 +1,5 @@
 -- Inside `finish`: how far the parts were taken apart, settled and compared.
-use Rattle.std.specs.Prelude.{◌≡◌, ◌≢◌, ◌⊎◌, ℕ, ◌+◌, ◌<◌, ◌≤◌, true, false, List, [], ◌∷◌, ◌++◌, length, Option, None, Some, slice_get, is_some}
+use Rattle.std.specs.Prelude.{◌≡◌, ◌≢◌, ◌⊎◌, ℕ, ◌+◌, ◌<◌, ◌≤◌, true, false, List, [], ◌∷◌, ◌++◌, length, map, Option, None, Some, slice_get, is_some}
 use Rattle.std.specs.Ordering.{nat_cmp}
 use Rattle.std.specs.BTreeMap.{BTreeMap, get}
 use Rattle.std.specs.BTreeSet.{BTreeSet, contains}
@@ -13,9 +13,11 @@ use Rattle.crawl_frontier.specs.QueueId.{QueueId}
 use Rattle.crawl_frontier.specs.PassId.{PassId}
 use Rattle.crawl_frontier.specs.Rule.{popping, home}
 use Rattle.crawl_frontier.specs.Entries.{has_url, count_of, KeepsRule}
-use Rattle.crawl_frontier.specs.Books.{BookId, IsBook, queue_of}
+use Rattle.crawl_frontier.specs.declared.finish.settled.Settled.{Settled}
+use Rattle.crawl_frontier.specs.declared.error.FinishError.TheVariants.{Disagree}
+use Rattle.crawl_frontier.specs.Books.{BookId, IsBook, book_of, queue_of}
 use Rattle.crawl_frontier.specs.Parts.{WorkerId, SenderId, ShardId}
-use Rattle.crawl_frontier.specs.Accounts.{At, IsPart, Agrees}
+use Rattle.crawl_frontier.specs.Accounts.{At, IsPart, Agrees, Accounts, FinishFails}
 
 -- what is left of a list that is used up from its end
 abbrev pub Begins : {X : Type 0} → List X → List X → Type 0
@@ -142,6 +144,20 @@ KeepRuleBelow workers least lists = (q : ℕ) (es : List Entry) → q < least �
 
 abbrev pub AllAre : {X : Type 0} → (X → Type 0) → List X → Type 0
 AllAre P xs = (j : ℕ) (x : _) → At xs j x → P x
+
+-- of queues below `settled`, `least` is the first where some books disagree; and there is none where they are equal
+abbrev pub AgreeTo : ℕ → ℕ → List (List Entry) → List BookId → Type 0
+AgreeTo least settled lists books = (least ≤ settled) × AllAre (AgreesBelow least lists) books × (least < settled → OneDisagrees least lists books)
+
+-- Once the books are compared with the lists, the run has its account, or the least queue that is not settled is known.
+pub record CanCompare (workers : ℕ) (closed : List WorkerId) (senders : List SenderId) (s : Settled) : Type 0 where
+  pub workers_are : s.workers ≡ workers
+  pub len : length s.lists.items ≡ workers
+  pub within : s.least ≤ length s.lists.items
+  pub books : AllAre (IsBook (length s.lists.items)) (map book_of s.books.items)
+  pub rule : KeepRuleBelow (length s.lists.items) s.least s.lists.items
+  pub account : (least : ℕ) → workers ≤ least → AgreeTo least s.least s.lists.items (map book_of s.books.items) → Accounts workers closed senders s.lists.items
+  pub fault : (least : ℕ) → least < workers → AgreeTo least s.least s.lists.items (map book_of s.books.items) → FinishFails workers closed senders (Disagree least)
 
 -- the set has the ids of the books, and no other
 pub record IdsOf (books : List BookId) (ids : BTreeSet ℕ) : Type 0 where

@@ -1,7 +1,7 @@
 //! What a part that sends keeps of its own offers.
 ghost use Rattle.std.specs.Prelude.{◌≡◌, ◌<◌, ◌^◌, IfOk, Some, slice_get, vec_len};
 ghost use Rattle.crawl_frontier.specs.Entries.{entry};
-ghost use Rattle.crawl_frontier.specs.Books.{IsBook, HasRoom, book_of, book_accepting, book_seeing, fresh_book};
+ghost use Rattle.crawl_frontier.specs.Books.{IsBook, HasRoom, book_of, book_accepting, book_seeing, fresh_book, queue_of};
 
 use crate::entry::Entry;
 use crate::log::Log;
@@ -13,6 +13,17 @@ use std::alloc::{AllocError, Global};
 pub enum Logged {
     Accepted(Entry, u32),
     Seen(CanonUrl, u32),
+}
+
+impl Logged {
+    /// The subqueue.
+    pub(crate) fn queue(&self) -> u32
+        ensures { result ≡ queue_of self.now }
+    {
+        match self {
+            Logged::Accepted(_, queue) | Logged::Seen(_, queue) => *queue,
+        }
+    }
 }
 
 /// The id, how many of its URLs each subqueue accepted, and the log, oldest line first.

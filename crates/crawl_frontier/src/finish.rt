@@ -5,6 +5,8 @@ ghost use Rattle.crawl_frontier.specs.Accounts.{Accounts, FinishFails};
 mod compare;
 mod gather;
 mod settle;
+mod settled;
+mod threads;
 
 use crate::account::Account;
 use crate::closed_worker::ClosedWorker;
@@ -12,9 +14,10 @@ use crate::error::FinishError;
 use crate::frontier::Frontier;
 use crate::name::Name;
 use crate::sender::Sender;
-use compare::{all_senders_in, books_agree, ids_of};
-use gather::gather;
-use settle::{all_there, first_doubt, settle_all, unlock};
+use compare::books_agree;
+use settled::{Settled, account_of, settle_run};
+use std::thread::Threads;
+use threads::books_agree_in_threads;
 
 impl<K: Name> Frontier<K> {
     /// The account of a run, from its closed workers and its senders, in any order. It uses all parts up.
@@ -29,29 +32,34 @@ impl<K: Name> Frontier<K> {
             (λ a. (a.workers ≡ K.workers) × Accounts K.workers closed.items senders.items a.queues)
             (λ e. FinishFails K.workers closed.items senders.items e) }
     {
-        let Frontier {
-            gate: _,
+        let Settled {
             workers,
-            queues,
-            shards,
-            filter: _,
-        } = self;
-        let alloc = *queues.allocator();
-        let (rights, books, alone) = gather(alloc, closed, senders, workers)?;
-        if !all_there(&rights, workers) {
-            return Err(FinishError::MissingPart);
-        }
-        let shards = unlock(alloc, shards)?;
-        let (lists, doubts) = settle_all(alloc, &queues, shards, rights)?;
-        let ids = ids_of(alloc, books.as_slice())?;
-        if !all_senders_in(lists.as_slice(), &ids) {
-            return Err(FinishError::MissingPart);
-        }
-        let settled = first_doubt(doubts.as_slice(), alone);
-        let least = books_agree(lists.as_slice(), books.as_slice(), workers, settled)?;
-        if least < workers {
-            return Err(FinishError::Disagree { queue: least });
-        }
-        Ok(Account::new(workers, lists))
+            lists,
+            books,
+            least: settled,
+        } = settle_run(self, closed, senders)?;
+        let least = books_agree(lists.as_slice(), books, settled);
+        account_of(workers, lists, least)
+    }
+
+    /// As [`Frontier::finish`]; where there is much to compare, threads compare the logs, each those of some parts.
+    pub fn finish_in_threads<R: Threads + Sync>(
+        self,
+        rt: &R,
+        closed: Vec<ClosedWorker<K>>,
+        senders: Vec<Sender<K>>,
+    ) -> Result<Account, FinishError>
+        ensures { MatchResult result
+            (λ a. (a.workers ≡ K.workers) × Accounts K.workers closed.items senders.items a.queues)
+            (λ e. FinishFails K.workers closed.items senders.items e) }
+    {
+        let Settled {
+            workers,
+            lists,
+            books,
+            least: settled,
+        } = settle_run(self, closed, senders)?;
+        let least = books_agree_in_threads(rt, lists.as_slice(), books, settled)?;
+        account_of(workers, lists, least)
     }
 }

@@ -1,5 +1,5 @@
 //! The log of a part that sends, kept in 16 bytes for a URL that was seen.
-ghost use Rattle.std.specs.Prelude.{◌≡◌, ◌<◌, ℕ, [], ◌∷◌, ◌++◌, IfOk, OnOk, length, take};
+ghost use Rattle.std.specs.Prelude.{◌≡◌, ◌<◌, ℕ, [], ◌∷◌, ◌++◌, None, IfSome, OnOk, length, vec_len};
 ghost use Rattle.crawl_frontier.specs.Logs.{accepted_in};
 
 use crate::book::Logged;
@@ -34,7 +34,6 @@ pub struct Log {
 
 impl Log {
     ghost use Rattle.crawl_frontier.specs.Entries.{entry};
-    ghost use Rattle.crawl_frontier.specs.Accounts.{At};
     ghost use Rattle.crawl_frontier.specs.Books.{HasRoom, logged_by};
 
     /// An empty log.
@@ -82,26 +81,29 @@ impl Log {
         });
     }
 
-    /// The line at `at` of the log of part `id`, where `before` of the lines before it were accepted.
-    pub fn line(&self, id: u64, at: usize, before: usize) -> Result<Logged, AllocError>
-        requires within { at < length self.now.lines.items }
-        requires before { before ≡ accepted_in (take at self.now.lines.items) }
-        ensures { IfOk result (λ l. At (logged_by id self.now) at l) }
+    /// Takes the last line off, of the log of part `id`.
+    pub fn pop(&mut self, id: u64) -> Option<Logged>
+        ensures line { IfSome result (λ l. logged_by id self.old ≡ logged_by id self.new ++ l ∷ []) }
+        ensures none { result ≡ None → logged_by id self.old ≡ [] }
+        ensures fewer { IfSome result (λ _. vec_len self.new.lines < vec_len self.old.lines) }
     {
-        let line = &self.lines[at];
-        let Ok(url) = line.url.copy() else {
-            return Err(AllocError);
-        };
-        if !line.accepted {
-            return Ok(Logged::Seen(url, line.queue));
+        let LogLine {
+            url,
+            queue,
+            accepted,
+        } = self.lines.pop()?;
+        if !accepted {
+            return Some(Logged::Seen(url, queue));
         }
-        let Acceptance { number, hops } = self.acceptances[before];
+        let Some(Acceptance { number, hops }) = self.acceptances.pop() else {
+            unreachable!()
+        };
         let entry = Entry {
             url,
             sender: id,
             number,
             hops,
         };
-        Ok(Logged::Accepted(entry, line.queue))
+        Some(Logged::Accepted(entry, queue))
     }
 }

@@ -1,12 +1,11 @@
 //! The books of all parts, compared with the lists of all subqueues.
-ghost use Rattle.std.specs.Prelude.{◌≡◌, ◌<◌, ◌≤◌, ℕ, List, true, false, IfOk, length, map, take};
+ghost use Rattle.std.specs.Prelude.{◌≡◌, ◌<◌, ◌≤◌, ℕ, List, true, false, IfOk, length, map};
 ghost use Rattle.std.specs.Ordering.{nat_cmp};
 ghost use Rattle.std.specs.BTreeSet.{contains};
 ghost use Rattle.crawl_frontier.specs.declared.entry.Entry.{Entry};
-ghost use Rattle.crawl_frontier.specs.Logs.{accepted_in};
 ghost use Rattle.crawl_frontier.specs.Books.{IsBook, book_of, logged_by, queue_of};
 ghost use Rattle.crawl_frontier.specs.Accounts.{At};
-ghost use Rattle.crawl_frontier.specs.Finishing.{StandsAt, FailsAt, LineStands, LogStands, LogFails, CountsStand, CountFails, AgreesBelow, DisagreesAt, OneDisagrees, KeepRuleBelow, AllAre, IdsOf, SendersIn, Stranger};
+ghost use Rattle.crawl_frontier.specs.Finishing.{Stands, Fails, StandsAt, FailsAt, LogStands, LogFails, CountsStand, CountFails, AgreesBelow, DisagreesAt, AgreeTo, KeepRuleBelow, AllAre, IdsOf, SendersIn, Stranger};
 
 use super::settle::least_of;
 use crate::accepted::AcceptedList;
@@ -53,54 +52,44 @@ pub fn all_senders_in(lists: &[AcceptedList], ids: &BTreeSet<u64>) -> bool
     true
 }
 
-// Whether the line of a log is true of its subqueue's list.
-fn stands(lists: &[AcceptedList], logged: Logged) -> bool
-    requires { queue_of logged < length lists.now }
-    ensures stands { result ≡ true → StandsAt lists.now logged }
-    ensures fails { result ≡ false → FailsAt lists.now logged }
+// Whether the line of a log is true of this list.
+fn stands(list: &AcceptedList, logged: &Logged) -> bool
+    ensures stands { result ≡ true → Stands list.now logged.now }
+    ensures fails { result ≡ false → Fails list.now logged.now }
 {
     match logged {
-        Logged::Accepted(entry, queue) => lists[queue as usize].has_entry(&entry),
-        Logged::Seen(url, queue) => lists[queue as usize].has_url(&url),
+        Logged::Accepted(entry, _) => list.has_entry(entry),
+        Logged::Seen(url, _) => list.has_url(url),
     }
 }
 
-// The queue of a line of the log of part `id`, where that is less and the line is false. Of the lines before it
-// `accepted` were accepted.
-fn line_stands(
-    lists: &[AcceptedList],
-    log: &Log,
-    id: u64,
-    at: usize,
-    accepted: usize,
-    least: u32,
-) -> Result<u32, AllocError>
-    requires lists { least ≤ length lists.now }
-    requires within { at < length log.now.lines.items }
-    requires accepted { accepted ≡ accepted_in (take at log.now.lines.items) }
-    ensures { IfOk result (λ r. (r ≤ least) × LineStands r lists.now (logged_by id log.now) at × (r < least → LogFails r lists.now (logged_by id log.now))) }
-{
-    let queue = log.lines[at].queue;
-    if queue >= least {
-        return Ok(least);
-    }
-    let is_true = stands(lists, log.line(id, at, accepted)?);
-    Ok(least_of(is_true, queue, least))
-}
-
-// The least queue for which a line of the log of part `id` is false, where that is less.
-fn log_stands(lists: &[AcceptedList], log: &Log, id: u64, mut least: u32) -> Result<u32, AllocError>
+// The queue of a line of a log, where that is less and the line is false.
+fn line_stands(lists: &[AcceptedList], logged: &Logged, least: u32) -> u32
     requires { least ≤ length lists.now }
-    ensures { IfOk result (λ r. (r ≤ least) × LogStands r lists.now (logged_by id log.now) × (r < least → LogFails r lists.now (logged_by id log.now))) }
+    ensures below { result ≤ least }
+    ensures stands { queue_of logged.now < result → StandsAt lists.now logged.now }
+    ensures fails { result < least → (queue_of logged.now ≡ result) × FailsAt lists.now logged.now }
 {
-    let mut accepted = 0;
-    for at in 0..log.lines.len() {
-        least = line_stands(lists, log, id, at, accepted, least)?;
-        if log.lines[at].accepted {
-            accepted += 1;
-        }
+    let queue = logged.queue();
+    if queue >= least {
+        return least;
     }
-    Ok(least)
+    let is_true = stands(&lists[queue as usize], logged);
+    least_of(is_true, queue, least)
+}
+
+// The least queue for which a line of the log of part `id` is false, where that is less. A line is let go of once it was
+// compared, while its text is near.
+fn log_stands(lists: &[AcceptedList], mut log: Log, id: u64, mut least: u32) -> u32
+    requires { least ≤ length lists.now }
+    ensures below { result ≤ least }
+    ensures stands { LogStands result lists.now (logged_by id log) }
+    ensures fails { result < least → LogFails result lists.now (logged_by id log) }
+{
+    while let Some(logged) = log.pop(id) {
+        least = line_stands(lists, &logged, least);
+    }
+    least
 }
 
 // The least queue for which a count is another, where that is less.
@@ -120,37 +109,27 @@ fn counts_stand(lists: &[AcceptedList], book: &Book, least: u32) -> u32
 }
 
 // The least queue for which the books disagree, where that is less.
-fn book_agrees(
-    lists: &[AcceptedList],
-    book: &Book,
-    workers: u32,
-    least: u32,
-) -> Result<u32, AllocError>
-    requires lists { least ≤ length lists.now }
-    requires book { IsBook workers (book_of book.now) }
-    requires least { least ≤ workers }
-    requires rule { KeepRuleBelow workers least lists.now }
-    ensures { IfOk result (λ r. (r ≤ least) × AgreesBelow r lists.now (book_of book.now) × (r < least → DisagreesAt r lists.now (book_of book.now))) }
+fn book_agrees(lists: &[AcceptedList], book: Book, least: u32) -> u32
+    requires least { least ≤ length lists.now }
+    requires book { IsBook (length lists.now) (book_of book) }
+    requires rule { KeepRuleBelow (length lists.now) least lists.now }
+    ensures below { result ≤ least }
+    ensures agrees { AgreesBelow result lists.now (book_of book) }
+    ensures differs { result < least → DisagreesAt result lists.now (book_of book) }
 {
-    let below = log_stands(lists, &book.log, book.id, least)?;
-    Ok(counts_stand(lists, book, below))
+    let below = counts_stand(lists, &book, least);
+    log_stands(lists, book.log, book.id, below)
 }
 
 /// The least queue for which some part's books disagree with the list, where that is less.
-pub fn books_agree(
-    lists: &[AcceptedList],
-    books: &[Book],
-    workers: u32,
-    mut least: u32,
-) -> Result<u32, AllocError>
-    requires lists { least ≤ length lists.now }
-    requires books { AllAre (IsBook workers) (map book_of books.now) }
-    requires least { least ≤ workers }
-    requires rule { KeepRuleBelow workers least lists.now }
-    ensures { IfOk result (λ r. (r ≤ least) × AllAre (AgreesBelow r lists.now) (map book_of books.now) × (r < least → OneDisagrees r lists.now (map book_of books.now))) }
+pub fn books_agree(lists: &[AcceptedList], mut books: Vec<Book>, mut least: u32) -> u32
+    requires least { least ≤ length lists.now }
+    requires books { AllAre (IsBook (length lists.now)) (map book_of books.items) }
+    requires rule { KeepRuleBelow (length lists.now) least lists.now }
+    ensures { AgreeTo result least lists.now (map book_of books.items) }
 {
-    for book in books {
-        least = book_agrees(lists, book, workers, least)?;
+    while let Some(book) = books.pop() {
+        least = book_agrees(lists, book, least);
     }
-    Ok(least)
+    least
 }

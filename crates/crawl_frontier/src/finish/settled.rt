@@ -1,0 +1,81 @@
+//! A run that is taken apart and settled, before its books are compared.
+ghost use Rattle.std.specs.Prelude.{◌≡◌, ◌<◌, ◌≤◌, MatchResult, length};
+ghost use Rattle.crawl_frontier.specs.Accounts.{AllKeepRule, FinishFails};
+ghost use Rattle.crawl_frontier.specs.Finishing.{CanCompare};
+
+use super::compare::{all_senders_in, ids_of};
+use super::gather::gather;
+use super::settle::{all_there, first_doubt, settle_all, unlock};
+use crate::accepted::AcceptedList;
+use crate::account::Account;
+use crate::book::Book;
+use crate::closed_worker::ClosedWorker;
+use crate::error::FinishError;
+use crate::frontier::Frontier;
+use crate::name::Name;
+use crate::sender::Sender;
+
+/// What is compared.
+#[derive(Drop)]
+pub struct Settled {
+    pub workers: u32,
+    /// What each queue accepted.
+    pub lists: Vec<AcceptedList>,
+    /// The books of all parts.
+    pub books: Vec<Book>,
+    /// The least queue that is in doubt, or `workers`.
+    pub least: u32,
+}
+
+/// A run's queues and books. An entry whose sender is no part is told before any book is looked at.
+pub fn settle_run<K: Name>(
+    frontier: Frontier<K>,
+    closed: Vec<ClosedWorker<K>>,
+    senders: Vec<Sender<K>>,
+) -> Result<Settled, FinishError>
+    ensures { MatchResult result (CanCompare K.workers closed.items senders.items) (FinishFails K.workers closed.items senders.items) }
+{
+    let Frontier {
+        gate: _,
+        workers,
+        queues,
+        shards,
+        filter: _,
+    } = frontier;
+    let alloc = *queues.allocator();
+    let (rights, books, alone) = gather(alloc, closed, senders, workers)?;
+    if !all_there(&rights, workers) {
+        return Err(FinishError::MissingPart);
+    }
+    let shards = unlock(alloc, shards)?;
+    let (lists, doubts) = settle_all(alloc, &queues, shards, rights)?;
+    let ids = ids_of(alloc, books.as_slice())?;
+    if !all_senders_in(lists.as_slice(), &ids) {
+        return Err(FinishError::MissingPart);
+    }
+    let least = first_doubt(doubts.as_slice(), alone);
+    Ok(Settled {
+        workers,
+        lists,
+        books,
+        least,
+    })
+}
+
+/// The account, where `least`, the least queue that is not settled, is none of the queues.
+pub fn account_of(
+    workers: u32,
+    lists: Vec<AcceptedList>,
+    least: u32,
+) -> Result<Account, FinishError>
+    requires len { length lists.items ≡ workers }
+    requires rule { workers ≤ least → AllKeepRule workers lists.items }
+    ensures { MatchResult result
+        (λ a. (workers ≤ least) × (a ≡ record { workers = workers; queues = lists.items }))
+        (λ e. (least < workers) × (e ≡ FinishError.Disagree least)) }
+{
+    if least < workers {
+        return Err(FinishError::Disagree { queue: least });
+    }
+    Ok(Account::new(workers, lists))
+}
