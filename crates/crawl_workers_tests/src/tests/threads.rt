@@ -105,3 +105,23 @@ fn workers_end_whatever_is_lost(rt: HostRuntime) -> Result<(), Fail> {
     }
     Ok(())
 }
+
+// A page with links to so many other hosts, none of which has a page.
+fn star(alloc: Global, links: u32) -> Result<String, Fail> {
+    let mut web = String::from_str(alloc, "savedweb 1\npage http://a.test/\n")?;
+    for link in 0..links {
+        web.push_str(&format!(in alloc; "link http://h{link}.test/\n")?)?;
+    }
+    Ok(web)
+}
+
+// So many URLs that threads compare the logs.
+#[test]
+fn threads_finish_a_run_of_many_urls(rt: HostRuntime) -> Result<(), Fail> {
+    let web = star(rt.alloc(), 5000)?;
+    for workers in [2, 3, 64] {
+        let found = fetches(&rt, rt.alloc(), &web, Fails::None, workers, How::Threads);
+        assert!(rt; found == Some(((0, 5001, 0), 5001)), "{workers} workers");
+    }
+    Ok(())
+}

@@ -1,15 +1,17 @@
 //! What a run left, put together.
-ghost use Rattle.std.specs.Prelude.{◌≡◌, ℕ, List, IfErr, IfOk};
+ghost use Rattle.std.specs.Prelude.{◌≡◌, ℕ, List, IfErr, IfOk, MatchResult};
 ghost use Rattle.crawl_certificate.specs.Certificate.{ArePages};
+ghost use Rattle.crawl_frontier.specs.Accounts.{Accounts, FinishFails};
 ghost use Rattle.crawl_web.specs.declared.page.Page.{Page};
 ghost use Rattle.mercator.specs.Crawls.{AllPages, ComesIn, CountedBelow, IsUncertified};
 ghost use Rattle.mercator.specs.declared.crawling.Mode.{Mode};
 
-use crate::crawling::CrawlError;
-use crawl_frontier::{Account, ClosedWorker, Frontier, Name, Sender};
+use crate::crawling::{CrawlError, Mode};
+use crawl_frontier::{Account, ClosedWorker, FinishError, Frontier, Name, Sender};
 use crawl_web::PageResult;
 use crawl_workers::WorkerEnd;
 use std::alloc::{AllocError, Global};
+use std::thread::Threads;
 
 /// What a run left: its account, and the results of all workers.
 #[derive(Drop)]
@@ -19,8 +21,10 @@ pub struct Ran {
 }
 
 /// What is left of a run of this frontier that ended so, whose seeds this sender offered.
-pub fn ran_of<K: Name>(
+pub fn ran_of<K: Name, R: Threads + Sync>(
+    rt: &R,
     alloc: Global,
+    mode: Mode,
     frontier: Frontier<K>,
     ends: Vec<WorkerEnd<K>>,
     sender: Sender<K>,
@@ -33,8 +37,26 @@ pub fn ran_of<K: Name>(
     let (closed, results) = gathered(alloc, ends)?;
     let mut senders = Vec::new(alloc);
     senders.push(sender)?;
-    let account = frontier.finish(closed, senders)?;
+    let account = account_of(rt, mode, frontier, closed, senders)?;
     Ok(Ran { account, results })
+}
+
+/// The account of the run. Where no worker had a thread, none is started here.
+fn account_of<K: Name, R: Threads + Sync>(
+    rt: &R,
+    mode: Mode,
+    frontier: Frontier<K>,
+    closed: Vec<ClosedWorker<K>>,
+    senders: Vec<Sender<K>>,
+) -> Result<Account, FinishError>
+    ensures { MatchResult result
+        (λ a. (a.workers ≡ K.workers) × Accounts K.workers closed.items senders.items a.queues)
+        (λ e. FinishFails K.workers closed.items senders.items e) }
+{
+    match mode {
+        Mode::Threads if closed.len() > 1 => frontier.finish_in_threads(rt, closed, senders),
+        _ => frontier.finish(closed, senders),
+    }
 }
 
 /// The closed workers, and the results of all of them, in the order of the ends: so the results come in the order of an

@@ -65,7 +65,7 @@ fn run_from<K: Name + Send + Sync, F: SessionFetch + Sync, R: Threads + Wait + S
     let _refused = offer_seeds(rt, &frontier, &mut seeder, seeds);
     let sender = seeder.end(&frontier);
     let ends = run(rt, alloc, &frontier, workers, fetcher, settings.mode)?;
-    ran_of(alloc, frontier, ends, sender)
+    ran_of(rt, alloc, settings.mode, frontier, ends, sender)
 }
 
 /// Offers the seeds in order, and answers how many are refused.
