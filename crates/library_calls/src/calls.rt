@@ -16,7 +16,7 @@
 ghost use Rattle.std.specs.Prelude.{◌≡◌};
 
 use crate::filters::filter_by;
-use crate::hands::{Hand, Part, admit_by, another, finish, go_on, offer, open, push};
+use crate::hands::{Hand, Part, admit_by, another, finish, go_on, leave, offer, open, push};
 use crate::notes::{Note, Said};
 use crate::running::{Plan, run_all};
 use crawl_frontier::{Account, Entry, FinishError, Frontier, FrontierError, Name, Setup, Turn};
@@ -134,7 +134,7 @@ fn call_of<K: Name, R: Print + Wait>(
             tell_part(rt, &hand.part);
         }
         "admit" => tell_admit(rt, alloc, frontier, &mut hand.part, text),
-        "leave" => hand.part = Part::Gone,
+        "leave" => leave(&mut hand.part),
         "leaves" => {
             let (count, busy) = number(text);
             hand.notes.leaves_at = count;
@@ -188,6 +188,34 @@ fn made<K: Name>(
     push(alloc, hands, sender)
 }
 
+fn tell_made<K: Name, R: Print>(
+    rt: &R,
+    alloc: Global,
+    frontier: &Frontier<K>,
+    hands: &mut Vec<Hand<K>>,
+    text: &str,
+) {
+    let (place, text) = size(text);
+    let (id, _) = number(text);
+    let is_made = made(alloc, frontier, hands, place, id);
+    tell_word(rt, if is_made { "made" } else { "not made" });
+}
+
+// A call of the hand whose place the text begins with, if it is there.
+fn call_at<K: Name, R: Print + Wait>(
+    rt: &R,
+    alloc: Global,
+    frontier: &Frontier<K>,
+    hands: &mut [Hand<K>],
+    verb: &str,
+    text: &str,
+) {
+    let (place, text) = size(text);
+    if let Some(hand) = hands.get_mut(place) {
+        call_of(rt, alloc, frontier, hand, verb, text);
+    }
+}
+
 fn call<K: Name + Send + Sync, R: Print + Threads + Wait + Sync>(
     rt: &R,
     alloc: Global,
@@ -196,25 +224,11 @@ fn call<K: Name + Send + Sync, R: Print + Threads + Wait + Sync>(
     line: &str,
 ) {
     let (verb, text) = word(line);
-    if verb == "#" {
-        return tell_word(rt, line);
-    }
-    if verb == "run" {
-        return run(rt, alloc, frontier, hands.as_mut_slice(), plan_of(text));
-    }
-    let (place, text) = size(text);
-    if verb == "another" {
-        let (id, _) = number(text);
-        tell_word(
-            rt,
-            if made(alloc, frontier, hands, place, id) {
-                "made"
-            } else {
-                "not made"
-            },
-        );
-    } else if let Some(hand) = hands.get_mut(place) {
-        call_of(rt, alloc, frontier, hand, verb, text);
+    match verb {
+        "#" => tell_word(rt, line),
+        "run" => run(rt, alloc, frontier, hands.as_mut_slice(), plan_of(text)),
+        "another" => tell_made(rt, alloc, frontier, hands, text),
+        _ => call_at(rt, alloc, frontier, hands.as_mut_slice(), verb, text),
     }
 }
 
@@ -269,27 +283,47 @@ where
     tell_end(rt, finish(alloc, frontier, hands));
 }
 
-fn setup_of<R: Print>(rt: &R, alloc: Global, workers: u64, max_pending: u64) -> Option<Setup> {
+fn run_lines<R: Print + Threads + Wait + Sync>(
+    rt: &R,
+    alloc: Global,
+    filter: &Filter,
+    workers: u64,
+    max_pending: u64,
+    lines: &Lines,
+) {
     let workers = u32::try_from(workers).unwrap_or(u32::MAX);
     match Setup::new(alloc, workers, max_pending) {
-        Ok(setup) => Some(setup),
-        Err(fault) => {
-            let _ = println!(rt; "{fault}");
-            None
-        }
+        Ok(setup) => calls::<Brand, R>(rt, alloc, setup, filter, lines),
+        Err(fault) => tell_fault(rt, fault),
     }
 }
 
-fn run_block<R: Print + Threads + Wait + Sync>(rt: &R, alloc: Global, block: &str) -> Option<()> {
+fn tell_fault<R: Print>(rt: &R, fault: FrontierError) {
+    let _ = println!(rt; "{fault}");
+}
+
+// The lines by a filter of these suffixes.
+fn run_within<R: Print + Threads + Wait + Sync>(
+    rt: &R,
+    alloc: Global,
+    suffixes: &str,
+    workers: u64,
+    max_pending: u64,
+    lines: &Lines,
+) {
+    if let Some(filter) = filter_by(alloc, suffixes) {
+        run_lines(rt, alloc, &filter, workers, max_pending, lines);
+    }
+}
+
+fn run_block<R: Print + Threads + Wait + Sync>(rt: &R, alloc: Global, block: &str) {
     let (first, lines) = block.split_once('\n').unwrap_or((block, ""));
     let (_, first) = word(first);
     let (workers, first) = number(first);
     let (max_pending, suffixes) = number(first);
-    let filter = filter_by(alloc, suffixes)?;
-    let text = String::from_str(alloc, lines).ok()?;
-    let setup = setup_of(rt, alloc, workers, max_pending)?;
-    calls::<Brand, R>(rt, alloc, setup, &filter, &Lines { text });
-    Some(())
+    if let Ok(text) = String::from_str(alloc, lines) {
+        run_within(rt, alloc, suffixes, workers, max_pending, &Lines { text });
+    }
 }
 
 /// Makes the calls of each block, and tells what each answers; behind each block an empty line.

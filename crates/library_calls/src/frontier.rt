@@ -71,9 +71,25 @@ fn over<R: Threads + Wait + Sync>(
     rounds: u32,
     takes: bool,
 ) -> Option<(u64, u64, u64)> {
-    let filter = Filter::new(alloc, &[]).ok()?;
-    let setup = Setup::new(alloc, threads, MAX_PENDING).ok()?;
-    run::<Brand, R>(rt, alloc, setup, &filter, urls, rounds, takes)
+    match Filter::new(alloc, &[]) {
+        Ok(filter) => within(rt, alloc, &filter, threads, urls, rounds, takes),
+        Err(_) => None,
+    }
+}
+
+fn within<R: Threads + Wait + Sync>(
+    rt: &R,
+    alloc: Global,
+    filter: &Filter,
+    threads: u32,
+    urls: &[CanonUrl],
+    rounds: u32,
+    takes: bool,
+) -> Option<(u64, u64, u64)> {
+    match Setup::new(alloc, threads, MAX_PENDING) {
+        Ok(setup) => run::<Brand, R>(rt, alloc, setup, filter, urls, rounds, takes),
+        Err(_) => None,
+    }
 }
 
 fn run<K: Name + Send + Sync, R: Threads + Wait + Sync>(
@@ -90,8 +106,12 @@ fn run<K: Name + Send + Sync, R: Threads + Wait + Sync>(
     requires queues { setup.queues ≡ K.queues }
     requires filter { filter.now ≡ K.filter }
 {
-    let (frontier, workers, seeder) = Frontier::<K>::new(alloc, setup, filter).ok()?;
-    run_on(rt, alloc, &frontier, workers, seeder, urls, rounds, takes)
+    match Frontier::<K>::new(alloc, setup, filter) {
+        Ok((frontier, workers, seeder)) => {
+            run_on(rt, alloc, &frontier, workers, seeder, urls, rounds, takes)
+        }
+        Err(_) => None,
+    }
 }
 
 fn run_on<K: Name + Send + Sync, R: Threads + Wait + Sync>(

@@ -32,7 +32,13 @@ pub struct Hand<K: Name> {
 /// Puts the part behind the others.
 pub fn push<K: Name>(alloc: Global, hands: &mut Vec<Hand<K>>, part: Part<K>) -> bool {
     let notes = Notes::new(alloc);
-    hands.push(Hand { part, notes }).is_ok()
+    match hands.push(Hand { part, notes }) {
+        Ok(()) => true,
+        Err(refused) => {
+            drop(refused);
+            false
+        }
+    }
 }
 
 fn hands_of<K: Name>(alloc: Global, workers: Vec<Worker<K>>, seeder: Seeder<K>) -> Vec<Hand<K>> {
@@ -92,15 +98,47 @@ pub fn offer<K: Name, R: Wait>(
     }
 }
 
+fn next_turn<K: Name, R: Wait>(rt: &R, frontier: &Frontier<K>, turn: Turn<K>) -> Turn<K> {
+    match turn {
+        Turn::Idle(worker, _) => worker.next(rt, frontier),
+        Turn::Busy(worker) => Turn::Idle(worker.done(frontier), 0),
+        Turn::Closed(worker) => Turn::Closed(worker),
+    }
+}
+
+fn next_part<K: Name, R: Wait>(rt: &R, frontier: &Frontier<K>, part: Part<K>) -> Part<K> {
+    match part {
+        Part::Worker(turn) => Part::Worker(next_turn(rt, frontier, turn)),
+        Part::Seeder(seeder) => Part::Sender(seeder.end(frontier)),
+        Part::Sender(sender) => Part::Sender(sender),
+        Part::Gone => Part::Gone,
+    }
+}
+
 /// The next turn of an idle worker, or the end of what a hand does: of a busy worker its URL, of the seeder the seeds. Any
 /// other hand is as it was.
 pub fn go_on<K: Name, R: Wait>(rt: &R, frontier: &Frontier<K>, part: &mut Part<K>) {
-    *part = match mem::replace(part, Part::Gone) {
-        Part::Worker(Turn::Idle(worker, _)) => Part::Worker(worker.next(rt, frontier)),
-        Part::Worker(Turn::Busy(worker)) => Part::Worker(Turn::Idle(worker.done(frontier), 0)),
-        Part::Seeder(seeder) => Part::Sender(seeder.end(frontier)),
-        other => other,
-    };
+    let before = mem::replace(part, Part::Gone);
+    drop(mem::replace(part, next_part(rt, frontier, before)));
+}
+
+/// Drops the part.
+pub fn leave<K: Name>(part: &mut Part<K>) {
+    drop(mem::replace(part, Part::Gone));
+}
+
+fn admit_in<K: Name, R: Wait>(
+    rt: &R,
+    frontier: &Frontier<K>,
+    turn: Turn<K>,
+    url: &CanonUrl,
+    own: u64,
+    hops: u64,
+) -> &'static str {
+    match turn {
+        Turn::Idle(worker, _) => admitted(admit(rt, frontier, worker, url, own, hops)),
+        other => gone(other),
+    }
 }
 
 /// Admits the URL to subqueue 0 with this own number and these hops, by the pass of an idle worker, which is gone then.
@@ -113,18 +151,28 @@ pub fn admit_by<K: Name, R: Wait>(
     hops: u64,
 ) -> &'static str {
     match mem::replace(part, Part::Gone) {
-        Part::Worker(Turn::Idle(worker, _)) => {
-            admitted(admit(rt, frontier, worker, url, own, hops))
-        }
-        _ => "gone",
+        Part::Worker(turn) => admit_in(rt, frontier, turn, url, own, hops),
+        other => gone(other),
+    }
+}
+
+fn gone<T: Drop>(value: T) -> &'static str {
+    drop(value);
+    "gone"
+}
+
+fn word_of(admit: &Admit) -> &'static str {
+    match admit {
+        Admit::Admitted { .. } => "admitted",
+        Admit::TooFar { .. } => "too far",
+        _ => "refused",
     }
 }
 
 fn admitted(answer: Option<Admit>) -> &'static str {
     match answer {
-        Some(Admit::Admitted { .. }) => "admitted",
-        Some(Admit::TooFar { .. }) => "too far",
-        _ => "refused",
+        Some(admit) => word_of(&admit),
+        None => "refused",
     }
 }
 
@@ -136,12 +184,19 @@ fn put_sender<K: Name>(sender: Sender<K>, senders: &mut Vec<Sender<K>>) {
     let _ = senders.push(sender);
 }
 
+fn put_turn<K: Name>(turn: Turn<K>, closed: &mut Vec<ClosedWorker<K>>) {
+    match turn {
+        Turn::Closed(worker) => put_worker(worker, closed),
+        other => drop(other),
+    }
+}
+
 // Puts the part to those that end a run, if it is one of them.
 fn put<K: Name>(part: Part<K>, closed: &mut Vec<ClosedWorker<K>>, senders: &mut Vec<Sender<K>>) {
     match part {
-        Part::Worker(Turn::Closed(worker)) => put_worker(worker, closed),
+        Part::Worker(turn) => put_turn(turn, closed),
         Part::Sender(sender) => put_sender(sender, senders),
-        _ => {}
+        other => drop(other),
     }
 }
 

@@ -97,4 +97,11 @@ impl Notes {
         self.closed = self.closed | is_closed;
         let _ = self.list.push(Note { page, said, late });
     }
+
+    /// Counts a page that was taken. Answers whether the worker leaves at it.
+    pub fn counts_page(&mut self) -> bool {
+        self.idle = 0;
+        self.taken = self.taken.saturating_add(1);
+        self.taken == self.leaves_at
+    }
 }

@@ -1,8 +1,8 @@
 //! Hands in threads of their own: workers that offer the links of what they take, beside senders that offer the same pages.
-use crate::hands::{Hand, Part, go_on, offer};
+use crate::hands::{Hand, Part, go_on, leave, offer};
 use crate::notes::{Notes, Said};
 use crate::urls::canonical_of;
-use crawl_frontier::{Frontier, Name, Turn, Worker};
+use crawl_frontier::{Frontier, Name, Turn};
 use crawl_keys::CanonUrl;
 use std::alloc::Global;
 use std::sync::Wait;
@@ -48,12 +48,16 @@ fn page(alloc: Global, number: usize) -> Option<CanonUrl> {
     canonical_of(alloc, format!(in alloc; "http://h{host}.test/{number}"))
 }
 
+fn push_page(alloc: Global, urls: &mut Vec<CanonUrl>, number: usize) {
+    if let Some(url) = page(alloc, number) {
+        let _ = urls.push(url);
+    }
+}
+
 fn pages(alloc: Global, count: usize) -> Vec<CanonUrl> {
     let mut urls = Vec::new(alloc);
     for number in 0..count {
-        if let Some(url) = page(alloc, number) {
-            let _ = urls.push(url);
-        }
+        push_page(alloc, &mut urls, number);
     }
     urls
 }
@@ -95,6 +99,31 @@ fn page_in_hand<K: Name>(part: &Part<K>) -> usize {
     }
 }
 
+// Offers the links of the page in hand.
+fn offer_links<K: Name, R: Wait>(
+    rt: &R,
+    frontier: &Frontier<K>,
+    run: &Run<'_>,
+    part: &mut Part<K>,
+    notes: &mut Notes,
+    page: usize,
+) {
+    let links = links(run.urls, page);
+    offer_each(rt, frontier, &run.closed, part, notes, links);
+}
+
+// Is done with the page in hand.
+fn end_page<K: Name, R: Wait>(
+    rt: &R,
+    frontier: &Frontier<K>,
+    part: &mut Part<K>,
+    notes: &mut Notes,
+    page: usize,
+) {
+    go_on(rt, frontier, part);
+    notes.push(page, Said::word("done"), false);
+}
+
 // Offers the links of the page in hand, and is done with it, or leaves. Answers whether the worker stays.
 fn work_on_page<K: Name, R: Wait>(
     rt: &R,
@@ -105,25 +134,22 @@ fn work_on_page<K: Name, R: Wait>(
 ) -> bool {
     let page = page_in_hand(part);
     notes.push(page, Said::word("took"), false);
-    offer_each(
-        rt,
-        frontier,
-        &run.closed,
-        part,
-        notes,
-        links(run.urls, page),
-    );
-    notes.idle = 0;
-    notes.taken = notes.taken.saturating_add(1);
-    let leaves = notes.taken == notes.leaves_at;
+    offer_links(rt, frontier, run, part, notes, page);
+    let leaves = notes.counts_page();
     if !leaves | !notes.leaves_busy {
-        go_on(rt, frontier, part);
-        notes.push(page, Said::word("done"), false);
+        end_page(rt, frontier, part, notes, page);
     }
     if leaves {
-        *part = Part::Gone;
+        leave(part);
     }
     !leaves
+}
+
+// Lets an idle worker rest until it is woken.
+fn rest<K: Name, R: Wait>(rt: &R, frontier: &Frontier<K>, part: &Part<K>) {
+    if let Part::Worker(Turn::Idle(worker, _)) = part {
+        worker.rest_for(rt, frontier, Duration::from_secs(HOUR));
+    }
 }
 
 // Rests, or counts the turn. Of turns in a row that find nothing the first is noted. Answers whether the worker stays.
@@ -131,7 +157,7 @@ fn pause<K: Name, R: Wait>(
     rt: &R,
     frontier: &Frontier<K>,
     plan: Plan,
-    worker: &Worker<K>,
+    part: &Part<K>,
     notes: &mut Notes,
 ) -> bool {
     if notes.idle == 0 {
@@ -139,11 +165,27 @@ fn pause<K: Name, R: Wait>(
     }
     notes.idle = notes.idle.saturating_add(1);
     if plan.idle_turns == 0 {
-        worker.rest_for(rt, frontier, Duration::from_secs(HOUR));
+        rest(rt, frontier, part);
         return true;
     }
     yield_now();
     notes.idle < plan.idle_turns
+}
+
+// What a turn of a worker found.
+#[derive(Clone, Copy)]
+enum State {
+    Busy,
+    Idle,
+    Ended,
+}
+
+fn state_of<K: Name>(part: &Part<K>) -> State {
+    match part {
+        Part::Worker(Turn::Busy(_)) => State::Busy,
+        Part::Worker(Turn::Idle(_, _)) => State::Idle,
+        _ => State::Ended,
+    }
 }
 
 // A turn of a worker. Answers whether there may be more.
@@ -155,10 +197,10 @@ fn turn<K: Name, R: Wait>(
     notes: &mut Notes,
 ) -> bool {
     go_on(rt, frontier, part);
-    match part {
-        Part::Worker(Turn::Busy(_)) => work_on_page(rt, frontier, run, part, notes),
-        Part::Worker(Turn::Idle(worker, _)) => pause(rt, frontier, run.plan, worker, notes),
-        _ => {
+    match state_of(part) {
+        State::Busy => work_on_page(rt, frontier, run, part, notes),
+        State::Idle => pause(rt, frontier, run.plan, part, notes),
+        State::Ended => {
             run.closed.fetch_add(1, Ordering::SeqCst);
             notes.push(usize::MAX, Said::word("closed"), false);
             false
@@ -181,6 +223,20 @@ fn work<K: Name, R: Wait>(
     unreachable!()
 }
 
+// Offers its pages once more. Answers whether there may be more rounds.
+fn send_round<K: Name, R: Wait>(
+    rt: &R,
+    frontier: &Frontier<K>,
+    run: &Run<'_>,
+    part: &mut Part<K>,
+    notes: &mut Notes,
+) -> bool {
+    let sent = run.urls.get(..run.plan.sent).unwrap_or(&[]);
+    let goes_on = !notes.closed & run.plan.until_closed;
+    offer_each(rt, frontier, &run.closed, part, notes, sent);
+    goes_on
+}
+
 fn send<K: Name, R: Wait>(
     rt: &R,
     frontier: &Frontier<K>,
@@ -188,11 +244,8 @@ fn send<K: Name, R: Wait>(
     part: &mut Part<K>,
     notes: &mut Notes,
 ) {
-    let sent = run.urls.get(..run.plan.sent).unwrap_or(&[]);
     for _ in rt.forever() {
-        let last = notes.closed | !run.plan.until_closed;
-        offer_each(rt, frontier, &run.closed, part, notes, sent);
-        if last {
+        if !send_round(rt, frontier, run, part, notes) {
             return;
         }
         yield_now();
@@ -233,6 +286,15 @@ fn act<K: Name, R: Wait>(rt: &R, frontier: &Frontier<K>, run: &Run<'_>, hand: &m
     send(rt, frontier, run, part, notes);
 }
 
+fn run_each<K: Name + Send + Sync, R: Threads + Wait + Sync>(
+    rt: &R,
+    frontier: &Frontier<K>,
+    hands: &mut [Hand<K>],
+    run: &Run<'_>,
+) {
+    thread::for_each_mut(rt, hands, THREADS, &|_, hand| act(rt, frontier, run, hand));
+}
+
 /// Runs each hand in a thread of its own until it ends.
 pub fn run_all<K: Name + Send + Sync, R: Threads + Wait + Sync>(
     rt: &R,
@@ -247,5 +309,5 @@ pub fn run_all<K: Name + Send + Sync, R: Threads + Wait + Sync>(
         urls: &urls,
         closed: AtomicU64::new(0),
     };
-    thread::for_each_mut(rt, hands, THREADS, &|_, hand| act(rt, frontier, &run, hand));
+    run_each(rt, frontier, hands, &run);
 }

@@ -12,6 +12,14 @@ struct Part<'a, K: Name> {
     urls: &'a [CanonUrl],
 }
 
+fn sum_of(counts: &[(u64, u64)]) -> (u64, u64) {
+    let mut sum = (0u64, 0u64);
+    for count in counts {
+        sum = (sum.0.saturating_add(count.0), sum.1.saturating_add(count.1));
+    }
+    sum
+}
+
 /// Offers all URLs in so many rounds, by a thread for each worker. Answers how many were accepted, and how many seen.
 pub fn offer<K: Name + Send + Sync, R: Threads + Wait + Sync>(
     rt: &R,
@@ -21,13 +29,25 @@ pub fn offer<K: Name + Send + Sync, R: Threads + Wait + Sync>(
     urls: &[CanonUrl],
     rounds: u32,
 ) -> Option<(u64, u64)> {
-    let parts = parts(alloc, frontier, seeder, urls)?;
-    let counts = thread::map_vec(rt, parts, &|part| offer_part(rt, frontier, part, rounds)).ok()?;
-    let mut sum = (0u64, 0u64);
-    for count in counts.as_slice() {
-        sum = (sum.0.saturating_add(count.0), sum.1.saturating_add(count.1));
+    let parts = parts(alloc, frontier, seeder, urls);
+    match thread::map_vec(rt, parts, &|part| offer_part(rt, frontier, part, rounds)) {
+        Ok(counts) => Some(sum_of(counts.as_slice())),
+        Err(_) => None,
     }
-    Some(sum)
+}
+
+// A part that is lost to want of memory offers nothing.
+fn push_part<'a, K: Name>(
+    alloc: Global,
+    frontier: &Frontier<K>,
+    seeder: &mut Seeder<K>,
+    parts: &mut Vec<Part<'a, K>>,
+    urls: &'a [CanonUrl],
+) {
+    let id = 1000 + parts.len() as u64;
+    if let Ok(sender) = seeder.another(alloc, frontier, id) {
+        let _ = parts.push(Part { sender, urls });
+    }
 }
 
 fn parts<'a, K: Name>(
@@ -35,15 +55,13 @@ fn parts<'a, K: Name>(
     frontier: &Frontier<K>,
     seeder: &mut Seeder<K>,
     urls: &'a [CanonUrl],
-) -> Option<Vec<Part<'a, K>>> {
+) -> Vec<Part<'a, K>> {
     let size = urls.len().div_ceil(frontier.workers() as usize).max(1);
     let mut parts = Vec::new(alloc);
     for urls in urls.chunks(size) {
-        let id = 1000 + parts.len() as u64;
-        let sender = seeder.another(alloc, frontier, id).ok()?;
-        parts.push(Part { sender, urls }).ok()?;
+        push_part(alloc, frontier, seeder, &mut parts, urls);
     }
-    Some(parts)
+    parts
 }
 
 fn offer_part<K: Name, R: Wait>(
