@@ -1,11 +1,9 @@
 -- Lines that are printed one behind the other.
-use Rattle.std.proofs.Common.{◌≡◌, ℕ, ◌+◌, ◌<◌, ◌≤◌, Bool, true, false, List, [], ◌∷◌, ◌++◌, length, map, take, filter, get_or, Result, Ok, Err, IfOk, append-nil, refl, sym, ap, subst, ◌∙◌, arith}
+use Rattle.std.proofs.Common.{◌≡◌, ℕ, ◌+◌, ◌<◌, ◌≤◌, List, [], ◌∷◌, ◌++◌, length, map, take, get_or, Result, Ok, Err, IfOk, append-nil, refl, sym, ap, subst, ◌∙◌, arith}
 use Rattle.std.proofs.lemmas.List.{append_assoc, map-append, map_more, take_more, take_all, length-take-le}
-use Rattle.std.proofs.lemmas.List.Elements.{filter-append}
 use Rattle.std.proofs.lemmas.List.Concat.{flat_map-append}
 use Rattle.std.specs.Borrow.{Bor}
 use Rattle.std.specs.List.{enumerate_from, flat_map}
-use Rattle.crawl_web.proofs.ReportOrder.{filter-kept, filter-dropped}
 use Rattle.crawl_web.specs.declared.page.PageResult.{PageResult}
 use Rattle.crawl_report.specs.Json.{printed_line}
 use Rattle.crawl_report.specs.Lines as line
@@ -41,27 +39,6 @@ line_more f out mid more xs k x below at p q =
 pub lines_all : {X : Type 0} (lines : List X → List Line) (out more : Out) (xs : List X) (k : ℕ) → length xs ≤ k → Adds out more (lines (take k xs)) → Adds out more (lines xs)
 lines_all lines out more xs k past is = adds_same out more _ _ (ap lines (take_all k xs past)) is
 
--- ---- elements that pass a test
-
-pub kept_more : {X : Type 0} (p : X → Bool) (xs : List X) (k : ℕ) (x : X) → k < length xs → x ≡ get_or xs k x → p x ≡ true → filter p (take (k + 1) xs) ≡ filter p (take k xs) ++ x ∷ []
-kept_more p xs k x below at passes =
-    ap (filter p) (take_more xs k x below ∙ ap (λ y. take k xs ++ y ∷ []) (sym at))
-    ∙ filter-append p (take k xs) (x ∷ []) ∙ ap (λ t. filter p (take k xs) ++ t) (filter-kept p x [] passes)
-
-pub dropped_more : {X : Type 0} (p : X → Bool) (xs : List X) (k : ℕ) (x : X) → k < length xs → x ≡ get_or xs k x → p x ≡ false → filter p (take (k + 1) xs) ≡ filter p (take k xs)
-dropped_more p xs k x below at fails =
-    ap (filter p) (take_more xs k x below ∙ ap (λ y. take k xs ++ y ∷ []) (sym at))
-    ∙ filter-append p (take k xs) (x ∷ []) ∙ ap (λ t. filter p (take k xs) ++ t) (filter-dropped p x [] fails) ∙ append-nil (filter p (take k xs))
-
-pub line_kept : {X : Type 0} (f : X → Line) (p : X → Bool) (out mid more : Out) (xs : List X) (k : ℕ) (x : X) → k < length xs → x ≡ get_or xs k x → p x ≡ true → Adds out mid (map f (filter p (take k xs))) → Adds mid more (f x ∷ []) → Adds out more (map f (filter p (take (k + 1) xs)))
-line_kept f p out mid more xs k x below at passes before now =
-    adds_same out more _ _ (sym (map-append f (filter p (take k xs)) (x ∷ [])) ∙ ap (map f) (sym (kept_more p xs k x below at passes)))
-    (adds_both out mid more (map f (filter p (take k xs))) (f x ∷ []) before now)
-
-pub line_dropped : {X : Type 0} (f : X → Line) (p : X → Bool) (out mid : Out) (xs : List X) (k : ℕ) (x : X) → k < length xs → x ≡ get_or xs k x → p x ≡ false → Adds out mid (map f (filter p (take k xs))) → Adds out mid (map f (filter p (take (k + 1) xs)))
-line_dropped f p out mid xs k x below at fails before =
-    adds_same out mid _ _ (ap (map f) (sym (dropped_more p xs k x below at fails))) before
-
 -- ---- queues
 
 numbered_push : (n : ℕ) (xs : List ℕ) (x : ℕ) → enumerate_from n (xs ++ x ∷ []) ≡ enumerate_from n xs ++ (n + length xs, x) ∷ []
@@ -92,14 +69,10 @@ pointed_lines_all f out more xs k past is = adds_same out more _ _ (ap (λ ys. m
 -- ---- a whole report
 
 -- the lines behind those of the results
-pub rest_printed : (b c d e f g : Out) (queues sources moved unreached : List Line) (sum : Line)
-    → Adds b c (sum ∷ []) → Adds c d queues → Adds d e sources → Adds e f moved → Adds f g unreached
-    → bytes_of g ≡ bytes_of b ++ flat_map (printed_line (is_json b)) ((sum ∷ queues) ++ sources ++ moved ++ unreached)
-rest_printed b c d e f g queues sources moved unreached sum of_sum of_queues of_sources of_moved of_unreached =
-    let first = adds_both b c d (sum ∷ []) queues of_sum of_queues in
-    let second = adds_both b d e (sum ∷ queues) sources first of_sources in
-    let third = adds_both b e f ((sum ∷ queues) ++ sources) moved second of_moved in
-    (adds_both b f g ((sum ∷ queues) ++ sources ++ moved) unreached third of_unreached).added
+pub rest_printed : (b c d e : Out) (queues parts : List Line) (sum : Line)
+    → Adds b c (sum ∷ []) → Adds c d queues → Adds d e parts → bytes_of e ≡ bytes_of b ++ flat_map (printed_line (is_json b)) ((sum ∷ queues) ++ parts)
+rest_printed b c d e queues parts sum of_sum of_queues of_parts =
+    (adds_both b d e (sum ∷ queues) parts (adds_both b c d (sum ∷ []) queues of_sum of_queues) of_parts).added
 
 -- lines more, for one result more
 pub told_more : (f : PageResult → List Line) (out mid more : Out) (xs : List (Bor PageResult)) (k : ℕ) (x : Bor PageResult) → k < length xs → x ≡ get_or xs k x → Adds out mid (flat_map f (pointed (take k xs))) → Adds mid more (f x.now) → Adds out more (flat_map f (pointed (take (k + 1) xs)))

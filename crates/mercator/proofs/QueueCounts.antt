@@ -1,7 +1,6 @@
 -- The lines of counts, one by one; and that the URLs have one list of counts.
-use Rattle.std.proofs.Common.{◌≡◌, ℕ, suc, ◌+◌, ◌<◌, ◌≤◌, List, ◌∷◌, ◌++◌, length, drop, get_or, sym, ap, subst, ◌∙◌, append_assoc, append-nil, drop-cons, add-one}
+use Rattle.std.proofs.Common.{◌≡◌, ℕ, suc, ◌+◌, ◌<◌, List, ◌∷◌, ◌++◌, length, drop, get_or, sym, ap, subst, ◌∙◌, append_assoc, drop-cons, add-one}
 use Rattle.std.proofs.lemmas.Grind.{same_number_lists}
-use Rattle.std.proofs.lemmas.List.{drop_all}
 use Rattle.std.proofs.lemmas.Option.{get_or_from_slice_get}
 use Rattle.std.specs.List.{enumerate_from, flat_map}
 use Rattle.mercator.specs.Crawls.{AreCounts}
@@ -18,10 +17,6 @@ line_more old new whole counts at count within is wrote so_far =
     ap (λ text. text ++ lines_from (at + 1) (drop (at + 1) counts)) wrote
     ∙ append_assoc old (queue_line at count) (lines_from (at + 1) (drop (at + 1) counts))
     ∙ ap (λ xs. old ++ lines_from at xs) (sym left) ∙ so_far
-
-pub lines_whole : (text whole : List ℕ) (counts : List ℕ) (at : ℕ) → length counts ≤ at → text ++ lines_from at (drop at counts) ≡ whole → text ≡ whole
-lines_whole text whole counts at past so_far =
-    sym (append-nil text) ∙ ap (λ xs. text ++ lines_from at xs) (sym (drop_all at counts past)) ∙ so_far
 
 pub one_count : (workers : ℕ) (urls : List (List ℕ)) (counts others : List ℕ) → AreCounts workers urls counts → AreCounts workers urls others → counts ≡ others
 one_count workers urls counts others own its =

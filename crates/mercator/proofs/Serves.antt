@@ -1,19 +1,19 @@
 -- What a session tells, by its plan.
 use Rattle.std.proofs.Common.{◌≡◌, ◌⊎◌, inl, inr, ℕ, List, [], ◌++◌, false, IfSome, Result, Ok, Err, IfErr, Option, String, Global, refl, sym, subst, ◌∙◌}
 use Rattle.std.specs.Io.KnownBytes.{Appends}
-use Rattle.std.proofs.KnownBytes.{Appends-nil, Appends-trans}
+use Rattle.std.proofs.KnownBytes.{Appends-trans}
 use Rattle.std.specs.Str.Lines.{lines}
 use Rattle.crawl_core.specs.Shows.{Shows}
 use Rattle.crawl_core.specs.State.{start}
 use Rattle.crawl_session.specs.Answers.{answer_lines}
-use Rattle.crawl_session.specs.Compacting.{Had, had_none}
+use Rattle.crawl_session.specs.Compacting.{Had}
 use Rattle.crawl_session.specs.Input.{ServesInput}
 use Rattle.crawl_session.specs.Logs.{Reruns}
 use Rattle.crawl_session.specs.Sessions.{answers, state_after}
 use Rattle.crawl_session.specs.Settings.{SessionView}
 use Rattle.crawl_session.specs.declared.serving.ServeError.{ServeError}
 use Rattle.crawl_session.specs.declared.serving.ServeError.TheVariants as serving
-use Rattle.crawl_session.proofs.Compacted.{compacts_both, compacts_none}
+use Rattle.crawl_session.proofs.Compacted.{compacts_both}
 use Rattle.mercator.specs.Compaction.{Compacted, IsCompacted}
 use Rattle.mercator.specs.Ending.{Begins}
 use Rattle.mercator.specs.Faults.{of_session, status_of_fault}
@@ -51,10 +51,7 @@ breaks_off asked input serving.CannotRead Unwritten good = inr (inr good)
 breaks_off asked input serving.CannotWrite Unwritten good = inr (inr good)
 breaks_off asked input serving.NoMemory Unwritten good = inr (inr good)
 
--- what a session was given of a log: the requests in these bytes, or none
-pub reruns_served : (old : SessionView) (input out_old out_new : Option (List ℕ)) (new : SessionView) → ServesInput old input out_old out_new new → (bytes : List ℕ) × Reruns old (lines bytes) new
-reruns_served old input out_old out_new new served = (served.bytes, record { settings = served.serves.settings; comes = λ state shown. (served.serves.comes state shown).1 })
-
+-- a session was given the requests in these bytes of a log: none
 pub reruns_none : (session : SessionView) → (bytes : List ℕ) × Reruns session (lines bytes) session
 reruns_none session = ([], record { settings = refl; comes = λ state shown. shown })
 
@@ -161,10 +158,6 @@ done_words (asks.Compact log file) contents input out_old out_new old new limits
 done_words (asks.Serve asked) contents input out_old out_new old new limits gains silent noted = inl (silent refl)
 done_words (asks.ServeLog asked) contents input out_old out_new old new limits gains silent noted = inr (asks.ServeLog asked, limits, record { logged = refl; gains = gains; noted = noted })
 
--- a compaction that is done tells nothing, and one that is not fails as its log does
-pub gains_nothing : (log : LogPlan) (new : String Global) (input out : Option (List ℕ)) → is_bad_suffix log.session.within ≡ false → Gains (asks.Compact log new) input out out
-gains_nothing log new input out good = record { text = []; told = (good, refl); gained = Appends-nil out }
-
 -- what a compaction did, and more of it
 pub compacted_more : (had : Had) (old : SessionView) (next : Had) (mid : SessionView) (last : Had) (new : SessionView) (out_old out_mid out_new : Option (List ℕ)) → Compacted had old next mid out_old out_mid → Compacted next mid last new out_mid out_new → Compacted had old last new out_old out_new
 compacted_more had old next mid last new out_old out_mid out_new one two = record {
@@ -172,18 +165,6 @@ compacted_more had old next mid last new out_old out_mid out_new one two = recor
   text = one.text ++ two.text;
   gained = Appends-trans out_old out_mid out_new one.text two.text one.gained two.gained;
   compacts = compacts_both had old one.requests one.text next mid two.requests two.text last new one.compacts two.compacts;
-}
-
-pub compacted_none : (had : Had) (session : SessionView) (out : Option (List ℕ)) → Compacted had session had session out out
-compacted_none had session out = record { requests = []; text = []; gained = Appends-nil out; compacts = compacts_none had session }
-
--- a log that was compacted behind its first line, to its end
-pub is_compacted : (session : SessionView) (next : Had) (new : SessionView) (out_old out_new : Option (List ℕ)) → Compacted had_none session next new out_old out_new → IsCompacted session [] out_old out_new
-is_compacted session next new out_old out_new all = record {
-  requests = all.requests;
-  text = all.text;
-  gained = all.gained;
-  shortest = λ state shown. (all.compacts.comes state shown).0;
 }
 
 pub behind_first : (session : SessionView) (first : List ℕ) (out_old out_mid out_new : Option (List ℕ)) → Appends out_old out_mid first → IsCompacted session [] out_mid out_new → IsCompacted session first out_old out_new
