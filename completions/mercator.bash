@@ -1,35 +1,31 @@
-# Completions of mercator for bash. tests/manual_page.py holds them against `mercator --help`.
+# Completions of mercator for bash. Commands and options are those that `mercator --help` tells.
+
+# _mercator_told SECTION WORD..: the lines of this section of the help of these words.
+_mercator_told() {
+    "${COMP_WORDS[0]}" "${@:2}" --help 2> /dev/null | sed -n "/^$1:\$/,/^\$/p"
+}
 
 _mercator() {
-    local word=${COMP_WORDS[COMP_CWORD]} before=${COMP_WORDS[COMP_CWORD - 1]}
-    local commands="check site crawl key replay serve help" options=
+    local word=${COMP_WORDS[COMP_CWORD]} before=${COMP_WORDS[COMP_CWORD - 1]} command=${COMP_WORDS[1]}
+    local commands options names value=
     COMPREPLY=()
-    if [ "$COMP_CWORD" -eq 1 ]; then
-        mapfile -t COMPREPLY < <(compgen -W "$commands --help --version" -- "$word")
-        return
-    fi
-    case ${COMP_WORDS[1]} in
-    check)
-        options="--workers --json --annotations --html --all-sources --unreached --external --seed --no-anchors --ignore --exact --queries --help"
-        ;;
-    site) options="--exact --queries --help" ;;
-    crawl)
-        options="--workers --max-pending --queues --sources --all-sources --moved --unreached --json --explain --progress --within --seeds --help"
-        ;;
-    key) options="--workers --help" ;;
-    replay) options="--help" ;;
-    serve) options="--workers --max-pending --within --part --log --sync --compact --help" ;;
-    help)
+    if [ "$COMP_CWORD" -eq 1 ] || [ "$command" = help ]; then
+        commands=$(_mercator_told Commands | sed -n 's/^  \([a-z]*\) .*/\1/p')
+        [ "$command" = help ] && [ "$COMP_CWORD" -gt 1 ] || commands+=" --help --version"
         mapfile -t COMPREPLY < <(compgen -W "$commands" -- "$word")
         return
-        ;;
-    esac
-    case $before in
-    --workers | --max-pending | --within | --part | --seed) return ;;
-    --seeds | --log | --ignore | --compact) ;;
+    fi
+    options=$(_mercator_told Options "$command")
+    if [[ $before =~ ^--[a-z-]+$ ]]; then
+        value=$(sed -n "s/^ *$before <\(.*\)> .*/\1/p" <<< "$options")
+    fi
+    case $value in
+    FILE | LIST | NEW) ;;
+    ?*) return ;;
     *)
         if [[ $word == -* ]]; then
-            mapfile -t COMPREPLY < <(compgen -W "$options" -- "$word")
+            names=$(sed -n 's/^ *\(-h, \)*\(--[a-z-]*\) .*/\2/p' <<< "$options")
+            mapfile -t COMPREPLY < <(compgen -W "$names" -- "$word")
             return
         fi
         ;;

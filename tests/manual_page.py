@@ -260,7 +260,10 @@ def main() -> None:
     told = subprocess.run([program, "--version"], capture_output=True, text=True, timeout=SECONDS)
     version = version_in("CHANGELOG.md", "## ")
     trial.equal("the program's version", told.stdout.split()[:2], ["mercator", version])
-    with tempfile.TemporaryDirectory() as folder:
+    with tempfile.TemporaryDirectory() as folder, tempfile.TemporaryDirectory() as programs:
+        # The completions ask the program by its name.
+        Path(programs, "mercator").symlink_to(program)
+        os.environ["PATH"] = f"{programs}:{os.environ['PATH']}"
         compare_shells(trial, helps, Path(folder))
     print(f"{trial.passed} passed, {trial.failed} failed")
     sys.exit(1 if trial.failed or not trial.passed else 0)

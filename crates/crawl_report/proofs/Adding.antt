@@ -39,8 +39,6 @@ line_more f out mid more xs k x below at p q =
 pub lines_all : {X : Type 0} (lines : List X → List Line) (out more : Out) (xs : List X) (k : ℕ) → length xs ≤ k → Adds out more (lines (take k xs)) → Adds out more (lines xs)
 lines_all lines out more xs k past is = adds_same out more _ _ (ap lines (take_all k xs past)) is
 
--- ---- elements that pass a test
-
 -- ---- queues
 
 numbered_push : (n : ℕ) (xs : List ℕ) (x : ℕ) → enumerate_from n (xs ++ x ∷ []) ≡ enumerate_from n xs ++ (n + length xs, x) ∷ []
@@ -71,14 +69,10 @@ pointed_lines_all f out more xs k past is = adds_same out more _ _ (ap (λ ys. m
 -- ---- a whole report
 
 -- the lines behind those of the results
-pub rest_printed : (b c d e f g : Out) (queues sources moved unreached : List Line) (sum : Line)
-    → Adds b c (sum ∷ []) → Adds c d queues → Adds d e sources → Adds e f moved → Adds f g unreached
-    → bytes_of g ≡ bytes_of b ++ flat_map (printed_line (is_json b)) ((sum ∷ queues) ++ sources ++ moved ++ unreached)
-rest_printed b c d e f g queues sources moved unreached sum of_sum of_queues of_sources of_moved of_unreached =
-    let first = adds_both b c d (sum ∷ []) queues of_sum of_queues in
-    let second = adds_both b d e (sum ∷ queues) sources first of_sources in
-    let third = adds_both b e f ((sum ∷ queues) ++ sources) moved second of_moved in
-    (adds_both b f g ((sum ∷ queues) ++ sources ++ moved) unreached third of_unreached).added
+pub rest_printed : (b c d e : Out) (queues parts : List Line) (sum : Line)
+    → Adds b c (sum ∷ []) → Adds c d queues → Adds d e parts → bytes_of e ≡ bytes_of b ++ flat_map (printed_line (is_json b)) ((sum ∷ queues) ++ parts)
+rest_printed b c d e queues parts sum of_sum of_queues of_parts =
+    (adds_both b d e (sum ∷ queues) parts (adds_both b c d (sum ∷ []) queues of_sum of_queues) of_parts).added
 
 -- lines more, for one result more
 pub told_more : (f : PageResult → List Line) (out mid more : Out) (xs : List (Bor PageResult)) (k : ℕ) (x : Bor PageResult) → k < length xs → x ≡ get_or xs k x → Adds out mid (flat_map f (pointed (take k xs))) → Adds mid more (f x.now) → Adds out more (flat_map f (pointed (take (k + 1) xs)))

@@ -71,7 +71,7 @@ text_same with_queues with_sources pages counts sorted =
     let lines : List Line → List ℕ = flat_map text_line in
     let results' : lines (result_lines pages) ≡ flat_map result_line (results_by_url pages) = same_results pages ∙ ap (flat_map result_line) (in_order pages sorted) in
     let last : lines from ≡ (if with_sources then sources pages else []) = told_sources with_sources pages sorted in
-    ap lines (append-nil (result_lines pages ++ (total_of pages ∷ queues) ++ from ++ []) ∙ append-nil (result_lines pages ++ (total_of pages ∷ queues) ++ from))
+    ap (λ t. lines (result_lines pages ++ (total_of pages ∷ queues) ++ t)) (append-nil from)
     ∙ flat_map-append text_line (result_lines pages ++ (total_of pages ∷ queues)) from
     ∙ ap (λ t. t ++ lines from) (flat_map-append text_line (result_lines pages) (total_of pages ∷ queues))
     ∙ (λ i. (results' i ++ (total_line pages ++ told_queues with_queues counts i)) ++ last i)

@@ -1,14 +1,13 @@
 -- Lines that are printed alone, and put together.
-use Rattle.std.proofs.Common.{◌≡◌, ℕ, Bool, List, [], ◌∷◌, ◌++◌, map, Result, Ok, Err, IfOk, refl, sym, ap, ◌∙◌}
+use Rattle.std.proofs.Common.{◌≡◌, Bool, List, [], ◌∷◌, ◌++◌, Result, Ok, Err, IfOk, sym, ap, ◌∙◌}
 use Rattle.std.proofs.lemmas.List.{append_assoc, map-append}
 use Rattle.std.proofs.lemmas.List.Concat.{flat_map-append}
 use Rattle.std.specs.List.{flat_map}
 use Rattle.crawl_web.specs.declared.page.PageResult.{PageResult}
 use Rattle.crawl_report.specs.Json.{printed_line}
-use Rattle.crawl_report.specs.Lines as line
 use Rattle.crawl_report.specs.Lines.{Line}
 use Rattle.crawl_report.specs.Printing.{Adds, IsPrinted, bytes_of, is_json}
-use Rattle.crawl_report.specs.Rows.{page_line, result_lines, rows_behind, printed, total_of, queue_lines, source_lines, moved_lines}
+use Rattle.crawl_report.specs.Rows.{page_line, part_lines, result_lines, rows_behind, printed, total_of, queue_lines}
 use Rattle.crawl_report.specs.Tallies.{pointed}
 use Rattle.crawl_report.specs.declared.out.Out.{Out}
 use Rattle.crawl_report.specs.declared.report.Report.{Report}
@@ -25,17 +24,13 @@ printed_behind : (json : Bool) (lines rest : List Line) (out : Out) → IsPrinte
 printed_behind json lines rest out is =
     (λ i. is.bytes i ++ flat_map (printed_line (is.kind i)) rest) ∙ sym (flat_map-append (printed_line json) lines rest)
 
-rows_in_order : (results counts sources moved unreached : List Line) → results ++ (counts ++ sources ++ moved ++ unreached) ≡ results ++ counts ++ sources ++ moved ++ unreached
-rows_in_order results counts sources moved unreached = simp append_assoc
-
 -- the results, and what stands behind them
 pub whole_report : (json : Bool) (report : Report) (out : Out) → IsPrinted json (result_lines report.pages.now) out
     → bytes_of out ++ flat_map (printed_line (is_json out)) (rows_behind report) ≡ printed json report
 whole_report json report out is =
     let pages = report.pages.now in
     printed_behind json (result_lines pages) (rows_behind report) out is
-    ∙ ap (flat_map (printed_line json))
-    (rows_in_order (result_lines pages) (total_of pages ∷ queue_lines report.queues.now) (source_lines report.sources report.moved pages) (moved_lines report.moved pages) (map line.unreached (pointed report.unreached.now)))
+    ∙ ap (flat_map (printed_line json)) (sym (append_assoc (result_lines pages) (total_of pages ∷ queue_lines report.queues.now) (part_lines report.parts pages (pointed report.unreached.now))))
 
 -- two parts, each printed alone
 pub put_together : {E : Type 0} (result : Result Out E) (json : Bool) (first second : Out) (front back pages : List PageResult) → front ++ back ≡ pages

@@ -1,5 +1,6 @@
 pub mod Json
 pub mod Lines
+pub mod Members
 pub mod Printing
 pub mod Rows
 pub mod Tallies

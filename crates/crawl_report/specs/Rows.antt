@@ -10,6 +10,7 @@ use Rattle.crawl_report.specs.Json.{printed_line}
 use Rattle.crawl_report.specs.Lines as line
 use Rattle.crawl_report.specs.Lines.{Line}
 use Rattle.crawl_report.specs.Tallies.{pointed}
+use Rattle.crawl_report.specs.declared.report.Parts.{Parts}
 use Rattle.crawl_report.specs.declared.report.Report.{Report}
 use Rattle.crawl_report.specs.declared.report.Sources.{Sources}
 use Rattle.crawl_report.specs.declared.report.Sources.TheVariants as sources
@@ -77,19 +78,28 @@ moved_lines with_moved pages = if with_moved then map (λ r. line.to (target r.p
 
 -- ---- the report
 
+-- the lines of the parts but the sources, in their order
+abbrev pub other_lines : Parts → List PageResult → List (List ℕ) → List Line
+other_lines parts pages unreached = moved_lines parts.moved pages ++ map line.unreached unreached
+
 -- the lines of the parts, in their order
-abbrev pub rows_with : List PageResult → List ℕ → Sources → Bool → List (List ℕ) → List Line
-rows_with pages queues told with_moved unreached =
-    result_lines pages ++ (total_of pages ∷ queue_lines queues) ++ source_lines told with_moved pages ++ moved_lines with_moved pages ++ map line.unreached unreached
+abbrev pub part_lines : Parts → List PageResult → List (List ℕ) → List Line
+part_lines parts pages unreached = source_lines parts.sources parts.moved pages ++ other_lines parts pages unreached
+
+-- the parts where nothing is told but, if at all, the first source of each missing URL
+abbrev pub plain_parts : Bool → Parts
+plain_parts with_sources = record { sources = if with_sources then sources.First else sources.None; moved = false; unreached = false }
+
+-- the lines of a report, in their order
+abbrev pub rows_with : Parts → List PageResult → List ℕ → List (List ℕ) → List Line
+rows_with parts pages queues unreached = result_lines pages ++ (total_of pages ∷ queue_lines queues) ++ part_lines parts pages unreached
 
 abbrev pub rows_of : Report → List Line
-rows_of report = rows_with report.pages.now report.queues.now report.sources report.moved (pointed report.unreached.now)
+rows_of report = rows_with report.parts report.pages.now report.queues.now (pointed report.unreached.now)
 
 -- the lines behind those of the results
 abbrev pub rows_behind : Report → List Line
-rows_behind report =
-    (total_of report.pages.now ∷ queue_lines report.queues.now)
-    ++ source_lines report.sources report.moved report.pages.now ++ moved_lines report.moved report.pages.now ++ map line.unreached (pointed report.unreached.now)
+rows_behind report = (total_of report.pages.now ∷ queue_lines report.queues.now) ++ part_lines report.parts report.pages.now (pointed report.unreached.now)
 
 -- the report's bytes, as JSON or as text
 abbrev pub printed : Bool → Report → List ℕ

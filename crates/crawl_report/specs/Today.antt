@@ -1,13 +1,12 @@
 -- The text of results, queues and sources, part by part.
-use Rattle.std.specs.Prelude.{ℕ, Bool, false, List, [], ◌∷◌, ◌++◌, codes, if◌then◌else◌}
+use Rattle.std.specs.Prelude.{ℕ, Bool, List, [], ◌∷◌, ◌++◌, codes, if◌then◌else◌}
 use Rattle.std.specs.List.{enumerate_from, flat_map}
 use Rattle.std.specs.Fmt.{decimal}
 use Rattle.crawl_web.specs.ReportText.{report}
 use Rattle.crawl_web.specs.declared.page.PageResult.{PageResult}
 use Rattle.crawl_sources.specs.Sources.{sources}
 use Rattle.crawl_report.specs.Lines.{text_line}
-use Rattle.crawl_report.specs.Rows.{rows_with}
-use Rattle.crawl_report.specs.declared.report.Sources.TheVariants as told
+use Rattle.crawl_report.specs.Rows.{plain_parts, rows_with}
 
 -- a queue, its count, and LF
 abbrev pub queue_line : ℕ → ℕ → List ℕ
@@ -24,4 +23,4 @@ told_text with_queues with_sources pages counts = report pages ++ (if with_queue
 -- the text of a report with these parts alone
 abbrev pub text_with : Bool → Bool → List PageResult → List ℕ → List ℕ
 text_with with_queues with_sources pages counts =
-    flat_map text_line (rows_with pages (if with_queues then counts else []) (if with_sources then told.First else told.None) false [])
+    flat_map text_line (rows_with (plain_parts with_sources) pages (if with_queues then counts else []) [])

@@ -2,7 +2,6 @@
 #![tactic(auto)]
 
 mod as_json;
-mod as_text;
 /// What holds of reports.
 pub mod laws;
 mod out;
@@ -17,7 +16,7 @@ mod web_urls;
 
 pub use crawl_web::NoMemory;
 pub use printing::{print, print_in_threads};
-pub use report::{Report, Sources};
+pub use report::{Parts, Report, Sources};
 pub use row::Row;
 pub use unseen::unreached;
-pub use web_urls::page_urls;
+pub use web_urls::{asked_pages, page_urls};

@@ -3,9 +3,7 @@ ghost use Rattle.std.specs.Prelude.{◌≡◌, ◌++◌, ◌∷◌, [], IfOk};
 ghost use Rattle.crawl_report.specs.Lines.{line_of};
 ghost use Rattle.crawl_report.specs.Printing.{Adds, bytes_of, is_json};
 
-use crate::as_json::with_json;
-use crate::as_text::push_line;
-use crate::row::Row;
+use crate::row::{Row, push_line, with_json};
 use crawl_web::NoMemory;
 use std::alloc::Global;
 

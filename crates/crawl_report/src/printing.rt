@@ -7,11 +7,11 @@ ghost use Rattle.crawl_report.specs.Json.{printed_line};
 ghost use Rattle.crawl_report.specs.Lines as line;
 ghost use Rattle.crawl_report.specs.Lines.{line_of};
 ghost use Rattle.crawl_report.specs.Printing.{Adds, bytes_of, is_json};
-ghost use Rattle.crawl_report.specs.Rows.{printed, rows_behind, page_line, result_lines, total_of, queue_lines, moved_lines, target};
+ghost use Rattle.crawl_report.specs.Rows.{printed, rows_behind, page_line, result_lines, total_of, queue_lines, part_lines, other_lines, moved_lines, target};
 ghost use Rattle.crawl_report.specs.Tallies.{pointed};
 
 use crate::out::Out;
-use crate::report::Report;
+use crate::report::{Parts, Report};
 use crate::row::Row;
 use crate::sources::with_sources;
 use crate::threads::results_in_threads;
@@ -56,10 +56,27 @@ fn with_rest(alloc: Global, results: Out, report: &Report<'_>) -> Result<Vec<u8>
 {
     let total = results.with(total_of(report.pages))?;
     let queues = with_queues(total, report.queues)?;
-    let sources = with_sources(alloc, queues, report.pages, report.sources, report.moved)?;
-    let moved = with_moved(sources, report.pages, report.moved)?;
-    let all = with_unreached(moved, report.unreached)?;
+    let all = with_parts(alloc, queues, report)?;
     Ok(all.into_bytes())
+}
+
+/// What is printed, and behind it the lines of the parts.
+#[tactic(auto, using(crate::proofs::Adding::then_more))]
+fn with_parts(alloc: Global, out: Out, report: &Report<'_>) -> Result<Out, NoMemory>
+    ensures { IfOk result (λ more. Adds out more (part_lines report.now.parts report.now.pages.now (pointed report.now.unreached.now))) }
+{
+    let Parts { sources, moved, .. } = report.parts;
+    let sources = with_sources(alloc, out, report.pages, sources, moved)?;
+    with_others(sources, report)
+}
+
+/// What is printed, and behind it the lines of all parts but the sources.
+#[tactic(auto, using(crate::proofs::Adding::then_more))]
+fn with_others(out: Out, report: &Report<'_>) -> Result<Out, NoMemory>
+    ensures { IfOk result (λ more. Adds out more (other_lines report.now.parts report.now.pages.now (pointed report.now.unreached.now))) }
+{
+    let moved = with_moved(out, report.pages, report.parts.moved)?;
+    with_unreached(moved, report.unreached)
 }
 
 /// What is printed, and behind it a line for each result.

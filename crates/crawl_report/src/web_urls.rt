@@ -4,11 +4,26 @@ ghost use Rattle.std.specs.Str.Lines.{lines};
 ghost use Rattle.std.specs.Result.{result_ok};
 ghost use Rattle.crawl_keys.specs.CanonicalText.{canonical};
 ghost use Rattle.crawl_web.specs.WebLines.{page_url};
-ghost use Rattle.crawl_report.specs.Unreached.{page_urls};
+ghost use Rattle.crawl_report.specs.Unreached.{asked_pages, page_urls};
 
+use crate::report::Parts;
 use crawl_keys::{CanonUrl, KeyError, canonical};
 use crawl_web::{NoMemory, first_line, split_space};
 use std::alloc::{AllocError, Global};
+
+/// The URLs of the web's pages where those that no result has are told, else none.
+///
+/// # Errors
+/// Out of memory alone.
+pub fn asked_pages(alloc: Global, parts: Parts, web: &[u8]) -> Result<Vec<CanonUrl>, NoMemory>
+    ensures { IfOk result (λ urls. urls.items ≡ asked_pages parts (lines web.now)) }
+{
+    if parts.unreached {
+        page_urls(alloc, web)
+    } else {
+        Ok(Vec::new(alloc))
+    }
+}
 
 /// The URLs of the pages of the saved web that the bytes are, in the order of its lines.
 ///

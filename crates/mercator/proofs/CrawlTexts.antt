@@ -9,15 +9,16 @@ use Rattle.crawl_keys.specs.HostFilter.{allows}
 use Rattle.crawl_report.specs.Json.{printed_line}
 use Rattle.crawl_report.specs.Rows.{rows_with}
 use Rattle.crawl_report.specs.Tallies.{pointed}
-use Rattle.crawl_report.specs.Unreached.{unreached_of}
+use Rattle.crawl_report.specs.Unreached.{asked_pages, unreached_of}
+use Rattle.crawl_report.specs.declared.report.Parts.{Parts}
 use Rattle.crawl_web.specs.declared.page.PageResult.{PageResult}
-use Rattle.mercator.specs.WebCrawl.{AreUnreached, IsTextOf, asked_pages}
+use Rattle.mercator.specs.WebCrawl.{AreUnreached, IsTextOf}
 use Rattle.mercator.specs.declared.commands.planned.CrawlOptions.{CrawlOptions}
 
-pub unreached_told : (asked : Bool) (web : List ℕ) (suffixes : List (List ℕ)) (pages given : List PageResult) (urls : List (List ℕ)) (found shown : List (Bor (List ℕ))) → given ≡ pages → urls ≡ asked_pages asked (lines web) → shown ≡ found
-    → IsPermutation (unreached_of (allows suffixes) given urls) (pointed found) → IsSortedByKey (λ url. url) (slice_cmp nat_cmp) (pointed found) → AreUnreached asked web suffixes pages (pointed shown)
-unreached_told asked web suffixes pages given urls found shown same_pages same_urls same_shown moved ascends =
-    let both : unreached_of (allows suffixes) given urls ≡ unreached_of (allows suffixes) pages (asked_pages asked (lines web)) = λ i. unreached_of (allows suffixes) (same_pages i) (same_urls i) in
+pub unreached_told : (parts : Parts) (web : List ℕ) (suffixes : List (List ℕ)) (pages given : List PageResult) (urls : List (List ℕ)) (found shown : List (Bor (List ℕ))) → given ≡ pages → urls ≡ asked_pages parts (lines web) → shown ≡ found
+    → IsPermutation (unreached_of (allows suffixes) given urls) (pointed found) → IsSortedByKey (λ url. url) (slice_cmp nat_cmp) (pointed found) → AreUnreached parts web suffixes pages (pointed shown)
+unreached_told parts web suffixes pages given urls found shown same_pages same_urls same_shown moved ascends =
+    let both : unreached_of (allows suffixes) given urls ≡ unreached_of (allows suffixes) pages (asked_pages parts (lines web)) = λ i. unreached_of (allows suffixes) (same_pages i) (same_urls i) in
     record {
       same =
           subst (λ us. IsPermutation us (pointed shown)) both
@@ -26,10 +27,10 @@ unreached_told asked web suffixes pages given urls found shown same_pages same_u
     }
 
 pub text_told : {E : Type 0} (result : Result (Vec ℕ Global) E) (queues : Bool) (options : CrawlOptions) (web : List ℕ) (suffixes : List (List ℕ)) (pages given : List PageResult) (counts shown : List ℕ) (urls : List (List ℕ)) → given ≡ pages → shown ≡ (if queues then counts else [])
-    → AreUnreached options.unreached web suffixes pages urls → IfOk result (λ text. text.items ≡ flat_map (printed_line options.json) (rows_with given shown options.sources options.moved urls)) → IfOk result (λ text. IsTextOf queues options web suffixes pages counts text.items)
+    → AreUnreached options.parts web suffixes pages urls → IfOk result (λ text. text.items ≡ flat_map (printed_line options.json) (rows_with options.parts given shown urls)) → IfOk result (λ text. IsTextOf queues options web suffixes pages counts text.items)
 text_told (Ok text) queues options web suffixes pages given counts shown urls same_pages same_counts unseen printed = record {
   unreached = urls;
   unseen = unseen;
-  written = printed ∙ (λ i. flat_map (printed_line options.json) (rows_with (same_pages i) (same_counts i) options.sources options.moved urls));
+  written = printed ∙ (λ i. flat_map (printed_line options.json) (rows_with options.parts (same_pages i) (same_counts i) urls));
 }
 text_told (Err e) queues options web suffixes pages given counts shown urls same_pages same_counts unseen printed = tt

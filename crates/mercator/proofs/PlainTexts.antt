@@ -14,9 +14,10 @@ use Rattle.crawl_report.proofs.Format.{text_same}
 use Rattle.crawl_report.specs.Json.{printed_line}
 use Rattle.crawl_report.specs.Rows.{rows_with}
 use Rattle.crawl_report.specs.Today.{text_with}
-use Rattle.crawl_report.specs.Unreached.{unreached_of}
+use Rattle.crawl_report.specs.Unreached.{page_urls, unreached_of}
+use Rattle.crawl_report.specs.declared.report.Parts.{Parts}
 use Rattle.crawl_web.specs.declared.page.PageResult.{PageResult}
-use Rattle.mercator.specs.WebCrawl.{AreUnreached, IsCrawlText, IsPlain, IsPlainText, asked_pages, printed_with}
+use Rattle.mercator.specs.WebCrawl.{AreUnreached, IsCrawlText, IsPlain, IsPlainText, printed_with}
 use Rattle.mercator.specs.declared.commands.planned.CrawlOptions.{CrawlOptions}
 
 -- results that ascend are in order
@@ -35,13 +36,13 @@ none_left [] none = refl
 none_left (url ∷ urls) none = absurd (omega (arith, none))
 
 -- no unreached pages where none are asked for
-none_asked : (asked : Bool) (bytes : List ℕ) (suffixes : List (List ℕ)) (pages : List PageResult) (urls : List (List ℕ)) → asked ≡ false → AreUnreached asked bytes suffixes pages urls → urls ≡ []
-none_asked asked bytes suffixes pages urls none unseen =
-    none_left urls (length_permutation [] urls (subst (λ a. IsPermutation (unreached_of (allows suffixes) pages (asked_pages a (lines bytes))) urls) none unseen.same))
+none_asked : (parts : Parts) (bytes : List ℕ) (suffixes : List (List ℕ)) (pages : List PageResult) (urls : List (List ℕ)) → parts.unreached ≡ false → AreUnreached parts bytes suffixes pages urls → urls ≡ []
+none_asked parts bytes suffixes pages urls none unseen =
+    none_left urls (length_permutation [] urls (subst (λ a. IsPermutation (unreached_of (allows suffixes) pages (if a then page_urls (lines bytes) else [])) urls) none unseen.same))
 
 plain_print : (with_queues with_sources : Bool) (options : CrawlOptions) (pages : List PageResult) (counts : List ℕ) (urls : List (List ℕ)) → IsPlain with_sources options → urls ≡ [] → printed_with with_queues options pages counts urls ≡ text_with with_queues with_sources pages counts
 plain_print with_queues with_sources options pages counts urls plain none =
-    λ i. flat_map (printed_line (plain.json i)) (rows_with pages (if with_queues then counts else []) (plain.sources i) (plain.moved i) (none i))
+    λ i. flat_map (printed_line (plain.json i)) (rows_with (plain.parts i) pages (if with_queues then counts else []) (none i))
 
 pub plain_text : (workers : ℕ) (with_queues with_sources : Bool) (options : CrawlOptions) (bytes listed : List ℕ) (seeds suffixes : List (List ℕ)) (text : List ℕ) → IsPlain with_sources options → IsCrawlText workers with_queues options bytes listed seeds suffixes text
     → IsPlainText workers with_queues with_sources bytes listed seeds suffixes text
@@ -52,6 +53,6 @@ plain_text workers with_queues with_sources options bytes listed seeds suffixes 
   counted = own.counted;
   written =
       own.told.written
-      ∙ plain_print with_queues with_sources options own.pages own.counts own.told.unreached plain (none_asked options.unreached bytes suffixes own.pages own.told.unreached plain.unreached own.told.unseen)
+      ∙ plain_print with_queues with_sources options own.pages own.counts own.told.unreached plain (none_asked options.parts bytes suffixes own.pages own.told.unreached (ap (λ (p : Parts). p.unreached) plain.parts) own.told.unseen)
       ∙ text_same with_queues with_sources own.pages own.counts (in_order own.pages own.crawl.found.ascends);
 }

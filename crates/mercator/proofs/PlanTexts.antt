@@ -7,7 +7,8 @@ use Rattle.std.specs.Str.Lines.{lines}
 use Rattle.crawl_certificate.specs.Certificate.{result_urls}
 use Rattle.crawl_report.specs.Json.{printed_line}
 use Rattle.crawl_report.specs.Rows.{rows_with}
-use Rattle.crawl_report.specs.Unreached.{unreached_of}
+use Rattle.crawl_report.specs.Unreached.{asked_pages, unreached_of}
+use Rattle.crawl_report.specs.declared.report.Parts.{Parts}
 use Rattle.crawl_report.proofs.OneOrder.{one_order}
 use Rattle.crawl_web.specs.declared.page.PageResult.{PageResult}
 use Rattle.mercator.specs.Crawls.{AreCounts}
@@ -16,7 +17,7 @@ use Rattle.mercator.specs.Plans.{is_bad_suffix, is_input, known_bytes, known_see
 use Rattle.mercator.specs.Ending.{EndsByText}
 use Rattle.mercator.specs.Limits.{most_input_bytes}
 use Rattle.mercator.specs.Told.{AreFiles, AskForOneReport, AskForOneText, Explains, ExplainsCrawl, FailsCrawl, Gains, IsTold, OfFile, OfFiles}
-use Rattle.mercator.specs.WebCrawl.{AreUnreached, IsBegun, IsCrawlText, IsFound, IsNamedAt, IsTextOf, IsUnbegun, asked_pages, printed_with}
+use Rattle.mercator.specs.WebCrawl.{AreUnreached, IsBegun, IsCrawlText, IsFound, IsNamedAt, IsTextOf, IsUnbegun, printed_with}
 use Rattle.mercator.specs.declared.commands.planned.CrawlOptions.{CrawlOptions}
 use Rattle.mercator.specs.declared.commands.tell.Inputs.{Inputs}
 use Rattle.mercator.specs.declared.commands.tell.WebFound.{WebFound}
@@ -44,23 +45,23 @@ of_web P file listed bytes is none of =
     (of_input (λ b. OfFile (known_seeds listed (Some bytes)) (P b)) file bytes is of)
 
 -- of two crawls that find the same pages, and ask for unreached ones or not, these are one list
-one_unreached : (asked its : Bool) (bytes : List ℕ) (suffixes : List (List ℕ)) (pages others : List PageResult) (urls other : List (List ℕ)) → asked ≡ its → pages ≡ others → AreUnreached asked bytes suffixes pages urls → AreUnreached its bytes suffixes others other → urls ≡ other
-one_unreached asked its bytes suffixes pages others urls other same_asked same_pages own their =
-    let both : unreached_of (allows suffixes) pages (asked_pages asked (lines bytes)) ≡ unreached_of (allows suffixes) others (asked_pages its (lines bytes)) =
-    λ i. unreached_of (allows suffixes) (same_pages i) (asked_pages (same_asked i) (lines bytes)) in
+one_unreached : (parts its : Parts) (bytes : List ℕ) (suffixes : List (List ℕ)) (pages others : List PageResult) (urls other : List (List ℕ)) → parts ≡ its → pages ≡ others → AreUnreached parts bytes suffixes pages urls → AreUnreached its bytes suffixes others other → urls ≡ other
+one_unreached parts its bytes suffixes pages others urls other same_parts same_pages own their =
+    let both : unreached_of (allows suffixes) pages (asked_pages parts (lines bytes)) ≡ unreached_of (allows suffixes) others (asked_pages its (lines bytes)) =
+    λ i. unreached_of (allows suffixes) (same_pages i) (asked_pages (same_parts i) (lines bytes)) in
     one_order (unreached_of (allows suffixes) others (asked_pages its (lines bytes))) urls other (subst (λ us. IsPermutation us urls) both own.same) their.same own.ascends their.ascends
 
 -- what is printed of the same pages, counts and unreached pages with the same parts
 one_print : (queues : Bool) (options its : CrawlOptions) (pages others : List PageResult) (counts their : List ℕ) (urls other : List (List ℕ)) → AskForOneReport options its → pages ≡ others → (if queues then counts else []) ≡ (if queues then their else []) → urls ≡ other
     → printed_with queues options pages counts urls ≡ printed_with queues its others their other
 one_print queues options its pages others counts their urls other ask same_pages same_counts same_urls =
-    λ i. flat_map (printed_line (ask.json i)) (rows_with (same_pages i) (same_counts i) (ask.sources i) (ask.moved i) (same_urls i))
+    λ i. flat_map (printed_line (ask.json i)) (rows_with (ask.parts i) (same_pages i) (same_counts i) (same_urls i))
 
 one_text : (workers others : ℕ) (queues : Bool) (options its : CrawlOptions) (bytes listed : List ℕ) (texts suffixes : List (List ℕ)) (text other : List ℕ) → (queues ≡ true → workers ≡ others) → AskForOneReport options its
     → IsCrawlText workers queues options bytes listed texts suffixes text → IsCrawlText others queues its bytes listed texts suffixes other → text ≡ other
 one_text workers others queues options its bytes listed texts suffixes text other many ask own their =
     let pages : own.pages ≡ their.pages = one_site_crawl bytes listed texts suffixes own.pages their.pages own.crawl their.crawl in
-    let urls : own.told.unreached ≡ their.told.unreached = one_unreached options.unreached its.unreached bytes suffixes own.pages their.pages own.told.unreached their.told.unreached ask.unreached pages own.told.unseen their.told.unseen in
+    let urls : own.told.unreached ≡ their.told.unreached = one_unreached options.parts its.parts bytes suffixes own.pages their.pages own.told.unreached their.told.unreached ask.parts pages own.told.unseen their.told.unseen in
     own.told.written
     ∙ one_print queues options its own.pages their.pages own.counts their.counts own.told.unreached their.told.unreached ask pages (one_counts queues workers others own.pages their.pages own.counts their.counts many pages own.counted their.counted) urls
     ∙ sym their.told.written

@@ -1,5 +1,6 @@
 -- What a session tells, by its plan.
 use Rattle.std.proofs.Common.{◌≡◌, ◌⊎◌, inl, inr, ℕ, List, [], ◌++◌, false, IfSome, Result, Ok, Err, IfErr, Option, String, Global, refl, sym, subst, ◌∙◌}
+use Rattle.std.specs.Io.KnownBytes.{Appends}
 use Rattle.std.proofs.KnownBytes.{Appends-trans}
 use Rattle.std.specs.Str.Lines.{lines}
 use Rattle.crawl_core.specs.Shows.{Shows}
@@ -13,7 +14,7 @@ use Rattle.crawl_session.specs.Settings.{SessionView}
 use Rattle.crawl_session.specs.declared.serving.ServeError.{ServeError}
 use Rattle.crawl_session.specs.declared.serving.ServeError.TheVariants as serving
 use Rattle.crawl_session.proofs.Compacted.{compacts_both}
-use Rattle.mercator.specs.Compaction.{Compacted}
+use Rattle.mercator.specs.Compaction.{Compacted, IsCompacted}
 use Rattle.mercator.specs.Ending.{Begins}
 use Rattle.mercator.specs.Faults.{of_session, status_of_fault}
 use Rattle.mercator.specs.LogFile.{IsLogFault}
@@ -49,6 +50,10 @@ pub breaks_off : (asked : SessionPlan) (input : Option (List ℕ)) (why : ServeE
 breaks_off asked input serving.CannotRead Unwritten good = inr (inr good)
 breaks_off asked input serving.CannotWrite Unwritten good = inr (inr good)
 breaks_off asked input serving.NoMemory Unwritten good = inr (inr good)
+
+-- a session was given the requests in these bytes of a log: none
+pub reruns_none : (session : SessionView) → (bytes : List ℕ) × Reruns session (lines bytes) session
+reruns_none session = ([], record { settings = refl; comes = λ state shown. shown })
 
 -- a session that went on from a log, and was served to the end of its input
 pub gains_on : (session : SessionView) (asked : LogPlan) (identity : List ℕ) (resumed : SessionView) (input given out_old out_new : Option (List ℕ)) (new : SessionView) → Shows session.core (start (queues_of asked.session) asked.session.max) → session.settings ≡ settings_of asked.session identity
@@ -160,6 +165,14 @@ compacted_more had old next mid last new out_old out_mid out_new one two = recor
   text = one.text ++ two.text;
   gained = Appends-trans out_old out_mid out_new one.text two.text one.gained two.gained;
   compacts = compacts_both had old one.requests one.text next mid two.requests two.text last new one.compacts two.compacts;
+}
+
+pub behind_first : (session : SessionView) (first : List ℕ) (out_old out_mid out_new : Option (List ℕ)) → Appends out_old out_mid first → IsCompacted session [] out_mid out_new → IsCompacted session first out_old out_new
+behind_first session first out_old out_mid out_new written all = record {
+  requests = all.requests;
+  text = all.text;
+  gained = Appends-trans out_old out_mid out_new first all.text written all.gained;
+  shortest = all.shortest;
 }
 
 pub fails_compacting : (log : LogPlan) (file : String Global) (r : Result (Unit {0}) Fault) → is_bad_suffix log.session.within ≡ false → IfErr r IsLogFault → IfErr r (λ fault. (input : Option (List ℕ)) → Fails (asks.Compact log file) input fault)

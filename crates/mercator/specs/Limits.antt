@@ -1,4 +1,4 @@
--- The limits of an input. Each is a number here, and nowhere else in the definitions.
+-- Limits of inputs and of what a watched crawl has not told. Each is a number here, and nowhere else in the definitions.
 use Rattle.std.specs.Prelude.{ℕ, ◌^◌}
 
 -- the bytes of an input

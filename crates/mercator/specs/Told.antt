@@ -208,9 +208,7 @@ pub record EndsByFault (plan : Plan) (ended : ℕ) (input err_old err_new : Opti
 
 -- both crawls tell the same parts, in the same form
 pub record AskForOneReport (options others : CrawlOptions) : Type 0 where
-  pub sources : options.sources ≡ others.sources
-  pub moved : options.moved ≡ others.moved
-  pub unreached : options.unreached ≡ others.unreached
+  pub parts : options.parts ≡ others.parts
   pub json : options.json ≡ others.json
 
 -- both plans crawl the input, from the same seeds of the command line within the same suffix, and tell the same parts; with the

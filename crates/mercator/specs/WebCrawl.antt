@@ -7,9 +7,9 @@ use Rattle.std.specs.Ordering.{nat_cmp}
 use Rattle.std.specs.Str.Lines.{lines}
 use Rattle.crawl_keys.specs.CanonicalText.{canonical}
 use Rattle.crawl_report.specs.Json.{printed_line}
-use Rattle.crawl_report.specs.Rows.{rows_with}
-use Rattle.crawl_report.specs.Unreached.{page_urls, unreached_of}
-use Rattle.crawl_report.specs.declared.report.Sources.TheVariants as told
+use Rattle.crawl_report.specs.Rows.{plain_parts, rows_with}
+use Rattle.crawl_report.specs.Unreached.{asked_pages, unreached_of}
+use Rattle.crawl_report.specs.declared.report.Parts.{Parts}
 use Rattle.crawl_sources.specs.Seeds.{seeds_in}
 use Rattle.crawl_sources.specs.Sources.{sources}
 use Rattle.crawl_web.specs.SavedWeb.{page_of}
@@ -136,25 +136,21 @@ pub record IsCrawlReport (bytes : List ℕ) (texts suffixes : List (List ℕ)) (
 
 -- ---- what is told of a crawl
 
--- the URLs of the pages of a web with these lines, where they are asked for
-abbrev pub asked_pages : Bool → List (List ℕ) → List (List ℕ)
-asked_pages asked lines = if asked then page_urls lines else []
-
 -- these are the pages of the web that no result has, of hosts that the filter with these suffixes allows, in ascending order; none
 -- where they are not asked for
-pub record AreUnreached (asked : Bool) (bytes : List ℕ) (suffixes : List (List ℕ)) (pages : List PageResult) (urls : List (List ℕ)) : Type 0 where
-  pub same : IsPermutation (unreached_of (allows suffixes) pages (asked_pages asked (lines bytes))) urls
+pub record AreUnreached (parts : Parts) (bytes : List ℕ) (suffixes : List (List ℕ)) (pages : List PageResult) (urls : List (List ℕ)) : Type 0 where
+  pub same : IsPermutation (unreached_of (allows suffixes) pages (asked_pages parts (lines bytes))) urls
   pub ascends : IsSortedByKey (λ url. url) (slice_cmp nat_cmp) urls
 
 -- the text that is told of pages, counts and unreached pages, with the parts that are asked for
 abbrev pub printed_with : Bool → CrawlOptions → List PageResult → List ℕ → List (List ℕ) → List ℕ
 printed_with with_queues options pages counts unreached =
-    flat_map (printed_line options.json) (rows_with pages (if with_queues then counts else []) options.sources options.moved unreached)
+    flat_map (printed_line options.json) (rows_with options.parts pages (if with_queues then counts else []) unreached)
 
 -- the text is told of pages and counts of a crawl of these bytes
 pub record IsTextOf (with_queues : Bool) (options : CrawlOptions) (bytes : List ℕ) (suffixes : List (List ℕ)) (pages : List PageResult) (counts text : List ℕ) : Type 0 where
   pub unreached : List (List ℕ)
-  pub unseen : AreUnreached options.unreached bytes suffixes pages unreached
+  pub unseen : AreUnreached options.parts bytes suffixes pages unreached
   pub written : text ≡ printed_with with_queues options pages counts unreached
 
 -- the text is that of such a crawl
@@ -182,7 +178,5 @@ pub record IsPlainText (workers : ℕ) (with_queues with_sources : Bool) (bytes 
 
 -- no more is asked for
 pub record IsPlain (with_sources : Bool) (options : CrawlOptions) : Type 0 where
-  pub sources : options.sources ≡ (if with_sources then told.First else told.None)
-  pub moved : options.moved ≡ false
-  pub unreached : options.unreached ≡ false
+  pub parts : options.parts ≡ plain_parts with_sources
   pub json : options.json ≡ false

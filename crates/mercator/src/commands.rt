@@ -24,6 +24,7 @@ mod opening;
 mod planned;
 mod platform;
 mod queues;
+mod report_words;
 mod resuming;
 mod serving;
 mod source;

@@ -1,7 +1,7 @@
 //! Reports with each part, as text and as JSON.
 use crate::tests::results::result_at;
 use crawl_keys::{CanonUrl, Filter};
-use crawl_report::{Report, Sources, page_urls, print, unreached};
+use crawl_report::{Parts, Report, Sources, page_urls, print, unreached};
 use crawl_web::PageResult;
 use std::alloc::Global;
 
@@ -73,9 +73,12 @@ fn is_printed(alloc: Global, row: &Row, results: &[PageResult], urls: &[&CanonUr
     let report = Report {
         pages: results,
         queues: &[4, 2],
-        sources: row.sources,
-        moved: row.moved,
         unreached: urls,
+        parts: Parts {
+            sources: row.sources,
+            moved: row.moved,
+            ..Parts::none()
+        },
     };
     match print(alloc, &report, row.json) {
         Ok(bytes) => {

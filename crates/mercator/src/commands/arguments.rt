@@ -2,10 +2,28 @@
 use clap::builder::ValueParser;
 use clap::{Arg, ArgAction};
 use crawl_limits::WORKER_LIMIT;
-use std::alloc::Global;
+use std::alloc::{AllocError, Global};
+
+/// An option that stands alone, as a row of a table.
+pub struct Flag {
+    pub name: &'static str,
+    pub help: &'static str,
+}
+
+/// Puts the options of the table behind the arguments.
+pub fn push_flags<'a>(
+    alloc: Global,
+    args: &mut Vec<Arg<'a>>,
+    flags: &[Flag],
+) -> Result<(), AllocError> {
+    for one in flags {
+        args.push(flag_of(alloc, one.name, one.help))?;
+    }
+    Ok(())
+}
 
 /// An option that stands alone.
-pub fn flag<'a>(alloc: Global, name: &'a str, help: &'a str) -> Arg<'a> {
+pub fn flag_of<'a>(alloc: Global, name: &'a str, help: &'a str) -> Arg<'a> {
     Arg::new(alloc, name)
         .long(name)
         .action(ArgAction::SetTrue)

@@ -1,6 +1,7 @@
 //! The commands and options as `clap` knows them, and their help.
-use crate::commands::arguments::{flag, option, word, workers};
+use crate::commands::arguments::{Flag, flag_of, option, push_flags, word, workers};
 use crate::commands::folder_words::{check_command, site_command};
+use crate::commands::report_words::PART_FLAGS;
 use clap::builder::ValueParser;
 use clap::{Arg, ArgAction, Command};
 use crawl_limits::PENDING_LIMIT;
@@ -73,16 +74,24 @@ fn push<'a>(
 }
 
 fn crawl_command<'a>(alloc: Global) -> Result<Command<'a>, AllocError> {
-    let mut args = crawl_parts(alloc)?;
-    args.append(&mut crawl_inputs(alloc)?)?;
+    let args = crawl_args(alloc)?;
     Command::new(alloc, "crawl")
         .about("Crawls a saved web from its seeds, and writes the report")
         .after_help(CRAWL_HELP)
         .args(args)
 }
 
-/// How a crawl runs, and what is told of it.
-fn crawl_parts<'a>(alloc: Global) -> Result<Vec<Arg<'a>>, AllocError> {
+fn crawl_args<'a>(alloc: Global) -> Result<Vec<Arg<'a>>, AllocError> {
+    let mut args = crawl_numbers(alloc)?;
+    push_flags(alloc, &mut args, QUEUE_FLAGS)?;
+    push_flags(alloc, &mut args, PART_FLAGS)?;
+    push_flags(alloc, &mut args, TELLING_FLAGS)?;
+    args.append(&mut crawl_inputs(alloc)?)?;
+    Ok(args)
+}
+
+/// How a crawl runs.
+fn crawl_numbers<'a>(alloc: Global) -> Result<Vec<Arg<'a>>, AllocError> {
     Ok(vec![in alloc;
         workers(
             alloc,
@@ -90,44 +99,30 @@ fn crawl_parts<'a>(alloc: Global) -> Result<Vec<Arg<'a>>, AllocError> {
             "Workers, each with a thread and a subqueue of its own: 1 to 512",
         ),
         max_pending(alloc),
-        flag(
-            alloc,
-            "queues",
-            "Also writes how many URLs each subqueue had"
-        ),
-        flag(
-            alloc,
-            "sources",
-            "Also writes, for each missing URL, how many pages link to it, and the first of them",
-        ),
-        flag(
-            alloc,
-            "all-sources",
-            "As --sources, and each of these pages"
-        ),
-        flag(
-            alloc,
-            "moved",
-            "Also writes where pages moved to; with --sources, also which pages link to these",
-        ),
-        flag(
-            alloc,
-            "unreached",
-            "Also writes the pages of FILE that were not reached, of hosts that are crawled",
-        ),
-        flag(alloc, "json", "Writes the report as JSON, an object a line"),
-        flag(
-            alloc,
-            "explain",
-            "Where the crawl is incomplete, also tells the first URL at fault",
-        ),
-        flag(
-            alloc,
-            "progress",
-            "Tells on standard error how many pages were fetched, at most once a second",
-        ),
     ]?)
 }
+
+/// What is told of how it ran.
+const QUEUE_FLAGS: &[Flag] = &[Flag {
+    name: "queues",
+    help: "Also writes how many URLs each subqueue had",
+}];
+
+/// How a report is written, and what is told beside it.
+const TELLING_FLAGS: &[Flag] = &[
+    Flag {
+        name: "json",
+        help: "Writes the report as JSON, an object a line",
+    },
+    Flag {
+        name: "explain",
+        help: "Where the crawl is incomplete, also tells the first URL at fault",
+    },
+    Flag {
+        name: "progress",
+        help: "Tells on standard error how many pages were fetched, at most once a second",
+    },
+];
 
 /// What a crawl reads.
 fn crawl_inputs<'a>(alloc: Global) -> Result<Vec<Arg<'a>>, AllocError> {
@@ -199,7 +194,7 @@ fn serve_args<'a>(alloc: Global) -> Result<Vec<Arg<'a>>, AllocError> {
 }
 
 fn sync<'a>(alloc: Global) -> Result<Arg<'a>, AllocError> {
-    flag(
+    flag_of(
         alloc,
         "sync",
         "The disk has each request before it is answered",

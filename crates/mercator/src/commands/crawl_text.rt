@@ -1,13 +1,11 @@
 //! The text of what a crawl found.
 ghost use Rattle.std.specs.Prelude.{◌≡◌, [], IfOk, if◌then◌else◌};
-ghost use Rattle.std.specs.Str.Lines.{lines};
 ghost use Rattle.crawl_report.specs.Rows.{printed};
-ghost use Rattle.mercator.specs.WebCrawl.{IsTextOf, asked_pages};
+ghost use Rattle.mercator.specs.WebCrawl.{IsTextOf};
 
 use crate::commands::planned::CrawlOptions;
 use crate::commands::tell::WebFound;
-use crawl_keys::CanonUrl;
-use crawl_report::{NoMemory, Report, page_urls, print, print_in_threads, unreached};
+use crawl_report::{NoMemory, Report, asked_pages, print, print_in_threads, unreached};
 use std::alloc::Global;
 use std::thread::Threads;
 
@@ -27,14 +25,13 @@ pub fn crawl_text<R: Threads + Sync>(
 {
     let crawled = &found.crawled;
     let pages = crawled.result.pages();
-    let urls = asked_pages(alloc, options.unreached, found.bytes.as_slice())?;
+    let urls = asked_pages(alloc, options.parts, found.bytes.as_slice())?;
     let unseen = unreached(alloc, &found.filter, pages, &urls)?;
     let report = Report {
         pages,
         queues: asked_counts(queues, &crawled.counts),
-        sources: options.sources,
-        moved: options.moved,
         unreached: &unseen,
+        parts: options.parts,
     };
     printed(rt, alloc, &report, options.json, crawled.counts.len())
 }
@@ -53,17 +50,6 @@ fn printed<R: Threads + Sync>(
         print_in_threads(rt, alloc, report, json)
     } else {
         print(alloc, report, json)
-    }
-}
-
-/// The URLs of the web's pages, where they are asked for.
-fn asked_pages(alloc: Global, asked: bool, web: &[u8]) -> Result<Vec<CanonUrl>, NoMemory>
-    ensures { IfOk result (λ urls. urls.items ≡ asked_pages asked (lines web.now)) }
-{
-    if asked {
-        page_urls(alloc, web)
-    } else {
-        Ok(Vec::new(alloc))
     }
 }
 

@@ -1,5 +1,5 @@
 //! The commands over a folder as `clap` knows them. The crate `mercator_site` runs them.
-use crate::commands::arguments::{flag, option, word, workers};
+use crate::commands::arguments::{Flag, option, push_flags, word, workers};
 use clap::{Arg, ArgAction, Command};
 use std::alloc::{AllocError, Global};
 
@@ -15,81 +15,85 @@ Example: mercator check examples/site";
 
 /// `site`: a folder's saved web.
 pub fn site_command<'a>(alloc: Global) -> Result<Command<'a>, AllocError> {
-    let args = vec![in alloc;
-        exact(alloc),
-        queries(alloc),
-        folder(alloc),
-        base(alloc).required(true),
-    ]?;
+    let args = site_args(alloc)?;
     Command::new(alloc, "site")
         .about("Writes the saved web of a folder of HTML pages")
         .after_help(SITE_HELP)
         .args(args)
 }
 
+fn site_args<'a>(alloc: Global) -> Result<Vec<Arg<'a>>, AllocError> {
+    let mut args = Vec::new(alloc);
+    push_flags(alloc, &mut args, SPELLING_FLAGS)?;
+    args.push(folder(alloc))?;
+    args.push(base(alloc).required(true))?;
+    Ok(args)
+}
+
 /// `check`: which links of a folder are broken.
 pub fn check_command<'a>(alloc: Global) -> Result<Command<'a>, AllocError> {
-    let mut args = forms(alloc)?;
-    args.append(&mut rules(alloc)?)?;
+    let args = check_args(alloc)?;
     Command::new(alloc, "check")
         .about("Tells which links of a folder of HTML pages are broken, and where they stand")
         .after_help(CHECK_HELP)
         .args(args)
 }
 
-/// How a check is made and told.
-fn forms<'a>(alloc: Global) -> Result<Vec<Arg<'a>>, AllocError> {
-    Ok(vec![in alloc;
-        workers(alloc, "1", "Workers that crawl the site's web: 1 to 512"),
-        flag(alloc, "json", "Writes a JSON object a line"),
-        flag(
-            alloc,
-            "annotations",
-            "Writes lines that GitHub's jobs show beside the file",
-        ),
-        flag(alloc, "html", "Writes a page of HTML"),
-        flag(
-            alloc,
-            "all-sources",
-            "Tells all places of a link, not the first three",
-        ),
-        flag(alloc, "unreached", "Tells the files that no link leads to"),
-        flag(
-            alloc,
-            "external",
-            "Tells where links to other hosts lead, which are not looked at",
-        ),
-    ]?)
+fn check_args<'a>(alloc: Global) -> Result<Vec<Arg<'a>>, AllocError> {
+    let mut args = Vec::new(alloc);
+    args.push(workers(alloc, "1", "Workers that crawl the site's web: 1 to 512"))?;
+    push_flags(alloc, &mut args, CHECK_FLAGS)?;
+    args.push(known(alloc))?;
+    args.push(seed(alloc))?;
+    push_flags(alloc, &mut args, SPELLING_FLAGS)?;
+    args.push(folder(alloc))?;
+    args.push(base(alloc))?;
+    Ok(args)
 }
 
-/// What is checked.
-fn rules<'a>(alloc: Global) -> Result<Vec<Arg<'a>>, AllocError> {
-    Ok(vec![in alloc;
-        flag(
-            alloc,
-            "no-anchors",
-            "Leaves out parts of pages, such as page.html#use",
-        ),
-        known(alloc),
-        seed(alloc),
-        exact(alloc),
-        queries(alloc),
-        folder(alloc),
-        base(alloc),
-    ]?)
-}
+/// How a check is told, and what is told.
+const CHECK_FLAGS: &[Flag] = &[
+    Flag {
+        name: "json",
+        help: "Writes a JSON object a line",
+    },
+    Flag {
+        name: "annotations",
+        help: "Writes lines that GitHub's jobs show beside the file",
+    },
+    Flag {
+        name: "html",
+        help: "Writes a page of HTML",
+    },
+    Flag {
+        name: "all-sources",
+        help: "Tells all places of a link, not the first three",
+    },
+    Flag {
+        name: "unreached",
+        help: "Tells the files that no link leads to",
+    },
+    Flag {
+        name: "external",
+        help: "Tells where links to other hosts lead, which are not looked at",
+    },
+    Flag {
+        name: "no-anchors",
+        help: "Leaves out parts of pages, such as page.html#use",
+    },
+];
 
-fn exact<'a>(alloc: Global) -> Arg<'a> {
-    flag(
-        alloc,
-        "exact",
-        "Other spellings of a page's URL are no pages",
-    )
-}
-
-fn queries<'a>(alloc: Global) -> Arg<'a> {
-    flag(alloc, "queries", "A ? in a file's name begins the query")
-}
+/// Which spellings of a URL are a page's.
+const SPELLING_FLAGS: &[Flag] = &[
+    Flag {
+        name: "exact",
+        help: "Other spellings of a page's URL are no pages",
+    },
+    Flag {
+        name: "queries",
+        help: "A ? in a file's name begins the query",
+    },
+];
 
 fn known<'a>(alloc: Global) -> Arg<'a> {
     option(

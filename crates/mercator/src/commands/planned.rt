@@ -3,7 +3,7 @@ ghost use Rattle.std.specs.Prelude.{◌≡◌};
 ghost use Rattle.mercator.specs.Plans.{explains, file_of, listed_or, told_file};
 
 use crate::commands::fault::Fault;
-use crawl_report::Sources;
+use crawl_report::Parts;
 
 /// What the words of a command line ask for. [`plan`](crate::plan) answers one whose numbers are within the limits, and
 /// a crawl with at least one seed or a file of seeds, and not both of its files the input.
@@ -56,12 +56,8 @@ pub enum Plan {
 pub struct CrawlOptions {
     /// The name of a file of seeds, or `-` for the input, where there is one.
     pub listed: Option<String>,
-    /// Whether it tells where missing URLs are linked from, and by which pages.
-    pub sources: Sources,
-    /// Whether it tells where pages moved to; with sources, where these pages are linked from too.
-    pub moved: bool,
-    /// Whether it tells which pages of the web it did not reach, of hosts that are wanted.
-    pub unreached: bool,
+    /// Which parts its report has. Pages that it did not reach are told of hosts that are wanted.
+    pub parts: Parts,
     /// Whether its report is in JSON, an object a line.
     pub json: bool,
     /// Whether it tells at which URL it is incomplete.

@@ -6,11 +6,11 @@ ghost use Rattle.mercator.specs.declared.commands.words.PlanError.TheVariants as
 
 use crate::commands::command_line::{self, command_line};
 use crate::commands::planned::{CrawlOptions, LogPlan, Plan, SessionPlan};
+use crate::commands::report_words::parts_of;
 use clap::error::ErrorKind;
 use clap::{ArgMatches, Command};
 use crawl_limits::{PENDING_LIMIT, WORKER_LIMIT};
 use crawl_replay::number32;
-use crawl_report::Sources;
 use std::alloc::{AllocError, AllocFailed, Global};
 
 /// Why words are no plan.
@@ -169,23 +169,10 @@ fn options_of(found: &ArgMatches<'_>, listed: Option<String>) -> CrawlOptions
 {
     CrawlOptions {
         listed,
-        sources: sources_of(found),
-        moved: found.get_flag("moved"),
-        unreached: found.get_flag("unreached"),
+        parts: parts_of(found),
         json: found.get_flag("json"),
         explain: found.get_flag("explain"),
         progress: found.get_flag("progress"),
-    }
-}
-
-/// Which sources are told. All of them are told behind the first.
-fn sources_of(found: &ArgMatches<'_>) -> Sources {
-    if found.get_flag("all-sources") {
-        Sources::All
-    } else if found.get_flag("sources") {
-        Sources::First
-    } else {
-        Sources::None
     }
 }
 

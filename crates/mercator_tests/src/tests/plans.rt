@@ -102,7 +102,7 @@ fn plan_line(alloc: Global, plan: &Plan) -> Result<String, AllocError> {
             within,
             options,
         } => {
-            let (sources, listed) = (options.sources, &options.listed);
+            let (sources, listed) = (options.parts.sources, &options.listed);
             let mut line = format!(in alloc; "crawl {workers} {max} {queues} {sources:?}")?;
             write!(line, " {within:?} {file} {listed:?} {seeds:?}")?;
             push_parts(&mut line, options)?;
@@ -122,7 +122,7 @@ fn plan_line(alloc: Global, plan: &Plan) -> Result<String, AllocError> {
 
 /// Which further parts a crawl tells, and how.
 fn push_parts(line: &mut String, options: &CrawlOptions) -> Result<(), AllocError> {
-    let (moved, unreached) = (options.moved, options.unreached);
+    let (moved, unreached) = (options.parts.moved, options.parts.unreached);
     let (json, explain) = (options.json, options.explain);
     let progress = options.progress;
     write!(line, " {moved} {unreached} {json} {explain}")?;

@@ -1,7 +1,7 @@
 use Rattle.std.proofs.Common.{[], ap, ◌∙◌, if◌then◌else◌}
 use Rattle.std.specs.Str.Lines.{lines}
 use Rattle.crawl_report.specs.Tallies.{pointed}
-use Rattle.mercator.specs.WebCrawl.{asked_pages}
+use Rattle.crawl_report.specs.Unreached.{asked_pages}
 use Rattle.mercator.proofs.CrawlTexts.{text_told, unreached_told}
 use Rattle.mercator.proofs.commands.crawl_text.crawl_text.Goals as goal
 
@@ -12,6 +12,6 @@ returns g c =
     let options = c.args.options.now in
     text_told c.printed.result c.args.queues options found.bytes.items found.filter pages c.pages-pages.result.now found.crawled.counts.items c.asked_counts.result.now (pointed c.deref-3.result.now) c.pages-pages.ensures
     (c.asked_counts.ensures ∙ ap (λ counts. if c.args.queues then counts else []) c.deref-2.ensures.value)
-    (unreached_told options.unreached found.bytes.items found.filter pages c.pages-pages.result.now c.deref.result.now c.in_ok-unseen.unseen.items c.deref-3.result.now c.pages-pages.ensures
-    (c.deref.ensures.value ∙ c.in_ok-urls.ensures ∙ ap (λ web. asked_pages options.unreached (lines web)) c.as_slice.ensures.value) c.deref-3.ensures.value c.in_ok-unseen.ensures.same c.in_ok-unseen.ensures.sorted)
+    (unreached_told options.parts found.bytes.items found.filter pages c.pages-pages.result.now c.deref.result.now c.in_ok-unseen.unseen.items c.deref-3.result.now c.pages-pages.ensures
+    (c.deref.ensures.value ∙ c.in_ok-urls.ensures ∙ ap (λ web. asked_pages options.parts (lines web)) c.as_slice.ensures.value) c.deref-3.ensures.value c.in_ok-unseen.ensures.same c.in_ok-unseen.ensures.sorted)
     c.printed.ensures
