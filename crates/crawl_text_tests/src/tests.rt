@@ -1,7 +1,5 @@
 //! What no clause says and no command shows: that calls succeed, answers as values, results that no crawl gives.
 mod pages;
-mod printed;
 mod reports;
 mod results;
-mod scripts;
 mod seeds;

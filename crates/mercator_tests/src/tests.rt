@@ -3,7 +3,6 @@ mod crawls;
 mod failing;
 mod faults;
 mod inputs;
-mod plans;
 mod rows;
 mod runs;
 mod sources;

@@ -4,8 +4,8 @@ ghost use Rattle.crawl_gate.specs.Seat.{IsSeatOf};
 use crate::tests::answers::Answer::{Closed, Entered, Full, Pending};
 use crate::tests::answers::{Answer, closed, entered, entered_beside};
 use crawl_gate::{Gate, GateError, GateState, Unit};
+use std::alloc::Global;
 use std::sync::Wait;
-use std::test::Fail;
 
 const MOST: u64 = 1_099_511_627_776;
 
@@ -56,13 +56,21 @@ fn of_one(gate: &Gate, mut unit: Unit) -> ([GateState; 2], [Answer; 6], u64)
     )
 }
 
+fn answers_as_one(alloc: Global) -> bool {
+    match Gate::new(alloc, 1) {
+        Ok((gate, unit)) => {
+            let (states, answers, left) = of_one(&gate, unit);
+            states == [OPEN, SHUT]
+                && left == 0
+                && answers == [Full, Pending(1), Entered(0), Closed, Closed, Closed]
+        }
+        Err(_) => false,
+    }
+}
+
 #[test]
-fn gate_of_one(rt: HostRuntime) -> Result<(), Fail> {
-    let (gate, unit) = Gate::new(rt.alloc(), 1)?;
-    let (states, answers, left) = of_one(&gate, unit);
-    assert!(rt; states == [OPEN, SHUT] && left == 0);
-    assert!(rt; answers == [Full, Pending(1), Entered(0), Closed, Closed, Closed]);
-    Ok(())
+fn gate_of_one(rt: HostRuntime) {
+    assert!(rt; answers_as_one(rt.alloc()));
 }
 
 // The answers beside a held unit: the count first; a try, a call that goes on trying, and one by a pass alone.
@@ -79,13 +87,19 @@ fn beside<R: Wait>(rt: &R, gate: &Gate, mut held: Unit) -> ([u64; 3], [Answer; 3
     ([before, one, other], [tried, went, alone])
 }
 
+// Whether a gate of this maximum answers so beside its first unit, each of the three times.
+fn answers_beside(rt: &impl Wait, alloc: Global, max: u64, met: [u64; 3], answer: Answer) -> bool {
+    match Gate::new(alloc, max) {
+        Ok((gate, held)) => {
+            let (counts, answers) = beside(rt, &gate, held);
+            counts == met && answers == [answer, answer, answer]
+        }
+        Err(_) => false,
+    }
+}
+
 #[test]
-fn entering_beside_a_unit(rt: HostRuntime) -> Result<(), Fail> {
-    let (gate, held) = Gate::new(rt.alloc(), 2)?;
-    let (counts, answers) = beside(&rt, &gate, held);
-    assert!(rt; counts == [1, 2, 2] && answers == [Entered(1), Entered(1), Entered(1)]);
-    let (gate, held) = Gate::new(rt.alloc(), 1)?;
-    let (counts, answers) = beside(&rt, &gate, held);
-    assert!(rt; counts == [1, 1, 1] && answers == [Full, Full, Full]);
-    Ok(())
+fn entering_beside_a_unit(rt: HostRuntime) {
+    assert!(rt; answers_beside(&rt, rt.alloc(), 2, [1, 2, 2], Entered(1)));
+    assert!(rt; answers_beside(&rt, rt.alloc(), 1, [1, 1, 1], Full));
 }

@@ -6,7 +6,7 @@ use crawl_frontier::FrontierError;
 use crawl_keys::Filter;
 use crawl_web::report_text;
 use mercator::{
-    CrawlError, CrawlSettings, Fault, Mode, Report, crawl_saved_web, report_of_saved_web,
+    CrawlError, CrawlSettings, Crawled, Fault, Mode, Report, crawl_saved_web, report_of_saved_web,
 };
 use std::alloc::Global;
 use std::sync::Wait;
@@ -142,6 +142,27 @@ fn are_counts(found: &[u64], counts: &[(usize, u64)]) -> bool {
     true
 }
 
+fn report_from<R: Threads + Wait + Sync>(
+    rt: &R,
+    alloc: Global,
+    row: &Row,
+    seeds: &[String],
+    mode: Mode,
+) -> Result<Report, Fault> {
+    match Filter::new(alloc, &[]) {
+        Ok(every) => {
+            let settings = CrawlSettings {
+                workers: row.workers,
+                max_pending: row.max_pending,
+                mode,
+                filter: &every,
+            };
+            report_of_saved_web(rt, alloc, row.web.as_bytes(), seeds, &settings)
+        }
+        Err(_) => Err(Fault::NoMemory),
+    }
+}
+
 /// What the row's crawl tells.
 fn report_of<R: Threads + Wait + Sync>(
     rt: &R,
@@ -149,27 +170,29 @@ fn report_of<R: Threads + Wait + Sync>(
     row: &Row,
     mode: Mode,
 ) -> Result<Report, Fault> {
-    let seeds = words(alloc, row.seeds)?;
-    let every = Filter::new(alloc, &[])?;
-    let settings = CrawlSettings {
-        workers: row.workers,
-        max_pending: row.max_pending,
-        mode,
-        filter: &every,
-    };
-    report_of_saved_web(rt, alloc, row.web.as_bytes(), &seeds, &settings)
+    match words(alloc, row.seeds) {
+        Ok(seeds) => report_from(rt, alloc, row, &seeds, mode),
+        Err(_) => Err(Fault::NoMemory),
+    }
+}
+
+fn is_told(row: &Row, found: &Report, text: &str, counts: &[(usize, u64)]) -> bool {
+    found.text.as_slice() == text.as_bytes()
+        && found.counts.len() == row.workers as usize
+        && are_counts(&found.counts, counts)
 }
 
 /// Whether it is what the row says.
 fn holds<R: Threads + Wait + Sync>(rt: &R, alloc: Global, row: &Row, mode: Mode) -> bool {
-    match (report_of(rt, alloc, row, mode), &row.told) {
-        (Ok(found), Told::Report(text, counts)) => {
-            found.text.as_slice() == text.as_bytes()
-                && found.counts.len() == row.workers as usize
-                && are_counts(&found.counts, counts)
-        }
-        (Err(fault), Told::Fault(wanted)) => fault == *wanted,
-        _ => false,
+    match report_of(rt, alloc, row, mode) {
+        Ok(found) => match &row.told {
+            Told::Report(text, counts) => is_told(row, &found, text, counts),
+            Told::Fault(_) => false,
+        },
+        Err(fault) => match &row.told {
+            Told::Report(..) => false,
+            Told::Fault(wanted) => fault == *wanted,
+        },
     }
 }
 
@@ -195,37 +218,54 @@ fn saved_webs_in_turn_and_in_threads(rt: HostRuntime) {
     assert_eq!(rt; first_wrong(&rt, rt.alloc(), Mode::Threads), None);
 }
 
-/// The report of the ring from a file of seeds and one seed given.
-fn report_of_list<R: Threads + Wait + Sync>(rt: &R, alloc: Global) -> Result<Vec<u8>, Fault> {
-    let given = words(alloc, "http://x.test/")?;
-    let every = Filter::new(alloc, &[])?;
-    let listed = "\nhttp://c.test\r\n\n".as_bytes();
-    let web = RING.as_bytes();
+const LISTED: &str = "\nhttp://c.test\r\n\n";
+
+const REPORT_OF_BOTH: &str = "ok 3 1 http://a.test/\n\
+    ok 2 0 http://b.test/\n\
+    ok 2 0 http://c.test/\n\
+    missing http://c.test/gone\n\
+    missing http://x.test/\n\
+    total 5 ok 3 missing 2\n";
+
+fn has_both(alloc: Global, found: &Crawled) -> bool {
+    match report_text(alloc, found.result.pages()) {
+        Ok(text) => text.as_slice() == REPORT_OF_BOTH.as_bytes(),
+        Err(_) => false,
+    }
+}
+
+/// Whether a crawl of the ring from a file of seeds and those given has the pages of both.
+fn list_is_crawled<R: Threads + Wait + Sync>(
+    rt: &R,
+    alloc: Global,
+    given: &[String],
+    every: &Filter,
+) -> bool {
+    let (web, listed) = (RING.as_bytes(), LISTED.as_bytes());
     let settings = CrawlSettings {
         workers: 2,
         max_pending: 100,
         mode: Mode::Turns,
-        filter: &every,
+        filter: every,
     };
-    let found = crawl_saved_web(rt, alloc, web, listed, &given, &settings)?;
-    Ok(report_text(alloc, found.result.pages())?)
+    match crawl_saved_web(rt, alloc, web, listed, given, &settings) {
+        Ok(found) => has_both(alloc, &found),
+        Err(_) => false,
+    }
 }
 
-/// Whether it has the pages of both.
-fn list_is_crawled<R: Threads + Wait + Sync>(rt: &R, alloc: Global) -> bool {
-    let report = "ok 3 1 http://a.test/\n\
-        ok 2 0 http://b.test/\n\
-        ok 2 0 http://c.test/\n\
-        missing http://c.test/gone\n\
-        missing http://x.test/\n\
-        total 5 ok 3 missing 2\n";
-    match report_of_list(rt, alloc) {
-        Ok(found) => found.as_slice() == report.as_bytes(),
+fn is_crawled_beside<R: Threads + Wait + Sync>(rt: &R, alloc: Global, given: &[String]) -> bool {
+    match Filter::new(alloc, &[]) {
+        Ok(every) => list_is_crawled(rt, alloc, given, &every),
         Err(_) => false,
     }
 }
 
 #[test]
 fn seeds_of_a_file_before_those_given(rt: HostRuntime) {
-    assert!(rt; list_is_crawled(&rt, rt.alloc()));
+    let crawled = match words(rt.alloc(), "http://x.test/") {
+        Ok(given) => is_crawled_beside(&rt, rt.alloc(), &given),
+        Err(_) => false,
+    };
+    assert!(rt; crawled);
 }

@@ -103,27 +103,29 @@ impl Write for Writer {
     }
 }
 
+fn push_word(alloc: Global, words: &mut Vec<String>, word: &str) -> Result<(), AllocError> {
+    words.push(String::from_str(alloc, word)?)?;
+    Ok(())
+}
+
 /// The words of a text with a space between two of them.
 pub fn words(alloc: Global, text: &str) -> Result<Vec<String>, AllocError> {
     let mut words = Vec::new(alloc);
     for word in text.split(' ') {
         if !word.is_empty() {
-            words.push(String::from_str(alloc, word)?)?;
+            push_word(alloc, &mut words, word)?;
         }
     }
     Ok(words)
 }
 
-/// Whether the program ends as the row says, where these fail.
-pub fn holds<R: Files + Threads + Wait + Sync>(
+fn ends<R: Files + Threads + Wait + Sync>(
     rt: &R,
     alloc: Global,
+    words: &[String],
     row: &Row,
     failing: Failing,
 ) -> bool {
-    let Ok(words) = words(alloc, row.words) else {
-        return false;
-    };
     let mut input = Reader {
         left: row.input.as_bytes(),
         most: ALL,
@@ -139,6 +141,19 @@ pub fn holds<R: Files + Threads + Wait + Sync>(
         takes: failing.err,
         flushes: false,
     };
-    let status = run_words(rt, alloc, &words, &mut input, &mut out, &mut err);
+    let status = run_words(rt, alloc, words, &mut input, &mut out, &mut err);
     status == row.status && out.has(row.out) && err.has(row.err)
+}
+
+/// Whether the program ends as the row says, where these fail.
+pub fn holds<R: Files + Threads + Wait + Sync>(
+    rt: &R,
+    alloc: Global,
+    row: &Row,
+    failing: Failing,
+) -> bool {
+    match words(alloc, row.words) {
+        Ok(words) => ends(rt, alloc, &words, row, failing),
+        Err(_) => false,
+    }
 }

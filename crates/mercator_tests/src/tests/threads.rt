@@ -4,7 +4,7 @@ use crate::tests::webs::{RING, RING_REPORT};
 use crawl_certificate::CertError;
 use crawl_keys::{CanonUrl, Filter, canonical};
 use crawl_web::{Fetch, SavedWeb, report_text};
-use mercator::{CrawlError, Mode, Report, crawl};
+use mercator::{CrawlError, Crawled, Mode, crawl};
 use std::alloc::Global;
 use std::sync::Wait;
 use std::sync::atomic::AtomicU64;
@@ -12,163 +12,226 @@ use std::thread::Threads;
 
 const NOT_FETCHED: CrawlError = CrawlError::Cert(CertError::NotFetched);
 
-/// The URLs of these hosts.
-fn urls(alloc: Global, hosts: &[&str]) -> Option<Vec<CanonUrl>> {
-    let mut urls = Vec::new(alloc);
-    for host in hosts {
-        urls.push(canonical(alloc, host).ok()?).ok()?;
-    }
-    Some(urls)
+/// What came of a crawl.
+#[derive(Clone, Copy, PartialEq, Eq)]
+enum Told {
+    /// The report and the counts that are asked for.
+    Asked,
+    /// Other ones.
+    Other,
+    /// A page lacks.
+    Lacks,
+    /// Another fault.
+    Fault,
 }
 
-/// The report of a crawl from these seeds, with room for all.
-fn report_from<F: Fetch + Sync, R: Threads + Wait + Sync>(
+/// A report, and counts of queues, where these matter.
+#[derive(Clone, Copy)]
+struct Asked {
+    report: &'static str,
+    counts: &'static [u64],
+}
+
+fn is_report(alloc: Global, found: &Crawled, report: &str) -> bool {
+    match report_text(alloc, found.result.pages()) {
+        Ok(text) => text.as_slice() == report.as_bytes(),
+        Err(_) => false,
+    }
+}
+
+fn told_of(alloc: Global, found: &Crawled, asked: Asked) -> Told {
+    let are_counts = asked.counts.is_empty() || found.counts.as_slice() == asked.counts;
+    if are_counts && is_report(alloc, found, asked.report) {
+        Told::Asked
+    } else {
+        Told::Other
+    }
+}
+
+fn told_of_fault(error: CrawlError) -> Told {
+    if error == NOT_FETCHED {
+        Told::Lacks
+    } else {
+        Told::Fault
+    }
+}
+
+fn told_by(alloc: Global, found: Result<Crawled, CrawlError>, asked: Asked) -> Told {
+    match found {
+        Ok(found) => told_of(alloc, &found, asked),
+        Err(error) => told_of_fault(error),
+    }
+}
+
+fn push_url(alloc: Global, urls: &mut Vec<CanonUrl>, text: &str) {
+    if let Ok(url) = canonical(alloc, text) {
+        let _ = urls.push(url);
+    }
+}
+
+/// The URLs of these hosts.
+fn urls(alloc: Global, hosts: &[&str]) -> Vec<CanonUrl> {
+    let mut urls = Vec::new(alloc);
+    for host in hosts {
+        push_url(alloc, &mut urls, host);
+    }
+    urls
+}
+
+/// How many workers a crawl has, and where they run.
+#[derive(Clone, Copy)]
+struct Workers {
+    count: u32,
+    mode: Mode,
+}
+
+const ONE_IN_TURN: Workers = Workers {
+    count: 1,
+    mode: Mode::Turns,
+};
+
+const ONE_IN_A_THREAD: Workers = Workers {
+    count: 1,
+    mode: Mode::Threads,
+};
+
+/// What comes of a crawl from these seeds, with room for all.
+fn told_from<F: Fetch + Sync, R: Threads + Wait + Sync>(
     rt: &R,
     alloc: Global,
     source: &F,
     hosts: &[&str],
-    workers: u32,
-    mode: Mode,
-) -> Result<Report, CrawlError> {
-    let Ok(every) = Filter::new(alloc, &[]) else {
-        return Err(CrawlError::NoMemory);
-    };
-    let Some(seeds) = urls(alloc, hosts) else {
-        return Err(CrawlError::NoMemory);
-    };
-    let found = crawl(rt, alloc, source, &every, &seeds, workers, 1_000_000, mode)?;
-    let text = report_text(alloc, found.result.pages())?;
-    Ok(Report {
-        text,
-        counts: found.counts,
-    })
-}
-
-/// Whether the crawl has this report.
-fn has(found: Result<Report, CrawlError>, text: &str) -> bool {
-    match found {
-        Ok(report) => report.text.as_slice() == text.as_bytes(),
-        Err(_) => false,
+    workers: Workers,
+    asked: Asked,
+) -> Told {
+    let seeds = urls(alloc, hosts);
+    let Workers { count, mode } = workers;
+    match Filter::new(alloc, &[]) {
+        Ok(every) => told_by(
+            alloc,
+            crawl(rt, alloc, source, &every, &seeds, count, 1_000_000, mode),
+            asked,
+        ),
+        Err(_) => Told::Fault,
     }
 }
 
-/// Whether the crawl lacks a page.
-fn lacks(found: Result<Report, CrawlError>) -> bool {
-    match found {
-        Ok(_) => false,
-        Err(error) => error == NOT_FETCHED,
+fn one_link_to<R: Threads + Wait + Sync>(
+    rt: &R,
+    alloc: Global,
+    from: CanonUrl,
+    to: CanonUrl,
+    mode: Mode,
+) -> Told {
+    let asked = Asked {
+        report: "ok 1 0 http://a.test/\nmissing http://b.test/\ntotal 2 ok 1 missing 1\n",
+        counts: &[1, 1, 0],
+    };
+    let workers = Workers { count: 3, mode };
+    let source = OneLink { from, to };
+    told_from(rt, alloc, &source, &["http://a.test/"], workers, asked)
+}
+
+fn one_link_from<R: Threads + Wait + Sync>(
+    rt: &R,
+    alloc: Global,
+    from: CanonUrl,
+    mode: Mode,
+) -> Told {
+    match canonical(alloc, "http://b.test/") {
+        Ok(to) => one_link_to(rt, alloc, from, to, mode),
+        Err(_) => Told::Fault,
     }
 }
 
 /// A crawl of a page with one link.
-fn one_link<R: Threads + Wait + Sync>(
-    rt: &R,
-    alloc: Global,
-    mode: Mode,
-) -> Result<Report, CrawlError> {
-    let (Ok(from), Ok(to)) = (
-        canonical(alloc, "http://a.test/"),
-        canonical(alloc, "http://b.test/"),
-    ) else {
-        return Err(CrawlError::NoMemory);
-    };
-    let source = OneLink { from, to };
-    report_from(rt, alloc, &source, &["http://a.test/"], 3, mode)
-}
-
-/// Whether it has both pages and their counts.
-fn has_both<R: Threads + Wait + Sync>(rt: &R, alloc: Global, mode: Mode) -> bool {
-    let text = "ok 1 0 http://a.test/\nmissing http://b.test/\ntotal 2 ok 1 missing 1\n";
-    match one_link(rt, alloc, mode) {
-        Ok(report) => {
-            report.text.as_slice() == text.as_bytes()
-                && report.counts.as_slice() == [1, 1, 0].as_slice()
-        }
-        Err(_) => false,
+fn one_link<R: Threads + Wait + Sync>(rt: &R, alloc: Global, mode: Mode) -> Told {
+    match canonical(alloc, "http://a.test/") {
+        Ok(from) => one_link_from(rt, alloc, from, mode),
+        Err(_) => Told::Fault,
     }
 }
 
+// Both pages are found, and counted.
 #[test]
 fn a_source_of_ones_own(rt: HostRuntime) {
-    assert!(rt; has_both(&rt, rt.alloc(), Mode::Turns));
-    assert!(rt; has_both(&rt, rt.alloc(), Mode::Threads));
+    assert!(rt; one_link(&rt, rt.alloc(), Mode::Turns) == Told::Asked);
+    assert!(rt; one_link(&rt, rt.alloc(), Mode::Threads) == Told::Asked);
 }
+
+const THE_RING: Asked = Asked {
+    report: RING_REPORT,
+    counts: &[],
+};
 
 /// A crawl of the ring, whose source fails for this host.
 fn without<R: Threads + Wait + Sync>(
     rt: &R,
     alloc: Global,
     host: &'static str,
-    mode: Mode,
-) -> Result<Report, CrawlError> {
-    let Ok(web) = SavedWeb::read(alloc, RING.as_bytes()) else {
-        return Err(CrawlError::NoMemory);
-    };
-    let source = WithoutHost { web, host };
-    report_from(rt, alloc, &source, &["http://a.test/"], 1, mode)
+    workers: Workers,
+) -> Told {
+    match SavedWeb::read(alloc, RING.as_bytes()) {
+        Ok(web) => {
+            let source = WithoutHost { web, host };
+            told_from(rt, alloc, &source, &["http://a.test/"], workers, THE_RING)
+        }
+        Err(_) => Told::Fault,
+    }
 }
 
 #[test]
 fn failing_host(rt: HostRuntime) {
-    assert!(rt; lacks(without(&rt, rt.alloc(), "c.test", Mode::Turns)));
-    assert!(rt; lacks(without(&rt, rt.alloc(), "c.test", Mode::Threads)));
+    assert!(rt; without(&rt, rt.alloc(), "c.test", ONE_IN_TURN) == Told::Lacks);
+    assert!(rt; without(&rt, rt.alloc(), "c.test", ONE_IN_A_THREAD) == Told::Lacks);
 }
 
 // The source fails for the seed, so no page is found at all.
 #[test]
 fn a_source_that_always_fails(rt: HostRuntime) {
-    assert!(rt; lacks(without(&rt, rt.alloc(), "a.test", Mode::Turns)));
-    assert!(rt; lacks(without(&rt, rt.alloc(), "a.test", Mode::Threads)));
+    assert!(rt; without(&rt, rt.alloc(), "a.test", ONE_IN_TURN) == Told::Lacks);
+    assert!(rt; without(&rt, rt.alloc(), "a.test", ONE_IN_A_THREAD) == Told::Lacks);
 }
 
 /// A crawl of two pages whose fetch that waits for another one ends well only where two workers fetch at once.
-fn first_waits<R: Threads + Wait + Sync>(
-    rt: &R,
-    alloc: Global,
-    mode: Mode,
-) -> Result<Report, CrawlError> {
+fn first_waits<R: Threads + Wait + Sync>(rt: &R, alloc: Global, mode: Mode) -> Told {
     let source = FirstWaits {
         begun: AtomicU64::new(0),
     };
+    let asked = Asked {
+        report: "missing http://a.test/\nmissing http://b.test/\ntotal 2 ok 0 missing 2\n",
+        counts: &[],
+    };
     let hosts = ["http://a.test/", "http://b.test/"];
-    report_from(rt, alloc, &source, &hosts, 2, mode)
+    told_from(
+        rt,
+        alloc,
+        &source,
+        &hosts,
+        Workers { count: 2, mode },
+        asked,
+    )
 }
 
 // Two wrong bodies that no clause refuses show here: threads that run one after the other (`threads_in_turn`), which lose a
 // URL; and a crawl that walks the web itself (`crawls_without_workers`), which loses none in turn either.
 #[test]
 fn workers_run_together(rt: HostRuntime) {
-    let text = "missing http://a.test/\nmissing http://b.test/\ntotal 2 ok 0 missing 2\n";
-    assert!(rt; has(first_waits(&rt, rt.alloc(), Mode::Threads), text));
-    assert!(rt; lacks(first_waits(&rt, rt.alloc(), Mode::Turns)));
+    assert!(rt; first_waits(&rt, rt.alloc(), Mode::Threads) == Told::Asked);
+    assert!(rt; first_waits(&rt, rt.alloc(), Mode::Turns) == Told::Lacks);
 }
 
-/// The report of the ring, where every third fetch fails.
-fn third_fails<R: Threads + Wait + Sync>(
-    rt: &R,
-    alloc: Global,
-    workers: u32,
-) -> Result<Report, CrawlError> {
-    let Ok(web) = SavedWeb::read(alloc, RING.as_bytes()) else {
-        return Err(CrawlError::NoMemory);
-    };
-    let fetched = AtomicU64::new(0);
-    let source = ThirdFails { web, fetched };
-    report_from(
-        rt,
-        alloc,
-        &source,
-        &["http://a.test/"],
-        workers,
-        Mode::Threads,
-    )
-}
-
-/// Whether the crawl has the one report of the ring, or lacks a page.
-fn is_whole_or_lacks(found: Result<Report, CrawlError>) -> bool {
-    match found {
-        Ok(report) => report.text.as_slice() == RING_REPORT.as_bytes(),
-        Err(error) => error == NOT_FETCHED,
+/// A crawl of the ring, where every third fetch fails.
+fn third_fails<R: Threads + Wait + Sync>(rt: &R, alloc: Global, count: u32) -> Told {
+    let mode = Mode::Threads;
+    match SavedWeb::read(alloc, RING.as_bytes()) {
+        Ok(web) => {
+            let fetched = AtomicU64::new(0);
+            let source = ThirdFails { web, fetched };
+            let workers = Workers { count, mode };
+            told_from(rt, alloc, &source, &["http://a.test/"], workers, THE_RING)
+        }
+        Err(_) => Told::Fault,
     }
 }
 
@@ -177,10 +240,8 @@ fn is_whole_or_lacks(found: Result<Report, CrawlError>) -> bool {
 fn incomplete_or_the_one_report(rt: HostRuntime) {
     for workers in [1, 4, 64] {
         for _ in 0..100 {
-            assert!(rt;
-                is_whole_or_lacks(third_fails(&rt, rt.alloc(), workers)),
-                "{workers}"
-            );
+            let told = third_fails(&rt, rt.alloc(), workers);
+            assert!(rt; told == Told::Asked || told == Told::Lacks, "{workers}");
         }
     }
 }

@@ -1,13 +1,10 @@
 //! Crawls that are watched: what their observer is told, and that nothing else changes.
 ghost use Rattle.crawl_web.specs.KnownPages.{page_at};
 
-use crate::tests::runs::words;
-use crate::tests::webs::{RING, RING_REPORT};
 use crawl_keys::{CanonUrl, Filter, canonical};
 use crawl_web::{Fetch, FetchError, Page, SavedWeb, WithoutSession, report_text};
-use mercator::{CrawlSettings, Mode, NoLocks, Observe, Platform, crawl_watched, run_words_with};
+use mercator::{CrawlSettings, Mode, Observe, crawl_watched};
 use std::alloc::{AllocError, Global};
-use std::fs::Files;
 use std::sync::Wait;
 use std::sync::atomic::{AtomicU64, Ordering};
 use std::thread::Threads;
@@ -64,6 +61,34 @@ fn star(alloc: Global, links: u64) -> Result<String, AllocError> {
     Ok(web)
 }
 
+fn report_from<R: Threads + Wait + Sync>(
+    rt: &R,
+    alloc: Global,
+    source: &Counting<'_>,
+    heard: Option<&Heard>,
+    settings: &CrawlSettings<'_>,
+    seeds: &[CanonUrl],
+) -> Option<Vec<u8>> {
+    let source = WithoutSession { fetcher: source };
+    match crawl_watched(rt, alloc, &source, heard, settings, seeds) {
+        Ok(found) => report_text(alloc, found.result.pages()).ok(),
+        Err(_) => None,
+    }
+}
+
+fn report_by<R: Threads + Wait + Sync>(
+    rt: &R,
+    alloc: Global,
+    source: &Counting<'_>,
+    heard: Option<&Heard>,
+    settings: &CrawlSettings<'_>,
+) -> Option<Vec<u8>> {
+    match canonical(alloc, "http://a.test/") {
+        Ok(seed) => report_from(rt, alloc, source, heard, settings, &[seed]),
+        Err(_) => None,
+    }
+}
+
 /// The report of a crawl of this source from its first page.
 fn report_of<R: Threads + Wait + Sync>(
     rt: &R,
@@ -72,38 +97,55 @@ fn report_of<R: Threads + Wait + Sync>(
     heard: Option<&Heard>,
     mode: Mode,
 ) -> Option<Vec<u8>> {
-    let every = Filter::new(alloc, &[]).ok()?;
-    let settings = CrawlSettings {
-        workers: 3,
-        max_pending: 1_000,
-        mode,
-        filter: &every,
-    };
-    let seed = canonical(alloc, "http://a.test/").ok()?;
-    let source = WithoutSession { fetcher: source };
-    let found = crawl_watched(rt, alloc, &source, heard, &settings, &[seed]).ok()?;
-    report_text(alloc, found.result.pages()).ok()
+    match Filter::new(alloc, &[]) {
+        Ok(every) => {
+            let settings = CrawlSettings {
+                workers: 3,
+                max_pending: 1_000,
+                mode,
+                filter: &every,
+            };
+            report_by(rt, alloc, source, heard, &settings)
+        }
+        Err(_) => None,
+    }
 }
 
-/// Whether a crawl of 301 pages fetches each once and has its report, and its observer is told of each 64.
-fn is_told<R: Threads + Wait + Sync>(rt: &R, alloc: Global, mode: Mode) -> bool {
-    let Ok(web) = star(alloc, 300) else {
-        return false;
-    };
-    let Ok(web) = SavedWeb::read(alloc, web.as_bytes()) else {
-        return false;
-    };
-    let source = Counting {
-        web,
-        fetched: AtomicU64::new(0),
-    };
+fn are_same(watched: Option<Vec<u8>>, plain: Option<Vec<u8>>) -> bool {
+    match watched {
+        Some(watched) => plain.is_some_and(|plain| plain == watched),
+        None => false,
+    }
+}
+
+/// Whether a crawl of this source fetches each of 301 pages once and has its report, and its observer is told of each 64.
+fn is_told_of<R: Threads + Wait + Sync>(
+    rt: &R,
+    alloc: Global,
+    source: &Counting<'_>,
+    mode: Mode,
+) -> bool {
     let heard = Heard::nothing();
-    let watched = report_of(rt, alloc, &source, Some(&heard), mode);
-    let plain = report_of(rt, alloc, &source, None, mode);
-    watched.is_some()
-        && watched == plain
-        && source.fetched.load(Ordering::SeqCst) == 602
-        && heard.has(4, 256)
+    let watched = report_of(rt, alloc, source, Some(&heard), mode);
+    let plain = report_of(rt, alloc, source, None, mode);
+    are_same(watched, plain) && source.fetched.load(Ordering::SeqCst) == 602 && heard.has(4, 256)
+}
+
+fn is_told_in<R: Threads + Wait + Sync>(rt: &R, alloc: Global, web: &str, mode: Mode) -> bool {
+    match SavedWeb::read(alloc, web.as_bytes()) {
+        Ok(web) => {
+            let fetched = AtomicU64::new(0);
+            is_told_of(rt, alloc, &Counting { web, fetched }, mode)
+        }
+        Err(_) => false,
+    }
+}
+
+fn is_told<R: Threads + Wait + Sync>(rt: &R, alloc: Global, mode: Mode) -> bool {
+    match star(alloc, 300) {
+        Ok(web) => is_told_in(rt, alloc, &web, mode),
+        Err(_) => false,
+    }
 }
 
 // All pages are of one host, so that one worker fetches them all.
@@ -111,61 +153,4 @@ fn is_told<R: Threads + Wait + Sync>(rt: &R, alloc: Global, mode: Mode) -> bool 
 fn an_observer_is_told_of_each_64_pages(rt: HostRuntime) {
     assert!(rt; is_told(&rt, rt.alloc(), Mode::Turns));
     assert!(rt; is_told(&rt, rt.alloc(), Mode::Threads));
-}
-
-/// How the program ends by these words, with this input, and whether nothing was written to the writer for faults.
-fn ends<R: Files + Threads + Wait + Sync>(
-    rt: &R,
-    alloc: Global,
-    heard: &Heard,
-    text: &str,
-    mut input: &[u8],
-) -> Option<(u8, Vec<u8>)> {
-    let words = words(alloc, text).ok()?;
-    let platform = Platform {
-        rt,
-        locks: &NoLocks,
-        observer: Some(heard),
-    };
-    let (mut out, mut err) = (Vec::new(alloc), Vec::new(alloc));
-    let status = run_words_with(&platform, alloc, &words, &mut input, &mut out, &mut err);
-    if err.is_empty() {
-        Some((status, out))
-    } else {
-        None
-    }
-}
-
-/// Whether the program tells its observer where that is asked for, and writes the same.
-fn is_told_where_asked<R: Files + Threads + Wait + Sync>(rt: &R, alloc: Global) -> bool {
-    let Ok(web) = star(alloc, 300) else {
-        return false;
-    };
-    let (heard, other) = (Heard::nothing(), Heard::nothing());
-    let asked = "crawl --progress - http://a.test/";
-    let watched = ends(rt, alloc, &heard, asked, web.as_bytes());
-    let plain = ends(rt, alloc, &other, "crawl - http://a.test/", web.as_bytes());
-    watched.is_some() && watched == plain && heard.has(4, 256) && other.has(0, 0)
-}
-
-#[test]
-fn the_program_tells_its_observer_where_that_is_asked(rt: HostRuntime) {
-    assert!(rt; is_told_where_asked(&rt, rt.alloc()));
-}
-
-// A crawl of four pages tells nothing, and has its report.
-#[test]
-fn few_pages_are_not_told(rt: HostRuntime) {
-    let heard = Heard::nothing();
-    let ended = ends(
-        &rt,
-        rt.alloc(),
-        &heard,
-        "crawl --progress - http://a.test/",
-        RING.as_bytes(),
-    );
-    assert!(rt; heard.has(0, 0));
-    assert!(rt;
-        ended.is_some_and(|(status, out)| status == 0 && out.as_slice() == RING_REPORT.as_bytes())
-    );
 }
