@@ -263,6 +263,11 @@ front_folder text root folder k b =
     own_above text root folder 0 k b ∙ sym (append_assoc (root_text k.url) (without_last_segment k.url.path) (47 ∷ []))
     ∙ ap (λ f. f ++ 47 ∷ []) (sym (folder_text-root k.url (web_url k.url k.valid k.web)))
 
+-- the folder of whatever the page's text parses to
+pub own_folder : (text : List ℕ) (root folder : ℕ) (k : IsCanonical text) → IsBase text root folder → (url : Parts) → parse_url None text ≡ Ok url → take folder text ≡ folder_text url ++ 47 ∷ []
+own_folder text root folder k b url parses =
+    front_folder text root folder k b ∙ ap (λ u. folder_text u ++ 47 ∷ []) (one_url text k.url url k.parses parses)
+
 -- ---- where links lead from there
 
 pub leads_rooted : (text link : List ℕ) (root folder : ℕ) (k : IsCanonical text) → IsBase text root folder → is_rooted link ≡ true → resolve text link ≡ Ok (take root text ++ link)

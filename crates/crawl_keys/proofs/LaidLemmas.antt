@@ -5,7 +5,7 @@ use Rattle.url.specs.declared.slicing.Position.TheVariants.{BeforeHost, AfterHos
 use Rattle.url.specs.Parts.{Parts, IsValid, offset, pieces, serialize}
 use Rattle.url.proofs.PiecesLemmas.{slice_at, upto-le, upto_ordered}
 use Rattle.hash_order.specs.HashOrder.{hash_of}
-use Rattle.crawl_keys.specs.declared.canon_url.Laid.TheInside.{Inside}
+use Rattle.crawl_keys.specs.declared.canon_url.Laid.{Laid}
 use Rattle.crawl_keys.specs.CanonicalText.{is_web, without_fragment}
 use Rattle.crawl_keys.specs.HostKey.{host_key, host_of_parse}
 use Rattle.crawl_keys.specs.Layout.{IsLaidOut}
@@ -19,7 +19,7 @@ slice_range-host url valid web =
     ∙ sym (ap host_of_parse (parse_url-without_fragment url valid web))
 
 -- the fields that are read off a web URL are laid out
-pub laid_out : (u : Inside) (url : Parts) → IsValid url → is_web url ≡ true → u.text ≡ serialize (without_fragment url) → IsAscii u.text → u.host_start ≡ offset url BeforeHost → u.host_end ≡ offset url AfterHost → u.hash ≡ hash_of u.text → IsSpelled u.text u.host_start u.host_end → IsLaidOut u
+pub laid_out : (u : Laid) (url : Parts) → IsValid url → is_web url ≡ true → u.text ≡ serialize (without_fragment url) → IsAscii u.text → u.host_start ≡ offset url BeforeHost → u.host_end ≡ offset url AfterHost → u.hash ≡ hash_of u.text → IsSpelled u.text u.host_start u.host_end → IsLaidOut u
 laid_out u url valid web spelled ascii start end hashed own = record {
   canonical = rw spelled (canonical_text url valid web);
   ascii = ascii;

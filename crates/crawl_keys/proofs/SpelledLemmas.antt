@@ -24,7 +24,7 @@ use Rattle.url.proofs.InputLemmas.{Passes, All-take-prefix_len, is_empty_nonempt
 use Rattle.url.proofs.SetLemmas.{kept_from_passes}
 use Rattle.url.proofs.Theorems.{parse_url-serialize_special}
 use Rattle.url.proofs.ValidLemmas.{IsAscii-serialize, special_has_authority}
-use Rattle.crawl_keys.specs.declared.canon_url.Laid.TheInside.{Inside}
+use Rattle.crawl_keys.specs.declared.canon_url.Laid.{Laid}
 use Rattle.crawl_keys.specs.CanonicalText.{IsCanonical, canonical, is_web, resolve, resolve_from, text_of_parse, without_fragment}
 use Rattle.crawl_keys.specs.Folders.{root_text}
 use Rattle.crawl_keys.specs.Layout.{IsLaidOut}
@@ -62,7 +62,7 @@ resolve-spelled base page text start end parses k =
     ∙ canonical-spelled text start end k
 
 -- it is laid out by the places of its host
-pub laid_spelled : (u : Inside) → IsSpelled u.text u.host_start u.host_end → u.hash ≡ hash_of u.text → IsLaidOut u
+pub laid_spelled : (u : Laid) → IsSpelled u.text u.host_start u.host_end → u.hash ≡ hash_of u.text → IsLaidOut u
 laid_spelled u k hashed =
     laid_out u k.url k.valid k.web (sym k.spelled ∙ (λ i. serialize (record k.url { fragment = k.bare i })))
     (subst IsAscii k.spelled (IsAscii-serialize k.url k.valid)) (sym k.start) (sym k.end) hashed k

@@ -1,6 +1,6 @@
 -- What is kept of a page for its links.
 use Rattle.std.specs.Prelude.{◌≡◌, ◌≤◌, ◌<◌, ◌+◌, ◌++◌, ℕ, List, [], ◌∷◌, length, None, Ok}
-use Rattle.url.specs.Ascii.{colon}
+use Rattle.url.specs.Ascii.{colon, slash}
 use Rattle.url.specs.Parser.{parse_url}
 use Rattle.url.specs.Parts.{Parts}
 use Rattle.crawl_keys.specs.Folders.{folder_text, root_text}
@@ -11,6 +11,10 @@ pub record IsBase (text : List ℕ) (root folder : ℕ) : Type 0 where
   pub behind_folder : (url : Parts) → parse_url None text ≡ Ok url → length (folder_text url) + 1 ≡ folder
   pub ordered : root < folder
   pub folder_within : folder ≤ length text
+
+-- the folder of the URL that the page's text parses to, and a slash
+abbrev pub IsFolderOf : List ℕ → List ℕ → Type 0
+IsFolderOf page text = (url : Parts) → parse_url None page ≡ Ok url → text ≡ folder_text url ++ slash ∷ []
 
 -- the scheme of the URL that the page's text parses to, and a colon
 abbrev pub IsSchemeOf : List ℕ → List ℕ → Type 0

@@ -1,13 +1,13 @@
 -- How a canonical URL is laid out: the hash of its text, where the host stands in the text, and the text.
 use Rattle.std.specs.Prelude.{◌≡◌, ◌≤◌, length, slice_range, IsAscii}
 use Rattle.hash_order.specs.HashOrder.{hash_of}
-use Rattle.crawl_keys.specs.declared.canon_url.Laid.TheInside.{Inside}
+use Rattle.crawl_keys.specs.declared.canon_url.Laid.{Laid}
 use Rattle.crawl_keys.specs.CanonicalText.{IsCanonical}
 use Rattle.crawl_keys.specs.HostKey.{host_key}
 use Rattle.crawl_keys.specs.Spelled.{IsSpelled}
 
 -- the text is canonical, the two places bound its host key, and the hash is the text's
-pub record IsLaidOut (u : Inside) : Type 0 where
+pub record IsLaidOut (u : Laid) : Type 0 where
   pub canonical : IsCanonical u.text
   pub ascii : IsAscii u.text
   pub ordered : u.host_start ≤ u.host_end

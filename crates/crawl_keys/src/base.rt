@@ -1,6 +1,6 @@
 //! A page whose links are resolved.
 ghost use Rattle.std.specs.Prelude.{◌≡◌, ◌≤◌, ◌+◌, ℕ, List, Ok, Some, length, true, IfSome};
-ghost use Rattle.crawl_keys.specs.Bases.{IsBase, IsSchemeOf};
+ghost use Rattle.crawl_keys.specs.Bases.{IsBase, IsFolderOf, IsSchemeOf};
 ghost use Rattle.crawl_keys.specs.CanonicalText.{IsCanonical};
 ghost use Rattle.crawl_keys.specs.CanonicalText as spec;
 ghost use Rattle.crawl_keys.specs.Folders.{is_of_folder};
@@ -84,6 +84,13 @@ impl Base {
         self.url.as_str()
     }
 
+    /// The text of the page's folder: that of its URL up to the last slash of the path, and the slash.
+    pub fn folder(&self) -> &str
+        ensures { IsFolderOf self.now result.now }
+    {
+        &self.url.ascii()[..self.folder]
+    }
+
     /// The page's URL, sharing the text; the only error is `NoMemory`.
     pub fn keep(&self, _alloc: Global) -> Result<CanonUrl, KeyError>
         ensures { Gives KeyError.NoMemory (λ url. url) result (Ok self.now) }
@@ -105,6 +112,7 @@ impl Base {
     }
 
     /// What a link that is not parsed leads to. `None` says nothing.
+    #[inline(always)]
     fn known(&self, alloc: Global, text: &str) -> Option<Result<CanonUrl, KeyError>>
         ensures { IfSome result (λ answer. Gives KeyError.NoMemory (λ url. url) answer (spec.resolve self.now text.now)) }
     {

@@ -1,8 +1,8 @@
 //! A canonical URL, the parts of it that callers ask for, and its copies.
-ghost use Rattle.std.specs.Prelude.{◌≡◌, ◌<◌, ◌≤◌, ◌++◌, length, IsAscii, Ok};
+ghost use Rattle.std.specs.Prelude.{◌≡◌, ◌<◌, ◌≤◌, length, IsAscii, Ok};
 ghost use Rattle.hash_order.specs.HashOrder.{hash_of};
 ghost use Rattle.crawl_keys.specs.Assignment.{subqueue_of};
-ghost use Rattle.crawl_keys.specs.CanonicalText.{IsCanonical, text_of};
+ghost use Rattle.crawl_keys.specs.CanonicalText.{IsCanonical};
 ghost use Rattle.crawl_keys.specs.CanonicalText as spec;
 ghost use Rattle.crawl_keys.specs.HostKey as spec_host;
 ghost use Rattle.crawl_keys.specs.Limits.{subqueues_limit};
@@ -13,11 +13,10 @@ use crate::plain::HostPlace;
 use crate::{KeyError, assign};
 use hash_index::Keyed;
 use hash_order::HashedText;
-use std::alloc::{AllocError, Global};
+use std::alloc::AllocError;
 use std::marker::Model;
 use std::mem::size_of;
 use std::sync::Arc;
-use url::Url;
 
 mod compared;
 mod lay_out;
@@ -39,10 +38,13 @@ pub struct CanonUrl {
 impl Model for CanonUrl {
     ghost use Rattle.std.specs.Prelude.{ℕ, List};
     ghost use Rattle.std.specs.Arc.{arc_value};
+    ghost use Rattle.crawl_keys.specs.Layout.{IsLaidOut};
 
     ghost Value = { List ℕ };
 
-    ghost view = { λ url. arc_value url.shared };
+    ghost view = { λ url. (arc_value url.shared).text };
+
+    ghost invariant = { λ url. IsLaidOut (arc_value url.shared) };
 }
 
 // What the copies share: the text's hash, where the host begins and ends in the text, and the text. The hash is first, as
@@ -58,48 +60,7 @@ struct Laid {
 // With the count of the copies it fills a block of 112 bytes.
 const _: () = prove!(size_of::<Laid>() == 96);
 
-// Contracts see the text alone.
-impl Model for Laid {
-    ghost use Rattle.std.specs.Prelude.{ℕ, List};
-
-    ghost Value = { List ℕ };
-
-    ghost view = { λ laid. laid.text };
-
-    ghost use Rattle.crawl_keys.specs.Layout.{IsLaidOut};
-
-    ghost invariant = { IsLaidOut };
-}
-
 impl CanonUrl {
-    /// The canonical URL of a parsed one.
-    pub(crate) fn keep(alloc: Global, url: &Url) -> Result<CanonUrl, KeyError>
-        ensures { Gives KeyError.NoMemory (λ kept. kept) result (text_of url.now) }
-    {
-        let laid = Laid::keep(alloc, url)?;
-        match Arc::new(alloc, laid) {
-            Ok(shared) => Ok(CanonUrl { shared }),
-            Err(_) => Err(KeyError::NoMemory),
-        }
-    }
-
-    /// The canonical URL whose text is made of these two, with the host at this place.
-    pub(crate) fn join(
-        alloc: Global,
-        front: &str,
-        back: &str,
-        host: HostPlace,
-    ) -> Result<CanonUrl, KeyError>
-        requires { IsSpelled (front.now ++ back.now) host.start host.end }
-        ensures { Gives KeyError.NoMemory (λ url. url) result (Ok (front.now ++ back.now)) }
-    {
-        let laid = Laid::join(alloc, front, back, host)?;
-        match Arc::new(alloc, laid) {
-            Ok(shared) => Ok(CanonUrl { shared }),
-            Err(_) => Err(KeyError::NoMemory),
-        }
-    }
-
     /// The canonical text.
     pub fn as_str(&self) -> &str
         ensures value { result.now ≡ self.now }

@@ -33,10 +33,8 @@ pub fn has_no_scheme(text: &str) -> bool
 fn has_colon(text: &str) -> bool
     ensures { result ≡ list_any spec.is_colon text.now }
 {
-    match text.split_once(':') {
-        Some(_) => true,
-        None => false,
-    }
+    let bytes = text.as_bytes();
+    len_before(bytes, b':') < bytes.len()
 }
 
 /// How long the text of a URL is before the last slash of its path.

@@ -1,8 +1,11 @@
 //! Links that differ in their fragments alone.
 ghost use Rattle.std.specs.Prelude.{◌≡◌, ◌≤◌, ℕ, List, length, true};
+ghost use Rattle.std.specs.List.{before_first};
 ghost use Rattle.crawl_keys.specs.CanonicalText.{resolve};
 ghost use Rattle.crawl_keys.specs.Folders.{is_of_folder};
 ghost use Rattle.crawl_keys.specs.Fragments as spec;
+
+use crate::plain::len_before;
 
 /// The text of a link before its fragment, which leads to the same canonical URL on each page, so
 /// that links to the parts of one page are one text.
@@ -14,10 +17,15 @@ pub fn before_fragment(text: &str) -> &str
     ensures folder { is_of_folder text.now ≡ true → is_of_folder result.now ≡ true }
     ensures within { length result.now ≤ length text.now }
 {
-    match text.split_once('#') {
-        Some((front, _)) if ends_visibly(front) => front,
-        _ => text,
-    }
+    let front = before_sign(text);
+    if ends_visibly(front) { front } else { text }
+}
+
+/// What stands before the first `#`.
+fn before_sign(text: &str) -> &str
+    ensures { result.now ≡ before_first spec.is_number_sign text.now }
+{
+    &text[..len_before(text.as_bytes(), b'#')]
 }
 
 fn ends_visibly(text: &str) -> bool

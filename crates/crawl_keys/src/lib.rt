@@ -22,4 +22,4 @@ pub use error::KeyError;
 pub use filter::{Filter, FilterError};
 pub use folder::is_of_folder;
 pub use fragment::before_fragment;
-pub use read::{canonical, resolve};
+pub use read::{canonical, is_canonical, resolve};

@@ -189,42 +189,69 @@ fn last_label(host: &[u8]) -> &[u8]
 pub fn is_plain(last: u8, text: &[u8]) -> bool
     ensures { result ≡ true → spec.is_plain last text.now ≡ true }
 {
-    is_plain_path(last, text) || has_plain_query(last, text)
+    let run = plain_run(last, text);
+    run == text.len() || has_plain_query(last, text, run)
 }
 
-/// Whether it stays by the rule for a path, whether there is a query in it or not. `false` says nothing.
-fn is_plain_path(last: u8, text: &[u8]) -> bool
-    ensures { result ≡ true → spec.is_plain last text.now ≡ true }
+/// How much of the text stays by the rule for a path, whether there is a query in it or not, at least: all, or up to the
+/// place before 16 bytes of which one may not stand there.
+fn plain_run(last: u8, text: &[u8]) -> usize
+    ensures value { result ≡ length text.now → spec.is_plain last text.now ≡ true }
+    ensures within { result ≤ length text.now }
 {
     if text.len() <= LANES {
-        return is_plain_short(last, text);
+        return if is_plain_short(last, text) {
+            text.len()
+        } else {
+            0
+        };
     }
-    may_follow(last, text[0]) && all_follow(text)
+    if may_follow(last, text[0]) {
+        follow_run(text)
+    } else {
+        0
+    }
 }
 
-/// Whether each byte of a text of more than 16 may follow the one before it. `false` says nothing.
-fn all_follow(text: &[u8]) -> bool
+/// How far each byte of a text of more than 16 may follow the one before it, at least: up to the end, or to the place before
+/// 16 bytes of which one may not.
+fn follow_run(text: &[u8]) -> usize
     requires { LANES < length text.now }
-    ensures { result ≡ true → Follow text.now 0 (length text.now - 1) }
+    ensures value { result ≡ length text.now → Follow text.now 0 (length text.now - 1) }
+    ensures within { result ≤ length text.now }
 {
     let last = text.len() - LANES - 1;
     let mut at = 0;
     while at < last {
         if !follow(text, at) {
-            return false;
+            return at;
         }
         at += LANES;
     }
     // These may overlap those before.
-    follow(text, last)
+    if follow(text, last) { text.len() } else { last }
 }
 
-/// Whether it stays where the rule for a path ends at the first `?`. `false` says nothing.
-fn has_plain_query(last: u8, text: &[u8]) -> bool
+/// Whether it stays where the rule for a path ends at the first `?`. So much of it stays by that rule, at least. `false` says
+/// nothing.
+fn has_plain_query(last: u8, text: &[u8], run: usize) -> bool
+    requires { run ≤ length text.now }
     ensures { result ≡ true → spec.is_plain last text.now ≡ true }
 {
-    let (path, query) = text.split_at(len_before(text, b'?'));
+    let end = len_before(text, b'?');
+    // The byte that may not stand there stands before the query.
+    if end > run + LANES {
+        return false;
+    }
+    let (path, query) = text.split_at(end);
     !query.is_empty() && is_plain_path(last, path) && are_kept(query)
+}
+
+/// Whether it stays by the rule for a path. `false` says nothing.
+fn is_plain_path(last: u8, text: &[u8]) -> bool
+    ensures { result ≡ true → spec.is_plain last text.now ≡ true }
+{
+    plain_run(last, text) == text.len()
 }
 
 /// Whether a query keeps each byte as it is.

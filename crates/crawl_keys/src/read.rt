@@ -1,4 +1,5 @@
 //! Canonical URLs read from texts.
+ghost use Rattle.std.specs.Prelude.{◌≡◌, true, Ok};
 ghost use Rattle.crawl_keys.specs.CanonicalText as spec;
 ghost use Rattle.crawl_keys.specs.Outcome.{Gives};
 
@@ -17,6 +18,16 @@ pub fn canonical(alloc: Global, text: &str) -> Result<CanonUrl, KeyError>
     match host_place(text) {
         Some(host) => CanonUrl::join(alloc, text, "", host),
         None => without_fragment(alloc, text),
+    }
+}
+
+/// Whether the text is a canonical URL as it is. `false` says nothing.
+pub fn is_canonical(text: &str) -> bool
+    ensures { result ≡ true → spec.canonical text.now ≡ Ok text.now }
+{
+    match host_place(text) {
+        Some(_) => true,
+        None => false,
     }
 }
 

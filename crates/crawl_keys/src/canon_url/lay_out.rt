@@ -1,60 +1,47 @@
 //! Laying a URL out, and reading what was laid out.
-ghost use Rattle.std.specs.Prelude.{◌≡◌, ◌≤◌, ◌++◌, length, IsAscii, Ok};
-ghost use Rattle.hash_order.specs.HashOrder as spec_hash;
+ghost use Rattle.std.specs.Prelude.{◌≡◌, ◌++◌, Ok};
 ghost use Rattle.url.specs.Parts.{IsValid};
-ghost use Rattle.crawl_keys.specs.CanonicalText.{IsCanonical, text_of};
+ghost use Rattle.crawl_keys.specs.CanonicalText.{text_of};
 ghost use Rattle.crawl_keys.specs.CanonicalText as spec;
 ghost use Rattle.crawl_keys.specs.HostKey as spec_host;
+ghost use Rattle.crawl_keys.specs.Layout.{IsLaidOut};
 ghost use Rattle.crawl_keys.specs.Outcome.{Gives};
 ghost use Rattle.crawl_keys.specs.Spelled.{IsSpelled};
 
 use super::Laid;
 use super::text::Text;
-use crate::KeyError;
 use crate::plain::HostPlace;
+use crate::{CanonUrl, KeyError};
 use hash_order::hash_of;
 use std::alloc::Global;
+use std::sync::Arc;
 use url::{Position, Url};
 
-impl Laid {
-    /// Lays out the text of a web URL without its fragment.
-    pub(super) fn keep(alloc: Global, url: &Url) -> Result<Laid, KeyError>
-        ensures { Gives KeyError.NoMemory (λ laid. laid) result (text_of url.now) }
+impl CanonUrl {
+    /// The canonical URL of a parsed one: its text without its fragment.
+    pub(crate) fn keep(alloc: Global, url: &Url) -> Result<CanonUrl, KeyError>
+        ensures { Gives KeyError.NoMemory (λ kept. kept) result (text_of url.now) }
     {
         if !is_web(url) {
             return Err(KeyError::NotHttp);
         }
-        let text = Text::keep(
-            alloc,
-            url.slice(Position::BeforeScheme, Position::AfterQuery),
-        )?;
+        let text = url.slice(Position::BeforeScheme, Position::AfterQuery);
         let host = HostPlace {
             start: url.index(Position::BeforeHost),
             end: url.index(Position::AfterHost),
         };
-        Laid::lay_out(text, host)
+        CanonUrl::join(alloc, text, "", host)
     }
 
-    /// Lays out the text that is made of these two, with the host at this place.
-    #[inline(always)]
-    pub(super) fn join(
+    /// The canonical URL whose text is made of these two, with the host at this place.
+    pub(crate) fn join(
         alloc: Global,
         front: &str,
         back: &str,
         host: HostPlace,
-    ) -> Result<Laid, KeyError>
+    ) -> Result<CanonUrl, KeyError>
         requires { IsSpelled (front.now ++ back.now) host.start host.end }
-        ensures { Gives KeyError.NoMemory (λ laid. laid) result (Ok (front.now ++ back.now)) }
-    {
-        let text = Text::join(alloc, front, back)?;
-        Laid::lay_out(text, host)
-    }
-
-    /// Lays out a text with the host at this place.
-    #[inline(always)]
-    fn lay_out(text: Text, host: HostPlace) -> Result<Laid, KeyError>
-        requires { IsSpelled text host.start host.end }
-        ensures { Gives KeyError.NoMemory (λ laid. laid) result (Ok text) }
+        ensures { Gives KeyError.NoMemory (λ url. url) result (Ok (front.now ++ back.now)) }
     {
         // Behind 4 GB there is no room for a place.
         let Ok(host_start) = u32::try_from(host.start) else {
@@ -63,28 +50,34 @@ impl Laid {
         let Ok(host_end) = u32::try_from(host.end) else {
             return Err(KeyError::NoMemory);
         };
-        let hash = hash_of(text.as_str());
-        Ok(Laid {
-            hash,
+        // The text is written where it stays, so that all is moved once alone, to what the copies share.
+        let mut laid = Laid {
+            hash: 0,
             host_start,
             host_end,
-            text,
-        })
+            text: Text::new(),
+        };
+        laid.text.write(alloc, front, back)?;
+        laid.hash = hash_of(laid.text.as_str());
+        match Arc::new(alloc, laid) {
+            Ok(shared) => Ok(CanonUrl { shared }),
+            Err(_) => Err(KeyError::NoMemory),
+        }
     }
+}
 
-    /// The canonical text.
+impl Laid {
+    /// The text.
     pub(super) fn as_str(&self) -> &str
-        ensures value { result.now ≡ self.now }
-        ensures canonical { IsCanonical self.now }
-        ensures ascii { IsAscii result.now }
+        ensures { result.now ≡ self.now.text }
     {
         self.text.as_str()
     }
 
     /// Where the host stands in the text.
     pub(super) fn host(&self) -> HostPlace
-        ensures spelled { IsSpelled self.now result.start result.end }
-        ensures within { result.end ≤ length self.now }
+        ensures start { result.start ≡ self.now.host_start }
+        ensures end { result.end ≡ self.now.host_end }
     {
         HostPlace {
             start: self.host_start as usize,
@@ -94,14 +87,15 @@ impl Laid {
 
     /// The hash of the text.
     pub(super) fn hash(&self) -> u64
-        ensures { result ≡ spec_hash.hash_of self.now }
+        ensures { result ≡ self.now.hash }
     {
         self.hash
     }
 
     /// The host without its port.
     pub(super) fn host_key(&self) -> &str
-        ensures { result.now ≡ spec_host.host_key self.now }
+        requires { IsLaidOut self.now }
+        ensures { result.now ≡ spec_host.host_key self.now.text }
     {
         &self.text.as_str()[self.host_start as usize..self.host_end as usize]
     }

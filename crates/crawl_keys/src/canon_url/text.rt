@@ -1,5 +1,5 @@
 //! A text that lies in its owner where it is short.
-ghost use Rattle.std.specs.Prelude.{◌≡◌, ◌++◌, IfOk};
+ghost use Rattle.std.specs.Prelude.{◌≡◌, ◌++◌, [], IfOk, OnOk, string_bytes};
 
 use arrayvec::ArrayString;
 use std::alloc::{AllocError, Global};
@@ -35,33 +35,29 @@ impl Model for Text {
 }
 
 impl Text {
-    /// A copy of a text. Only a long one wants memory.
-    pub(super) fn keep(alloc: Global, text: &str) -> Result<Text, AllocError>
-        ensures { IfOk result (λ copy. copy ≡ text.now) }
+    /// No text.
+    #[inline(always)]
+    pub(super) fn new() -> Text
+        ensures { result ≡ [] }
     {
-        let kept = match ArrayString::from(text) {
-            Ok(short) => Kept::Short(short),
-            Err(_) => Kept::Long(String::from_str(alloc, text)?),
-        };
-        Ok(Text { kept })
+        Text {
+            kept: Kept::Short(ArrayString::new()),
+        }
     }
 
-    /// The text that is made of these two. Only a long one wants memory.
+    /// Writes these two where there is no text yet. Only a long one wants memory.
     #[inline(always)]
-    pub(super) fn join(alloc: Global, front: &str, back: &str) -> Result<Text, AllocError>
-        ensures { IfOk result (λ text. text ≡ front.now ++ back.now) }
+    pub(super) fn write(&mut self, alloc: Global, front: &str, back: &str) -> Result<(), AllocError>
+        requires { self.old ≡ [] }
+        ensures { OnOk result (self.new ≡ front.now ++ back.now) }
     {
-        let mut short = ArrayString::new();
-        if short.try_push_str(front).is_ok() && short.try_push_str(back).is_ok() {
-            return Ok(Text {
-                kept: Kept::Short(short),
-            });
+        if let Kept::Short(short) = &mut self.kept {
+            if short.try_push_str(front).is_ok() && short.try_push_str(back).is_ok() {
+                return Ok(());
+            }
         }
-        let mut long = String::from_str(alloc, front)?;
-        long.push_str(back)?;
-        Ok(Text {
-            kept: Kept::Long(long),
-        })
+        self.kept = Kept::Long(joined(alloc, front, back)?);
+        Ok(())
     }
 
     /// The text.
@@ -74,4 +70,14 @@ impl Text {
             Kept::Long(text) => text.as_str(),
         }
     }
+}
+
+/// A long text that is made of these two, in memory that is asked for once.
+fn joined(alloc: Global, front: &str, back: &str) -> Result<String, AllocError>
+    ensures { IfOk result (λ text. string_bytes text ≡ front.now ++ back.now) }
+{
+    let mut text = String::with_capacity(alloc, front.len() + back.len())?;
+    text.push_str(front)?;
+    text.push_str(back)?;
+    Ok(text)
 }

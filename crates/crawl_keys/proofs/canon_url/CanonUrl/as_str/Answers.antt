@@ -1,8 +1,14 @@
-use Rattle.std.proofs.Common.{subst, ◌∙◌}
+use Rattle.std.proofs.Common.{ap, subst, ◌∙◌}
 use Rattle.crawl_keys.specs.CanonicalText.{IsCanonical}
+use Rattle.crawl_keys.specs.declared.canon_url.Laid.{Laid}
 use Rattle.crawl_keys.proofs.CanonicalLemmas.{canonical-canonical}
 use Rattle.crawl_keys.proofs.canon_url.CanonUrl.as_str.Goals as goal
 
+pub returns-clause-value : goal.returns-clause-value
+returns-clause-value c = c.as_str.ensures ∙ ap (λ (laid : Laid). laid.text) c.as_ref.ensures ∙ c.self.view_is
+
 pub returns-clause-stable : goal.returns-clause-stable
-returns-clause-stable c =
-    canonical-canonical _ (subst IsCanonical (c.as_ref.ensures ∙ c.self.view_is) c.as_str.ensures.canonical)
+returns-clause-stable c = canonical-canonical _ (subst IsCanonical c.self.view_is c.self.invariant.canonical)
+
+pub returns-clause-canonical : goal.returns-clause-canonical
+returns-clause-canonical c = subst IsCanonical c.self.view_is c.self.invariant.canonical

@@ -1,6 +1,6 @@
 use Rattle.std.proofs.Common.{◌-◌, ◌≤◌, length}
 use Rattle.crawl_keys.specs.Lanes.{Follow}
-use Rattle.crawl_keys.proofs.plain.all_follow.Given as goal
+use Rattle.crawl_keys.proofs.plain.follow_run.Given as goal
 
 -- so far each byte may follow the one before it
 abbrev pub invariant-loop-at : goal.invariant-loop-at
