@@ -1,5 +1,4 @@
 -- What is seen of a page whose URL the input has, or which has it beside.
-use Rattle.std.specs.Prelude.{ℕ, List}
 use Rattle.crawl_web.specs.FirstLine.{line_in, behind_line}
 use Rattle.crawl_web.specs.PageLists.{PageRead}
 use Rattle.crawl_web.specs.declared.saved_web.known_page.PageText.{PageText}

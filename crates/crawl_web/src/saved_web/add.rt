@@ -3,7 +3,7 @@ ghost use Rattle.std.specs.Prelude.{◌≡◌, true, false, Ok, OnOk, IfOk, IsUt
 ghost use Rattle.crawl_keys.specs.CanonicalText.{canonical};
 ghost use Rattle.crawl_keys.specs.Outcome.{Gives};
 ghost use Rattle.std.specs.Result.{result_ok};
-ghost use Rattle.crawl_web.specs.FirstLine.{behind_line};
+ghost use Rattle.crawl_web.specs.FirstLine.{behind_line, line_in};
 ghost use Rattle.crawl_web.specs.Lines.{text_of};
 ghost use Rattle.crawl_web.specs.WebChecks.{header_of, page_fault, under_fault, line_fault};
 ghost use Rattle.crawl_web.specs.WebLines.{page_url, is_page};
@@ -11,11 +11,12 @@ ghost use Rattle.crawl_web.specs.WebFaults.{Tells};
 ghost use Rattle.crawl_web.specs.KnownPages.{kept_before, Adds, Follows};
 ghost use Rattle.crawl_web.specs.PageLists.{has};
 
-use crate::lines::{short_text, text_of};
+use crate::lines::{short_text, split_line, text_of};
 use crate::saved_web::error::WebError;
 use crate::saved_web::line::{Line, line_of_text};
+use crate::saved_web::link_text::LinkText;
 use crate::saved_web::pages::Pages;
-use crawl_keys::{KeyError, canonical};
+use crawl_keys::{KeyError, canonical, is_canonical};
 use std::alloc::Global;
 
 /// What the checks of a line ask of the lines above it, besides their pages and how many they are.
@@ -178,16 +179,46 @@ fn add_page<'a>(
     ensures tells { Tells result (page_fault number (has pages.old) (canonical text.now)) }
     ensures adds { OnOk result (Adds pages.old pages.new (result_ok (canonical text.now)) (behind_line rest.now)) }
 {
+    let behind = behind_word(rest);
+    if is_written(text, behind) {
+        return add_written(pages, number, text, behind);
+    }
     let url = match canonical(alloc, text) {
         Ok(url) => url,
         Err(KeyError::NoMemory) => return Err(WebError::NoMemory),
         Err(KeyError::NotUrl | KeyError::NotHttp) => return Err(WebError::BadPageUrl(number)),
     };
-    if pages.add(alloc, url, behind_word(rest))? {
+    if pages.add(alloc, url, behind)? {
         Ok(())
     } else {
         Err(WebError::PageTwice(number))
     }
+}
+
+/// Adds the page whose URL is this text, the first line of what is behind the word.
+fn add_written<'a>(
+    pages: &mut Pages<'a>,
+    number: u64,
+    text: &str,
+    behind: &'a str,
+) -> Result<(), WebError>
+    requires url { canonical text.now ≡ Ok text.now }
+    requires line { line_in behind.now ≡ text.now }
+    ensures tells { Tells result (page_fault number (has pages.old) (canonical text.now)) }
+    ensures adds { OnOk result (Adds pages.old pages.new (result_ok (canonical text.now)) (behind_line behind.now)) }
+{
+    if !pages.add_written(&LinkText::new(text), behind)? {
+        return Err(WebError::PageTwice(number));
+    }
+    Ok(())
+}
+
+/// Whether the text is a canonical URL as it is, and the first line of what is behind the word. `false` says nothing.
+fn is_written(text: &str, behind: &str) -> bool
+    ensures url { result ≡ true → canonical text.now ≡ Ok text.now }
+    ensures line { result ≡ true → line_in behind.now ≡ text.now }
+{
+    is_canonical(text) && split_line(behind).0 == text
 }
 
 /// What stands behind the word `page` at the front, if it stands there. The same is behind its first line.

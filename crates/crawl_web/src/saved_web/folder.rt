@@ -15,6 +15,8 @@ use std::marker::Model;
 pub struct Folder<'a> {
     page: Base,
     known: KnownLinks<'a>,
+    // Another page of the folder came before this one, so that there may be more.
+    again: bool,
 }
 
 // Contracts see the URL of the page.
@@ -37,6 +39,7 @@ impl<'a> Folder<'a> {
         Folder {
             page,
             known: KnownLinks::new(alloc),
+            again: false,
         }
     }
 
@@ -44,9 +47,17 @@ impl<'a> Folder<'a> {
     pub fn turn_to(self, alloc: Global, page: Base) -> Folder<'a>
         ensures { result ≡ page }
     {
-        let Folder { page: last, known } = self;
+        let Folder {
+            page: last,
+            known,
+            ..
+        } = self;
         if last.is_beside(&page) {
-            Folder { page, known }
+            Folder {
+                page,
+                known,
+                again: true,
+            }
         } else {
             Folder::new(alloc, page)
         }
@@ -57,6 +68,11 @@ impl<'a> Folder<'a> {
         ensures { result.now ≡ self.now }
     {
         &self.page
+    }
+
+    /// Whether it is worth knowing links of it: of many folders there is one page.
+    pub fn comes_again(&self) -> bool {
+        self.again
     }
 
     /// How many texts are known.

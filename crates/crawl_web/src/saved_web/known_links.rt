@@ -14,6 +14,9 @@ use hash_order::hash_of;
 use std::alloc::Global;
 use std::marker::Model;
 
+/// Of so many texts, or fewer, the room is used again.
+const FEW_TEXTS: usize = 64;
+
 /// A text, and where a link with it leads.
 #[derive(Drop)]
 pub struct KnownLink<'a> {
@@ -76,6 +79,18 @@ impl<'a> KnownLinks<'a> {
             links: Vec::new(alloc),
             index: HashIndex::new(alloc),
         }
+    }
+
+    /// Forgets all texts. The room for a few is kept.
+    pub fn clear(&mut self, alloc: Global)
+        ensures { self.new ≡ [] }
+    {
+        if self.links.len() > FEW_TEXTS {
+            *self = KnownLinks::new(alloc);
+            return;
+        }
+        self.links.clear();
+        self.index = HashIndex::new(alloc);
     }
 
     /// How many texts are known.

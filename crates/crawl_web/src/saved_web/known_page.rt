@@ -1,6 +1,6 @@
 //! A page of a saved web, as it is kept.
 ghost use Rattle.std.specs.Prelude.{◌≡◌, IfOk};
-ghost use Rattle.crawl_web.specs.FirstLine.{behind_line};
+ghost use Rattle.crawl_web.specs.FirstLine.{behind_line, line_in};
 
 use crate::lines::split_line;
 use crawl_keys::CanonUrl;
@@ -64,6 +64,15 @@ impl<'a> KnownPage<'a> {
                 text: PageText::Made(page),
             }),
             Err(_) => Err(AllocError),
+        }
+    }
+
+    /// The page whose URL is the first line of this text.
+    pub fn written(text: &'a str) -> KnownPage<'a>
+        ensures { result ≡ record { url = line_in text.now; behind = behind_line text.now } }
+    {
+        KnownPage {
+            text: PageText::Written(text),
         }
     }
 

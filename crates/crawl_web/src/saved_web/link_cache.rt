@@ -2,6 +2,7 @@
 ghost use Rattle.std.specs.Prelude.{◌≡◌, ◌≤◌, ◌<◌};
 
 use crate::saved_web::folder::Folder;
+use crate::saved_web::known_links::KnownLinks;
 use crawl_keys::{Base, CanonUrl};
 use hash_order::hash_of;
 use std::alloc::{AllocError, Global};
@@ -29,6 +30,8 @@ const FOLDER_LIMIT: usize = 512;
 pub struct LinkCache<'a> {
     /// Room for the links of a page, until they are all found.
     pub links: Vec<CanonUrl>,
+    /// What is known of those links that are of no folder.
+    pub known: KnownLinks<'a>,
     slots: Vec<Option<Folder<'a>>>,
     // A folder was put out since there are so many slots.
     crowded: bool,
@@ -44,6 +47,7 @@ impl<'a> LinkCache<'a> {
         let among = among.max(1) as usize;
         LinkCache {
             links: Vec::new(alloc),
+            known: KnownLinks::new(alloc),
             slots: Vec::new(alloc),
             crowded: false,
             texts: 0,
@@ -56,6 +60,7 @@ impl<'a> LinkCache<'a> {
     pub fn without_slots(alloc: Global) -> LinkCache<'a> {
         LinkCache {
             links: Vec::new(alloc),
+            known: KnownLinks::new(alloc),
             slots: Vec::new(alloc),
             crowded: false,
             texts: 0,
@@ -120,7 +125,7 @@ impl<'a> LinkCache<'a> {
         self.texts = 0;
         for slot in old {
             if let Some(folder) = slot {
-                self.insert(folder_hash(folder.page().as_str()), folder);
+                self.insert(folder_hash(folder.page()), folder);
             }
         }
     }
@@ -143,15 +148,7 @@ fn free_slots<'a>(alloc: Global, count: usize) -> Result<Vec<Option<Folder<'a>>>
     Ok(slots)
 }
 
-/// The hash of the folder of a page: of the text before the last slash of its path.
-pub fn folder_hash(url: &str) -> u64 {
-    let path = match url.split_once('?') {
-        Some((path, _)) => path,
-        None => url,
-    };
-    let folder = match path.rsplit_once('/') {
-        Some((folder, _)) => folder,
-        None => path,
-    };
-    hash_of(folder)
+/// The hash of the folder of a page.
+pub fn folder_hash(page: &Base) -> u64 {
+    hash_of(page.folder())
 }

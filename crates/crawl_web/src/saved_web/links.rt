@@ -58,9 +58,15 @@ fn remembering<'a>(
     ensures page { IfOk result (λ page. page ≡ found_page base (link_texts (lines behind.now))) }
     ensures refused { IfErr result (λ e. e ≡ FetchError.NoMemory) }
 {
-    let hash = folder_hash(base.as_str());
+    let hash = folder_hash(&base);
     let mut folder = cache.take(alloc, hash, base);
-    let page = found_page(alloc, &mut folder, &mut cache.links, behind)?;
+    let page = found_page(
+        alloc,
+        &mut folder,
+        &mut cache.known,
+        &mut cache.links,
+        behind,
+    )?;
     cache.put(alloc, hash, folder);
     Ok(page)
 }
@@ -69,13 +75,14 @@ fn remembering<'a>(
 fn found_page<'a>(
     alloc: Global,
     folder: &mut Folder<'a>,
+    known: &mut KnownLinks<'a>,
     buffer: &mut Vec<CanonUrl>,
     behind: &'a str,
 ) -> Result<Page, FetchError>
     ensures page { IfOk result (λ page. page ≡ found_page folder.old (link_texts (lines behind.now))) }
     ensures refused { IfErr result (λ e. e ≡ FetchError.NoMemory) }
 {
-    let skipped = find_links(alloc, folder, buffer, behind)?;
+    let skipped = find_links(alloc, folder, known, buffer, behind)?;
     let urls = take_links(alloc, buffer)?;
     Ok(Page::Found {
         links: Links::from(urls),
@@ -87,6 +94,7 @@ fn found_page<'a>(
 fn find_links<'a>(
     alloc: Global,
     folder: &mut Folder<'a>,
+    known: &mut KnownLinks<'a>,
     links: &mut Vec<CanonUrl>,
     behind: &'a str,
 ) -> Result<u64, FetchError>
@@ -95,12 +103,12 @@ fn find_links<'a>(
     ensures refused { IfErr result (λ e. e ≡ FetchError.NoMemory) }
 {
     links.clear();
-    let mut known = KnownLinks::new(alloc);
+    known.clear(alloc);
     let mut skipped: u64 = 0;
     let mut rest = behind;
     while let Some((text, more)) = next_link(rest) {
         rest = more;
-        match link_on(alloc, folder, &mut known, text)? {
+        match link_on(alloc, folder, known, text)? {
             Some(link) => links.push(link)?,
             None => skipped += 1,
         }
@@ -120,7 +128,8 @@ fn take_links(alloc: Global, buffer: &mut Vec<CanonUrl>) -> Result<Vec<CanonUrl>
     Ok(links)
 }
 
-/// Where a link with this text leads: what is of the folder is known to it from now on, and what is not to this page.
+/// Where a link with this text leads: what is of a folder that comes again is known to it from now on, and what is not to this
+/// page.
 fn link_on<'a>(
     alloc: Global,
     folder: &mut Folder<'a>,
@@ -139,7 +148,7 @@ fn link_on<'a>(
         return Ok(copy_of(link)?);
     }
     let front = whole.before_fragment();
-    if is_of_folder(front.as_str()) {
+    if folder.comes_again() && is_of_folder(front.as_str()) {
         folder.link(alloc, &front)
     } else {
         known.link(alloc, folder.page(), &front)

@@ -1,10 +1,11 @@
 //! The pages of a saved web, found by their URLs.
 ghost use Rattle.std.specs.Prelude.{◌≡◌, ◌==◌, ◌++◌, ◌∷◌, [], ℕ, List, true, false, not, length, IfOk, IfSome, if◌then◌else◌};
 ghost use Rattle.std.specs.Option.{option_map};
-ghost use Rattle.crawl_web.specs.FirstLine.{behind_line};
+ghost use Rattle.crawl_web.specs.FirstLine.{behind_line, line_in};
 ghost use Rattle.crawl_web.specs.PageLists.{page_with, has};
 
 use crate::saved_web::known_page::KnownPage;
+use crate::saved_web::link_text::LinkText;
 use crawl_keys::CanonUrl;
 use hash_index::HashIndex;
 use std::alloc::{AllocError, Global};
@@ -76,6 +77,21 @@ impl<'a> Pages<'a> {
         }
         let page = KnownPage::new(alloc, url, text)?;
         self.list.push(page)?;
+        Ok(true)
+    }
+
+    /// The same of a page whose URL is that first line as it is, so that it need not be made.
+    #[tactic(auto, using(crate::proofs::PageIndex::has_index_there))]
+    pub fn add_written(&mut self, url: &LinkText<'_>, text: &'a str) -> Result<bool, AllocError>
+        requires { line_in text.now ≡ url.now }
+        ensures added { IfOk result (λ added. added ≡ not (has self.old url.now)) }
+        ensures pages { IfOk result (λ added. self.new ≡ (if added then self.old ++ record { url = url.now; behind = behind_line text.now } ∷ [] else self.old)) }
+    {
+        let found = self.index.find_or_insert(&self.list, url)?;
+        if found.is_some() {
+            return Ok(false);
+        }
+        self.list.push(KnownPage::written(text))?;
         Ok(true)
     }
 
