@@ -1,6 +1,5 @@
 -- When the books of a part agree with the list of a subqueue.
-use Rattle.std.proofs.Common.{◌≡◌, ◌⊎◌, ℕ, zero, suc, ◌+◌, ◌<◌, ◌≤◌, min, Bool, true, false, true≢false, cond, eqb, List, [], ◌∷◌, ◌++◌, length, Some, refl, sym, ap, ◌∙◌, subst, inl, inr, ⊎_elim, arith}
-use Rattle.std.proofs.lemmas.List.{append_assoc}
+use Rattle.std.proofs.Common.{◌≡◌, ℕ, zero, suc, ◌+◌, ◌<◌, ◌≤◌, Bool, true, false, cond, eqb, List, [], ◌∷◌, ◌++◌, length, Some, refl, sym, ap, ◌∙◌, subst, ⊎_elim, arith}
 use Rattle.std.proofs.lemmas.Bool.{cases_lt}
 use Rattle.std.proofs.lemmas.Bool.Decides.{nat_tests}
 use Rattle.crawl_frontier.specs.declared.entry.Entry.{Entry}
@@ -9,7 +8,7 @@ use Rattle.crawl_frontier.specs.declared.book.Logged.TheVariants.{Accepted, Seen
 use Rattle.crawl_frontier.specs.Entries.{KeepsRule, count_of, entries_of}
 use Rattle.crawl_frontier.specs.Books.{BookId, sent_to, Numbered, IsBook, queue_of}
 use Rattle.crawl_frontier.specs.Accounts.{At}
-use Rattle.crawl_frontier.specs.Finishing.{Stands, StandsAt, FailsAt, LogStands, LogFails, CountsStand, CountFails, AgreesBelow, DisagreesAt, OneDisagrees, AgreeTo, AllAre, KeepRuleBelow}
+use Rattle.crawl_frontier.specs.Finishing.{Stands, LogStands, CountsStand, CountFails, AgreesBelow, DisagreesAt, OneDisagrees, AgreeTo, KeepRuleBelow}
 use Rattle.crawl_frontier.proofs.Entries.{count_of-snoc}
 
 -- the k-th entry of a numbered list has the k-th number
@@ -115,43 +114,6 @@ agrees workers least below lists b is within rule under stands now under' counts
 
 -- ---- what is found to differ is a fault
 
-entries_of-in : (id : ℕ) (es : List Entry) (j : ℕ) (x : Entry) → At (entries_of id es) j x → (k : ℕ) × At es k x
-entries_of-in id [] j x at = absurd (cc (at))
-entries_of-in id (e ∷ es) j x at = by_case (eqb e.sender id) j at (λ i here. entries_of-in id es i x here)
-  where
-    by_case : (t : Bool) (j : ℕ) → At (cond t (e ∷ entries_of id es) (entries_of id es)) j x → ((i : ℕ) → At (entries_of id es) i x → (k : ℕ) × At es k x) → (k : ℕ) × At (e ∷ es) k x
-    by_case true zero here rest = (0, here)
-    by_case true (suc j) here rest = let r = rest j here in (suc r.0, r.1)
-    by_case false j here rest = let r = rest j here in (suc r.0, r.1)
-
--- an accepted line is among those of its subqueue
-sent_to-has : (q : ℕ) (log : List Logged) (k : ℕ) (e : Entry) → At log k (Accepted e q) → (j : ℕ) × At (sent_to q log) j e
-sent_to-has q [] k e at = absurd (cc (at))
-sent_to-has q (Seen u p ∷ ls) zero e at = absurd (cc (at))
-sent_to-has q (Seen u p ∷ ls) (suc k) e at = sent_to-has q ls k e at
-sent_to-has q (Accepted x p ∷ ls) zero e at = here (eqb p q) refl
-  where
-    here : (t : Bool) → eqb p q ≡ t → (j : ℕ) × At (cond t (x ∷ sent_to q ls) (sent_to q ls)) j e
-    here true is = let same : x ≡ e = cc in (0, ap Some same)
-    here false is = let same : p ≡ q = cc in absurd (grind (arith, nat_tests))
-sent_to-has q (Accepted x p ∷ ls) (suc k) e at = later (eqb p q) (sent_to-has q ls k e at)
-  where
-    later : (t : Bool) → (j : ℕ) × At (sent_to q ls) j e → (j : ℕ) × At (cond t (x ∷ sent_to q ls) (sent_to q ls)) j e
-    later true r = (suc r.0, r.1)
-    later false r = r
-
--- a line that is false
-pub log_disagrees : (q : ℕ) (lists : List (List Entry)) (b : BookId) → LogFails q lists b.log → DisagreesAt q lists b
-log_disagrees q lists b (k, Seen u p, at, queue, (es, here, fails)) =
-    (es, subst (λ n. At lists n es) queue here, λ agree. true≢false (sym (agree.seen k u (subst (λ n. At b.log k (Seen u n)) queue at)) ∙ fails))
-log_disagrees q lists b (k, Accepted e p, at, queue, (es, here, fails)) =
-    (es, subst (λ n. At lists n es) queue here, λ agree. refute agree.sent (sent_to-has q b.log k e (subst (λ n. At b.log k (Accepted e n)) queue at)))
-  where
-    refute : sent_to q b.log ≡ entries_of b.id es → (j : ℕ) × At (sent_to q b.log) j e → ⊥
-    refute same r =
-        let s = entries_of-in b.id es r.0 e (subst (λ xs. At xs r.0 e) same r.1) in
-        fails s.0 s.1
-
 -- a count that is another
 pub count_disagrees : (workers q : ℕ) (lists : List (List Entry)) (b : BookId) → IsBook workers b → q < workers → CountFails q lists b → DisagreesAt q lists b
 count_disagrees workers q lists b is lt (es, n, here, counted, differs) = (
@@ -167,33 +129,7 @@ count_disagrees workers q lists b is lt (es, n, here, counted, differs) = (
 pub fails_next : (P : ℕ → Type 0) (first old new : ℕ) → new ≤ old → (old < first → P old) → (new < old → P new) → new < first → P new
 fails_next P first old new le before now lt = ⊎_elim now (λ not. let same : old ≡ new = omega (arith, le, not) in subst P same (before (omega (arith, lt, same)))) (cases_lt new old)
 
--- ---- from the last line and the last book to the first
-
--- one line more, before those that were compared
-pub line_first : (lists : List (List Entry)) (l : Logged) (ls : List Logged) (old new : ℕ) → new ≤ old → LogStands old lists ls → (queue_of l < new → StandsAt lists l) → LogStands new lists (l ∷ ls)
-line_first lists l ls old new le stand one zero x at below = let same : l ≡ x = cc in subst (StandsAt lists) same (one (subst (λ y. queue_of y < new) (sym same) below))
-line_first lists l ls old new le stand one (suc k) x at below = stand k x at (omega (arith, le, below))
-
-pub false_later : (q : ℕ) (lists : List (List Entry)) (l : Logged) (ls : List Logged) → LogFails q lists ls → LogFails q lists (l ∷ ls)
-false_later q lists l ls f = (suc f.0, f.1, f.2, f.3, f.4)
-
--- the lines that were compared are the last of the log; and so are they with one more
-abbrev pub LinesCompared : List (List Entry) → ℕ → ℕ → List Logged → List Logged → Type 0
-LinesCompared lists settled least left whole =
-    (least ≤ settled) × ((ls : List Logged) × (whole ≡ left ++ ls) × LogStands least lists ls × (least < settled → LogFails least lists ls))
-
-pub lines_more : (lists : List (List Entry)) (settled old new : ℕ) (before left whole : List Logged) (l : Logged) → LinesCompared lists settled old before whole → before ≡ left ++ l ∷ [] → new ≤ old
-    → (queue_of l < new → StandsAt lists l) → (new < old → (queue_of l ≡ new) × FailsAt lists l) → LinesCompared lists settled new left whole
-lines_more lists settled old new before left whole l inv last le stands fails =
-    let ls = inv.1.0 in (
-      omega (arith, le, inv.0),
-      (
-        l ∷ ls,
-        inv.1.1 ∙ (ap (λ xs. xs ++ ls) last ∙ append_assoc left (l ∷ []) ls),
-        line_first lists l ls old new le inv.1.2 stands,
-        fails_next (λ q. LogFails q lists (l ∷ ls)) settled old new le (λ lt. false_later old lists l ls (inv.1.3 lt)) (λ lt. let f = fails lt in (0, l, refl, f.0, f.1)),
-      ),
-    )
+-- ---- from the last book to the first
 
 -- one book more, before those that were compared
 pub agree_first : (lists : List (List Entry)) (b : BookId) (bs : List BookId) (settled old new : ℕ) → AgreeTo old settled lists bs → new ≤ old → AgreesBelow new lists b → (new < old → DisagreesAt new lists b)
@@ -208,44 +144,7 @@ agree_first lists b bs settled old new (within, agree, differ) le one differs =
     later : OneDisagrees old lists bs → OneDisagrees old lists (b ∷ bs)
     later d = (suc d.0, d.1, d.2, d.3)
 
--- ---- both halves of the books
-
-pub first_half : {X : Type 0} (xs ys : List X) (j : ℕ) (x : X) → At xs j x → At (xs ++ ys) j x
-first_half [] ys j x at = absurd (cc (at))
-first_half (z ∷ zs) ys zero x at = at
-first_half (z ∷ zs) ys (suc j) x at = first_half zs ys j x at
-
+-- what stands in the second of two lists
 pub second_half : {X : Type 0} (xs ys : List X) (j : ℕ) (x : X) → At ys j x → (i : ℕ) × At (xs ++ ys) i x
 second_half [] ys j x at = (j, at)
 second_half (z ∷ zs) ys j x at = let r = second_half zs ys j x at in (suc r.0, r.1)
-
-pub in_half : {X : Type 0} (xs ys : List X) (j : ℕ) (x : X) → At (xs ++ ys) j x → ((i : ℕ) × At xs i x) ⊎ ((i : ℕ) × At ys i x)
-in_half [] ys j x at = inr (j, at)
-in_half (z ∷ zs) ys zero x at = inl (0, at)
-in_half (z ∷ zs) ys (suc j) x at = ⊎_elim (λ t. inl (suc t.0, t.1)) (λ t. inr t) (in_half zs ys j x at)
-
--- what two threads found of their halves, where the lesser counts
-pub agree_together : (lists : List (List Entry)) (front back : List BookId) (settled a b : ℕ) → AgreeTo a settled lists front → AgreeTo b settled lists back → AgreeTo (min a b) settled lists (front ++ back)
-agree_together lists front back settled a b (within, agree, differ) (within', agree', differ') = (omega (arith, within), all, differs)
-  where
-    all : (j : ℕ) (x : BookId) → At (front ++ back) j x → AgreesBelow (min a b) lists x
-    all j x at = ⊎_elim
-        (λ t. λ q es below here. agree t.0 x t.1 q es (omega (arith, below)) here)
-        (λ t. λ q es below here. agree' t.0 x t.1 q es (omega (arith, below)) here)
-        (in_half front back j x at)
-
-    of_front : a ≡ min a b → a < settled → OneDisagrees (min a b) lists (front ++ back)
-    of_front same lt = let d = differ lt in (d.0, d.1, first_half front back d.0 d.1 d.2, subst (λ q. DisagreesAt q lists d.1) same d.3)
-
-    of_back : b ≡ min a b → b < settled → OneDisagrees (min a b) lists (front ++ back)
-    of_back same lt = let d = differ' lt in let r = second_half front back d.0 d.1 d.2 in (r.0, d.1, r.1, subst (λ q. DisagreesAt q lists d.1) same d.3)
-
-    differs : min a b < settled → OneDisagrees (min a b) lists (front ++ back)
-    differs lt = ⊎_elim (λ less. of_front (omega (arith, less)) (omega (arith, less, lt))) (λ le. of_back (omega (arith, le)) (omega (arith, le, lt))) (cases_lt a b)
-
--- each half has books
-pub front_are : (P : BookId → Type 0) (front back whole : List BookId) → front ++ back ≡ whole → AllAre P whole → AllAre P front
-front_are P front back whole same all j x at = all j x (subst (λ xs. At xs j x) same (first_half front back j x at))
-
-pub back_are : (P : BookId → Type 0) (front back whole : List BookId) → front ++ back ≡ whole → AllAre P whole → AllAre P back
-back_are P front back whole same all j x at = let r = second_half front back j x at in all r.0 x (subst (λ xs. At xs r.0 x) same r.1)

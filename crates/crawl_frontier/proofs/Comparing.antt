@@ -11,13 +11,16 @@ use Rattle.crawl_frontier.specs.Entries.{KeepsRule}
 use Rattle.crawl_frontier.specs.Books.{IsBook, book_of}
 use Rattle.crawl_frontier.specs.Parts.{WorkerId, SenderId}
 use Rattle.crawl_frontier.specs.Accounts.{Accounts, AccountId, AllKeepRule, FinishFails}
-use Rattle.crawl_frontier.specs.Finishing.{AllAre, AgreeTo, CanCompare, KeepRuleBelow}
+use Rattle.crawl_frontier.specs.Finishing.{AllAre, AgreeTo, CanCompare, KeepRuleBelow, LogsStand}
 use Rattle.crawl_frontier.proofs.Gets.{get_within}
 
 module _ (workers : ℕ) (closed : List WorkerId) (senders : List SenderId) (s : Settled) (can : CanCompare workers closed senders s) where
   -- what a comparison asks for
-  pub askable : (lists : List (List Entry)) → lists ≡ s.lists.items → (s.least ≤ length lists) × AllAre (IsBook (length lists)) (map book_of s.books.items) × KeepRuleBelow (length lists) s.least lists
-  askable lists same = subst (λ ls. (s.least ≤ length ls) × AllAre (IsBook (length ls)) (map book_of s.books.items) × KeepRuleBelow (length ls) s.least ls) (sym same) (can.within, can.books, can.rule)
+  pub askable : (lists : List (List Entry)) → lists ≡ s.lists.items
+      → (s.least ≤ length lists) × AllAre (IsBook (length lists)) (map book_of s.books.items) × KeepRuleBelow (length lists) s.least lists × LogsStand s.least lists (map book_of s.books.items)
+  askable lists same =
+      subst (λ ls. (s.least ≤ length ls) × AllAre (IsBook (length ls)) (map book_of s.books.items) × KeepRuleBelow (length ls) s.least ls × LogsStand s.least ls (map book_of s.books.items)) (sym same)
+      (can.within, can.books, can.rule, can.logs)
 
   pub compared : (least : ℕ) (lists : List (List Entry)) → lists ≡ s.lists.items → AgreeTo least s.least lists (map book_of s.books.items) → AgreeTo least s.least s.lists.items (map book_of s.books.items)
   compared least lists same agree = subst (λ ls. AgreeTo least s.least ls (map book_of s.books.items)) same agree

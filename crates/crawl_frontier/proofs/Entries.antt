@@ -1,6 +1,5 @@
 -- Lists of entries, one entry longer or cut in two.
-use Rattle.std.proofs.Common.{◌≡◌, ℕ, ◌+◌, Bool, true, false, cond, eqb, suc, ◌≤◌, length, List, [], ◌∷◌, ◌++◌, sym, ◌∙◌, subst, append_assoc, arith}
-use Rattle.std.specs.Prelude.{◌||◌}
+use Rattle.std.proofs.Common.{◌≡◌, ℕ, ◌+◌, Bool, true, false, cond, eqb, suc, ◌≤◌, length, List, [], ◌∷◌, ◌++◌, sym, subst, append_assoc, arith}
 use Rattle.std.proofs.lemmas.List.{append-nil}
 use Rattle.crawl_frontier.specs.declared.entry.Entry.{Entry}
 use Rattle.crawl_frontier.specs.Entries.{MayFollow, KeepsRule, count_of}

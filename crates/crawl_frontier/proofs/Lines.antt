@@ -4,6 +4,8 @@ use Rattle.std.specs.Prelude.{slice_get}
 use Rattle.crawl_frontier.specs.QueueId.{QueueId}
 use Rattle.crawl_gate.specs.Seat.{GateId}
 use Rattle.crawl_frontier.specs.PassId.{PassId}
+use Rattle.crawl_frontier.specs.Known.{KnownList}
+use Rattle.crawl_frontier.specs.Logs.{ListsAre}
 use Rattle.crawl_frontier.specs.Rule.{pushing, popping, home}
 use Rattle.crawl_gate.specs.View.{fresh_view}
 use Rattle.crawl_frontier.specs.Parts.{WorkerId}
@@ -27,6 +29,12 @@ line-snoc gate workers qs ss ts n q s t l hs ht =
           (λ x. let at : n ≡ k = omega (arith, x.0) in (ap (λ z. z.subqueue) (sym x.2) ∙ ht.0 ∙ x.1, ap (λ z. z.view) (sym x.2) ∙ ht.1 ∙ ap (λ j. popping (home gate workers j) [] 0) at))
           (get_both qs ts q q' t p k (omega arith) e f);
     }
+
+pub lists_are-snoc : (qs : List QueueId) (ts : List KnownList) (q : QueueId) (t : KnownList) → length qs ≡ length ts → ListsAre qs ts → t.list ≡ q.list → ListsAre (qs ++ q ∷ []) (ts ++ t ∷ [])
+lists_are-snoc qs ts q t len old new k q' t' at there = ⊎_elim
+    (λ x. old k q' t' x.0 x.1)
+    (λ x. ap (λ (z : KnownList). z.list) (sym x.2) ∙ (new ∙ ap (λ (z : QueueId). z.list) x.1))
+    (get_both qs ts q q' t t' k len at there)
 
 has_same : {A B : Type 0} (xs : List A) (ys : List B) (k : ℕ) (b : B) → length xs ≡ length ys → slice_get ys k ≡ Some b → (a : A) × (slice_get xs k ≡ Some a)
 has_same [] [] k b same e = absurd (cc (e))

@@ -1,62 +1,158 @@
--- The compact log: one line more, and what is read of it.
-use Rattle.std.proofs.Common.{◌≡◌, ℕ, zero, suc, ◌+◌, ◌<◌, ◌≤◌, Bool, true, false, cond, List, [], ◌∷◌, ◌++◌, length, take, Some, slice_get, refl, sym, ap, ◌∙◌, subst, ⊎_elim, arith}
-use Rattle.std.proofs.lemmas.Bool.{cases_lt}
+-- What the lines of a log say as what is known of the lists becomes more, and at the end.
+use Rattle.std.proofs.Common.{◌≡◌, ℕ, zero, suc, Bool, true, false, List, [], ◌∷◌, ◌++◌, map, set, Some, refl, sym, ap, ◌∙◌, subst, arith}
+use Rattle.std.specs.Prelude.{slice_index_or, if◌then◌else◌, bytes_eq, ◌||◌}
+use Rattle.std.proofs.lemmas.Option.{get_or_from_slice_get}
+use Rattle.std.proofs.lemmas.Slice.Eq.{bytes_eq-Decides}
+use mathlib.Core.Logic.{dite}
+use native.Mathlib.Decide.{ℕ_discrete}
 use Rattle.crawl_frontier.specs.declared.entry.Entry.{Entry}
 use Rattle.crawl_frontier.specs.declared.log.LogLine.{LogLine}
-use Rattle.crawl_frontier.specs.declared.log.Acceptance.{Acceptance}
-use Rattle.crawl_frontier.specs.declared.book.Logged.{Logged}
 use Rattle.crawl_frontier.specs.declared.book.Logged.TheVariants.{Accepted, Seen}
-use Rattle.crawl_frontier.specs.Entries.{entry}
-use Rattle.crawl_frontier.specs.Logs.{accepted_in, logged}
+use Rattle.crawl_frontier.specs.QueueId.{QueueId}
+use Rattle.crawl_frontier.specs.Entries.{has_url}
+use Rattle.crawl_frontier.specs.Growing.{no_entry, Stays}
+use Rattle.crawl_frontier.specs.Known.{KnownList}
+use Rattle.crawl_frontier.specs.Logs.{items_of, lists_of, entry_at, says, line_of, log_of, Has, AreThere, AllStay, ListsAre, AreKnown}
 use Rattle.crawl_frontier.specs.Books.{queue_of}
-use Rattle.crawl_frontier.specs.Finishing.{LineStands}
+use Rattle.crawl_frontier.specs.Parts.{ShardId}
+use Rattle.crawl_frontier.specs.Accounts.{At}
+use Rattle.crawl_frontier.specs.Finishing.{Stands, AreRaised, IsHome, AreToldOf, LogIsOf}
+use Rattle.crawl_frontier.proofs.Gets.{get_set_same, get_set_other, get_len_set, get_within, has_at, same_at}
 
--- a line more is counted where it was accepted
-pub accepted_in-snoc : (ls : List LogLine) (l : LogLine) → accepted_in (ls ++ l ∷ []) ≡ accepted_in ls + cond l.accepted 1 0
-accepted_in-snoc [] l = omega arith
-accepted_in-snoc (m ∷ ls) l = let r = accepted_in-snoc ls l in omega (arith, r)
+pub at_map : {X Y : Type 0} (f : X → Y) (xs : List X) (k : ℕ) (x : X) → At xs k x → At (map f xs) k (f x)
+at_map f [] k x e = absurd (cc (e))
+at_map f (y ∷ ys) zero x e = let same : y ≡ x = cc in ap (λ z. Some (f z)) same
+at_map f (y ∷ ys) (suc k) x e = at_map f ys k x e
 
--- a seen line more: what accepted lines have besides stays
-pub logged-seen : (id : ℕ) (ls : List LogLine) (xs : List Acceptance) (l : LogLine) → accepted_in ls ≡ length xs → l.accepted ≡ false
-    → logged id (ls ++ l ∷ []) xs ≡ logged id ls xs ++ Seen l.url l.queue ∷ []
-logged-seen id [] [] l step seen = rw seen refl
-logged-seen id [] (x ∷ xs) l step seen = rw seen refl
-logged-seen id (m ∷ ls) [] l step seen = by_case m.accepted step (λ count. logged-seen id ls [] l count seen)
-  where
-    by_case : (t : Bool) → cond t 1 0 + accepted_in ls ≡ 0
-        → (accepted_in ls ≡ 0 → logged id (ls ++ l ∷ []) [] ≡ logged id ls [] ++ Seen l.url l.queue ∷ [])
-        → cond t [] (Seen m.url m.queue ∷ logged id (ls ++ l ∷ []) []) ≡ cond t [] (Seen m.url m.queue ∷ logged id ls []) ++ Seen l.url l.queue ∷ []
-    by_case true count rest = absurd (omega (arith, count))
-    by_case false count rest = ap (λ k. Seen m.url m.queue ∷ k) (rest (omega (arith, count)))
-logged-seen id (m ∷ ls) (x ∷ xs) l step seen = by_case m.accepted step (λ count. logged-seen id ls xs l count seen) (λ count. logged-seen id ls (x ∷ xs) l count seen)
-  where
-    by_case : (t : Bool) → cond t 1 0 + accepted_in ls ≡ suc (length xs)
-        → (accepted_in ls ≡ length xs → logged id (ls ++ l ∷ []) xs ≡ logged id ls xs ++ Seen l.url l.queue ∷ [])
-        → (accepted_in ls ≡ suc (length xs) → logged id (ls ++ l ∷ []) (x ∷ xs) ≡ logged id ls (x ∷ xs) ++ Seen l.url l.queue ∷ [])
-        → cond t (Accepted (entry m.url id x.number x.hops) m.queue ∷ logged id (ls ++ l ∷ []) xs) (Seen m.url m.queue ∷ logged id (ls ++ l ∷ []) (x ∷ xs))
-        ≡ cond t (Accepted (entry m.url id x.number x.hops) m.queue ∷ logged id ls xs) (Seen m.url m.queue ∷ logged id ls (x ∷ xs)) ++ Seen l.url l.queue ∷ []
-    by_case true count next same = ap (λ k. Accepted (entry m.url id x.number x.hops) m.queue ∷ k) (next (omega (arith, count)))
-    by_case false count next same = ap (λ k. Seen m.url m.queue ∷ k) (same (omega (arith, count)))
+of_map : {X Y : Type 0} (f : X → Y) (xs : List X) (k : ℕ) (y : Y) → At (map f xs) k y → (x : X) × At xs k x × (f x ≡ y)
+of_map f [] k y e = absurd (cc (e))
+of_map f (x ∷ xs) zero y e = (x, refl, cc)
+of_map f (x ∷ xs) (suc k) y e = of_map f xs k y e
 
--- an accepted line more
-pub logged-accepted : (id : ℕ) (ls : List LogLine) (xs : List Acceptance) (l : LogLine) (x : Acceptance) → accepted_in ls ≡ length xs → l.accepted ≡ true
-    → logged id (ls ++ l ∷ []) (xs ++ x ∷ []) ≡ logged id ls xs ++ Accepted (entry l.url id x.number x.hops) l.queue ∷ []
-logged-accepted id [] [] l x step taken = rw taken refl
-logged-accepted id [] (y ∷ xs) l x step taken = absurd (omega (arith, step))
-logged-accepted id (m ∷ ls) [] l x step taken = by_case m.accepted step (λ count. logged-accepted id ls [] l x count taken)
+entry_there : (lists : List (List Entry)) (q i : ℕ) (e : Entry) → Has lists q i e → entry_at lists q i ≡ e
+entry_there lists q i e has =
+    ap (λ (es : List Entry). slice_index_or es i no_entry) (get_or_from_slice_get lists q has.0 [] has.1) ∙ get_or_from_slice_get has.0 i e no_entry has.2
+
+has_stays : (before after : List (List Entry)) (q i : ℕ) (e : Entry) → AllStay before after → Has before q i e → Has after q i e
+has_stays before after q i e stay has =
+    let now = stay q has.0 has.1 in
+    (now.0, now.1, now.2 i e has.2)
+
+-- a line says the same of lists in which all that was known stands
+line_stays : (before after : List (List Entry)) (l : LogLine) → AllStay before after → ((e : Entry) × Has before l.queue l.index e) → line_of after l ≡ line_of before l
+line_stays before after l stay there =
+    ap (says l) (entry_there after l.queue l.index there.0 (has_stays before after l.queue l.index there.0 stay there.1) ∙ sym (entry_there before l.queue l.index there.0 there.1))
+
+log_stays : (before after : List (List Entry)) (ls : List LogLine) → AllStay before after → AreThere before ls → log_of after ls ≡ log_of before ls
+log_stays before after [] stay there = refl
+log_stays before after (l ∷ ls) stay there = λ i. line_stays before after l stay there.0 i ∷ log_stays before after ls stay there.1 i
+
+there_stays : (before after : List (List Entry)) (ls : List LogLine) → AllStay before after → AreThere before ls → AreThere after ls
+there_stays before after [] stay there = tt
+there_stays before after (l ∷ ls) stay there =
+    ((there.0.0, has_stays before after l.queue l.index there.0.0 stay there.0.1), there_stays before after ls stay there.1)
+
+log_snoc : (lists : List (List Entry)) (ls : List LogLine) (l : LogLine) → log_of lists (ls ++ l ∷ []) ≡ log_of lists ls ++ line_of lists l ∷ []
+log_snoc lists [] l = refl
+log_snoc lists (x ∷ xs) l = ap (λ t. line_of lists x ∷ t) (log_snoc lists xs l)
+
+-- a line more says what stands at its index
+pub line_more : (lists : List (List Entry)) (ls : List LogLine) (l : LogLine) (e : Entry) → Has lists l.queue l.index e → log_of lists (ls ++ l ∷ []) ≡ log_of lists ls ++ says l e ∷ []
+line_more lists ls l e has = log_snoc lists ls l ∙ ap (λ x. log_of lists ls ++ says l x ∷ []) (entry_there lists l.queue l.index e has)
+
+pub there_more : (lists : List (List Entry)) (ls : List LogLine) (l : LogLine) (e : Entry) → AreThere lists ls → Has lists l.queue l.index e → AreThere lists (ls ++ l ∷ [])
+there_more lists [] l e there has = ((e, has), tt)
+there_more lists (x ∷ xs) l e there has = (there.0, there_more lists xs l e there.1 has)
+
+-- ---- what is known of the lists becomes more
+
+pub raised_none : (told : List KnownList) → AreRaised told told
+raised_none told = (refl, λ q t at. (t, at, refl, λ k x e. e))
+
+pub raised_on : (start before after : List KnownList) → AreRaised start before → AreRaised before after → AreRaised start after
+raised_on start before after r s = (
+  s.0 ∙ r.0,
+  λ q t at.
+      let u = r.1 q t at in
+      let v = s.1 q u.0 u.1 in
+      (v.0, v.1, v.2 ∙ u.2, λ k x e. v.3 k x (u.3 k x e)),
+)
+
+-- at one queue
+pub raised_at : (told : List KnownList) (q : ℕ) (t u : KnownList) → At told q t → u.list ≡ t.list → Stays t.items u.items → AreRaised told (set told q u)
+raised_at told q t u at list stay = (
+  get_len_set told q u,
+  λ p v here.
+      dite (ℕ_discrete p q)
+      (λ same.
+      let is : v ≡ t = same_at told q v t (subst (λ (k : ℕ). At told k v) same here) at in (
+        u,
+        subst (λ (k : ℕ). At (set told q u) k u) (sym same) (get_set_same told q u t at),
+        list ∙ ap (λ (x : KnownList). x.list) (sym is),
+        subst (λ (x : KnownList). Stays x.items u.items) (sym is) stay,
+      ))
+      (λ other. (v, get_set_other told q p u other ∙ here, refl, λ k x e. e)),
+)
+
+all_stay : (before after : List KnownList) → AreRaised before after → AllStay (lists_of before) (lists_of after)
+all_stay before after r q es at =
+    let t = of_map items_of before q es at in
+    let u = r.1 q t.0 t.1 in
+    (u.0.items, at_map items_of after q u.0 u.1, subst (λ (l : List Entry). Stays l u.0.items) t.2 u.3)
+
+-- the lines say what they said
+pub raised_log : (before after : List KnownList) (ls : List LogLine) → AreRaised before after → AreThere (lists_of before) ls → log_of (lists_of after) ls ≡ log_of (lists_of before) ls
+raised_log before after ls r there = log_stays (lists_of before) (lists_of after) ls (all_stay before after r) there
+
+-- of the same lists
+pub raised_lists : (queues : List QueueId) (before after : List KnownList) → AreRaised before after → ListsAre queues before → ListsAre queues after
+raised_lists queues before after r are q s v there at =
+    let lt = get_within after q v at in
+    let t = has_at before q (omega (arith, lt, r.0)) in
+    let u = r.1 q t.0 t.1 in
+    let same : u.0 ≡ v = same_at after q u.0 v u.1 at in
+    ap (λ (x : KnownList). x.list) (sym same) ∙ (u.2 ∙ are q s t.0 there t.1)
+
+pub raised_known : (queues : List QueueId) (workers : ℕ) (before after : List KnownList) (ls : List LogLine) → AreRaised before after → AreKnown queues workers before ls → AreKnown queues workers after ls
+raised_known queues workers before after ls r known = record {
+  len = r.0 ∙ known.len;
+  lists_are = raised_lists queues before after r known.lists_are;
+  there = there_stays (lists_of before) (lists_of after) ls (all_stay before after r) known.there;
+}
+
+-- ---- what is known stands in the shards
+
+pub has_url_at : (es : List Entry) (k : ℕ) (e : Entry) → At es k e → has_url e.url es ≡ true
+has_url_at [] k e at = absurd (cc (at))
+has_url_at (x ∷ xs) zero e at =
+    let same : x ≡ e = cc in
+    let equal : bytes_eq x.url e.url ≡ true = (bytes_eq-Decides x.url e.url).1 (ap (λ (z : Entry). z.url) same) in
+    ap (λ (b : Bool). b || has_url e.url xs) equal
+has_url_at (x ∷ xs) (suc k) e at = later (bytes_eq x.url e.url) (has_url e.url xs) (has_url_at xs k e at)
   where
-    by_case : (t : Bool) → cond t 1 0 + accepted_in ls ≡ 0
-        → (accepted_in ls ≡ 0 → logged id (ls ++ l ∷ []) (x ∷ []) ≡ logged id ls [] ++ Accepted (entry l.url id x.number x.hops) l.queue ∷ [])
-        → cond t (Accepted (entry m.url id x.number x.hops) m.queue ∷ logged id (ls ++ l ∷ []) []) (Seen m.url m.queue ∷ logged id (ls ++ l ∷ []) (x ∷ []))
-        ≡ cond t [] (Seen m.url m.queue ∷ logged id ls []) ++ Accepted (entry l.url id x.number x.hops) l.queue ∷ []
-    by_case true count rest = absurd (omega (arith, count))
-    by_case false count rest = ap (λ k. Seen m.url m.queue ∷ k) (rest (omega (arith, count)))
-logged-accepted id (m ∷ ls) (y ∷ xs) l x step taken = by_case m.accepted step (λ count. logged-accepted id ls xs l x count taken) (λ count. logged-accepted id ls (y ∷ xs) l x count taken)
-  where
-    by_case : (t : Bool) → cond t 1 0 + accepted_in ls ≡ suc (length xs)
-        → (accepted_in ls ≡ length xs → logged id (ls ++ l ∷ []) (xs ++ x ∷ []) ≡ logged id ls xs ++ Accepted (entry l.url id x.number x.hops) l.queue ∷ [])
-        → (accepted_in ls ≡ suc (length xs) → logged id (ls ++ l ∷ []) (y ∷ xs ++ x ∷ []) ≡ logged id ls (y ∷ xs) ++ Accepted (entry l.url id x.number x.hops) l.queue ∷ [])
-        → cond t (Accepted (entry m.url id y.number y.hops) m.queue ∷ logged id (ls ++ l ∷ []) (xs ++ x ∷ [])) (Seen m.url m.queue ∷ logged id (ls ++ l ∷ []) (y ∷ xs ++ x ∷ []))
-        ≡ cond t (Accepted (entry m.url id y.number y.hops) m.queue ∷ logged id ls xs) (Seen m.url m.queue ∷ logged id ls (y ∷ xs)) ++ Accepted (entry l.url id x.number x.hops) l.queue ∷ []
-    by_case true count next same = ap (λ k. Accepted (entry m.url id y.number y.hops) m.queue ∷ k) (next (omega (arith, count)))
-    by_case false count next same = ap (λ k. Seen m.url m.queue ∷ k) (same (omega (arith, count)))
+    later : (b c : Bool) → c ≡ true → (b || c) ≡ true
+    later true c e = refl
+    later false c e = e
+
+stands_says : (b : Bool) (es : List Entry) (i : ℕ) (e : Entry) (q : ℕ) → At es i e → Stands es (if b then Accepted e q else Seen e.url q)
+stands_says true es i e q at = (i, at)
+stands_says false es i e q at = has_url_at es i e at
+
+queue_says : (b : Bool) (e : Entry) (q : ℕ) → queue_of (if b then Accepted e q else Seen e.url q) ≡ q
+queue_says true e q = refl
+queue_says false e q = refl
+
+pub lines_are_of : (shards : List ShardId) (told : List KnownList) (ls : List LogLine) → AreToldOf shards told → AreThere (lists_of told) ls → LogIsOf shards (log_of (lists_of told) ls)
+lines_are_of shards told [] of there k l s at home = absurd (cc (at))
+lines_are_of shards told (x ∷ xs) of there zero l s at home =
+    let is : line_of (lists_of told) x ≡ l = cc in
+    let e = there.0.0 in
+    let has = there.0.1 in
+    let said : says x e ≡ l = sym (ap (says x) (entry_there (lists_of told) x.queue x.index e has)) ∙ is in
+    let queue : queue_of l ≡ x.queue = sym (ap queue_of said) ∙ queue_says x.accepted e x.queue in
+    let t = of_map items_of told x.queue has.0 has.1 in
+    let here : IsHome shards x.queue s = subst (λ (q : ℕ). IsHome shards q s) queue home in
+    let stays : Stays t.0.items s.sent = of x.queue s t.0 here t.1 in
+    let there_still : At s.sent x.index e = stays x.index e (subst (λ (es : List Entry). At es x.index e) (sym t.2) has.2) in
+    subst (Stands s.sent) said (stands_says x.accepted s.sent x.index e x.queue there_still)
+lines_are_of shards told (x ∷ xs) of there (suc k) l s at home = lines_are_of shards told xs of there.1 k l s at home

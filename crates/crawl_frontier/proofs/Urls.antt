@@ -4,8 +4,8 @@ use Rattle.std.specs.Prelude.{length, bytes_eq, ◌||◌}
 use Rattle.std.specs.Bool.{if◌then◌else◌}
 use Rattle.std.specs.Option.{option_map}
 use Rattle.std.proofs.lemmas.Option.{slice_get-map, slice_get_within}
-use Rattle.hash_index.specs.Lists.{index_of, AreApart}
-use Rattle.hash_index.proofs.Listed.{found_at, absent_at}
+use Rattle.hash_index.specs.Lists.{index_of}
+use Rattle.hash_index.proofs.Listed.{found_at}
 use Rattle.crawl_frontier.specs.declared.entry.Entry.{Entry}
 use Rattle.crawl_frontier.specs.Entries.{has_url}
 
@@ -38,15 +38,4 @@ index_within es url k found = let there = entry_there es url k found in slice_ge
 pub url_there : (es : List Entry) (url : List ℕ) (k : ℕ) (e : Entry) → index_of (map (λ e. e.url) es) url ≡ Some k → slice_get es k ≡ Some e → e.url ≡ url
 url_there es url k e found at =
     let both : Some e.url ≡ Some url = sym (url_at es k e at) ∙ found_at _ url k found in
-    cc
-
--- no entry has a URL without an index
-pub not_there : (es : List Entry) (e : Entry) → index_of (map (λ e. e.url) es) e.url ≡ None → (k : ℕ) → ¬ (slice_get es k ≡ Some e)
-not_there es e none k at = absent_at _ e.url none k (url_at es k e at)
-
--- an entry stands at its URL's index alone
-pub is_that : (es : List Entry) (found e : Entry) (j k : ℕ) → AreApart (map (λ e. e.url) es) → index_of (map (λ e. e.url) es) e.url ≡ Some j → slice_get es j ≡ Some found → slice_get es k ≡ Some e → found ≡ e
-is_that es found e j k apart is here at =
-    let same : j ≡ k = apart j k e.url (found_at _ e.url j is) (url_at es k e at) in
-    let both : Some found ≡ Some e = sym here ∙ ap (slice_get es) same ∙ at in
     cc

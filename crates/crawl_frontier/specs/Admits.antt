@@ -1,6 +1,7 @@
 -- What a shard's `admit` answers and does.
-use Rattle.std.specs.Prelude.{◌≡◌, ◌≢◌, ℕ, ◌^◌, ◌<◌, ◌≤◌, true, false, List, [], ◌∷◌, ◌++◌}
+use Rattle.std.specs.Prelude.{◌≡◌, ◌≢◌, ℕ, ◌^◌, ◌<◌, ◌≤◌, true, false, List, [], ◌∷◌, ◌++◌, length, Some, slice_get}
 use Rattle.crawl_gate.specs.Seat.{SeatId}
+use Rattle.crawl_frontier.specs.declared.entry.Entry.{Entry}
 use Rattle.crawl_frontier.specs.declared.shard.Admit.{Admit}
 use Rattle.crawl_frontier.specs.declared.shard.Admit.TheVariants.{Admitted, Crossed, Seen, TooFar, NoMemory}
 use Rattle.crawl_frontier.specs.Limits.{hops_limit}
@@ -8,14 +9,16 @@ use Rattle.crawl_frontier.specs.Entries.{has_url, count_of, entry}
 use Rattle.crawl_frontier.specs.Parts.{ShardId, shard}
 
 -- Of the shard before and after, the URL, the sender's id and own count, the hops, the unit, and the answer. In this
--- order: the counts differ, the URL stands in the list, the hops are above the limit; and else it is appended.
+-- order: the counts differ, the URL stands in the list, the hops are above the limit; and else it is appended. The index told
+-- is where it stands from then on.
 abbrev pub Admits : ShardId → ShardId → List ℕ → ℕ → ℕ → ℕ → SeatId → Admit → Type 0
-Admits s t url id own hops unit (Admitted n) =
+Admits s t url id own hops unit (Admitted n i) =
     (n ≡ own) × (own < 2 ^ 63) × (count_of id s.sent ≡ own) × (has_url url s.sent ≡ false) × (hops ≤ hops_limit)
-    × (t ≡ shard s.queue (s.sent ++ entry url id own hops ∷ []))
+    × (t ≡ shard s.queue (s.sent ++ entry url id own hops ∷ [])) × (i ≡ length s.sent)
 Admits s t url id own hops unit (Crossed found u) = (found ≡ count_of id s.sent) × (found ≢ own) × (t ≡ s) × (u ≡ unit)
-Admits s t url id own hops unit (Seen there u) =
+Admits s t url id own hops unit (Seen there i u) =
     (count_of id s.sent ≡ own) × (has_url url s.sent ≡ true) × (there ≡ url) × (t ≡ s) × (u ≡ unit)
+    × ((e : Entry) × (slice_get s.sent i ≡ Some e) × (e.url ≡ url))
 Admits s t url id own hops unit (TooFar u) =
     (count_of id s.sent ≡ own) × (has_url url s.sent ≡ false) × (hops_limit < hops) × (t ≡ s) × (u ≡ unit)
 Admits s t url id own hops unit (NoMemory u) = (t ≡ s) × (u ≡ unit)

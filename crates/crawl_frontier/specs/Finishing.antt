@@ -13,6 +13,8 @@ use Rattle.crawl_frontier.specs.QueueId.{QueueId}
 use Rattle.crawl_frontier.specs.PassId.{PassId}
 use Rattle.crawl_frontier.specs.Rule.{popping, home}
 use Rattle.crawl_frontier.specs.Entries.{has_url, count_of, KeepsRule}
+use Rattle.crawl_frontier.specs.Growing.{Stays}
+use Rattle.crawl_frontier.specs.Known.{KnownList}
 use Rattle.crawl_frontier.specs.declared.finish.settled.Settled.{Settled}
 use Rattle.crawl_frontier.specs.declared.error.FinishError.TheVariants.{Disagree}
 use Rattle.crawl_frontier.specs.Books.{BookId, IsBook, book_of, queue_of}
@@ -99,17 +101,25 @@ Stands es (Seen u q) = has_url u es ≡ true
 abbrev pub StandsAt : List (List Entry) → Logged → Type 0
 StandsAt lists l = (es : List Entry) → At lists (queue_of l) es → Stands es l
 
--- or false of them
-abbrev pub Fails : List Entry → Logged → Type 0
-Fails es (Accepted e q) = (k : ℕ) → ¬ At es k e
-Fails es (Seen u q) = has_url u es ≡ false
+-- what is known of each list became more, and stayed what is known of that list
+abbrev pub AreRaised : List KnownList → List KnownList → Type 0
+AreRaised before after = (length after ≡ length before)
+    × ((q : ℕ) (t : KnownList) → At before q t → (u : KnownList) × At after q u × (u.list ≡ t.list) × Stays t.items u.items)
 
-abbrev pub FailsAt : List (List Entry) → Logged → Type 0
-FailsAt lists l = (es : List Entry) × At lists (queue_of l) es × Fails es l
+-- of shards that come last first: the shard of queue q, at home
+abbrev pub IsHome : List ShardId → ℕ → ShardId → Type 0
+IsHome shards q s = (s.queue ≡ q) × ((j : ℕ) × At shards j s × (j + q + 1 ≡ length shards))
 
--- some line of the log for subqueue q is false of the list there
-abbrev pub LogFails : ℕ → List (List Entry) → List Logged → Type 0
-LogFails q lists log = (k : ℕ) × (l : Logged) × At log k l × (queue_of l ≡ q) × FailsAt lists l
+-- what is known of each list stands in its shard's, where that is at home
+abbrev pub AreToldOf : List ShardId → List KnownList → Type 0
+AreToldOf shards told = (q : ℕ) (s : ShardId) (t : KnownList) → IsHome shards q s → At told q t → Stays t.items s.sent
+
+-- each line of a log is true of its queue's shard, where that is at home
+abbrev pub LogIsOf : List ShardId → List Logged → Type 0
+LogIsOf shards log = (k : ℕ) (l : Logged) (s : ShardId) → At log k l → IsHome shards (queue_of l) s → Stands s.sent l
+
+abbrev pub LogsAreOf : List ShardId → List BookId → Type 0
+LogsAreOf shards books = (j : ℕ) (b : BookId) → At books j b → LogIsOf shards b.log
 
 -- the count of subqueue q is not that of the list there
 abbrev pub CountFails : ℕ → List (List Entry) → BookId → Type 0
@@ -122,13 +132,12 @@ DisagreesAt q lists b = (es : List Entry) × At lists q es × (¬ Agrees q es b)
 abbrev pub OneDisagrees : ℕ → List (List Entry) → List BookId → Type 0
 OneDisagrees q lists books = (j : ℕ) × (b : BookId) × At books j b × DisagreesAt q lists b
 
--- below `least` the line at k of the log is true of its subqueue's list
-abbrev pub LineStands : ℕ → List (List Entry) → List Logged → ℕ → Type 0
-LineStands least lists log k = (l : Logged) → At log k l → queue_of l < least → StandsAt lists l
-
--- below `least` each line of the log is
+-- below `least` each line of the log is true of its subqueue's list
 abbrev pub LogStands : ℕ → List (List Entry) → List Logged → Type 0
-LogStands least lists log = (k : ℕ) → LineStands least lists log k
+LogStands least lists log = (k : ℕ) (l : Logged) → At log k l → queue_of l < least → StandsAt lists l
+
+abbrev pub LogsStand : ℕ → List (List Entry) → List BookId → Type 0
+LogsStand least lists books = (j : ℕ) (b : BookId) → At books j b → LogStands least lists b.log
 
 -- below `least` each count is that of the list
 abbrev pub CountsStand : ℕ → List (List Entry) → BookId → Type 0
@@ -155,6 +164,7 @@ pub record CanCompare (workers : ℕ) (closed : List WorkerId) (senders : List S
   pub len : length s.lists.items ≡ workers
   pub within : s.least ≤ length s.lists.items
   pub books : AllAre (IsBook (length s.lists.items)) (map book_of s.books.items)
+  pub logs : LogsStand s.least s.lists.items (map book_of s.books.items)
   pub rule : KeepRuleBelow (length s.lists.items) s.least s.lists.items
   pub account : (least : ℕ) → workers ≤ least → AgreeTo least s.least s.lists.items (map book_of s.books.items) → Accounts workers closed senders s.lists.items
   pub fault : (least : ℕ) → least < workers → AgreeTo least s.least s.lists.items (map book_of s.books.items) → FinishFails workers closed senders (Disagree least)

@@ -1,4 +1,6 @@
 pub mod Limits
+pub mod Growing
+pub mod Known
 pub mod QueueId
 pub mod Entries
 pub mod Rule

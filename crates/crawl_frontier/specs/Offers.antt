@@ -1,10 +1,11 @@
 -- What an offer answers, and what it does to the books and the pass of the part that makes it.
-use Rattle.std.specs.Prelude.{◌≡◌, ◌≢◌, ◌⊎◌, ℕ, ◌^◌, ◌<◌, ◌≤◌, true, List, Some, Ok, Err, Result, slice_get}
+use Rattle.std.specs.Prelude.{◌≡◌, ◌≢◌, ◌⊎◌, ℕ, ◌^◌, ◌<◌, ◌≤◌, true, List, Some, Ok, Err, Result, slice_get, slice_set}
 use Rattle.crawl_keys.specs.Assignment.{subqueue_of}
 use Rattle.crawl_gate.specs.View.{knows_closed, fresh_view}
 use Rattle.crawl_gate.specs.Seat.{SeatId}
 use Rattle.crawl_gate.specs.Enter.{EntersAtLast, EntersAtLastBeside}
 use Rattle.crawl_gate.specs.declared.gate.enter.Enter.TheVariants as enter
+use Rattle.crawl_frontier.specs.declared.entry.Entry.{Entry}
 use Rattle.crawl_frontier.specs.declared.shard.Admit.{Admit}
 use Rattle.crawl_frontier.specs.declared.shard.Admit.TheVariants as admit
 use Rattle.crawl_frontier.specs.declared.offer.Offer.{Offer}
@@ -13,16 +14,40 @@ use Rattle.crawl_frontier.specs.declared.error.OfferError.{OfferError}
 use Rattle.crawl_frontier.specs.declared.error.OfferError.TheVariants.{Filtered, Closed, Full, Crossed, TooFar, NoMemory}
 use Rattle.crawl_frontier.specs.Limits.{hops_limit}
 use Rattle.crawl_frontier.specs.Entries.{entry}
+use Rattle.crawl_frontier.specs.Growing.{Stays}
+use Rattle.crawl_frontier.specs.Known.{KnownList}
+use Rattle.crawl_frontier.specs.Logs.{Has}
 use Rattle.crawl_frontier.specs.Units.{GaveBack}
 use Rattle.crawl_frontier.specs.Books.{BookId, book_accepting, book_seeing}
 
 -- what of the shard's answer is view once the lock is given back
 abbrev pub Replies : List ℕ → ℕ → ℕ → SeatId → Admit → Type 0
-Replies url own hops unit (admit.Admitted n) = (n ≡ own) × (own < 2 ^ 63) × (hops ≤ hops_limit)
+Replies url own hops unit (admit.Admitted n i) = (n ≡ own) × (own < 2 ^ 63) × (hops ≤ hops_limit)
 Replies url own hops unit (admit.Crossed found u) = (found ≢ own) × (u ≡ unit)
-Replies url own hops unit (admit.Seen there u) = (there ≡ url) × (u ≡ unit)
+Replies url own hops unit (admit.Seen there i u) = (there ≡ url) × (u ≡ unit)
 Replies url own hops unit (admit.TooFar u) = (hops_limit < hops) × (u ≡ unit)
 Replies url own hops unit (admit.NoMemory u) = u ≡ unit
+
+-- the index that the shard told is true of this list
+abbrev pub IsTrueOf : List Entry → List ℕ → ℕ → ℕ → Admit → Type 0
+IsTrueOf es url id hops (admit.Admitted n i) = slice_get es i ≡ Some (entry url id n hops)
+IsTrueOf es url id hops (admit.Crossed found u) = Unit {0}
+IsTrueOf es url id hops (admit.Seen there i u) = (e : Entry) × (slice_get es i ≡ Some e) × (e.url ≡ url)
+IsTrueOf es url id hops (admit.TooFar u) = Unit {0}
+IsTrueOf es url id hops (admit.NoMemory u) = Unit {0}
+
+-- what is known of queue q's list has become more, and the index is true of it
+abbrev pub Raises : List KnownList → List KnownList → ℕ → List ℕ → ℕ → ℕ → Admit → Type 0
+Raises before after q url id hops answer =
+    (t u : KnownList) × (slice_get before q ≡ Some t) × (u.list ≡ t.list) × Stays t.items u.items × (after ≡ slice_set before q u) × IsTrueOf u.items url id hops answer
+
+-- and of the lists as they are known
+abbrev pub IsKnown : List (List Entry) → ℕ → List ℕ → ℕ → ℕ → Admit → Type 0
+IsKnown lists q url id hops (admit.Admitted n i) = Has lists q i (entry url id n hops)
+IsKnown lists q url id hops (admit.Crossed found u) = Unit {0}
+IsKnown lists q url id hops (admit.Seen there i u) = (e : Entry) × Has lists q i e × (e.url ≡ url)
+IsKnown lists q url id hops (admit.TooFar u) = Unit {0}
+IsKnown lists q url id hops (admit.NoMemory u) = Unit {0}
 
 -- the books before and after, by the answer
 abbrev pub OfferBooks : ℕ → BookId → BookId → List ℕ → ℕ → Result Offer OfferError → Type 0

@@ -1,6 +1,11 @@
 -- Which subqueue something is of.
 use Rattle.std.specs.Prelude.{ℕ}
+use Rattle.atomic_table.specs.Seated.{TableId}
 
--- by the numbers of its two parts
-abbrev pub QueueId : Type 0
-QueueId = ℕ × ℕ
+-- by the numbers of the two parts of its queue, and by what stands for its list
+pub record QueueId : Type 0 where
+  pub web : ℕ × ℕ
+  pub list : TableId
+
+abbrev pub queue_id : ℕ × ℕ → TableId → QueueId
+queue_id web list = record { web = web; list = list }

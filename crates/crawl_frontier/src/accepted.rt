@@ -1,11 +1,10 @@
 //! What one subqueue accepted, once its shard is out of its lock.
-ghost use Rattle.std.specs.Prelude.{◌≡◌, ◌≢◌, ℕ, true, false, map};
+ghost use Rattle.std.specs.Prelude.{◌≡◌, ℕ, map};
 ghost use Rattle.hash_order.specs.HashOrder.{hash_of};
 ghost use Rattle.hash_index.specs.Lists.{index_of};
 ghost use Rattle.hash_index.specs.Index.{IsIndexOf};
-ghost use Rattle.crawl_frontier.specs.Entries.{has_url, count_of};
+ghost use Rattle.crawl_frontier.specs.Entries.{count_of};
 ghost use Rattle.crawl_frontier.specs.Tables.{count_in};
-ghost use Rattle.crawl_frontier.specs.Accounts.{At};
 
 use crate::entry::Entry;
 use crate::tables::{Counts, count};
@@ -38,14 +37,6 @@ impl Model for AcceptedList {
         × ((id : ℕ) → count_in s.counts id ≡ count_of id s.sent.items) };
 }
 
-// Whether two entries with one URL are equal.
-fn agree(found: &Entry, entry: &Entry) -> bool
-    ensures equal { result ≡ true → found.now.url ≡ entry.now.url → found.now ≡ entry.now }
-    ensures other { result ≡ false → found.now ≢ entry.now }
-{
-    found.sender == entry.sender && found.number == entry.number && found.hops == entry.hops
-}
-
 impl AcceptedList {
     pub(crate) fn new(sent: Vec<Entry>, index: HashIndex, counts: Counts) -> AcceptedList
         requires index { IsIndexOf hash_of (map (λ e. e.url) sent.items) index }
@@ -71,24 +62,6 @@ impl AcceptedList {
         ensures { result ≡ index_of (map (λ e. e.url) self.now) url.now }
     {
         self.index.find(&self.sent, url)
-    }
-
-    /// Whether an equal entry stands in the list; its URL leads to it.
-    pub fn has_entry(&self, entry: &Entry) -> bool
-        ensures there { result ≡ true → (k : ℕ) × At self.now k entry.now }
-        ensures absent { result ≡ false → (k : ℕ) → ¬ At self.now k entry.now }
-    {
-        match self.index_of(&entry.url) {
-            Some(index) => agree(&self.sent[index], entry),
-            None => false,
-        }
-    }
-
-    /// Whether the URL stands in the list.
-    pub fn has_url(&self, url: &CanonUrl) -> bool
-        ensures { result ≡ has_url url.now self.now }
-    {
-        self.index_of(url).is_some()
     }
 
     /// How many entries are of this sender.

@@ -1,98 +1,131 @@
 //! What a part that sends keeps of its own offers.
-ghost use Rattle.std.specs.Prelude.{◌≡◌, ◌<◌, ◌^◌, IfOk, Some, slice_get, vec_len};
-ghost use Rattle.crawl_frontier.specs.Entries.{entry};
-ghost use Rattle.crawl_frontier.specs.Books.{IsBook, HasRoom, book_of, book_accepting, book_seeing, fresh_book, queue_of};
+ghost use Rattle.std.specs.Prelude.{◌≡◌, ◌<◌, ◌^◌, ℕ, List, IfOk, OnOk, Some, slice_get, length, vec_len};
+ghost use Rattle.crawl_frontier.specs.declared.entry.Entry.{Entry};
+ghost use Rattle.crawl_frontier.specs.QueueId.{QueueId};
+ghost use Rattle.crawl_frontier.specs.Logs.{Has, ListsAre, lists_of};
+ghost use Rattle.crawl_frontier.specs.Books.{IsBook, HasRoom, Knows, book_of, book_accepting, book_seeing, fresh_book};
 
 use crate::entry::Entry;
-use crate::log::Log;
+use crate::growing::Beginning;
+use crate::log::LogLine;
+use crate::name::Name;
+use crate::subqueue::Subqueue;
 use crawl_keys::CanonUrl;
 use std::alloc::{AllocError, Global};
 
-/// A line of a log: an entry that was accepted, or a URL that was seen; with its subqueue.
+/// What a line of a log says: an entry that was accepted, or a URL that was seen; with its subqueue. No value of it is made.
 #[derive(Drop)]
 pub enum Logged {
     Accepted(Entry, u32),
     Seen(CanonUrl, u32),
 }
 
-impl Logged {
-    /// The subqueue.
-    pub(crate) fn queue(&self) -> u32
-        ensures { result ≡ queue_of self.now }
-    {
-        match self {
-            Logged::Accepted(_, queue) | Logged::Seen(_, queue) => *queue,
-        }
-    }
-}
-
-/// The id, how many of its URLs each subqueue accepted, and the log, oldest line first.
+/// The id, how many of its URLs each subqueue accepted, the log, oldest line first, and what is known of each subqueue's list.
 ///
-/// It is a plain struct, so that a contract can say that the log has room.
+/// It is a plain struct, so that a contract can say that the log has room. What is known takes no bytes.
 #[derive(Drop)]
 pub struct Book {
     pub id: u64,
     pub counts: Vec<u64>,
-    pub log: Log,
+    pub lines: Vec<LogLine>,
+    pub told: Vec<Beginning>,
+}
+
+// What is known of each list, known once more.
+fn all_again(
+    alloc: Global,
+    queues: &Vec<Subqueue>,
+    told: &mut Vec<Beginning>,
+) -> Result<Vec<Beginning>, AllocError>
+    requires len { length told.old.items ≡ vec_len queues.now }
+    requires lists { ListsAre queues.now.items told.old.items }
+    ensures same { told.new.items ≡ told.old.items }
+    ensures again { IfOk result (λ all. all.items ≡ told.old.items) }
+{
+    let mut all = Vec::with_capacity(alloc, queues.len())?;
+    for queue in 0..queues.len() {
+        let known = queues[queue].again(&mut told[queue]);
+        all.push(known)?;
+    }
+    Ok(all)
 }
 
 impl Book {
-    /// The books of a part that has sent nothing.
-    pub fn new(alloc: Global, id: u64, workers: u32) -> Result<Book, AllocError>
-        ensures { IfOk result (λ b. IsBook workers (book_of b) × (book_of b ≡ fresh_book id workers)) }
+    /// The books of a part that has sent nothing, and knows this of each list.
+    pub fn new<K: Name>(alloc: Global, id: u64, told: Vec<Beginning>) -> Result<Book, AllocError>
+        requires len { vec_len told ≡ K.workers }
+        requires lists { ListsAre K.queues told.items }
+        ensures book { IfOk result (λ b. IsBook K.workers (book_of b) × (book_of b ≡ fresh_book id K.workers)) }
+        ensures known { IfOk result (λ b. Knows K.queues K.workers b) }
     {
-        let counts = Vec::from_elem(alloc, 0, workers as usize)?;
+        let counts = Vec::from_elem(alloc, 0, told.len())?;
         Ok(Book {
             id,
             counts,
-            log: Log::new(alloc),
+            lines: Vec::new(alloc),
+            told,
         })
     }
 
-    /// Makes room for one line more, and a copy of its URL.
-    pub fn ready(&mut self, url: &CanonUrl) -> Result<CanonUrl, AllocError>
+    /// The books of another part that has sent nothing, which knows of each list what these do.
+    pub fn another<K: Name>(
+        &mut self,
+        alloc: Global,
+        id: u64,
+        queues: &Vec<Subqueue>,
+    ) -> Result<Book, AllocError>
+        requires queues { (queues.now.items ≡ K.queues) × (vec_len queues.now ≡ K.workers) }
+        requires known { Knows K.queues K.workers self.old }
         ensures same { book_of self.new ≡ book_of self.old }
-        ensures ready { IfOk result (λ copy. (copy ≡ url.now) × HasRoom self.new.log) }
+        ensures known { Knows K.queues K.workers self.new }
+        ensures book { IfOk result (λ b. IsBook K.workers (book_of b) × (book_of b ≡ fresh_book id K.workers)) }
+        ensures knows { IfOk result (λ b. Knows K.queues K.workers b) }
     {
-        let Ok(()) = self.log.reserve() else {
+        let Ok(told) = all_again(alloc, queues, &mut self.told) else {
             return Err(AllocError);
         };
-        match url.copy() {
-            Ok(copy) => Ok(copy),
-            Err(_) => Err(AllocError),
-        }
+        Book::new::<K>(alloc, id, told)
     }
 
-    /// Enters a URL that subqueue `queue` accepted, as the `number`-th from 0. Nothing grows.
-    pub fn accept(&mut self, url: CanonUrl, queue: u32, number: u64, hops: u32)
+    /// Makes room for one line more.
+    pub fn ready<K: Name>(&mut self) -> Result<(), AllocError>
+        requires { Knows K.queues K.workers self.old }
+        ensures same { book_of self.new ≡ book_of self.old }
+        ensures known { Knows K.queues K.workers self.new }
+        ensures room { OnOk result (HasRoom self.new) }
+    {
+        self.lines.reserve(1)
+    }
+
+    /// Enters a URL that subqueue `queue` accepted as the `number`-th from 0, and that stands at this index of its list. Nothing
+    /// grows.
+    pub fn accept(&mut self, queue: u32, index: u32, number: u64)
         requires within { queue < vec_len self.old.counts }
-        requires number { slice_get self.old.counts.items queue ≡ Some number }
+        requires narrow { queue < 2 ^ 16 }
         requires small { number < 2 ^ 63 }
-        requires room { HasRoom self.old.log }
-        ensures { book_of self.new ≡ book_accepting (book_of self.old) queue number (entry url self.old.id number hops) }
+        requires room { HasRoom self.old }
+        ensures log { (e : Entry) → Has (lists_of self.old.told.items) queue index e → book_of self.new ≡ book_accepting (book_of self.old) queue number e }
+        ensures known { (queues : List QueueId) (workers : ℕ) (e : Entry) → Has (lists_of self.old.told.items) queue index e → Knows queues workers self.old → Knows queues workers self.new }
     {
         self.counts[queue as usize] = number + 1;
-        self.log.accept(url, queue, number, hops);
+        self.lines.push_reserved(LogLine {
+            index,
+            queue: queue as u16,
+            accepted: true,
+        });
     }
 
-    /// Enters a URL that was found in subqueue `queue`. Nothing grows.
-    pub fn see(&mut self, url: CanonUrl, queue: u32)
-        requires room { HasRoom self.old.log }
-        ensures { book_of self.new ≡ book_seeing (book_of self.old) url queue }
+    /// Enters a URL that was found at this index of subqueue `queue`'s list. Nothing grows.
+    pub fn see(&mut self, queue: u32, index: u32)
+        requires narrow { queue < 2 ^ 16 }
+        requires room { HasRoom self.old }
+        ensures log { (e : Entry) → Has (lists_of self.old.told.items) queue index e → book_of self.new ≡ book_seeing (book_of self.old) e.url queue }
+        ensures known { (queues : List QueueId) (workers : ℕ) (e : Entry) → Has (lists_of self.old.told.items) queue index e → Knows queues workers self.old → Knows queues workers self.new }
     {
-        self.log.see(url, queue);
-    }
-
-    /// Lets `url` share the text of the last line, where that has the same URL as seen.
-    pub fn share_last(&self, url: &mut CanonUrl)
-        ensures { url.new ≡ url.old }
-    {
-        if let Some(line) = self.log.lines.last() {
-            if !line.accepted && line.url == *url {
-                if let Ok(shared) = line.url.copy() {
-                    *url = shared;
-                }
-            }
-        }
+        self.lines.push_reserved(LogLine {
+            index,
+            queue: queue as u16,
+            accepted: false,
+        });
     }
 }

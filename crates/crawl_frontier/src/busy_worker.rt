@@ -1,5 +1,5 @@
 //! A worker with a URL in hand.
-ghost use Rattle.std.specs.Prelude.{◌≡◌, ◌+◌, ◌↔◌, false};
+ghost use Rattle.std.specs.Prelude.{◌≡◌, ◌+◌, ◌↔◌, false, IfSome};
 ghost use Rattle.crawl_keys.specs.HostFilter.{allows};
 ghost use Rattle.crawl_frontier.specs.Turns.{Done};
 ghost use Rattle.crawl_frontier.specs.Parts.{worker};
@@ -10,7 +10,7 @@ use crate::entry::Message;
 use crate::error::OfferError;
 use crate::frontier::Frontier;
 use crate::name::Name;
-use crate::offer::{Offer, give_back, offer_beside};
+use crate::offer::{Answer, Offer, give_back, offer_beside};
 use crate::rights::PopRight;
 use crate::worker::Worker;
 use crawl_gate::Pass;
@@ -35,7 +35,7 @@ pub struct BusyWorker<K: Name> {
 impl<K: Name> Model for BusyWorker<K> {
     ghost use Rattle.std.specs.Prelude.{◌≡◌, ◌<◌, Some, slice_get};
     ghost use Rattle.crawl_gate.specs.Seat.{IsSeatOf};
-    ghost use Rattle.crawl_frontier.specs.Books.{IsBook, book_of};
+    ghost use Rattle.crawl_frontier.specs.Books.{IsBook, Knows, book_of};
     ghost use Rattle.crawl_frontier.specs.Parts.{BusyId, worker};
     ghost use Rattle.crawl_frontier.specs.Rule.{popping, home};
 
@@ -47,7 +47,17 @@ impl<K: Name> Model for BusyWorker<K> {
         (w.right.view ≡ popping (home K.gate K.workers w.queue) w.right.view.taken w.right.view.empty_pops)
         × (slice_get K.queues w.queue ≡ Some w.right.subqueue)
         × IsSeatOf K.gate w.pass × (w.queue < K.workers) × IsBook K.workers (book_of w.book)
-        × IsSeatOf K.gate w.message.unit };
+        × IsSeatOf K.gate w.message.unit × Knows K.queues K.workers w.book };
+}
+
+// Lets the URL share the text of its copy, where there is one.
+fn share(url: &mut CanonUrl, copy: Option<CanonUrl>)
+    requires { IfSome copy (λ there. there ≡ url.old) }
+    ensures { url.new ≡ url.old }
+{
+    if let Some(there) = copy {
+        *url = there;
+    }
 }
 
 impl<K: Name> BusyWorker<K> {
@@ -79,6 +89,19 @@ impl<K: Name> BusyWorker<K> {
         ensures entry { self.new.message.entry ≡ self.old.message.entry }
         ensures same { self.new.worker ≡ worker self.old.worker.queue self.new.worker.seat self.old.worker.taken self.old.worker.empty_pops self.new.worker.book }
     {
+        let (answer, _) = self.offer_link(rt, frontier, url);
+        answer
+    }
+
+    // Offers a link of the page. With the answer comes, of a URL that was seen, a copy that shares the frontier's text.
+    fn offer_link<R: Wait>(&mut self, rt: &R, frontier: &Frontier<K>, url: &CanonUrl) -> Answer
+        ensures books { OfferBooks K.workers self.old.worker.book self.new.worker.book url.now (self.old.message.entry.hops + 1) result.0 }
+        ensures words { OfferWordsBeside self.old.message.unit self.new.message.unit self.old.worker.seat self.new.worker.seat result.0 }
+        ensures filtered { IsFiltered result.0 ↔ (allows K.filter url.now ≡ false) }
+        ensures entry { self.new.message.entry ≡ self.old.message.entry }
+        ensures same { self.new.worker ≡ worker self.old.worker.queue self.new.worker.seat self.old.worker.taken self.old.worker.empty_pops self.new.worker.book }
+        ensures shared { IfSome result.1 (λ there. there ≡ url.now) }
+    {
         let hops = u64::from(self.message.entry.hops) + 1;
         let held = &mut self.message.unit;
         offer_beside(
@@ -107,8 +130,8 @@ impl<K: Name> BusyWorker<K> {
         ensures entry { self.new.message.entry ≡ self.old.message.entry }
         ensures same { self.new.worker ≡ worker self.old.worker.queue self.new.worker.seat self.old.worker.taken self.old.worker.empty_pops self.new.worker.book }
     {
-        let answer = self.offer(rt, frontier, url);
-        self.book.share_last(url);
+        let (answer, copy) = self.offer_link(rt, frontier, url);
+        share(url, copy);
         answer
     }
 

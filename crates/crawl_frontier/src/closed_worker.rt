@@ -1,6 +1,6 @@
 //! A worker that has met the gate closed.
 ghost use Rattle.std.specs.Prelude.{◌≡◌, ◌<◌, Some, slice_get};
-ghost use Rattle.crawl_frontier.specs.Books.{IsBook, book_of};
+ghost use Rattle.crawl_frontier.specs.Books.{IsBook, Knows, book_of};
 ghost use Rattle.crawl_frontier.specs.Rule.{popping, home};
 
 use crate::book::Book;
@@ -26,7 +26,7 @@ impl<K: Name> Model for ClosedWorker<K> {
     ghost use Rattle.std.specs.Prelude.{◌≡◌, ◌<◌, true, Some, slice_get};
     ghost use Rattle.crawl_gate.specs.View.{knows_closed};
     ghost use Rattle.crawl_gate.specs.Seat.{IsSeatOf};
-    ghost use Rattle.crawl_frontier.specs.Books.{IsBook, book_of};
+    ghost use Rattle.crawl_frontier.specs.Books.{IsBook, Knows, book_of};
     ghost use Rattle.crawl_frontier.specs.Parts.{WorkerId};
     ghost use Rattle.crawl_frontier.specs.Rule.{popping, home};
 
@@ -38,7 +38,7 @@ impl<K: Name> Model for ClosedWorker<K> {
         (w.right.view ≡ popping (home K.gate K.workers w.queue) w.right.view.taken w.right.view.empty_pops)
         × (slice_get K.queues w.queue ≡ Some w.right.subqueue)
         × IsSeatOf K.gate w.pass × (w.queue < K.workers) × IsBook K.workers (book_of w.book)
-        × (knows_closed w.pass.view ≡ true) };
+        × (knows_closed w.pass.view ≡ true) × Knows K.queues K.workers w.book };
 }
 
 impl<K: Name> ClosedWorker<K> {
@@ -54,6 +54,7 @@ impl<K: Name> ClosedWorker<K> {
         ensures right { (result.0.view ≡ popping (home K.gate K.workers self.queue) self.taken self.empty_pops) × (slice_get K.queues self.queue ≡ Some result.0.subqueue) }
         ensures book { book_of result.1 ≡ self.book }
         ensures is_book { IsBook K.workers (book_of result.1) }
+        ensures known { Knows K.queues K.workers result.1 }
     {
         let ClosedWorker {
             queue: _,

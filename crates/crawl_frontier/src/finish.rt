@@ -1,4 +1,4 @@
-//! The end of a run: what was sent is compared with what was taken, and with the logs.
+//! The end of a run: what was sent is compared with what was taken, and with the books of all parts.
 ghost use Rattle.std.specs.Prelude.{◌≡◌, MatchResult};
 ghost use Rattle.crawl_frontier.specs.Accounts.{Accounts, FinishFails};
 
@@ -6,7 +6,7 @@ mod compare;
 mod gather;
 mod settle;
 mod settled;
-mod threads;
+mod tell;
 
 use crate::account::Account;
 use crate::closed_worker::ClosedWorker;
@@ -17,7 +17,6 @@ use crate::sender::Sender;
 use compare::books_agree;
 use settled::{Settled, account_of, settle_run};
 use std::thread::Threads;
-use threads::books_agree_in_threads;
 
 impl<K: Name> Frontier<K> {
     /// The account of a run, from its closed workers and its senders, in any order. It uses all parts up.
@@ -42,10 +41,10 @@ impl<K: Name> Frontier<K> {
         account_of(workers, lists, least)
     }
 
-    /// As [`Frontier::finish`]; where there is much to compare, threads compare the logs, each those of some parts.
+    /// As [`Frontier::finish`]. It needs no thread: no line of a log is left to compare.
     pub fn finish_in_threads<R: Threads + Sync>(
         self,
-        rt: &R,
+        _rt: &R,
         closed: Vec<ClosedWorker<K>>,
         senders: Vec<Sender<K>>,
     ) -> Result<Account, FinishError>
@@ -53,13 +52,6 @@ impl<K: Name> Frontier<K> {
             (λ a. (a.workers ≡ K.workers) × Accounts K.workers closed.items senders.items a.queues)
             (λ e. FinishFails K.workers closed.items senders.items e) }
     {
-        let Settled {
-            workers,
-            lists,
-            books,
-            least: settled,
-        } = settle_run(self, closed, senders)?;
-        let least = books_agree_in_threads(rt, lists.as_slice(), books, settled)?;
-        account_of(workers, lists, least)
+        self.finish(closed, senders)
     }
 }

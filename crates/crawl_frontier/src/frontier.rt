@@ -2,7 +2,7 @@
 ghost use Rattle.std.specs.Prelude.{◌≡◌, ◌^◌, ◌<◌, Some, IfOk, MatchResult, slice_get, vec_len, length};
 ghost use Rattle.crawl_gate.specs.Seat.{IsSeatOf};
 ghost use Rattle.crawl_frontier.specs.Limits.{IsWorkers};
-ghost use Rattle.crawl_frontier.specs.Books.{fresh_book};
+ghost use Rattle.crawl_frontier.specs.Books.{Knows, book_of, fresh_book};
 ghost use Rattle.crawl_frontier.specs.FreshParts.{AllPush, AllPop, AllFresh};
 
 use crate::book::Book;
@@ -55,28 +55,32 @@ fn shards<K: Name>(
     Ok(made)
 }
 
-// A worker for each queue, in order, each with a pass of its own.
+// A worker for each queue, in order, each with a pass of its own, and with books that know of each list what these do.
 fn workers<K: Name>(
     alloc: Global,
     gate: &Gate,
+    queues: &Vec<Subqueue>,
+    book: &mut Book,
     opening: &mut Unit,
-    count: u32,
     mut rights: VecDeque<PopRight>,
 ) -> Result<Vec<Worker<K>>, AllocError>
     requires gate { gate.now ≡ K.gate }
+    requires queues { (queues.now.items ≡ K.queues) × (vec_len queues.now ≡ K.workers) }
+    requires known { Knows K.queues K.workers book.old }
     requires unit { IsSeatOf K.gate opening.old }
     requires pop { AllPop K.gate K.workers K.queues 0 rights.items }
-    requires count { count ≡ K.workers }
     requires all { length rights.items ≡ K.workers }
     requires small { length rights.items < 2 ^ 32 }
+    ensures same { book_of book.new ≡ book_of book.old }
+    ensures known { Knows K.queues K.workers book.new }
     ensures unit { opening.new ≡ opening.old }
     ensures workers { IfOk result (λ v. (vec_len v ≡ K.workers) × AllFresh K.gate K.workers 0 v.items) }
 {
     let mut made = Vec::new(alloc);
     let mut queue = 0u32;
     while let Some(right) = rights.pop_front() {
-        let book = Book::new(alloc, u64::from(queue), count)?;
-        let worker = Worker::new(queue, right, gate.split_unit(opening), book);
+        let own = book.another::<K>(alloc, u64::from(queue), queues)?;
+        let worker = Worker::new(queue, right, gate.split_unit(opening), own);
         made.push(worker)?;
         queue += 1;
     }
@@ -105,13 +109,14 @@ impl<K: Name> Frontier<K> {
             queues,
             push_rights,
             pop_rights,
+            told,
         } = setup;
         let Ok(filter) = filter.copy() else {
             return Err(FrontierError::NoMemory);
         };
         let shards = shards::<K>(alloc, push_rights)?;
-        let made = workers::<K>(alloc, &gate, &mut opening, count, pop_rights)?;
-        let book = Book::new(alloc, u64::from(count), count)?;
+        let mut book = Book::new::<K>(alloc, u64::from(count), told)?;
+        let made = workers::<K>(alloc, &gate, &queues, &mut book, &mut opening, pop_rights)?;
         let pass = gate.split_unit(&mut opening);
         let seeder = Seeder::new(opening, pass, book);
         let frontier = Frontier {

@@ -14,6 +14,7 @@ mod entry;
 mod error;
 mod finish;
 mod frontier;
+mod growing;
 pub mod laws;
 mod log;
 mod name;

@@ -1,17 +1,21 @@
 //! What an offer answers, and its half after it has entered the gate.
-ghost use Rattle.std.specs.Prelude.{◌≡◌, ◌↔◌, ◌<◌, false};
+ghost use Rattle.std.specs.Prelude.{◌≡◌, ◌↔◌, ◌<◌, false, IfSome, Some, length, slice_get};
 ghost use Rattle.crawl_keys.specs.Assignment.{subqueue_of};
 ghost use Rattle.crawl_keys.specs.HostFilter.{allows};
 ghost use Rattle.crawl_gate.specs.Seat.{IsSeatOf};
-ghost use Rattle.crawl_frontier.specs.Books.{IsBook, HasRoom, book_of};
-ghost use Rattle.crawl_frontier.specs.Offers.{Replies, OfferBooks, OfferWordsBeside, Delivers, IsFiltered};
+ghost use Rattle.crawl_frontier.specs.QueueId.{QueueId};
+ghost use Rattle.crawl_frontier.specs.Growing.{Stays};
+ghost use Rattle.crawl_frontier.specs.Logs.{ListsAre, lists_of};
+ghost use Rattle.crawl_frontier.specs.Books.{IsBook, HasRoom, Knows, book_of};
+ghost use Rattle.crawl_frontier.specs.Offers.{Replies, IsTrueOf, Raises, IsKnown, OfferBooks, OfferWordsBeside, Delivers, IsFiltered};
 ghost use Rattle.crawl_frontier.specs.Units.{GaveBack};
 
 use crate::book::Book;
 use crate::error::OfferError;
 use crate::frontier::Frontier;
+use crate::growing::Beginning;
 use crate::name::Name;
-use crate::shard::Admit;
+use crate::shard::{Admit, Offered};
 use crawl_gate::{Enter, Pass, Unit};
 use crawl_keys::CanonUrl;
 use std::mem;
@@ -25,6 +29,9 @@ pub enum Offer {
     /// It was accepted before.
     Seen,
 }
+
+/// What an offer answers, and of a URL that was seen a copy that shares the frontier's text.
+pub(crate) type Answer = (Result<Offer, OfferError>, Option<CanonUrl>);
 
 /// Gives a unit back. The pass is what was the unit's seat. Where it was the last one the gate may close, so all that
 /// rest are woken: one closes it, and the others are told.
@@ -40,31 +47,87 @@ pub(crate) fn give_back<K: Name>(frontier: &Frontier<K>, unit: Unit) -> Pass
     pass
 }
 
-// Admits the URL under the lock of its subqueue. A type can't say of which subqueue a lock is: where another shard
-// is found, the lock is given back and taken again. What stood there is known to the call of `admit` alone.
+// Admits the URL under the lock of its subqueue, and tells what that list is then. A type can't say of which subqueue a lock
+// is: where another shard is found, the lock is given back and taken again. What stood there is known to the call of `admit`
+// alone.
 fn admit_at<K: Name, R: Wait>(
     rt: &R,
     frontier: &Frontier<K>,
     url: &CanonUrl,
     queue: u32,
-    id: u64,
-    own: u64,
-    hops: u64,
+    offered: Offered,
     unit: Unit,
+    told: &mut Beginning,
 ) -> Admit
     requires queue { queue ≡ subqueue_of url.now K.workers }
     requires within { queue < K.workers }
     requires unit { IsSeatOf K.gate unit }
-    ensures { Replies url.now own hops unit result }
+    requires told { (s : QueueId) → slice_get K.queues queue ≡ Some s → told.old.list ≡ s.list }
+    ensures replies { Replies url.now offered.own offered.hops unit result }
+    ensures list { told.new.list ≡ told.old.list }
+    ensures stays { Stays told.old.items told.new.items }
+    ensures index { IsTrueOf told.new.items url.now offered.id offered.hops result }
 {
     let subqueue = frontier.subqueue(queue);
     for _ in rt.forever() {
         let mut shard = frontier.lock(rt, queue);
         if shard.queue() == queue {
-            return shard.admit(rt, subqueue, url, id, own, hops, unit);
+            return shard.admit_telling(rt, subqueue, url, offered, unit, told);
         }
     }
     unreachable!()
+}
+
+// Admits the URL by what is known of its subqueue's list, which becomes what that is then.
+fn admit_in<K: Name, R: Wait>(
+    rt: &R,
+    frontier: &Frontier<K>,
+    url: &CanonUrl,
+    queue: u32,
+    offered: Offered,
+    unit: Unit,
+    told: &mut Vec<Beginning>,
+) -> Admit
+    requires queue { queue ≡ subqueue_of url.now K.workers }
+    requires within { queue < K.workers }
+    requires unit { IsSeatOf K.gate unit }
+    requires len { length told.old.items ≡ K.workers }
+    requires lists { ListsAre K.queues told.old.items }
+    ensures replies { Replies url.now offered.own offered.hops unit result }
+    ensures raises { Raises told.old.items told.new.items queue url.now offered.id offered.hops result }
+{
+    admit_at(
+        rt,
+        frontier,
+        url,
+        queue,
+        offered,
+        unit,
+        &mut told[queue as usize],
+    )
+}
+
+// Admits the URL by the books of its part, which say what they said.
+fn admit_by<K: Name, R: Wait>(
+    rt: &R,
+    frontier: &Frontier<K>,
+    url: &CanonUrl,
+    queue: u32,
+    offered: Offered,
+    unit: Unit,
+    book: &mut Book,
+) -> Admit
+    requires queue { queue ≡ subqueue_of url.now K.workers }
+    requires within { queue < K.workers }
+    requires unit { IsSeatOf K.gate unit }
+    requires known { Knows K.queues K.workers book.old }
+    ensures replies { Replies url.now offered.own offered.hops unit result }
+    ensures rest { (book.new.id ≡ book.old.id) × (book.new.counts ≡ book.old.counts) × (book.new.lines ≡ book.old.lines) }
+    ensures same { book_of book.new ≡ book_of book.old }
+    ensures known { Knows K.queues K.workers book.new }
+    ensures index { IsKnown (lists_of book.new.told.items) queue url.now offered.id offered.hops result }
+{
+    admit_in(rt, frontier, url, queue, offered, unit, &mut book.told)
 }
 
 /// Offers a URL with the unit that it entered by. The log has room for one line more, so nothing of the part grows
@@ -74,43 +137,52 @@ pub(crate) fn deliver<K: Name, R: Wait>(
     frontier: &Frontier<K>,
     book: &mut Book,
     pass: &mut Pass,
-    url: CanonUrl,
+    url: &CanonUrl,
     hops: u64,
     unit: Unit,
-) -> Result<Offer, OfferError>
+) -> Answer
     requires book { IsBook K.workers (book_of book.old) }
-    requires room { HasRoom book.old.log }
+    requires known { Knows K.queues K.workers book.old }
+    requires room { HasRoom book.old }
     requires pass { IsSeatOf K.gate pass.old }
     requires unit { IsSeatOf K.gate unit }
     ensures book { IsBook K.workers (book_of book.new) }
-    ensures books { OfferBooks K.workers (book_of book.old) (book_of book.new) url hops result }
+    ensures known { Knows K.queues K.workers book.new }
+    ensures books { OfferBooks K.workers (book_of book.old) (book_of book.new) url.now hops result.0 }
     ensures pass { IsSeatOf K.gate pass.new }
-    ensures delivers { Delivers pass.old pass.new unit result }
+    ensures delivers { Delivers pass.old pass.new unit result.0 }
+    ensures shared { IfSome result.1 (λ there. there ≡ url.now) }
 {
     let queue = url.subqueue(frontier.workers());
     let own = book.counts[queue as usize];
-    match admit_at(rt, frontier, &url, queue, book.id, own, hops, unit) {
-        Admit::Admitted { number } => {
+    let id = book.id;
+    let offered = Offered { id, own, hops };
+    match admit_by(rt, frontier, url, queue, offered, unit, book) {
+        Admit::Admitted { number, index } => {
             frontier.subqueue(queue).ring();
-            book.accept(url, queue, number, hops as u32);
-            Ok(Offer::Accepted { queue, number })
+            book.accept(queue, index, number);
+            (Ok(Offer::Accepted { queue, number }), None)
         }
-        Admit::Seen { url: there, unit } => {
+        Admit::Seen {
+            url: there,
+            index,
+            unit,
+        } => {
             *pass = give_back(frontier, unit);
-            book.see(there, queue);
-            Ok(Offer::Seen)
+            book.see(queue, index);
+            (Ok(Offer::Seen), Some(there))
         }
         Admit::Crossed { found, unit } => {
             *pass = give_back(frontier, unit);
-            Err(OfferError::Crossed { own, found })
+            (Err(OfferError::Crossed { own, found }), None)
         }
         Admit::TooFar { unit } => {
             *pass = give_back(frontier, unit);
-            Err(OfferError::TooFar)
+            (Err(OfferError::TooFar), None)
         }
         Admit::NoMemory { unit } => {
             *pass = give_back(frontier, unit);
-            Err(OfferError::NoMemory)
+            (Err(OfferError::NoMemory), None)
         }
     }
 }
@@ -124,22 +196,25 @@ pub(crate) fn offer_beside<K: Name, R: Wait>(
     pass: &mut Pass,
     url: &CanonUrl,
     hops: u64,
-) -> Result<Offer, OfferError>
+) -> Answer
     requires held { IsSeatOf K.gate held.old }
     requires book { IsBook K.workers (book_of book.old) }
+    requires known { Knows K.queues K.workers book.old }
     requires pass { IsSeatOf K.gate pass.old }
     ensures held { IsSeatOf K.gate held.new }
     ensures book { IsBook K.workers (book_of book.new) }
+    ensures known { Knows K.queues K.workers book.new }
     ensures pass { IsSeatOf K.gate pass.new }
-    ensures books { OfferBooks K.workers (book_of book.old) (book_of book.new) url.now hops result }
-    ensures words { OfferWordsBeside held.old held.new pass.old pass.new result }
-    ensures filtered { IsFiltered result ↔ (allows K.filter url.now ≡ false) }
+    ensures books { OfferBooks K.workers (book_of book.old) (book_of book.new) url.now hops result.0 }
+    ensures words { OfferWordsBeside held.old held.new pass.old pass.new result.0 }
+    ensures filtered { IsFiltered result.0 ↔ (allows K.filter url.now ≡ false) }
+    ensures shared { IfSome result.1 (λ there. there ≡ url.now) }
 {
     if !frontier.filter().allows(url) {
-        return Err(OfferError::Filtered);
+        return (Err(OfferError::Filtered), None);
     }
-    let Ok(url) = book.ready(url) else {
-        return Err(OfferError::NoMemory);
+    let Ok(()) = book.ready::<K>() else {
+        return (Err(OfferError::NoMemory), None);
     };
     let gate = frontier.gate();
     let spare = gate.split_unit(held);
@@ -148,7 +223,7 @@ pub(crate) fn offer_beside<K: Name, R: Wait>(
         Enter::Entered(unit) => unit,
         Enter::Full(back) => {
             *pass = back;
-            return Err(OfferError::Full);
+            return (Err(OfferError::Full), None);
         }
         Enter::Closed(_) => unreachable!(),
         Enter::Lost(_) => unreachable!(),

@@ -2,7 +2,7 @@
 ghost use Rattle.std.specs.Prelude.{◌≡◌, ◌↔◌, false, MatchResult};
 ghost use Rattle.crawl_gate.specs.Seat.{IsSeatOf};
 ghost use Rattle.crawl_gate.specs.View.{fresh_view};
-ghost use Rattle.crawl_frontier.specs.Books.{IsBook, book_of, fresh_book};
+ghost use Rattle.crawl_frontier.specs.Books.{IsBook, Knows, book_of, fresh_book};
 ghost use Rattle.crawl_keys.specs.HostFilter.{allows};
 ghost use Rattle.crawl_frontier.specs.Units.{GaveBack};
 ghost use Rattle.crawl_frontier.specs.Offers.{OfferBooks, OfferWordsBeside, IsFiltered};
@@ -34,13 +34,13 @@ pub struct Seeder<K: Name> {
 impl<K: Name> Model for Seeder<K> {
     ghost use Rattle.crawl_gate.specs.Seat.{IsSeatOf};
     ghost use Rattle.crawl_frontier.specs.Parts.{SeederId};
-    ghost use Rattle.crawl_frontier.specs.Books.{IsBook, book_of};
+    ghost use Rattle.crawl_frontier.specs.Books.{IsBook, Knows, book_of};
 
     ghost Value = { SeederId };
 
     ghost view = { λ s. record { book = book_of s.book; opening = s.opening; seat = s.pass } };
 
-    ghost invariant = { λ s. IsSeatOf K.gate s.opening × IsSeatOf K.gate s.pass × IsBook K.workers (book_of s.book) };
+    ghost invariant = { λ s. IsSeatOf K.gate s.opening × IsSeatOf K.gate s.pass × IsBook K.workers (book_of s.book) × Knows K.queues K.workers s.book };
 }
 
 impl<K: Name> Seeder<K> {
@@ -48,6 +48,7 @@ impl<K: Name> Seeder<K> {
         requires opening { IsSeatOf K.gate opening }
         requires pass { IsSeatOf K.gate pass }
         requires book { IsBook K.workers (book_of book) }
+        requires known { Knows K.queues K.workers book }
         ensures { result ≡ record { book = book_of book; opening = opening; seat = pass } }
     {
         Seeder {
@@ -70,7 +71,8 @@ impl<K: Name> Seeder<K> {
         ensures filtered { IsFiltered result ↔ (allows K.filter url.now ≡ false) }
     {
         let (held, book, pass) = (&mut self.opening, &mut self.book, &mut self.pass);
-        offer_beside(rt, frontier, held, book, pass, url, 0)
+        let (answer, _) = offer_beside(rt, frontier, held, book, pass, url, 0);
+        answer
     }
 
     /// A new sender with this id. An id that another part has isn't refused: offers of both show it as
@@ -86,7 +88,9 @@ impl<K: Name> Seeder<K> {
             (λ s. (s.book ≡ fresh_book id K.workers) × (s.seat.view ≡ fresh_view K.gate.max_pending))
             (λ e. e ≡ FrontierError.NoMemory) }
     {
-        let book = Book::new(alloc, id, frontier.workers())?;
+        let Ok(book) = self.book.another::<K>(alloc, id, &frontier.queues) else {
+            return Err(FrontierError::NoMemory);
+        };
         let pass = frontier.gate().split_unit(&mut self.opening);
         Ok(Sender::new(book, pass))
     }

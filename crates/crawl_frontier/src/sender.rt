@@ -2,7 +2,7 @@
 ghost use Rattle.std.specs.Prelude.{◌≡◌, ◌↔◌, true, false};
 ghost use Rattle.crawl_gate.specs.Seat.{IsSeatOf};
 ghost use Rattle.crawl_gate.specs.View.{knows_closed};
-ghost use Rattle.crawl_frontier.specs.Books.{IsBook, book_of};
+ghost use Rattle.crawl_frontier.specs.Books.{IsBook, Knows, book_of};
 ghost use Rattle.crawl_keys.specs.HostFilter.{allows};
 ghost use Rattle.crawl_frontier.specs.Parts.{sender_with};
 ghost use Rattle.crawl_frontier.specs.Offers.{OfferBooks, OfferWords, IsLate, IsFiltered};
@@ -31,19 +31,20 @@ pub struct Sender<K: Name> {
 impl<K: Name> Model for Sender<K> {
     ghost use Rattle.crawl_gate.specs.Seat.{IsSeatOf};
     ghost use Rattle.crawl_frontier.specs.Parts.{SenderId};
-    ghost use Rattle.crawl_frontier.specs.Books.{IsBook, book_of};
+    ghost use Rattle.crawl_frontier.specs.Books.{IsBook, Knows, book_of};
 
     ghost Value = { SenderId };
 
     ghost view = { λ s. record { book = book_of s.book; seat = s.pass } };
 
-    ghost invariant = { λ s. IsSeatOf K.gate s.pass × IsBook K.workers (book_of s.book) };
+    ghost invariant = { λ s. IsSeatOf K.gate s.pass × IsBook K.workers (book_of s.book) × Knows K.queues K.workers s.book };
 }
 
 impl<K: Name> Sender<K> {
     pub(crate) fn new(book: Book, pass: Pass) -> Sender<K>
         requires pass { IsSeatOf K.gate pass }
         requires book { IsBook K.workers (book_of book) }
+        requires known { Knows K.queues K.workers book }
         ensures { result ≡ sender_with (book_of book) pass }
     {
         Sender {
@@ -56,6 +57,7 @@ impl<K: Name> Sender<K> {
     pub(crate) fn into_book(self) -> Book
         ensures book { book_of result ≡ self.book }
         ensures is_book { IsBook K.workers (book_of result) }
+        ensures known { Knows K.queues K.workers result }
     {
         let Sender {
             book,
@@ -98,7 +100,7 @@ impl<K: Name> Sender<K> {
         ensures allowed { ¬ IsFiltered result }
         ensures for_good { knows_closed self.old.seat.view ≡ true → IsLate result × (knows_closed self.new.seat.view ≡ true) }
     {
-        let Ok(url) = self.book.ready(url) else {
+        let Ok(()) = self.book.ready::<K>() else {
             return Err(OfferError::NoMemory);
         };
         let gate = frontier.gate();
@@ -116,6 +118,7 @@ impl<K: Name> Sender<K> {
             }
             Enter::Lost(_) => unreachable!(),
         };
-        deliver(rt, frontier, &mut self.book, &mut self.pass, url, 0, unit)
+        let (answer, _) = deliver(rt, frontier, &mut self.book, &mut self.pass, url, 0, unit);
+        answer
     }
 }

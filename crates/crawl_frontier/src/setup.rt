@@ -1,11 +1,13 @@
 //! A gate and its subqueues, before they have a name.
-ghost use Rattle.std.specs.Prelude.{◌≡◌, IfOk, MatchResult};
+ghost use Rattle.std.specs.Prelude.{◌≡◌, IfOk, MatchResult, vec_len};
 ghost use Rattle.crawl_gate.specs.GateError.{IsMaximum};
 ghost use Rattle.crawl_frontier.specs.Limits.{IsWorkers};
 ghost use Rattle.crawl_frontier.specs.FrontierErrors.{NoSetup};
 ghost use Rattle.crawl_frontier.specs.FreshParts.{Line};
+ghost use Rattle.crawl_frontier.specs.Logs.{ListsAre};
 
 use crate::error::FrontierError;
+use crate::growing::Beginning;
 use crate::rights::{PopRight, PushRight};
 use crate::subqueue::Subqueue;
 use crawl_gate::{Gate, GateError, Unit};
@@ -29,15 +31,17 @@ pub struct Setup {
     pub(crate) queues: Vec<Subqueue>,
     pub(crate) push_rights: VecDeque<PushRight>,
     pub(crate) pop_rights: VecDeque<PopRight>,
+    pub(crate) told: Vec<Beginning>,
 }
 
 impl Model for Setup {
     ghost use Rattle.crawl_gate.specs.Seat.{IsSeatOf};
     ghost use Rattle.crawl_gate.specs.View.{opening_view};
-    ghost use Rattle.std.specs.Prelude.{◌≡◌};
+    ghost use Rattle.std.specs.Prelude.{◌≡◌, vec_len};
     ghost use Rattle.crawl_frontier.specs.Limits.{IsWorkers};
     ghost use Rattle.crawl_frontier.specs.SetupId.{SetupId};
     ghost use Rattle.crawl_frontier.specs.FreshParts.{Line};
+    ghost use Rattle.crawl_frontier.specs.Logs.{ListsAre};
 
     ghost Value = { SetupId };
 
@@ -45,27 +49,34 @@ impl Model for Setup {
 
     ghost invariant = { λ s.
         IsSeatOf s.gate s.opening × (s.opening.view ≡ opening_view s.gate.max_pending) × IsWorkers s.workers
-        × Line s.gate s.workers s.queues.items s.push_rights.items s.pop_rights.items s.workers };
+        × Line s.gate s.workers s.queues.items s.push_rights.items s.pop_rights.items s.workers
+        × (vec_len s.told ≡ s.workers) × ListsAre s.queues.items s.told.items };
 }
 
-// The subqueues with their rights, by number.
-fn subqueues(
-    alloc: Global,
-    gate: &Gate,
-    workers: u32,
-) -> Result<(Vec<Subqueue>, VecDeque<PushRight>, VecDeque<PopRight>), AllocError>
-    ensures { IfOk result (λ r. Line gate.now workers r.0.items r.1.items r.2.items workers) }
+type Made = (
+    Vec<Subqueue>,
+    VecDeque<PushRight>,
+    VecDeque<PopRight>,
+    Vec<Beginning>,
+);
+
+// The subqueues with their rights, by number, and what the list of each begins with.
+fn subqueues(alloc: Global, gate: &Gate, workers: u32) -> Result<Made, AllocError>
+    ensures { IfOk result (λ r.
+        Line gate.now workers r.0.items r.1.items r.2.items workers × (vec_len r.3 ≡ workers) × ListsAre r.0.items r.3.items) }
 {
     let mut queues = Vec::new(alloc);
     let mut push_rights = VecDeque::new(alloc);
     let mut pop_rights = VecDeque::new(alloc);
+    let mut told = Vec::new(alloc);
     for queue in 0..workers {
-        let (subqueue, push, pop) = Subqueue::new(alloc, gate, workers, queue)?;
+        let (subqueue, push, pop, begins) = Subqueue::new(alloc, gate, workers, queue)?;
         queues.push(subqueue)?;
         push_rights.push_back(push)?;
         pop_rights.push_back(pop)?;
+        told.push(begins)?;
     }
-    Ok((queues, push_rights, pop_rights))
+    Ok((queues, push_rights, pop_rights, told))
 }
 
 impl Setup {
@@ -84,7 +95,7 @@ impl Setup {
             Err(GateError::BadLimit) => return Err(FrontierError::BadLimit),
             Err(GateError::NoMemory) => return Err(FrontierError::NoMemory),
         };
-        let Ok((queues, push_rights, pop_rights)) = subqueues(alloc, &gate, workers) else {
+        let Ok((queues, push_rights, pop_rights, told)) = subqueues(alloc, &gate, workers) else {
             return Err(FrontierError::NoMemory);
         };
         Ok(Setup {
@@ -94,6 +105,7 @@ impl Setup {
             queues,
             push_rights,
             pop_rights,
+            told,
         })
     }
 }

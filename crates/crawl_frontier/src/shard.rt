@@ -1,14 +1,18 @@
 //! What lies behind a subqueue's lock.
-ghost use Rattle.std.specs.Prelude.{◌≡◌, ◌⊎◌, [], IfOk, Some, slice_get};
+ghost use Rattle.std.specs.Prelude.{◌≡◌, ◌⊎◌, ◌<◌, ◌^◌, [], IfOk, IfSome, Some, length, slice_get};
 ghost use Rattle.crawl_keys.specs.Assignment.{subqueue_of};
 ghost use Rattle.crawl_gate.specs.Seat.{IsSeatOf};
 ghost use Rattle.crawl_frontier.specs.Entries.{KeepsRule, count_of, entry};
 ghost use Rattle.crawl_frontier.specs.Admits.{Admits};
+ghost use Rattle.crawl_frontier.specs.Growing.{Stays};
+ghost use Rattle.crawl_frontier.specs.Known.{begins_with};
+ghost use Rattle.crawl_frontier.specs.Offers.{IsTrueOf, Replies};
 ghost use Rattle.crawl_frontier.specs.Parts.{shard};
 ghost use Rattle.crawl_frontier.specs.Rule.{pushing, home};
 
 use crate::accepted::AcceptedList;
 use crate::entry::{Entry, Message};
+use crate::growing::Beginning;
 use crate::name::Name;
 use crate::rights::PushRight;
 use crate::subqueue::Subqueue;
@@ -34,7 +38,7 @@ pub struct Shard<K: Name> {
 }
 
 impl<K: Name> Model for Shard<K> {
-    ghost use Rattle.std.specs.Prelude.{◌≡◌, ℕ, List, [], Some, slice_get, map};
+    ghost use Rattle.std.specs.Prelude.{◌≡◌, ◌<◌, ◌^◌, ℕ, List, [], Some, length, slice_get, map};
     ghost use Rattle.hash_order.specs.HashOrder.{hash_of};
     ghost use Rattle.hash_index.specs.Index.{IsIndexOf};
     ghost use Rattle.crawl_frontier.specs.Parts.{ShardId};
@@ -51,35 +55,72 @@ impl<K: Name> Model for Shard<K> {
         × (slice_get K.queues s.queue ≡ Some s.right.subqueue)
         × KeepsRule K.workers s.queue [] s.sent.items
         × IsIndexOf hash_of (map (λ e. e.url) s.sent.items) s.index
-        × ((id : ℕ) → count_in s.counts id ≡ count_of id s.sent.items) };
+        × ((id : ℕ) → count_in s.counts id ≡ count_of id s.sent.items)
+        × (length s.sent.items < 2 ^ 32) };
 }
 
 /// The most hops of a URL: what the field of an entry holds.
 pub const HOPS_LIMIT: u64 = 4_294_967_295;
 
+// The most entries of a subqueue, so that an index fits a line of a log.
+const ENTRIES_LIMIT: usize = 4_294_967_295;
+
 /// What [`Shard::admit`] answers. The unit comes back where the URL was not sent.
 #[derive(Drop)]
 pub enum Admit {
-    /// The URL went to the end of the subqueue. The number is how many of the sender came before it.
-    Admitted { number: u64 },
+    /// The URL went to the end of the subqueue. The number is how many of the sender came before it, the index how many of all.
+    Admitted {
+        number: u64,
+        index: u32,
+    },
     /// The shard's count of the sender is this one, and not the sender's own.
-    Crossed { found: u64, unit: Unit },
-    /// The URL was accepted before. This is the copy of it that shares the shard's text.
-    Seen { url: CanonUrl, unit: Unit },
+    Crossed {
+        found: u64,
+        unit: Unit,
+    },
+    /// The URL was accepted before, and stands at this index. This is the copy of it that shares the shard's text.
+    Seen {
+        url: CanonUrl,
+        index: u32,
+        unit: Unit,
+    },
     /// The hops are above the limit.
-    TooFar { unit: Unit },
+    TooFar {
+        unit: Unit,
+    },
     /// A growth was refused.
-    NoMemory { unit: Unit },
+    NoMemory {
+        unit: Unit,
+    },
 }
 
-// The answer where this entry has the URL.
-fn seen(there: &Entry, unit: Unit) -> Admit
-    ensures { (result ≡ Admit.Seen there.now.url unit) ⊎ (result ≡ Admit.NoMemory unit) }
+/// Who offers a URL, as which of its own in the subqueue, and how many links away it is.
+#[derive(Clone, Copy)]
+pub(crate) struct Offered {
+    pub id: u64,
+    pub own: u64,
+    pub hops: u64,
+}
+
+// The answer where the entry at this index has the URL.
+fn seen(there: &Entry, index: u32, unit: Unit) -> Admit
+    ensures { (result ≡ Admit.Seen there.now.url index unit) ⊎ (result ≡ Admit.NoMemory unit) }
 {
     match there.url.copy() {
-        Ok(url) => Admit::Seen { url, unit },
+        Ok(url) => Admit::Seen { url, index, unit },
         Err(_) => Admit::NoMemory { unit },
     }
+}
+
+// The index of one entry more, unless there are as many as an index can tell apart.
+fn next_index(sent: &Vec<Entry>) -> Option<u32>
+    ensures { IfSome result (λ index. (index ≡ length sent.now.items) × (index < 4294967295)) }
+{
+    let count = sent.len();
+    if count >= ENTRIES_LIMIT {
+        return None;
+    }
+    Some(count as u32)
 }
 
 // What a push needs: the message's entry, and the list's.
@@ -156,9 +197,45 @@ impl<K: Name> Shard<K> {
         }
         let known = self.index.find(&self.sent, url);
         if let Some(index) = known {
-            return seen(&self.sent[index], unit);
+            return seen(&self.sent[index], index as u32, unit);
         }
         Admit::TooFar { unit }
+    }
+
+    /// Admits the URL. The beginning becomes the list as it is then, of which the index that is told is true.
+    pub(crate) fn admit_telling<R: Wait>(
+        &mut self,
+        rt: &R,
+        subqueue: &Subqueue,
+        url: &CanonUrl,
+        offered: Offered,
+        unit: Unit,
+        told: &mut Beginning,
+    ) -> Admit
+        requires queue { subqueue_of url.now K.workers ≡ self.old.queue }
+        requires subqueue { slice_get K.queues self.old.queue ≡ Some subqueue.now }
+        requires unit { IsSeatOf K.gate unit }
+        requires told { told.old.list ≡ subqueue.now.list }
+        ensures replies { Replies url.now offered.own offered.hops unit result }
+        ensures list { told.new.list ≡ told.old.list }
+        ensures stays { Stays told.old.items told.new.items }
+        ensures index { IsTrueOf told.new.items url.now offered.id offered.hops result }
+    {
+        let Offered { id, own, hops } = offered;
+        let admit = self.admit(rt, subqueue, url, id, own, hops, unit);
+        self.tell(subqueue, told);
+        admit
+    }
+
+    /// The beginning becomes the list sent, in which all that it had still stands.
+    pub(crate) fn tell(&mut self, subqueue: &Subqueue, told: &mut Beginning)
+        requires subqueue { slice_get K.queues self.old.queue ≡ Some subqueue.now }
+        requires told { told.old.list ≡ subqueue.now.list }
+        ensures same { self.new ≡ self.old }
+        ensures told { told.new ≡ begins_with subqueue.now.list self.old.sent }
+        ensures stays { Stays told.old.items told.new.items }
+    {
+        subqueue.tell(&mut self.right, told);
     }
 
     // Sends the URL, unless it is there: one search finds it, or gives it the list's next index. All that grows comes before
@@ -183,8 +260,11 @@ impl<K: Name> Shard<K> {
             return Admit::NoMemory { unit };
         };
         if let Some(index) = found {
-            return seen(&self.sent[index], unit);
+            return seen(&self.sent[index], index as u32, unit);
         }
+        let Some(index) = next_index(&self.sent) else {
+            return Admit::NoMemory { unit };
+        };
         let Ok((sent, listed)) = copies(url, sender, own, hops) else {
             return Admit::NoMemory { unit };
         };
@@ -195,11 +275,11 @@ impl<K: Name> Shard<K> {
             return Admit::NoMemory { unit };
         };
         let message = Message { entry: sent, unit };
-        match subqueue.push(rt, &mut self.right, message) {
+        match subqueue.push(rt, &mut self.right, message, &listed) {
             Ok(()) => {
                 raise(&mut self.counts, sender, own + 1);
                 self.sent.push_reserved(listed);
-                Admit::Admitted { number: own }
+                Admit::Admitted { number: own, index }
             }
             Err(message) => Admit::NoMemory { unit: message.unit },
         }

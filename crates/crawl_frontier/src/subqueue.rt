@@ -3,9 +3,12 @@ ghost use Rattle.std.specs.Prelude.{◌≡◌, ◌+◌, ◌++◌, ◌∷◌, [],
 ghost use Rattle.crossbeam_queue.specs.SegTies.{IsSegPassOf};
 ghost use Rattle.crawl_gate.specs.Seat.{IsSeatOf};
 ghost use Rattle.crawl_frontier.specs.Entries.{MayFollow};
+ghost use Rattle.crawl_frontier.specs.Growing.{Stays};
+ghost use Rattle.crawl_frontier.specs.Known.{begins_with};
 ghost use Rattle.crawl_frontier.specs.Rule.{undivided, pushing, popping, reunited};
 
-use crate::entry::Message;
+use crate::entry::{Entry, Message};
+use crate::growing::{Beginning, Growing};
 use crate::rights::{Pass, PopRight, PushRight};
 use crate::rule::{
     CountEmptyPop, Divide, PassView, Pop, Push, Reunite, Settle, Stamp, SubqueueRule,
@@ -41,17 +44,19 @@ const WAITS: u64 = 64;
 /// which subqueue it is; no promise hangs on the bell.
 pub struct Subqueue {
     line: Line,
+    // stands for the list of what was sent, which the shard has
+    list: Growing,
     bell: AtomicU64,
     // how many waits there were since the bell last rang while its worker looked at it; nobody else asks
     waits: AtomicU64,
 }
 
 impl Model for Subqueue {
-    ghost use Rattle.crawl_frontier.specs.QueueId.{QueueId};
+    ghost use Rattle.crawl_frontier.specs.QueueId.{QueueId, queue_id};
 
     ghost Value = { QueueId };
 
-    ghost view = { λ q. q.line.web };
+    ghost view = { λ q. queue_id q.line.web q.list };
 }
 
 /// Both rights to a subqueue that was not seen to be empty. Only [`Subqueue::held`] makes one, so it shows that the
@@ -59,20 +64,23 @@ impl Model for Subqueue {
 #[derive(Drop)]
 pub struct Held {
     pass: Pass,
+    known: Beginning,
 }
 
 impl Model for Held {
+    ghost use Rattle.crawl_frontier.specs.QueueId.{queue_id};
     ghost use Rattle.crawl_frontier.specs.PassId.{PassId};
 
     ghost Value = { PassId };
 
-    ghost view = { λ h. record { subqueue = h.pass.web; view = h.pass.me.view.client } };
+    ghost view = { λ h. record { subqueue = queue_id h.pass.web h.known.list; view = h.pass.me.view.client } };
 }
 
 impl Drop for Subqueue {
     fn drop(self) {
         let Self {
             line,
+            list: _,
             bell: _,
             waits: _,
         } = self;
@@ -92,47 +100,82 @@ fn settle<B: Stamp>(line: &Line, pass: &mut Pass, gate: &Gate, workers: u32, que
 }
 
 impl Subqueue {
-    /// The empty subqueue of this number, with its two rights.
+    /// The empty subqueue of this number, with its two rights, and what its list begins with.
     pub(crate) fn new(
         alloc: Global,
         gate: &Gate,
         workers: u32,
         queue: u32,
-    ) -> Result<(Subqueue, PushRight, PopRight), AllocError>
+    ) -> Result<(Subqueue, PushRight, PopRight, Beginning), AllocError>
         ensures { IfOk result (λ r.
             (r.1.subqueue ≡ r.0) × (r.1.view ≡ pushing record { gate = gate.now; workers = workers; queue = queue } [])
-            × (r.2.subqueue ≡ r.0) × (r.2.view ≡ popping record { gate = gate.now; workers = workers; queue = queue } [] 0)) }
+            × (r.2.subqueue ≡ r.0) × (r.2.view ≡ popping record { gate = gate.now; workers = workers; queue = queue } [] 0)
+            × (r.3.list ≡ r.0.list)) }
     {
+        let (list, mut owner) = Growing::new(alloc)?;
+        let known = list.tell(&mut owner);
+        let told = list.tell(&mut owner);
         let (line, mut pass) = Line::with_rule(alloc)?;
         settle::<Brand>(&line, &mut pass, gate, workers, queue);
         let other = line.another::<Divide>(&mut pass);
         Ok((
             Subqueue {
                 line,
+                list,
                 bell: AtomicU64::new(QUIET),
                 waits: AtomicU64::new(0),
             },
-            PushRight { pass },
-            PopRight { pass: other },
+            PushRight { pass, owner },
+            PopRight { pass: other, known },
+            told,
         ))
     }
 
-    /// Puts a message at the end. It comes back where memory ran out, or after nearly 2^62 pushes.
+    /// Puts a message at the end. It comes back where memory ran out, or after nearly 2^62 pushes. The list that the right
+    /// owns has the entry that is listed, which is the message's.
     pub(crate) fn push<R: Wait>(
         &self,
         rt: &R,
         right: &mut PushRight,
         message: Message,
+        listed: &Entry,
     ) -> Result<(), Message>
         requires subqueue { right.old.subqueue ≡ self.now }
         requires unit { IsSeatOf right.old.view.home.gate message.unit }
+        requires listed { listed.now ≡ message.entry }
         requires follows { MayFollow right.old.view.home.workers right.old.view.home.queue right.old.view.sent message.entry }
         ensures subqueue { right.new.subqueue ≡ self.now }
         ensures sent { MatchResult result
             (λ _. right.new.view ≡ pushing right.old.view.home (right.old.view.sent ++ message.entry ∷ []))
             (λ m. (m ≡ message) × (right.new.view ≡ right.old.view)) }
     {
-        self.line.push_as::<Push, R>(rt, &mut right.pass, message)
+        match self.line.push_as::<Push, R>(rt, &mut right.pass, message) {
+            Ok(()) => {
+                self.list.grow(&mut right.owner, listed);
+                Ok(())
+            }
+            Err(message) => Err(message),
+        }
+    }
+
+    /// One more token that says of the list of what was sent what this one says.
+    pub(crate) fn again(&self, known: &mut Beginning) -> Beginning
+        requires { known.old.list ≡ self.now.list }
+        ensures same { known.new ≡ known.old }
+        ensures again { result ≡ known.old }
+    {
+        self.list.again(known)
+    }
+
+    /// The beginning becomes the list of what was sent until now, in which all that it had still stands.
+    pub(crate) fn tell(&self, right: &mut PushRight, told: &mut Beginning)
+        requires subqueue { right.old.subqueue ≡ self.now }
+        requires told { told.old.list ≡ self.now.list }
+        ensures same { right.new ≡ right.old }
+        ensures told { told.new ≡ begins_with self.now.list right.old.view.sent }
+        ensures stays { Stays told.old.items told.new.items }
+    {
+        self.list.catch_up(&mut right.owner, told);
     }
 
     /// Takes the message at the front, or counts a pop that found nothing.
@@ -206,12 +249,12 @@ impl Subqueue {
         requires subqueue { (push.subqueue ≡ self.now) × (pop.subqueue ≡ self.now) }
         ensures { MatchOption result (push.view.sent ≡ pop.view.taken) (λ h. (h.subqueue ≡ self.now) × (h.view ≡ reunited push.view pop.view)) }
     {
-        let PushRight { mut pass } = push;
-        let PopRight { pass: other } = pop;
+        let PushRight { mut pass, owner: _ } = push;
+        let PopRight { pass: other, known } = pop;
         self.line.absorb::<Reunite>(&mut pass, other);
         if self.line.is_empty_as::<Reunite>(&mut pass) {
             return None;
         }
-        Some(Held { pass })
+        Some(Held { pass, known })
     }
 }

@@ -1,7 +1,7 @@
 //! An idle worker, and what it finds.
 ghost use Rattle.std.specs.Prelude.{◌≡◌, ◌<◌, [], Some, slice_get};
 ghost use Rattle.crawl_gate.specs.Seat.{IsSeatOf};
-ghost use Rattle.crawl_frontier.specs.Books.{IsBook, book_of};
+ghost use Rattle.crawl_frontier.specs.Books.{IsBook, Knows, book_of};
 ghost use Rattle.crawl_frontier.specs.Turns.{Turns};
 ghost use Rattle.crawl_frontier.specs.Parts.{worker};
 ghost use Rattle.crawl_frontier.specs.Rule.{popping, home};
@@ -39,7 +39,7 @@ pub struct Worker<K: Name> {
 impl<K: Name> Model for Worker<K> {
     ghost use Rattle.std.specs.Prelude.{◌≡◌, ◌<◌, Some, slice_get};
     ghost use Rattle.crawl_gate.specs.Seat.{IsSeatOf};
-    ghost use Rattle.crawl_frontier.specs.Books.{IsBook, book_of};
+    ghost use Rattle.crawl_frontier.specs.Books.{IsBook, Knows, book_of};
     ghost use Rattle.crawl_frontier.specs.Parts.{WorkerId};
     ghost use Rattle.crawl_frontier.specs.Rule.{popping, home};
 
@@ -50,7 +50,8 @@ impl<K: Name> Model for Worker<K> {
     ghost invariant = { λ w.
         (w.right.view ≡ popping (home K.gate K.workers w.queue) w.right.view.taken w.right.view.empty_pops)
         × (slice_get K.queues w.queue ≡ Some w.right.subqueue)
-        × IsSeatOf K.gate w.pass × (w.queue < K.workers) × IsBook K.workers (book_of w.book) };
+        × IsSeatOf K.gate w.pass × (w.queue < K.workers) × IsBook K.workers (book_of w.book)
+        × Knows K.queues K.workers w.book };
 }
 
 /// What [`Worker::next`] found.
@@ -71,6 +72,7 @@ impl<K: Name> Worker<K> {
         requires pass { IsSeatOf K.gate pass }
         requires queue { queue < K.workers }
         requires book { IsBook K.workers (book_of book) }
+        requires known { Knows K.queues K.workers book }
         ensures { result ≡ worker queue pass [] 0 (book_of book) }
     {
         Worker {

@@ -3,15 +3,13 @@ ghost use Rattle.std.specs.Prelude.{◌≡◌, ◌<◌, ◌≤◌, ℕ, List, tr
 ghost use Rattle.std.specs.Ordering.{nat_cmp};
 ghost use Rattle.std.specs.BTreeSet.{contains};
 ghost use Rattle.crawl_frontier.specs.declared.entry.Entry.{Entry};
-ghost use Rattle.crawl_frontier.specs.Books.{IsBook, book_of, logged_by, queue_of};
+ghost use Rattle.crawl_frontier.specs.Books.{IsBook, book_of};
 ghost use Rattle.crawl_frontier.specs.Accounts.{At};
-ghost use Rattle.crawl_frontier.specs.Finishing.{Stands, Fails, StandsAt, FailsAt, LogStands, LogFails, CountsStand, CountFails, AgreesBelow, DisagreesAt, AgreeTo, KeepRuleBelow, AllAre, IdsOf, SendersIn, Stranger};
+ghost use Rattle.crawl_frontier.specs.Finishing.{LogStands, LogsStand, CountsStand, CountFails, AgreesBelow, DisagreesAt, AgreeTo, KeepRuleBelow, AllAre, IdsOf, SendersIn, Stranger};
 
-use super::settle::least_of;
 use crate::accepted::AcceptedList;
-use crate::book::{Book, Logged};
+use crate::book::Book;
 use crate::entry::Entry;
-use crate::log::Log;
 use std::alloc::{AllocError, Global};
 use std::collections::BTreeSet;
 
@@ -52,46 +50,6 @@ pub fn all_senders_in(lists: &[AcceptedList], ids: &BTreeSet<u64>) -> bool
     true
 }
 
-// Whether the line of a log is true of this list.
-fn stands(list: &AcceptedList, logged: &Logged) -> bool
-    ensures stands { result ≡ true → Stands list.now logged.now }
-    ensures fails { result ≡ false → Fails list.now logged.now }
-{
-    match logged {
-        Logged::Accepted(entry, _) => list.has_entry(entry),
-        Logged::Seen(url, _) => list.has_url(url),
-    }
-}
-
-// The queue of a line of a log, where that is less and the line is false.
-fn line_stands(lists: &[AcceptedList], logged: &Logged, least: u32) -> u32
-    requires { least ≤ length lists.now }
-    ensures below { result ≤ least }
-    ensures stands { queue_of logged.now < result → StandsAt lists.now logged.now }
-    ensures fails { result < least → (queue_of logged.now ≡ result) × FailsAt lists.now logged.now }
-{
-    let queue = logged.queue();
-    if queue >= least {
-        return least;
-    }
-    let is_true = stands(&lists[queue as usize], logged);
-    least_of(is_true, queue, least)
-}
-
-// The least queue for which a line of the log of part `id` is false, where that is less. A line is let go of once it was
-// compared, while its text is near.
-fn log_stands(lists: &[AcceptedList], mut log: Log, id: u64, mut least: u32) -> u32
-    requires { least ≤ length lists.now }
-    ensures below { result ≤ least }
-    ensures stands { LogStands result lists.now (logged_by id log) }
-    ensures fails { result < least → LogFails result lists.now (logged_by id log) }
-{
-    while let Some(logged) = log.pop(id) {
-        least = line_stands(lists, &logged, least);
-    }
-    least
-}
-
 // The least queue for which a count is another, where that is less.
 fn counts_stand(lists: &[AcceptedList], book: &Book, least: u32) -> u32
     requires lists { least ≤ length lists.now }
@@ -108,23 +66,24 @@ fn counts_stand(lists: &[AcceptedList], book: &Book, least: u32) -> u32
     least
 }
 
-// The least queue for which the books disagree, where that is less.
+// The least queue for which the books disagree, where that is less. Each line of the log is true, so equal counts are enough.
 fn book_agrees(lists: &[AcceptedList], book: Book, least: u32) -> u32
     requires least { least ≤ length lists.now }
     requires book { IsBook (length lists.now) (book_of book) }
+    requires log { LogStands least lists.now (book_of book).log }
     requires rule { KeepRuleBelow (length lists.now) least lists.now }
     ensures below { result ≤ least }
     ensures agrees { AgreesBelow result lists.now (book_of book) }
     ensures differs { result < least → DisagreesAt result lists.now (book_of book) }
 {
-    let below = counts_stand(lists, &book, least);
-    log_stands(lists, book.log, book.id, below)
+    counts_stand(lists, &book, least)
 }
 
-/// The least queue for which some part's books disagree with the list, where that is less.
+/// The least queue for which some part's books disagree with the list, where that is less. No line of a log is read.
 pub fn books_agree(lists: &[AcceptedList], mut books: Vec<Book>, mut least: u32) -> u32
     requires least { least ≤ length lists.now }
     requires books { AllAre (IsBook (length lists.now)) (map book_of books.items) }
+    requires logs { LogsStand least lists.now (map book_of books.items) }
     requires rule { KeepRuleBelow (length lists.now) least lists.now }
     ensures { AgreeTo result least lists.now (map book_of books.items) }
 {

@@ -1,7 +1,7 @@
 //! The parts of a run, taken apart.
 ghost use Rattle.std.specs.Prelude.{◌≡◌, ◌<◌, ◌≤◌, [], IfOk, map};
-ghost use Rattle.crawl_frontier.specs.Books.{book_of};
-ghost use Rattle.crawl_frontier.specs.Finishing.{Gathered, Slots, Placed, IsShared};
+ghost use Rattle.crawl_frontier.specs.Books.{Knows, book_of};
+ghost use Rattle.crawl_frontier.specs.Finishing.{AllAre, Gathered, Slots, Placed, IsShared};
 
 use super::settle::least_of;
 use crate::book::Book;
@@ -23,7 +23,8 @@ pub fn gather<K: Name>(
         Slots K.gate K.workers K.queues closed.items r.0
         × Placed K.gate K.workers closed.items 0 r.0 r.2
         × Gathered K.workers closed.items senders.items [] [] (map book_of r.1.items)
-        × (r.2 ≤ workers) × (r.2 < workers → IsShared closed.items r.2)) }
+        × (r.2 ≤ workers) × (r.2 < workers → IsShared closed.items r.2)
+        × AllAre (Knows K.queues K.workers) r.1.items) }
 {
     let mut rights = BTreeMap::new(alloc);
     let mut books = Vec::new(alloc);

@@ -6,6 +6,7 @@ ghost use Rattle.crawl_frontier.specs.Finishing.{CanCompare};
 use super::compare::{all_senders_in, ids_of};
 use super::gather::gather;
 use super::settle::{all_there, first_doubt, settle_all, unlock};
+use super::tell::tell_books;
 use crate::accepted::AcceptedList;
 use crate::account::Account;
 use crate::book::Book;
@@ -43,11 +44,12 @@ pub fn settle_run<K: Name>(
         filter: _,
     } = frontier;
     let alloc = *queues.allocator();
-    let (rights, books, alone) = gather(alloc, closed, senders, workers)?;
+    let (rights, mut books, alone) = gather(alloc, closed, senders, workers)?;
     if !all_there(&rights, workers) {
         return Err(FinishError::MissingPart);
     }
-    let shards = unlock(alloc, shards)?;
+    let mut shards = unlock(alloc, shards)?;
+    tell_books(&queues, &mut shards, &mut books);
     let (lists, doubts) = settle_all(alloc, &queues, shards, rights)?;
     let ids = ids_of(alloc, books.as_slice())?;
     if !all_senders_in(lists.as_slice(), &ids) {

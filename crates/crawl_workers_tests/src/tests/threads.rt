@@ -115,7 +115,7 @@ fn star(alloc: Global, links: u32) -> Result<String, Fail> {
     Ok(web)
 }
 
-// So many URLs that threads compare the logs.
+// A run by threads of many URLs, each of another host.
 #[test]
 fn threads_finish_a_run_of_many_urls(rt: HostRuntime) -> Result<(), Fail> {
     let web = star(rt.alloc(), 5000)?;

@@ -1,50 +1,105 @@
-use Rattle.std.proofs.Common.{◌≡◌, ◌<◌, ◌∙◌, ap, sym, refl, Some, slice_get, length, arith, subst}
+use Rattle.std.proofs.Common.{◌≡◌, ◌<◌, ◌∙◌, ap, sym, refl, Some, slice_get, length, vec_len, arith, subst}
+use Rattle.std.specs.Prelude.{vec_capacity}
 use Rattle.std.proofs.lemmas.Option.{slice_get_read}
 use Rattle.crawl_keys.specs.Assignment.{subqueue_of}
 use Rattle.crawl_frontier.specs.Entries.{entry}
-use Rattle.crawl_frontier.specs.Books.{IsBook, book_of}
+use Rattle.crawl_frontier.specs.Books.{BookId, IsBook, book_of, book_accepting, book_seeing}
 use Rattle.crawl_frontier.proofs.BookKeeping.{book_accepts, book_sees}
 use Rattle.crawl_frontier.proofs.offer.deliver.Goals as goal
+
+pub accept-requires-clause-within : goal.accept-requires-clause-within
+accept-requires-clause-within g c =
+    let same : vec_len c.admit_by.new.book.counts ≡ vec_len c.args.book.now.counts = ap vec_len c.in-Admitted.ensures.rest.1 in
+    omega (arith, same, c.subqueue-queue.ensures.below, c.workers.ensures.0, c.requires.book.len, c.args.book.now.counts.ok.0)
+
+pub accept-requires-clause-narrow : goal.accept-requires-clause-narrow
+accept-requires-clause-narrow g c = omega (arith, c.subqueue-queue.ensures.below, c.workers.ensures.1.1)
+
+pub accept-requires-clause-small : goal.accept-requires-clause-small
+accept-requires-clause-small g c = omega (arith, c.in-Admitted.ensures.replies.0, c.in-Admitted.ensures.replies.1)
+
+pub accept-requires-clause-room : goal.accept-requires-clause-room
+accept-requires-clause-room g c = subst (λ v. vec_len v < vec_capacity v) (sym c.in-Admitted.ensures.rest.2) c.requires.room
+
+pub see-requires-clause-narrow : goal.see-requires-clause-narrow
+see-requires-clause-narrow g c = omega (arith, c.subqueue-queue.ensures.below, c.workers.ensures.1.1)
+
+pub see-requires-clause-room : goal.see-requires-clause-room
+see-requires-clause-room g c = subst (λ v. vec_len v < vec_capacity v) (sym c.in-Seen.ensures.rest.2) c.requires.room
 
 pub returns-in-Admitted-clause-books : goal.returns-in-Admitted-clause-books
 returns-in-Admitted-clause-books g c =
     let b = book_of c.args.book.now in
+    let url = c.args.url.now in
     let queue = c.subqueue-queue.result in
     let own = c.index-own.result.now in
+    let reply = c.in-Admitted.ensures.replies in
     let below : queue < g.K.Name.workers = omega (arith, c.subqueue-queue.ensures.below, c.workers.ensures.0) in
     let get : slice_get b.counts queue ≡ Some own = slice_get_read b.counts (length b.counts) queue own refl (omega (arith, below, c.requires.book.len)) c.index-own.ensures in
-    let at : queue ≡ subqueue_of c.args.url g.K.Name.workers = c.subqueue-queue.ensures.value ∙ ap (subqueue_of c.args.url) c.workers.ensures.0 in
-    let number : c.in-Admitted.number ≡ own = c.in-Admitted.ensures.0 in (
-      at,
-      get ∙ ap Some (sym number),
-      c.in-Admitted.ensures.2,
-      c.accept.ensures,
-    )
+    let at : queue ≡ subqueue_of url g.K.Name.workers = c.subqueue-queue.ensures.value ∙ ap (subqueue_of url) c.workers.ensures.0 in
+    let n = c.in-Admitted.number in
+    let e = entry url b.id n c.args.hops in
+    let after : book_of c.accept.new.self ≡ book_accepting b queue n e =
+    c.accept.ensures.log e c.in-Admitted.ensures.index ∙ ap (λ (x : BookId). book_accepting x queue n e) c.in-Admitted.ensures.same in
+    (at, get ∙ ap Some (sym reply.0), reply.2, after)
 
 pub returns-in-Admitted-clause-book : goal.returns-in-Admitted-clause-book
 returns-in-Admitted-clause-book g c =
     let b = book_of c.args.book.now in
+    let url = c.args.url.now in
     let queue = c.subqueue-queue.result in
     let own = c.index-own.result.now in
+    let reply = c.in-Admitted.ensures.replies in
     let is = c.requires.book in
     let below : queue < g.K.Name.workers = omega (arith, c.subqueue-queue.ensures.below, c.workers.ensures.0) in
     let get : slice_get b.counts queue ≡ Some own = slice_get_read b.counts (length b.counts) queue own refl (omega (arith, below, is.len)) c.index-own.ensures in
-    let number : c.in-Admitted.number ≡ own = c.in-Admitted.ensures.0 in
     let n = c.in-Admitted.number in
-    let e = entry c.args.url b.id n c.args.hops in
-    subst (IsBook g.K.Name.workers) (sym c.accept.ensures) (book_accepts g.K.Name.workers b queue n e is below (get ∙ ap Some (sym number)) refl refl)
+    let e = entry url b.id n c.args.hops in
+    let after : book_of c.accept.new.self ≡ book_accepting b queue n e =
+    c.accept.ensures.log e c.in-Admitted.ensures.index ∙ ap (λ (x : BookId). book_accepting x queue n e) c.in-Admitted.ensures.same in
+    subst (IsBook g.K.Name.workers) (sym after) (book_accepts g.K.Name.workers b queue n e is below (get ∙ ap Some (sym reply.0)) refl refl)
+
+pub returns-in-Admitted-clause-known : goal.returns-in-Admitted-clause-known
+returns-in-Admitted-clause-known g c =
+    let e = entry c.args.url.now c.args.book.now.id c.in-Admitted.number c.args.hops in
+    c.accept.ensures.known g.K.Name.queues g.K.Name.workers e c.in-Admitted.ensures.index c.in-Admitted.ensures.known
+
+pub returns-in-Seen-clause-books : goal.returns-in-Seen-clause-books
+returns-in-Seen-clause-books g c =
+    let url = c.args.url.now in
+    let at : c.subqueue-queue.result ≡ subqueue_of url g.K.Name.workers = c.subqueue-queue.ensures.value ∙ ap (subqueue_of url) c.workers.ensures.0 in
+    let there = c.in-Seen.ensures.index in
+    c.see.ensures.log there.0 there.1 ∙ (λ i. book_seeing (c.in-Seen.ensures.same i) (there.2 i) (at i))
 
 pub returns-in-Seen-clause-book : goal.returns-in-Seen-clause-book
 returns-in-Seen-clause-book g c =
     let b = book_of c.args.book.now in
-    subst (IsBook g.K.Name.workers) (sym c.see.ensures) (book_sees g.K.Name.workers b c.in-Seen.there c.subqueue-queue.result c.requires.book)
+    let there = c.in-Seen.ensures.index in
+    let after : book_of c.see.new.self ≡ book_seeing b there.0.url c.subqueue-queue.result =
+    c.see.ensures.log there.0 there.1 ∙ ap (λ (x : BookId). book_seeing x there.0.url c.subqueue-queue.result) c.in-Seen.ensures.same in
+    subst (IsBook g.K.Name.workers) (sym after) (book_sees g.K.Name.workers b there.0.url c.subqueue-queue.result c.requires.book)
+
+pub returns-in-Seen-clause-known : goal.returns-in-Seen-clause-known
+returns-in-Seen-clause-known g c =
+    let there = c.in-Seen.ensures.index in
+    c.see.ensures.known g.K.Name.queues g.K.Name.workers there.0 there.1 c.in-Seen.ensures.known
 
 pub returns-in-Crossed-clause-books : goal.returns-in-Crossed-clause-books
 returns-in-Crossed-clause-books g c =
     let b = book_of c.args.book.now in
+    let url = c.args.url.now in
     let queue = c.subqueue-queue.result in
     let own = c.index-own.result.now in
     let below : queue < g.K.Name.workers = omega (arith, c.subqueue-queue.ensures.below, c.workers.ensures.0) in
     let get : slice_get b.counts queue ≡ Some own = slice_get_read b.counts (length b.counts) queue own refl (omega (arith, below, c.requires.book.len)) c.index-own.ensures in
-    let at : queue ≡ subqueue_of c.args.url g.K.Name.workers = c.subqueue-queue.ensures.value ∙ ap (subqueue_of c.args.url) c.workers.ensures.0 in
-    (refl, subst (λ k. slice_get b.counts k ≡ Some own) at get, c.in-Crossed.ensures.0)
+    let at : queue ≡ subqueue_of url g.K.Name.workers = c.subqueue-queue.ensures.value ∙ ap (subqueue_of url) c.workers.ensures.0 in
+    (c.in-Crossed.ensures.same, subst (λ k. slice_get b.counts k ≡ Some own) at get, c.in-Crossed.ensures.replies.0)
+
+pub returns-in-Crossed-clause-book : goal.returns-in-Crossed-clause-book
+returns-in-Crossed-clause-book g c = subst (IsBook g.K.Name.workers) (sym c.in-Crossed.ensures.same) c.requires.book
+
+pub returns-in-TooFar-clause-book : goal.returns-in-TooFar-clause-book
+returns-in-TooFar-clause-book g c = subst (IsBook g.K.Name.workers) (sym c.in-TooFar.ensures.same) c.requires.book
+
+pub returns-in-NoMemory-clause-book : goal.returns-in-NoMemory-clause-book
+returns-in-NoMemory-clause-book g c = subst (IsBook g.K.Name.workers) (sym c.in-NoMemory.ensures.same) c.requires.book

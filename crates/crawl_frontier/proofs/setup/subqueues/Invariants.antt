@@ -1,5 +1,9 @@
+use Rattle.std.proofs.Common.{◌≡◌, vec_len}
 use Rattle.crawl_frontier.specs.FreshParts.{Line}
+use Rattle.crawl_frontier.specs.Logs.{ListsAre}
 use Rattle.crawl_frontier.proofs.setup.subqueues.Given as goal
 
 abbrev pub invariant-loop-queue : goal.invariant-loop-queue
-invariant-loop-queue l = Line l.gate l.workers l.queues.items l.push_rights.items l.pop_rights.items l.queue
+invariant-loop-queue l =
+    Line l.gate l.workers l.queues.items l.push_rights.items l.pop_rights.items l.queue
+    × (vec_len l.told ≡ l.queue) × ListsAre l.queues.items l.told.items

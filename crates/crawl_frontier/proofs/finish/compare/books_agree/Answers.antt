@@ -1,7 +1,7 @@
-use Rattle.std.proofs.Common.{◌≡◌, ◌+◌, ◌∙◌, ◌∷◌, ◌++◌, [], None, map, vec_len, length, refl, sym, ap, subst, arith, rules}
+use Rattle.std.proofs.Common.{◌≡◌, ◌+◌, ◌∙◌, ◌∷◌, ◌++◌, [], None, map, vec_len, refl, sym, ap, subst, arith, rules}
 use Rattle.std.proofs.lemmas.List.{append_assoc, map-append, nil_from_length}
 use Rattle.std.specs.Prelude.{MatchOption}
-use Rattle.crawl_frontier.specs.Books.{IsBook, book_of}
+use Rattle.crawl_frontier.specs.Books.{book_of}
 use Rattle.crawl_frontier.specs.Finishing.{AgreeTo}
 use Rattle.crawl_frontier.proofs.Agreeing.{agree_first, second_half}
 use Rattle.crawl_frontier.specs.Accounts.{At}
@@ -19,6 +19,16 @@ book_agrees-least-requires-clause-book c =
     c.loop-book.invariant.1 ∙ (ap (λ xs. map book_of xs ++ bs) c.in-Some.ensures.items ∙ (ap (λ xs. xs ++ bs) (map-append book_of left (b ∷ [])) ∙ append_assoc (map book_of left) (book_of b ∷ []) bs)) in
     let here = second_half (map book_of left) (book_of b ∷ bs) 0 (book_of b) refl in
     c.requires.books here.0 (book_of b) (subst (λ xs. At xs here.0 (book_of b)) (sym all) here.1)
+
+pub book_agrees-least-requires-clause-log : goal.book_agrees-least-requires-clause-log
+book_agrees-least-requires-clause-log c = λ k l at lt.
+    let b = c.in-Some.book in
+    let left = c.pop.new.self.items in
+    let bs = c.loop-book.invariant.0 in
+    let all : map book_of c.args.books.items ≡ map book_of left ++ book_of b ∷ bs =
+    c.loop-book.invariant.1 ∙ (ap (λ xs. map book_of xs ++ bs) c.in-Some.ensures.items ∙ (ap (λ xs. xs ++ bs) (map-append book_of left (b ∷ [])) ∙ append_assoc (map book_of left) (book_of b ∷ []) bs)) in
+    let here = second_half (map book_of left) (book_of b ∷ bs) 0 (book_of b) refl in
+    c.requires.logs here.0 (book_of b) (subst (λ xs. At xs here.0 (book_of b)) (sym all) here.1) k l at (omega (arith, lt, c.loop-book.invariant.2.0))
 
 pub book_agrees-least-requires-clause-rule : goal.book_agrees-least-requires-clause-rule
 book_agrees-least-requires-clause-rule c = λ q es lt at. c.requires.rule q es (omega (arith, lt, c.loop-book.invariant.2.0)) at

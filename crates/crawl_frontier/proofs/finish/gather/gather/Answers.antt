@@ -4,11 +4,12 @@ use Rattle.std.specs.Ordering.{nat_cmp}
 use Rattle.std.specs.BTreeMap.{get, is_at}
 use mathlib.Core.List.{map-append}
 use Rattle.crawl_frontier.specs.declared.book.Book.{Book}
-use Rattle.crawl_frontier.specs.Books.{BookId, book_of, IsBook}
+use Rattle.crawl_frontier.specs.Books.{BookId, Knows, book_of, IsBook}
 use Rattle.crawl_frontier.specs.Parts.{WorkerId, SenderId}
 use Rattle.crawl_frontier.specs.Accounts.{At}
-use Rattle.crawl_frontier.specs.Finishing.{Placed, Gathered}
+use Rattle.crawl_frontier.specs.Finishing.{AllAre, Placed, Gathered}
 use Rattle.crawl_frontier.proofs.Gets.{get_last}
+use Rattle.crawl_frontier.proofs.Telling.{all_snoc}
 use Rattle.crawl_frontier.proofs.Gathering.{gather-none, gather-worker, gather-sender}
 use Rattle.crawl_frontier.proofs.Settling.{placed-none, slots_more, placed_more, shared_more}
 use Rattle.crawl_frontier.proofs.finish.gather.gather.Goals as goal
@@ -23,6 +24,7 @@ loop-worker-init g c =
       subst (λ (l : List Book). Gathered g.K.Name.workers closed senders closed senders (map book_of l)) (sym c.new-books.ensures.items) (gather-none g.K.Name.workers closed senders),
       omega arith,
       λ lt. absurd (omega (arith, lt)),
+      subst (AllAre (Knows g.K.Name.queues g.K.Name.workers)) (sym c.new-books.ensures.items) (λ j b at. absurd (cc (at))),
     )
 
 pub loop-worker-preserved : goal.loop-worker-preserved
@@ -54,6 +56,8 @@ loop-worker-preserved g c =
       subst (λ (l : List BookId). Gathered g.K.Name.workers c.args.closed.items c.args.senders.items left c.args.senders.items l) (sym books) after,
       omega (arith, i.3, c.least_of-alone.ensures.below),
       shared_more g.K.Name.gate g.K.Name.workers c.args.closed.items c.loop-worker.rights (length left) w c.args.workers c.loop-worker.alone c.least_of-alone.result placed here c.least_of-alone.ensures.below named i.4,
+      subst (AllAre (Knows g.K.Name.queues g.K.Name.workers)) (sym c.in_ok-push.ensures.items)
+          (all_snoc (Knows g.K.Name.queues g.K.Name.workers) c.loop-worker.books.items parts.result.1 i.5 parts.ensures.known),
     )
 
 pub loop-worker-preserved-in_ok-push : goal.loop-worker-preserved-in_ok-push
@@ -85,6 +89,8 @@ loop-worker-preserved-in_ok-push g c =
       subst (λ (l : List BookId). Gathered g.K.Name.workers c.args.closed.items c.args.senders.items left c.args.senders.items l) (sym books) after,
       omega (arith, i.3, c.least_of-alone.ensures.below),
       shared_more g.K.Name.gate g.K.Name.workers c.args.closed.items c.loop-worker.rights (length left) w c.args.workers c.loop-worker.alone c.least_of-alone.result placed here c.least_of-alone.ensures.below named i.4,
+      subst (AllAre (Knows g.K.Name.queues g.K.Name.workers)) (sym c.in_ok-push.ensures.items)
+          (all_snoc (Knows g.K.Name.queues g.K.Name.workers) c.loop-worker.books.items parts.result.1 i.5 parts.ensures.known),
     )
 
 pub loop-sender-preserved : goal.loop-sender-preserved
@@ -98,5 +104,12 @@ loop-sender-preserved g c =
     let book : book_of c.into_book.result ≡ s.book = c.into_book.ensures.book in
     let after = gather-sender g.K.Name.workers c.args.closed.items c.args.senders.items [] left s (map book_of c.loop-sender.books.items) before (subst (IsBook g.K.Name.workers) book c.into_book.ensures.is_book) in
     let books : map book_of c.push-in-Some-pop.new.self.items ≡ map book_of c.loop-sender.books.items ++ s.book ∷ [] =
-    ap (map book_of) c.in_ok-push-2.ensures.items ∙ (map-append book_of c.loop-sender.books.items (c.into_book.result ∷ []) ∙ ap (λ (b : BookId). map book_of c.loop-sender.books.items ++ b ∷ []) book) in
-    (i.0, i.1, subst (λ (l : List BookId). Gathered g.K.Name.workers c.args.closed.items c.args.senders.items [] left l) (sym books) after, i.3, i.4)
+    ap (map book_of) c.in_ok-push-2.ensures.items ∙ (map-append book_of c.loop-sender.books.items (c.into_book.result ∷ []) ∙ ap (λ (b : BookId). map book_of c.loop-sender.books.items ++ b ∷ []) book) in (
+      i.0,
+      i.1,
+      subst (λ (l : List BookId). Gathered g.K.Name.workers c.args.closed.items c.args.senders.items [] left l) (sym books) after,
+      i.3,
+      i.4,
+      subst (AllAre (Knows g.K.Name.queues g.K.Name.workers)) (sym c.in_ok-push-2.ensures.items)
+          (all_snoc (Knows g.K.Name.queues g.K.Name.workers) c.loop-sender.books.items c.into_book.result i.5 c.into_book.ensures.known),
+    )

@@ -1,6 +1,6 @@
 use Rattle.std.proofs.Common.{◌<◌, ◌≤◌, [], map, vec_len, length}
-use Rattle.crawl_frontier.specs.Books.{book_of}
-use Rattle.crawl_frontier.specs.Finishing.{Slots, Placed, Gathered, IsShared}
+use Rattle.crawl_frontier.specs.Books.{Knows, book_of}
+use Rattle.crawl_frontier.specs.Finishing.{AllAre, Slots, Placed, Gathered, IsShared}
 use Rattle.crawl_frontier.proofs.finish.gather.gather.Given as goal
 
 abbrev pub invariant-loop-worker : goal.invariant-loop-worker
@@ -10,6 +10,7 @@ invariant-loop-worker g l =
     × Gathered g.K.Name.workers l.fn.closed.items l.fn.senders.items l.closed.items l.fn.senders.items (map book_of l.books.items)
     × (l.alone ≤ l.workers)
     × (l.alone < l.workers → IsShared l.fn.closed.items l.alone)
+    × AllAre (Knows g.K.Name.queues g.K.Name.workers) l.books.items
 
 abbrev pub decreases-loop-worker : goal.decreases-loop-worker
 decreases-loop-worker g l = vec_len l.closed
@@ -21,6 +22,7 @@ invariant-loop-sender g l =
     × Gathered g.K.Name.workers l.fn.closed.items l.fn.senders.items [] l.senders.items (map book_of l.books.items)
     × (l.alone ≤ l.workers)
     × (l.alone < l.workers → IsShared l.fn.closed.items l.alone)
+    × AllAre (Knows g.K.Name.queues g.K.Name.workers) l.books.items
 
 abbrev pub decreases-loop-sender : goal.decreases-loop-sender
 decreases-loop-sender g l = vec_len l.senders

@@ -11,6 +11,9 @@ books_agree-least-requires-clause-books g c = (askable g.K.Name.workers c.args.c
 pub books_agree-least-requires-clause-rule : goal.books_agree-least-requires-clause-rule
 books_agree-least-requires-clause-rule g c = (askable g.K.Name.workers c.args.closed.items c.args.senders.items c.in_ok-workers.field-0 c.in_ok-workers.ensures c.as_slice.result.now c.as_slice.ensures.value).2
 
+pub books_agree-least-requires-clause-logs : goal.books_agree-least-requires-clause-logs
+books_agree-least-requires-clause-logs g c = (askable g.K.Name.workers c.args.closed.items c.args.senders.items c.in_ok-workers.field-0 c.in_ok-workers.ensures c.as_slice.result.now c.as_slice.ensures.value).3
+
 pub account_of-requires-clause-len : goal.account_of-requires-clause-len
 account_of-requires-clause-len g c = let can = c.in_ok-workers.ensures in can.len ∙ sym can.workers_are
 

@@ -5,5 +5,5 @@ use Rattle.crawl_frontier.proofs.seeder.Seeder.offer.Goals as goal
 
 pub returns-clause-words : goal.returns-clause-words
 returns-clause-words g c =
-    let new = c.offer_beside.new in
-    subst (λ (s : SeederId). OfferWordsBeside s.opening new.held s.seat new.pass c.offer_beside.result) c.self.view_is c.offer_beside.ensures.words
+    let new = c.offer_beside-answer.new in
+    subst (λ (s : SeederId). OfferWordsBeside s.opening new.held s.seat new.pass c.offer_beside-answer.result.0) c.self.view_is c.offer_beside-answer.ensures.words

@@ -1,4 +1,4 @@
-use Rattle.std.proofs.Common.{rules, ◌≡◌, ◌∙◌, List, true, false, Some, None, refl, sym, ap, subst, arith, length, map, slice_get}
+use Rattle.std.proofs.Common.{rules, ◌≡◌, ◌∙◌, List, false, Some, None, refl, sym, ap, subst, arith, length, map, slice_get}
 use Rattle.std.specs.Prelude.{is_some}
 use Rattle.std.proofs.lemmas.Option.{slice_get_read}
 use Rattle.hash_index.specs.Lists.{index_of}
@@ -6,6 +6,7 @@ use Rattle.crawl_frontier.specs.declared.entry.Entry.{Entry}
 use Rattle.crawl_frontier.specs.Entries.{has_url}
 use Rattle.crawl_frontier.specs.Parts.{ShardId}
 use Rattle.crawl_frontier.proofs.Urls.{has_index, index_within, url_there}
+use Rattle.crawl_frontier.proofs.Admitting.{answered}
 use Rattle.crawl_frontier.proofs.shard.Shard.admit.Goals as goal
 
 pub index-requires : goal.index-requires
@@ -13,6 +14,12 @@ index-requires g c =
     let es = c.self.inside.sent.items in
     let is : index_of (map (λ e. e.url) es) c.args.url.now ≡ Some c.in-Some.index = search rules in
     omega (arith, index_within es c.args.url.now c.in-Some.index is, c.self.inside.sent.ok.0)
+
+pub overflow_cast-index : goal.overflow_cast-index
+overflow_cast-index g c =
+    let es = c.self.inside.sent.items in
+    let is : index_of (map (λ e. e.url) es) c.args.url.now ≡ Some c.in-Some.index = search rules in
+    omega (arith, index_within es c.args.url.now c.in-Some.index is, c.self.invariant.5)
 
 pub returns-in-Some : goal.returns-in-Some
 returns-in-Some g c =
@@ -23,8 +30,8 @@ returns-in-Some g c =
     let is : index_of (map (λ e. e.url) es) url ≡ Some k = search rules in
     let here : slice_get es k ≡ Some there = slice_get_read es (length es) k there refl (index_within es url k is) c.index.ensures in
     let same : there.url ≡ url = url_there es url k there is here in
-    let has : has_url url es ≡ true = sym (has_index es url) ∙ ap is_some is in
-    search (rules, same, has)
+    answered c.args.self.now c.args.self.now url c.args.sender c.args.own c.args.hops c.args.unit there k c.seen.result (search rules) refl
+    (subst (λ (s : ShardId). slice_get s.sent k ≡ Some there) c.self.view_is here) same c.seen.ensures
 
 pub returns : goal.returns
 returns g c =

@@ -1,4 +1,4 @@
-use Rattle.std.proofs.Common.{rules, ◌≡◌, ◌+◌, ◌<◌, ◌∙◌, ◌++◌, ◌∷◌, [], List, length, map, slice_get, true, false, Some, None, cond, eqb, ap, refl, sym, subst, arith}
+use Rattle.std.proofs.Common.{rules, ◌≡◌, ◌+◌, ◌<◌, ◌∙◌, ◌++◌, ◌∷◌, [], List, length, length-append, map, slice_get, false, Some, None, cond, eqb, ap, refl, sym, subst, arith}
 use Rattle.std.specs.Prelude.{is_some}
 use Rattle.std.proofs.lemmas.Option.{slice_get_read}
 use Rattle.hash_order.specs.HashOrder.{hash_of}
@@ -7,11 +7,12 @@ use Rattle.hash_index.specs.Index.{IsIndexOf}
 use Rattle.hash_index.proofs.Keeping.{pushed_item}
 use Rattle.crawl_frontier.specs.declared.entry.Entry.{Entry}
 use Rattle.crawl_frontier.specs.declared.rule.PassView.{PassView}
-use Rattle.crawl_frontier.specs.Parts.{ShardId}
+use Rattle.crawl_frontier.specs.Parts.{ShardId, shard}
 use Rattle.crawl_frontier.specs.Entries.{MayFollow, KeepsRule, has_url, count_of, entry}
 use Rattle.crawl_frontier.proofs.Entries.{rule-snoc, count_of-le}
 use Rattle.crawl_frontier.proofs.Urls.{has_index, index_within, url_there}
 use Rattle.crawl_frontier.proofs.Undo.{raised}
+use Rattle.crawl_frontier.proofs.Admitting.{answered}
 use Rattle.crawl_frontier.proofs.shard.Shard.send.Goals as goal
 
 pub overflow_add-own : goal.overflow_add-own
@@ -26,6 +27,12 @@ index-requires g c =
     let is : index_of (map (λ e. e.url) es) c.args.url.now ≡ Some c.in-Some.index = search rules in
     omega (arith, index_within es c.args.url.now c.in-Some.index is, c.self.inside.sent.ok.0)
 
+pub overflow_cast-index : goal.overflow_cast-index
+overflow_cast-index g c =
+    let es = c.self.inside.sent.items in
+    let is : index_of (map (λ e. e.url) es) c.args.url.now ≡ Some c.in-Some.index = search rules in
+    omega (arith, index_within es c.args.url.now c.in-Some.index is, c.self.invariant.5)
+
 pub returns-in-Some : goal.returns-in-Some
 returns-in-Some g c =
     let es = c.self.inside.sent.items in
@@ -35,8 +42,8 @@ returns-in-Some g c =
     let is : index_of (map (λ e. e.url) es) url ≡ Some k = search rules in
     let here : slice_get es k ≡ Some there = slice_get_read es (length es) k there refl (index_within es url k is) c.index.ensures in
     let same : there.url ≡ url = url_there es url k there is here in
-    let has : has_url url es ≡ true = sym (has_index es url) ∙ ap is_some is in
-    search (rules, same, has)
+    answered c.args.self.now (shard c.self.inside.queue es) url c.args.sender c.args.own c.args.hops c.args.unit there k c.seen.result c.requires.own c.self.view_is
+    (subst (λ (s : ShardId). slice_get s.sent k ≡ Some there) c.self.view_is here) same c.seen.ensures
 
 pub push-requires-clause-follows : goal.push-requires-clause-follows
 push-requires-clause-follows g c =
@@ -59,6 +66,7 @@ invariant_of-self-in_default-reserve g c =
       subst (KeepsRule g.K.Name.workers c.self.inside.queue []) (sym items) c.self.invariant.2,
       subst (λ (es : List Entry). IsIndexOf hash_of (map (λ e. e.url) es) c.find_or_insert.new.self) (sym items) c.find_or_insert.ensures.before,
       λ id. c.self.invariant.4 id ∙ ap (count_of id) (sym items),
+      subst (λ (es : List Entry). length es < 4294967296) (sym items) c.self.invariant.5,
     )
 
 pub invariant_of-self-in_default-enter_sender : goal.invariant_of-self-in_default-enter_sender
@@ -69,6 +77,7 @@ invariant_of-self-in_default-enter_sender g c =
       subst (KeepsRule g.K.Name.workers c.self.inside.queue []) (sym items) c.self.invariant.2,
       subst (λ (es : List Entry). IsIndexOf hash_of (map (λ e. e.url) es) c.find_or_insert.new.self) (sym items) c.find_or_insert.ensures.before,
       λ id. c.enter_sender.ensures.same id ∙ c.self.invariant.4 id ∙ ap (count_of id) (sym items),
+      subst (λ (es : List Entry). length es < 4294967296) (sym items) c.self.invariant.5,
     )
 
 pub invariant_of-self-in-Err-push : goal.invariant_of-self-in-Err-push
@@ -79,6 +88,7 @@ invariant_of-self-in-Err-push g c =
       subst (KeepsRule g.K.Name.workers c.self.inside.queue []) (sym items) c.self.invariant.2,
       subst (λ (es : List Entry). IsIndexOf hash_of (map (λ e. e.url) es) c.find_or_insert.new.self) (sym items) c.find_or_insert.ensures.before,
       λ id. c.in-Ok-enter_sender.ensures.same id ∙ c.self.invariant.4 id ∙ ap (count_of id) (sym items),
+      subst (λ (es : List Entry). length es < 4294967296) (sym items) c.self.invariant.5,
     )
 
 pub invariant_of-self-in-Ok-push : goal.invariant_of-self-in-Ok-push
@@ -103,6 +113,7 @@ invariant_of-self-in-Ok-push g c =
           c.raise.ensures id
           ∙ (ap (λ n. cond (eqb c.args.sender id) (c.args.own + 1) n) (c.in-Ok-enter_sender.ensures.same id ∙ c.self.invariant.4 id)
           ∙ (raised id before e own ∙ ap (count_of id) (sym all))),
+      omega (arith, ap length all, length-append before (e ∷ []), c.in-Some-next_index.ensures.0, c.in-Some-next_index.ensures.1),
     )
 
 pub returns-in-Ok-push : goal.returns-in-Ok-push
@@ -119,4 +130,5 @@ returns-in-Ok-push g c =
       subst (λ (es : List Entry). has_url url es ≡ false) (ap (λ (s : ShardId). s.sent) c.self.view_is) new,
       search rules,
       search rules,
+      c.in-Some-next_index.ensures.0 ∙ ap (λ (s : ShardId). length s.sent) c.self.view_is,
     )

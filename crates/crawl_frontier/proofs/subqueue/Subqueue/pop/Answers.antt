@@ -1,7 +1,15 @@
-use Rattle.std.proofs.Common.{ap, sym, ◌∙◌}
+use Rattle.std.proofs.Common.{◌≡◌, rules, ap, sym, ◌∙◌}
 use Rattle.crawl_frontier.specs.Rule.{popping}
+use Rattle.crawl_frontier.specs.QueueId.{QueueId}
+use Rattle.crawl_frontier.specs.PassId.{PassId}
 use Rattle.crawl_frontier.proofs.Passing.{takes, counts}
 use Rattle.crawl_frontier.proofs.subqueue.Subqueue.pop.Goals as goal
+
+pub pop_as-requires-clause-queue : goal.pop_as-requires-clause-queue
+pop_as-requires-clause-queue g c =
+    let same = ap (λ (p : PassId). p.subqueue) c.right.view_is ∙ (c.requires.subqueue ∙ sym c.self.view_is) in
+    let web : c.right.inside.pass.web ≡ c.self.inside.line.web = ap (λ (q : QueueId). q.web) same in
+    search (rules, web)
 
 pub pop_as-requires-clause-rule : goal.pop_as-requires-clause-rule
 pop_as-requires-clause-rule g c = (takes _ _ c.right.invariant.2, λ items views k at. tt)

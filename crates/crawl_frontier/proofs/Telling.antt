@@ -1,0 +1,86 @@
+-- What each part knows of the lists becomes what the shards have, queue by queue and book by book.
+use Rattle.std.proofs.Common.{◌≡◌, ◌≢◌, ℕ, zero, suc, ◌+◌, ◌<◌, ◌≤◌, List, [], ◌∷◌, ◌++◌, length, map, set, Option, None, refl, sym, ap, ◌∙◌, subst, ⊎_elim, arith}
+use Rattle.std.proofs.lemmas.Bool.{cases_lt}
+use Rattle.std.specs.BTreeMap.{BTreeMap}
+use Rattle.crawl_frontier.specs.declared.entry.Entry.{Entry}
+use Rattle.crawl_frontier.specs.declared.book.Book.{Book}
+use Rattle.crawl_frontier.specs.declared.finish.settle.Doubt.{Doubt}
+use Rattle.crawl_frontier.specs.QueueId.{QueueId}
+use Rattle.crawl_frontier.specs.PassId.{PassId}
+use Rattle.crawl_frontier.specs.Growing.{Stays}
+use Rattle.crawl_frontier.specs.Known.{KnownList}
+use Rattle.crawl_frontier.specs.Books.{BookId, book_of, queue_of}
+use Rattle.crawl_frontier.specs.Parts.{ShardId}
+use Rattle.crawl_frontier.specs.Accounts.{At}
+use Rattle.crawl_frontier.specs.Finishing.{AllAre, AreRaised, IsHome, AreToldOf, LogIsOf, LogsAreOf, LogsStand, AllSettle, Stands}
+use Rattle.crawl_frontier.proofs.Gets.{get_set_same, get_set_other, get_snoc, get_within, same_at}
+use Rattle.crawl_frontier.proofs.Logging.{at_map, raised_on, raised_at}
+
+-- what was written where it stood
+pub set_same : {X : Type 0} (xs : List X) (i : ℕ) (x : X) → At xs i x → set xs i x ≡ xs
+set_same [] i x e = refl
+set_same (z ∷ zs) zero x e = let same : x ≡ z = cc in ap (λ y. y ∷ zs) same
+set_same (z ∷ zs) (suc i) x e = ap (λ l. z ∷ l) (set_same zs i x e)
+
+pub map_set_same : {X Y : Type 0} (f : X → Y) (xs : List X) (i : ℕ) (x y : X) → At xs i x → f y ≡ f x → map f (set xs i y) ≡ map f xs
+map_set_same f [] i x y e is = refl
+map_set_same f (z ∷ zs) zero x y e is = let same : x ≡ z = cc in (λ i. (is ∙ ap f same) i ∷ map f zs)
+map_set_same f (z ∷ zs) (suc i) x y e is = ap (λ l. f z ∷ l) (map_set_same f zs i x y e is)
+
+pub all_snoc : {X : Type 0} (P : X → Type 0) (xs : List X) (x : X) → AllAre P xs → P x → AllAre P (xs ++ x ∷ [])
+all_snoc P xs x all new j y at = ⊎_elim (λ before. all j y before) (λ now. subst P now.1 new) (get_snoc xs x y j at)
+
+-- the queues below n are told
+abbrev pub ToldBelow : ℕ → List ShardId → List KnownList → Type 0
+ToldBelow n shards told = (q : ℕ) (s : ShardId) (t : KnownList) → q < n → IsHome shards q s → At told q t → Stays t.items s.sent
+
+-- one queue more
+pub told_more : (shards : List ShardId) (start before after : List KnownList) (n j : ℕ) (s : ShardId) (t u : KnownList)
+    → AreRaised start before → ToldBelow n shards before → At before n t → u.list ≡ t.list → Stays t.items u.items → after ≡ set before n u
+    → At shards j s → j + n + 1 ≡ length shards → (s.queue ≡ n → Stays u.items s.sent)
+    → AreRaised start after × ToldBelow (n + 1) shards after
+told_more shards start before after n j s t u raised below at list stay is there sum told = (
+  raised_on start before after raised (subst (AreRaised before) (sym is) (raised_at before n t u at list stay)),
+  λ q r v lt home here. subst (λ (ts : List KnownList). At ts q v → Stays v.items r.sent) (sym is) (next q r v lt home) here,
+)
+  where
+    next : (q : ℕ) (r : ShardId) (v : KnownList) → q < n + 1 → IsHome shards q r → At (set before n u) q v → Stays v.items r.sent
+    next q r v lt home here = ⊎_elim
+        (λ (less : q < n).
+        let apart : q ≢ n = λ e. absurd (omega (arith, e, less)) in
+        below q r v less home (sym (get_set_other before n q u apart) ∙ here))
+        (λ (not : n ≤ q).
+        let same : q ≡ n = omega (arith, not, lt) in
+        let new : v ≡ u = same_at (set before n u) n v u (subst (λ (k : ℕ). At (set before n u) k v) same here) (get_set_same before n u t at) in
+        let place : home.1.0 ≡ j = omega (arith, home.1.2, sum, same) in
+        let shard : r ≡ s = same_at shards j r s (subst (λ (k : ℕ). At shards k r) place home.1.1) there in
+        let queue : s.queue ≡ n = ap (λ (x : ShardId). x.queue) (sym shard) ∙ (home.0 ∙ same) in
+        subst (λ (y : KnownList × ShardId). Stays y.0.items y.1.sent) (λ i. (sym new i, sym shard i)) (told queue))
+        (cases_lt q n)
+
+-- all queues are told
+pub told_of : (n : ℕ) (shards : List ShardId) (told : List KnownList) → ToldBelow n shards told → length told ≡ n → AreToldOf shards told
+told_of n shards told below len q s t home at = let lt = get_within told q t at in below q s t (omega (arith, lt, len)) home at
+
+-- the logs of the first n books are
+abbrev pub LogsBelow : ℕ → List ShardId → List BookId → Type 0
+LogsBelow n shards books = (j : ℕ) (b : BookId) → j < n → At books j b → LogIsOf shards b.log
+
+-- one book more
+pub book_more : (shards : List ShardId) (books : List BookId) (now : List Book) (n : ℕ) (b : Book)
+    → map book_of now ≡ books → At now n b → LogsBelow n shards books → LogIsOf shards (book_of b).log → LogsBelow (n + 1) shards books
+book_more shards books now n b are at below new j c lt here = ⊎_elim
+    (λ (less : j < n). below j c less here)
+    (λ (not : n ≤ j).
+    let same : j ≡ n = omega (arith, not, lt) in
+    let is : book_of b ≡ c = same_at books n (book_of b) c (subst (λ (bs : List BookId). At bs n (book_of b)) are (at_map book_of now n b at)) (subst (λ (k : ℕ). At books k c) same here) in
+    subst (λ (x : BookId). LogIsOf shards x.log) is new)
+    (cases_lt j n)
+
+-- where no queue is in doubt, the lists are the shards'
+pub logs_stand : (workers : ℕ) (queues : List QueueId) (shards : List ShardId) (rights : BTreeMap ℕ PassId) (lists : List (List Entry)) (doubts : List (Option Doubt)) (least : ℕ) (books : List BookId)
+    → AllSettle workers queues shards rights lists doubts → ((q : ℕ) → q < least → At doubts q None) → LogsAreOf shards books → LogsStand least lists books
+logs_stand workers queues shards rights lists doubts least books all none are j b at k l here lt es there =
+    let t = all (queue_of l) es None there (none (queue_of l) lt) in
+    let shows = t.6 in
+    subst (λ (xs : List Entry). Stands xs l) (sym shows.0) (are j b at k l t.1 here (shows.2.0, (t.0, t.3, t.4)))

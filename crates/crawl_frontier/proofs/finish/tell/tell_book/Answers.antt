@@ -1,0 +1,19 @@
+use Rattle.std.proofs.Common.{List, subst}
+use Rattle.crawl_frontier.specs.declared.book.Logged.{Logged}
+use Rattle.crawl_frontier.specs.Finishing.{LogIsOf}
+use Rattle.crawl_frontier.proofs.Logging.{raised_log, raised_known, lines_are_of}
+use Rattle.crawl_frontier.proofs.finish.tell.tell_book.Goals as goal
+
+pub returns-clause-book : goal.returns-clause-book
+returns-clause-book g c =
+    let b = c.args.book.now in
+    λ i. record { id = b.id; counts = b.counts.items; log = raised_log b.told.items c.tell_all.new.told.items b.lines.items c.tell_all.ensures.raised c.requires.known.there i }
+
+pub returns-clause-log : goal.returns-clause-log
+returns-clause-log g c =
+    let b = c.args.book.now in
+    let told = c.tell_all.new.told.items in
+    let raised = c.tell_all.ensures.raised in
+    let known = raised_known g.K.Name.queues g.K.Name.workers b.told.items told b.lines.items raised c.requires.known in
+    subst (λ (log : List Logged). LogIsOf c.args.shards.now.items log) (raised_log b.told.items told b.lines.items raised c.requires.known.there)
+    (lines_are_of c.args.shards.now.items told b.lines.items c.tell_all.ensures.told known.there)

@@ -1,0 +1,11 @@
+use Rattle.std.proofs.Common.{◌≡◌, ◌≤◌, ℕ, map, slice_get}
+use Rattle.crawl_frontier.specs.Books.{book_of}
+use Rattle.crawl_frontier.proofs.Telling.{LogsBelow}
+use Rattle.crawl_frontier.proofs.finish.tell.tell_books.Given as goal
+
+abbrev pub invariant-loop-index : goal.invariant-loop-index
+invariant-loop-index g l =
+    (l.shards.items ≡ l.initial.shards.items)
+    × (map book_of l.books.items ≡ map book_of l.initial.books.items)
+    × ((k : ℕ) → l.index ≤ k → slice_get l.books.items k ≡ slice_get l.initial.books.items k)
+    × LogsBelow l.index l.initial.shards.items (map book_of l.initial.books.items)

@@ -1,0 +1,74 @@
+//! What each part knows of the lists becomes what these are at the end. So each line of a log is true of its list for good, and
+//! none is read.
+ghost use Rattle.std.specs.Prelude.{◌≡◌, ◌<◌, ◌+◌, Some, length, map, slice_get, vec_len};
+ghost use Rattle.crawl_frontier.specs.Growing.{Stays};
+ghost use Rattle.crawl_frontier.specs.Logs.{ListsAre};
+ghost use Rattle.crawl_frontier.specs.Books.{Knows, book_of};
+ghost use Rattle.crawl_frontier.specs.Finishing.{AllAre, AreRaised, AreToldOf, LogIsOf, LogsAreOf};
+
+use crate::book::Book;
+use crate::growing::Beginning;
+use crate::name::Name;
+use crate::shard::Shard;
+use crate::subqueue::Subqueue;
+
+// What is known of the queue's list becomes what the shard has, where that is the queue's.
+fn tell_of<K: Name>(subqueue: &Subqueue, shard: &mut Shard<K>, queue: usize, told: &mut Beginning)
+    requires subqueue { slice_get K.queues queue ≡ Some subqueue.now }
+    requires told { told.old.list ≡ subqueue.now.list }
+    ensures same { shard.new ≡ shard.old }
+    ensures list { told.new.list ≡ told.old.list }
+    ensures stays { Stays told.old.items told.new.items }
+    ensures told { shard.old.queue ≡ queue → Stays told.new.items shard.old.sent }
+{
+    if shard.queue() as usize == queue {
+        shard.tell(subqueue, told);
+    }
+}
+
+// What is known of each list becomes what its shard has, where that is at home. The shards come last first.
+fn tell_all<K: Name>(queues: &Vec<Subqueue>, shards: &mut Vec<Shard<K>>, told: &mut Vec<Beginning>)
+    requires queues { (queues.now.items ≡ K.queues) × (vec_len queues.now ≡ K.workers) }
+    requires shards { vec_len shards.old ≡ K.workers }
+    requires len { length told.old.items ≡ K.workers }
+    requires lists { ListsAre K.queues told.old.items }
+    ensures same { shards.new.items ≡ shards.old.items }
+    ensures raised { AreRaised told.old.items told.new.items }
+    ensures told { AreToldOf shards.old.items told.new.items }
+{
+    let count = queues.len();
+    for queue in 0..count {
+        let place = count - 1 - queue;
+        tell_of(&queues[queue], &mut shards[place], queue, &mut told[queue]);
+    }
+}
+
+// The same for the books of a part, which say what they said.
+fn tell_book<K: Name>(queues: &Vec<Subqueue>, shards: &mut Vec<Shard<K>>, book: &mut Book)
+    requires queues { (queues.now.items ≡ K.queues) × (vec_len queues.now ≡ K.workers) }
+    requires shards { vec_len shards.old ≡ K.workers }
+    requires known { Knows K.queues K.workers book.old }
+    ensures same { shards.new.items ≡ shards.old.items }
+    ensures book { book_of book.new ≡ book_of book.old }
+    ensures log { LogIsOf shards.old.items (book_of book.old).log }
+{
+    tell_all(queues, shards, &mut book.told);
+}
+
+/// Each line of each log is true of its queue's shard, where that is at home. The shards come last first.
+pub fn tell_books<K: Name>(
+    queues: &Vec<Subqueue>,
+    shards: &mut Vec<Shard<K>>,
+    books: &mut Vec<Book>,
+)
+    requires queues { (queues.now.items ≡ K.queues) × (vec_len queues.now ≡ K.workers) }
+    requires shards { vec_len shards.old ≡ K.workers }
+    requires known { AllAre (Knows K.queues K.workers) books.old.items }
+    ensures same { shards.new.items ≡ shards.old.items }
+    ensures books { map book_of books.new.items ≡ map book_of books.old.items }
+    ensures logs { LogsAreOf shards.old.items (map book_of books.old.items) }
+{
+    for index in 0..books.len() {
+        tell_book(queues, shards, &mut books[index]);
+    }
+}

@@ -1,0 +1,137 @@
+//! What is known of a list that only grows, whoever asks, and when.
+ghost use Rattle.std.specs.Prelude.{◌≡◌, ◌++◌, ◌∷◌, [], IfOk};
+ghost use Rattle.crawl_frontier.specs.Growing.{Stays};
+ghost use Rattle.crawl_frontier.specs.Known.{owner_of, begins_with};
+
+mod rule;
+
+use crate::entry::Entry;
+use crate::growing::rule::{Adds, Again, Compare, Grow, HandIn, ListView, OnlyGrows, Tell};
+use atomic_table::{Seat, Table};
+use std::alloc::{AllocError, Global};
+use std::marker::{Brand, Model};
+use std::mem;
+
+/// Stands for one list, which lies elsewhere. Threads share it by `&`; nobody ever writes to it.
+#[derive(Drop)]
+pub struct Growing {
+    table: Table<(), ListView, (), OnlyGrows, Global>,
+}
+
+impl Model for Growing {
+    ghost use Rattle.std.specs.Prelude.{◌≡◌};
+    ghost use Rattle.atomic_table.specs.Seated.{TableId};
+
+    ghost Value = { TableId };
+
+    ghost view = { λ g. g.table.shared.table_id };
+
+    ghost invariant = { λ g. g.table.shared.table_id.words ≡ 1 };
+}
+
+/// The right to add to the list, which knows all of it. It has no bytes.
+#[derive(Drop)]
+pub struct Owner {
+    seat: Seat<(), ListView>,
+}
+
+impl Model for Owner {
+    ghost use Rattle.std.specs.Prelude.{◌≡◌, []};
+    ghost use Rattle.crawl_frontier.specs.Growing.{owning};
+    ghost use Rattle.crawl_frontier.specs.Known.{KnownList};
+
+    ghost Value = { KnownList };
+
+    ghost view = { λ o. record { list = o.seat.table_id; items = o.seat.me.0.all } };
+
+    ghost invariant = { λ o. (o.seat.me.0 ≡ owning o.seat.me.0.all) × (o.seat.me.1 ≡ []) };
+}
+
+/// What the list once was, so that each of its entries stands in the list for good. It has no bytes.
+#[derive(Drop)]
+pub struct Beginning {
+    seat: Seat<(), ListView>,
+}
+
+impl Model for Beginning {
+    ghost use Rattle.std.specs.Prelude.{◌≡◌, []};
+    ghost use Rattle.crawl_frontier.specs.Growing.{beginning};
+    ghost use Rattle.crawl_frontier.specs.Known.{KnownList};
+
+    ghost Value = { KnownList };
+
+    ghost view = { λ b. record { list = b.seat.table_id; items = b.seat.me.0.begins } };
+
+    ghost invariant = { λ b. (b.seat.me.0 ≡ beginning b.seat.me.0.begins) × (b.seat.me.1 ≡ []) };
+}
+
+impl Growing {
+    /// A list with nothing in it, and the right to add to it.
+    pub fn new(alloc: Global) -> Result<(Growing, Owner), AllocError>
+        ensures { IfOk result (λ r. r.1 ≡ owner_of r.0 []) }
+    {
+        let (table, seat) = Table::of_words(alloc, &[0], &())?;
+        Ok((Growing { table }, Owner { seat }))
+    }
+
+    fn add<B: Adds>(&self, owner: &mut Owner, entry: &Entry)
+        requires entry { B.entry ≡ entry.now }
+        requires list { owner.old.list ≡ self.now }
+        ensures { owner.new ≡ owner_of self.now (owner.old.items ++ entry.now ∷ []) }
+    {
+        self.table.shared.load::<Grow<B>>(&mut owner.seat, 0);
+    }
+
+    /// The list has one entry more.
+    pub fn grow(&self, owner: &mut Owner, entry: &Entry)
+        requires { owner.old.list ≡ self.now }
+        ensures { owner.new ≡ owner_of self.now (owner.old.items ++ entry.now ∷ []) }
+    {
+        self.add::<Brand>(owner, entry);
+    }
+
+    /// A token that the list begins with what it is now.
+    pub fn tell(&self, owner: &mut Owner) -> Beginning
+        requires { owner.old.list ≡ self.now }
+        ensures same { owner.new ≡ owner.old }
+        ensures told { result ≡ begins_with self.now owner.old.items }
+    {
+        let seat = self.table.shared.split_seat::<Tell>(&mut owner.seat);
+        Beginning { seat }
+    }
+
+    /// One more token that says what this one says.
+    pub fn again(&self, known: &mut Beginning) -> Beginning
+        requires { known.old.list ≡ self.now }
+        ensures same { known.new ≡ known.old }
+        ensures again { result ≡ known.old }
+    {
+        let seat = self.table.shared.split_seat::<Again>(&mut known.seat);
+        Beginning { seat }
+    }
+
+    // What the beginning has still stands in the list.
+    fn compare(&self, owner: &mut Owner, known: Beginning)
+        requires owner { owner.old.list ≡ self.now }
+        requires known { known.list ≡ self.now }
+        ensures same { owner.new ≡ owner.old }
+        ensures stays { Stays known.items owner.old.items }
+    {
+        let Beginning { seat } = known;
+        self.table.shared.join_seat::<HandIn>(&mut owner.seat, seat);
+        self.table.shared.load::<Compare>(&mut owner.seat, 0);
+    }
+
+    /// The beginning becomes what the list is now, in which all that it had still stands.
+    pub fn catch_up(&self, owner: &mut Owner, known: &mut Beginning)
+        requires owner { owner.old.list ≡ self.now }
+        requires known { known.old.list ≡ self.now }
+        ensures same { owner.new ≡ owner.old }
+        ensures told { known.new ≡ begins_with self.now owner.old.items }
+        ensures stays { Stays known.old.items known.new.items }
+    {
+        let now = self.tell(owner);
+        let before = mem::replace(known, now);
+        self.compare(owner, before);
+    }
+}
