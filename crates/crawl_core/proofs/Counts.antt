@@ -1,5 +1,5 @@
 -- How the count of what is kept changes with a subqueue, and that the machine's events on subqueues make the table's moves.
-use Rattle.std.proofs.Common.{◌≡◌, ℕ, suc, ◌-◌, ◌≤◌, Bool, true, false, List, ◌∷◌, length, drop, slice_get, slice_set, Option, Some, None, refl, sym, ap, ◌∙◌, arith}
+use Rattle.std.proofs.Common.{◌≡◌, ℕ, suc, ◌-◌, ◌≤◌, Bool, true, false, List, ◌∷◌, length, drop, slice_get, slice_set, Option, Some, refl, sym, ap, ◌∙◌, arith}
 use Rattle.std.specs.Option.{option_map}
 use Rattle.std.specs.Ordering.{nat_cmp}
 use Rattle.std.specs.BTreeMap.{is_at}
@@ -17,8 +17,7 @@ use Rattle.crawl_core.specs.Moves.{Moves, accepting}
 
 -- what a test of an element answers is what it answers of the element that is there
 pub there : {X Y : Type 0} (f : X → Y) (o : Option X) (y : Y) → option_map f o ≡ Some y → (x : X) × (o ≡ Some x) × (f x ≡ y)
-there f None y e = absurd (cc)
-there f (Some x) y e = (x, refl, cc)
+there f o y e = grind arith
 
 -- what is kept after an event, and the count that is stored with it, are right
 pub record Fits (old : Kept) (event : Event) (reply : Reply) (new : Kept) (count : ℕ) : Type 0 where

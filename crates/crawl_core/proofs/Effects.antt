@@ -1,5 +1,7 @@
 -- What one step does to the invariants and to each subqueue, event by event.
 use Rattle.std.proofs.Common.{◌≡◌, ℕ, zero, suc, ◌+◌, cond, arith, ◌≤◌, Bool, true, false, not, List, [], ◌∷◌, ◌++◌, length, take, map, slice_get, Option, Some, None, refl, sym, ap, ◌∙◌, eqb-true, true≢false}
+use Rattle.std.proofs.lemmas.Grind.{common_steps}
+use Rattle.std.proofs.lemmas.Bool.Decides.{nat_tests}
 use Rattle.std.specs.Bool.{if◌then◌else◌}
 use Rattle.std.specs.Option.{option_to_list}
 use Rattle.std.proofs.lemmas.List.{take-append-le, map-append}
@@ -18,8 +20,7 @@ use Rattle.crawl_core.proofs.Places.{set_cases}
 
 -- what holds of both branches holds of a choice
 pub cond_both : {A : Type 0} (P : A → Type 0) (b : Bool) (x y : A) → (b ≡ true → P x) → (b ≡ false → P y) → P (if b then x else y)
-cond_both P true x y first second = first refl
-cond_both P false x y first second = second refl
+cond_both P b x y first second = grind arith
 
 -- ## What a step does to one subqueue
 
@@ -48,19 +49,12 @@ pub record QueueEffect (old : State) (event : Event) (done : Turn) : Type 0 wher
   pub begins : (queue : ℕ) (url : List ℕ) → taken_by queue event done.reply ≡ Some url → (is_busy (slice_get old.subqueues queue) ≡ false) × (is_busy (slice_get done.state.subqueues queue) ≡ true)
   pub ends : (queue : ℕ) → is_busy (slice_get old.subqueues queue) ≡ true → is_busy (slice_get done.state.subqueues queue) ≡ false → (left : ℕ) × (event ≡ Done queue) × (done.reply ≡ told.Count left)
 
-append_nil : {A : Type 0} (xs : List A) → xs ≡ xs ++ []
-append_nil [] = refl
-append_nil (x ∷ xs) = ap (λ ys. x ∷ ys) (append_nil xs)
+pub append_nil : {A : Type 0} (xs : List A) → xs ≡ xs ++ []
+append_nil xs = grind (arith, nat_tests, common_steps)
 
 -- where the subqueues stay and nothing was accepted or taken
 same_queues : (old : State) (event : Event) (done : Turn) → done.state.subqueues ≡ old.subqueues → ((queue : ℕ) → accepted_by queue event done.reply ≡ None) → ((queue : ℕ) → taken_by queue event done.reply ≡ None) → ((queue : ℕ) → done_by queue event done.reply ≡ false) → QueueEffect old event done
-same_queues old event done same accepts takes none = record {
-  accepts = λ queue. rw (same, accepts queue) (append_nil (messages (slice_get old.subqueues queue)));
-  takes = λ queue. rw (same, takes queue) (append_nil (urls_taken (slice_get old.subqueues queue)));
-  finishes = λ queue. rw (same, none queue) (omega arith);
-  begins = λ queue url taken. let none = takes queue in absurd (cc);
-  ends = λ queue busy idle. let kept = rw same at idle in absurd (cc);
-}
+same_queues old event done same accepts takes none = grind (arith, append_nil)
 
 -- one element more than the first n
 pub take_one_more : {A : Type 0} (xs : List A) (n : ℕ) (x : A) → slice_get xs n ≡ Some x → take (suc n) xs ≡ take n xs ++ x ∷ []
@@ -120,11 +114,7 @@ oldest_effect state place queue at idle (Some message) first =
     }
 
 take_effect : (state : State) (place : ℕ) (queue : Option Subqueue) → slice_get state.subqueues place ≡ queue → QueueEffect state (Take place) (take_from state place queue)
-take_effect state place None at = same_queues state (Take place) _ refl (λ there. refl) (λ there. refl) (λ there. refl)
-take_effect state place (Some queue) at =
-    cond_both (QueueEffect state (Take place)) queue.busy _ _
-    (λ _. same_queues state (Take place) _ refl (λ there. refl) (λ there. refl) (λ there. refl))
-    (λ idle. oldest_effect state place queue at idle (oldest queue) refl)
+take_effect state place queue at = grind (arith, same_queues, cond_both, oldest_effect)
 
 done_effect : (state : State) (place : ℕ) (queue : Option Subqueue) → slice_get state.subqueues place ≡ queue → ((found : Subqueue) → slice_get state.subqueues place ≡ Some found → SubqueueInvariant found) → QueueEffect state (Done place) (done_with state place queue)
 done_effect state place None at sound = same_queues state (Done place) _ refl (λ there. refl) (λ there. refl) (λ there. refl)

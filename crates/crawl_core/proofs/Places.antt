@@ -1,7 +1,9 @@
 -- Lemmas on lists by their places.
-use Rattle.std.proofs.Common.{◌≡◌, ℕ, zero, suc, ◌+◌, ◌<◌, Bool, true, false, List, [], ◌∷◌, ◌++◌, length, take, map, nat_eq, slice_get, slice_set, Option, Some, None, refl, ap, ◌∙◌, arith, eqb-true, inl, inr, ◌⊎◌}
+use Rattle.std.proofs.Common.{◌≡◌, ℕ, zero, suc, ◌+◌, ◌<◌, true, false, List, [], ◌∷◌, ◌++◌, length, take, map, nat_eq, slice_get, slice_set, Option, Some, None, refl, ap, ◌∙◌, arith, eqb-true, inl, inr, ◌⊎◌}
+use Rattle.std.proofs.lemmas.Bool.Decides.{nat_tests}
 use Rattle.std.specs.List.{sum_by, filter_map, cons_option, zip}
 use Rattle.std.specs.Option.{option_map}
+use Rattle.std.proofs.lemmas.List.{length-set}
 use Rattle.std.proofs.lemmas.List.Sums.{sum_by-set}
 use Rattle.std.proofs.lemmas.Option.{slice_get_within, get_or_from_slice_get}
 
@@ -11,9 +13,7 @@ sum_at f xs place old new at =
     rw (get_or_from_slice_get xs place old old at) at (sum_by-set f xs place new old (slice_get_within xs place old at))
 
 pub length-slice_set : {X : Type 0} (xs : List X) (i : ℕ) (y : X) → length (slice_set xs i y) ≡ length xs
-length-slice_set [] i y = refl
-length-slice_set (z ∷ zs) zero y = refl
-length-slice_set (z ∷ zs) (suc i) y = ap suc (length-slice_set zs i y)
+length-slice_set xs i y = length-set xs i y
 
 pub get_set_same : {X : Type 0} (xs : List X) (i : ℕ) (x y : X) → slice_get xs i ≡ Some x → slice_get (slice_set xs i y) i ≡ Some y
 get_set_same [] i x y at = absurd (cc)
@@ -29,14 +29,7 @@ get_set_other (z ∷ zs) (suc i) (suc j) y apart = get_set_other zs i j y (grind
 
 -- what a place has after a write: at that place the new element, where the old one stood, and at another what it had
 pub set_cases : {X : Type 0} (P : Option X → Type 0) (xs : List X) (place there : ℕ) (old new : X) → slice_get xs place ≡ Some old → (nat_eq place there ≡ true → slice_get xs there ≡ Some old → P (Some new)) → (nat_eq place there ≡ false → P (slice_get xs there)) → P (slice_get (slice_set xs place new) there)
-set_cases {X} P xs place there old new at same other = by_test (nat_eq place there) refl
-  where
-    by_test : (b : Bool) → nat_eq place there ≡ b → P (slice_get (slice_set xs place new) there)
-    by_test true e =
-        let here : place ≡ there = eqb-true place there e in
-        let found : slice_get xs there ≡ Some old = rw (← here) at in
-        rw (← here, get_set_same xs place old new at) (same e found)
-    by_test false e = rw (get_set_other xs place there new e) (other e)
+set_cases P xs place there old new at same other = grind (arith, slice_set, eqb-true, get_set_same, get_set_other)
 
 -- an element of a filtered list comes from one of the list
 pub record Source {X Y : Type 0} (h : X → Option Y) (xs : List X) (y : Y) : Type 0 where
@@ -61,22 +54,14 @@ from_filter_map {X} {Y} h (x ∷ xs) k y at = by_first (h x) refl k (λ k. from_
 pub at_rank : {X Y : Type 0} (h : X → Option Y) (xs : List X) (i : ℕ) (x : X) (y : Y) → slice_get xs i ≡ Some x → h x ≡ Some y → slice_get (filter_map h xs) (length (filter_map h (take i xs))) ≡ Some y
 at_rank h [] i x y at e = absurd (cc)
 at_rank h (z ∷ zs) zero x y at e = let here : h z ≡ Some y = ap h (cc) ∙ e in rw here refl
-at_rank {X} {Y} h (z ∷ zs) (suc i) x y at e = by_first (h z) (at_rank h zs i x y at e)
-  where
-    by_first : (o : Option Y) → slice_get (filter_map h zs) (length (filter_map h (take i zs))) ≡ Some y → slice_get (cons_option o (filter_map h zs)) (length (cons_option o (filter_map h (take i zs)))) ≡ Some y
-    by_first None rest = rest
-    by_first (Some w) rest = rest
+at_rank {X} {Y} h (z ∷ zs) (suc i) x y at e = grind (arith, nat_tests, at_rank h zs i x y)
 
 -- and before those that come later
 pub rank_below : {X Y : Type 0} (h : X → Option Y) (xs : List X) (i j : ℕ) (x : X) (y : Y) → i < j → slice_get xs i ≡ Some x → h x ≡ Some y → length (filter_map h (take i xs)) < length (filter_map h (take j xs))
 rank_below h [] i j x y lt at e = absurd (cc)
 rank_below h (z ∷ zs) i zero x y lt at e = absurd (omega arith)
 rank_below h (z ∷ zs) zero (suc j) x y lt at e = let here : h z ≡ Some y = ap h (cc) ∙ e in rw here (omega arith)
-rank_below {X} {Y} h (z ∷ zs) (suc i) (suc j) x y lt at e = by_first (h z) (rank_below h zs i j x y (omega arith) at e)
-  where
-    by_first : (o : Option Y) → length (filter_map h (take i zs)) < length (filter_map h (take j zs)) → length (cons_option o (filter_map h (take i zs))) < length (cons_option o (filter_map h (take j zs)))
-    by_first None rest = rest
-    by_first (Some w) rest = omega (arith, rest)
+rank_below {X} {Y} h (z ∷ zs) (suc i) (suc j) x y lt at e = grind (arith, nat_tests, rank_below h zs i j x y)
 
 first_of_some : {A B : Type 0} {p q : A × B} → Some p ≡ Some q → Some p.0 ≡ Some q.0
 first_of_some e = ap (option_map (λ r. r.0)) e

@@ -15,7 +15,7 @@ use Rattle.crawl_core.specs.Step.{turn}
 use Rattle.crawl_core.specs.Run.{Run, IsRun}
 use Rattle.crawl_core.specs.History.{accepted_by, taken_by, done_by, accepted_in, taken_urls, done_in, left_in, TakesInOrder, AcceptsOnce, LeavesInOrder, FetchesOneAtATime}
 use Rattle.crawl_core.specs.Invariants.{SubqueueInvariant}
-use Rattle.crawl_core.proofs.Effects.{QueueEffect, queue_effect, messages, urls_taken, finished_at, is_busy}
+use Rattle.crawl_core.proofs.Effects.{QueueEffect, queue_effect, append_nil, messages, urls_taken, finished_at, is_busy}
 use Rattle.crawl_core.proofs.Leaving.{firsts_found, firsts_numbered}
 use Rattle.crawl_core.proofs.RunParts.{eqb_same, pair_is, run_at, run_sound, start_sound, get-replicate, slice_get-drop, later_place}
 use Rattle.crawl_core.proofs.Sound.{Sound, gate_effect, some_is}
@@ -27,10 +27,6 @@ record Grows (queue : ℕ) (old : State) (history : List (Event × Reply)) (new 
   pub accepts : messages (slice_get new.subqueues queue) ≡ messages (slice_get old.subqueues queue) ++ accepted_in queue history
   pub takes : urls_taken (slice_get new.subqueues queue) ≡ urls_taken (slice_get old.subqueues queue) ++ taken_urls queue history
   pub finishes : finished_at (slice_get new.subqueues queue) ≡ finished_at (slice_get old.subqueues queue) + done_in queue history
-
-append_nil : {A : Type 0} (xs : List A) → xs ≡ xs ++ []
-append_nil [] = refl
-append_nil (x ∷ xs) = ap (λ ys. x ∷ ys) (append_nil xs)
 
 cons_option_is : {A : Type 0} (o : Option A) (xs : List A) → cons_option o xs ≡ option_to_list o ++ xs
 cons_option_is None xs = refl

@@ -3,12 +3,13 @@ use Rattle.std.proofs.Common.{cond, ◌≡◌, inl, inr, ℕ, zero, suc, ◌-◌
 use Rattle.std.specs.Bool.{if◌then◌else◌}
 use Rattle.std.specs.List.{zip, cons_option, Contains, list_any}
 use Rattle.std.specs.Option.{option_map}
-use Rattle.std.proofs.lemmas.List.{append_assoc, length-map, map-append, take-append-drop}
+use Rattle.std.proofs.lemmas.List.{append_assoc, length-map, map-append, nil_from_length, take-append-drop}
 use Rattle.std.proofs.lemmas.Bool.{cases_lt}
 use Rattle.std.proofs.lemmas.List.Sums.{sum_by-append}
 use Rattle.std.specs.Str.{bytes_eq}
 use Rattle.std.proofs.lemmas.Slice.Eq.{bytes_eq-Decides}
 use Rattle.std.proofs.lemmas.List.Elements.{Contains-append_right}
+use Rattle.std.proofs.lemmas.Option.{slice_get_past}
 use Rattle.crawl_core.specs.declared.event.Event.{Event}
 use Rattle.crawl_core.specs.declared.event.Event.TheVariants.{Look, Enter, Admit, Back, EndSeeds, Take, Done, Close}
 use Rattle.crawl_core.specs.declared.reply.Reply.{Reply}
@@ -62,11 +63,6 @@ after_history place history state queue at said =
       done = omega (arith, done, as_many, inv.begun);
     }
 
-no_place : {A : Type 0} (xs : List A) (i : ℕ) → length xs ≤ i → slice_get xs i ≡ None
-no_place [] i beyond = refl
-no_place (x ∷ xs) zero beyond = absurd (omega (arith, beyond))
-no_place (x ∷ xs) (suc i) beyond = no_place xs i (omega (arith, beyond))
-
 pub state_of_history : (workers max : ℕ) (history : List (Event × Reply)) (state : State) → Run (start workers max) history state → IsState workers max history state
 state_of_history workers max history state run =
     let shape = run_shape workers max history state run in
@@ -76,7 +72,7 @@ state_of_history workers max history state run =
       queues = λ place queue at. after_history place history state queue at (history_at workers max place history state run);
       no_others = λ place beyond.
           let said = history_at workers max place history state run in
-          let none = no_place state.subqueues place (omega (arith, beyond, shape.as_many)) in
+          let none = slice_get_past state.subqueues place (omega (arith, beyond, shape.as_many)) in
           (rw none at said.accepted, rw none at said.taken);
       units = units_out_of workers max history state run;
       closed = closed_of workers max history state run;
@@ -87,16 +83,11 @@ state_of_history workers max history state run =
 
 -- ## Closing
 
--- a list of no length is empty
-no_length : {A : Type 0} (xs : List A) → length xs ≡ 0 → xs ≡ []
-no_length [] e = refl
-no_length (x ∷ xs) e = absurd (omega (arith, e))
-
 -- where no unit is out, all is finished
 finished_at_zero : (state : State) → Sound state → count_of state ≡ 0 → IsFinished state
 finished_at_zero state sound none = record {
   opened = no_flag state.gate.opening (omega (arith, none));
-  nobody = no_length state.gate.holders (omega (arith, none));
+  nobody = nil_from_length state.gate.holders (omega (arith, none));
   done = λ place queue at.
       let inv = sound.queues place queue at in
       let unfinished_none = none_unfinished state place queue at none in

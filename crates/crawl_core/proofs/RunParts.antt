@@ -16,7 +16,7 @@ use Rattle.crawl_core.specs.Run.{Run, IsRun}
 use Rattle.crawl_core.specs.History.{comes_out, comes_back, told_count, AreOut, TellsUnits, says_closed, was_closed, TellsClosing}
 use Rattle.crawl_core.proofs.Effects.{take_one_more}
 use Rattle.crawl_core.proofs.RunSteps.{Run-push}
-use Rattle.crawl_core.proofs.Sound.{Sound, gate_effect, some_is}
+use Rattle.crawl_core.proofs.Sound.{Sound, gate_effect, or_nothing, some_is}
 
 pub eqb_same : (n : ℕ) → nat_eq n n ≡ true
 eqb_same n = eq-eqb n n refl
@@ -152,11 +152,7 @@ or_three true b c = refl
 or_three false b c = refl
 
 run_closes : (old : State) (history : List (Event × Reply)) (new : State) → Sound old → Run old history new → new.gate.closed ≡ (old.gate.closed || was_closed history)
-run_closes old [] new sound run = rw run (or_none old.gate.closed)
-  where
-    or_none : (b : Bool) → b ≡ (b || false)
-    or_none true = refl
-    or_none false = refl
+run_closes old [] new sound run = rw run (or_nothing old.gate.closed)
 run_closes old (x ∷ xs) new sound run =
     let effect = gate_effect old sound x.0 in
     let after = subst Sound (sym run.1.state_is) effect.sound in

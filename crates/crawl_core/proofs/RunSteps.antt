@@ -29,11 +29,4 @@ Run-push old [] mid x new run step = (new, rw (← run) step, refl)
 Run-push old (first ∷ xs) mid x new run step = (run.0, run.1, Run-push run.0 xs mid x new run.2 step)
 
 pub run_more : (workers max : ℕ) (events : List Event) (replies : List Reply) (old new : Kept) (event : Event) (reply : Reply) → RunTo workers max events replies old → Makes old event reply new → RunTo workers max (events ++ event ∷ []) (replies ++ reply ∷ []) new
-run_more workers max events replies old new event reply to makes =
-    let made = makes.step to.state to.shown in
-    record {
-      as_many = rw (length_push, length_push) (ap (λ n. n + 1) to.as_many);
-      state = made.0;
-      run = rw (zip_push events replies event reply to.as_many) (Run-push (start workers max) (zip events replies) to.state (event, reply) made.0 to.run made.1);
-      shown = made.2;
-    }
+run_more workers max events replies old new event reply to makes = grind (arith, length_push, zip_push, Run-push)

@@ -1,5 +1,5 @@
 -- A move of what is kept is the step of each state that it shows.
-use Rattle.std.proofs.Common.{eqb-true, unwrap_or, subst, ◌≡◌, ℕ, zero, suc, Bool, true, false, cond, ◌||◌, not, nat_eq, ◌+◌, ◌-◌, List, [], ◌∷◌, ◌++◌, length, map, drop, replicate, slice_get, slice_set, Option, Some, None, refl, sym, ap, ◌∙◌, arith, IfOk, Ok, Err, Result, MatchOption}
+use Rattle.std.proofs.Common.{eqb-true, unwrap_or, subst, ◌≡◌, ℕ, zero, suc, Bool, true, false, cond, ◌||◌, not, nat_eq, ◌+◌, ◌-◌, List, [], ◌∷◌, ◌++◌, map, drop, replicate, slice_get, slice_set, Option, Some, None, refl, sym, ap, ◌∙◌, arith, IfOk, Result, MatchOption}
 use Rattle.std.specs.Bool.{if◌then◌else◌}
 use Rattle.std.specs.List.{AllZip, sum_by}
 use Rattle.std.specs.Ordering.{nat_cmp}
@@ -17,13 +17,12 @@ use Rattle.crawl_core.specs.declared.event.Event.TheVariants.{Look, Enter, Admit
 use Rattle.crawl_core.specs.declared.reply.Reply.{Reply}
 use Rattle.crawl_core.specs.declared.reply.Reply.TheVariants as told
 use Rattle.crawl_core.specs.declared.reply.Refusal.TheVariants as why
-use Rattle.crawl_core.specs.Flags.{one_if}
 use Rattle.crawl_core.specs.Messages.{Message, has_url, count_from}
-use Rattle.crawl_core.specs.Subqueue.{Subqueue, empty_subqueue, unfinished, oldest, next_message, after_accepting, after_taking, after_finishing}
+use Rattle.crawl_core.specs.Subqueue.{Subqueue, unfinished, oldest, next_message, after_accepting, after_taking, after_finishing}
 use Rattle.crawl_core.specs.GateSide.{GateTurn, new_gate, holds, look, enter, back, end_seeds, close}
 use Rattle.crawl_core.specs.State.{State, start}
 use Rattle.crawl_core.specs.Step as step
-use Rattle.crawl_core.specs.Step.{Step, Turn, turn}
+use Rattle.crawl_core.specs.Step.{Turn, turn}
 use Rattle.crawl_core.specs.Kept.{Kept, KeptQueue, empty_queue, outstanding, has_text, has_seen, number_at}
 use Rattle.crawl_core.specs.Moves.{Moves, Move, move, by_gate, counted, admit_to, take_from, take_oldest, done_with, accepting}
 use Rattle.crawl_core.specs.Shows.{Shows, ShowsQueue, Makes}
@@ -62,10 +61,7 @@ drop-slice_get (x ∷ xs) (suc n) = drop-slice_get xs n
 
 -- what is kept of a subqueue has as many URLs out as the subqueue
 outstanding-unfinished : (kept : KeptQueue) (queue : Subqueue) → ShowsQueue kept queue → outstanding kept ≡ unfinished queue
-outstanding-unfinished kept queue shown =
-    let waits : length kept.waiting ≡ length queue.accepted - queue.taken = rw (shown.waits, length-map, length-drop) refl in
-    let busy = ap one_if shown.busy in
-    omega (arith, waits, busy, shown.begun, shown.within)
+outstanding-unfinished kept queue shown = grind (arith, length-map, length-drop)
 
 sums : (kept : List KeptQueue) (queues : List Subqueue) → AllZip ShowsQueue kept queues → sum_by outstanding kept ≡ sum_by unfinished queues
 sums [] [] z = refl
@@ -80,8 +76,7 @@ is_at_number s sender = grind (arith, nat_tests)
 
 -- the number at a sender that may be this one, after one more of this one
 numbered : (b : Bool) (o : Option ℕ) (n c : ℕ) → unwrap_or o 0 ≡ c → (b ≡ true → n ≡ c) → unwrap_or (cond b (Some (suc n)) o) 0 ≡ c + cond b 1 0
-numbered true o n c old same = let e = same refl in omega (arith, e)
-numbered false o n c old same = omega (arith, old)
+numbered b o n c old same = grind arith
 
 has_url-map : (messages : List Message) (url : List ℕ) → has_text (map (λ m. m.url) messages) url ≡ has_url messages url
 has_url-map [] url = refl
@@ -108,24 +103,10 @@ accepted_shows kept queue url sender shown =
     }
 
 taken_shows : (kept : KeptQueue) (queue : Subqueue) (message : Message) → ShowsQueue kept queue → oldest queue ≡ Some message → ShowsQueue (record kept { waiting = map (λ m. m.url) (drop (suc queue.taken) queue.accepted); busy = true }) (after_taking queue)
-taken_shows kept queue message shown at = record {
-  waits = refl;
-  seen = shown.seen;
-  numbers = shown.numbers;
-  busy = refl;
-  begun = omega arith;
-  within = let within = slice_get_within queue.accepted queue.taken message at in omega arith;
-}
+taken_shows kept queue message shown at = grind (arith, slice_get_within)
 
 finished_shows : (kept : KeptQueue) (queue : Subqueue) → ShowsQueue kept queue → ShowsQueue (record kept { busy = false }) (after_finishing queue)
-finished_shows kept queue shown = record {
-  waits = shown.waits;
-  seen = shown.seen;
-  numbers = shown.numbers;
-  busy = refl;
-  begun = omega arith;
-  within = shown.within;
-}
+finished_shows kept queue shown = grind arith
 
 -- ## The table
 
@@ -140,8 +121,7 @@ pub record Agrees (made : Move) (done : Turn) : Type 0 where
   pub is_move : made ≡ record { reply = done.reply; kept = keeping queues done.state }
 
 agrees_if : (b : Bool) (made made' : Move) (done done' : Turn) → Agrees made done → Agrees made' done' → Agrees (if b then made else made') (if b then done else done')
-agrees_if true made made' done done' first second = first
-agrees_if false made made' done done' first second = second
+agrees_if b made made' done done' first second = grind arith
 
 -- nothing but the reply, which is the same
 unchanged : (queues : List KeptQueue) (state : State) → AllZip ShowsQueue queues state.subqueues → (reply : Reply) → Agrees (record { reply = reply; kept = keeping queues state }) (record { reply = reply; state = state })
@@ -182,13 +162,7 @@ oldest_agrees queues state shown place kept queue both (Some message) at =
     })
 
 take_agrees : (queues : List KeptQueue) (state : State) → AllZip ShowsQueue queues state.subqueues → (place : ℕ) (kept : Option KeptQueue) (queue : Option Subqueue) → Both ShowsQueue kept queue → Agrees (take_from (keeping queues state) place kept) (step.take_from state place queue)
-take_agrees queues state shown place None None both = unchanged queues state shown (told.Refused why.NoSuch)
-take_agrees queues state shown place None (Some queue) both = absurd both
-take_agrees queues state shown place (Some kept) None both = absurd both
-take_agrees queues state shown place (Some kept) (Some queue) both =
-    rw (both.busy)
-    (agrees_if queue.busy _ _ _ _ (unchanged queues state shown (told.Refused why.Busy))
-    (oldest_agrees queues state shown place kept queue both (oldest queue) refl))
+take_agrees queues state shown place kept queue both = grind (arith, unchanged, agrees_if, oldest_agrees)
 
 done_agrees : (queues : List KeptQueue) (state : State) → AllZip ShowsQueue queues state.subqueues → (place : ℕ) (kept : Option KeptQueue) (queue : Option Subqueue) → Both ShowsQueue kept queue → Agrees (done_with (keeping queues state) place kept) (step.done_with state place queue)
 done_agrees queues state shown place None None both = unchanged queues state shown (told.Refused why.NoSuch)
@@ -226,12 +200,8 @@ makes old event reply new moves = record {
 
 -- what holds of a value follows from what implies it
 pub IfOk-weaker : {A E : Type 0} (r : Result A E) (P Q : A → Type 0) → ((a : A) → P a → Q a) → IfOk r P → IfOk r Q
-IfOk-weaker (Ok a) P Q weaker p = weaker a p
-IfOk-weaker (Err e) P Q weaker p = tt
+IfOk-weaker r P Q weaker p = grind arith
 
 -- an empty machine shows the first state
 pub shows_start : (workers max : ℕ) → Shows (record { gate = new_gate max; queues = replicate workers empty_queue }) (start workers max)
-shows_start workers max = record {
-  gate = refl;
-  queues = AllZip-replicate ShowsQueue workers empty_queue empty_subqueue (record { waits = refl; seen = refl; numbers = λ sender. refl; busy = refl; begun = omega arith; within = omega arith });
-}
+shows_start workers max = grind (arith, AllZip-replicate)

@@ -1,8 +1,8 @@
 -- The invariants, and that each step keeps them.
-use Rattle.std.proofs.Common.{unwrap_or, ◌≡◌, inl, inr, ℕ, zero, suc, ◌+◌, ◌≤◌, Bool, true, false, cond, not, ◌&&◌, ◌||◌, List, [], ◌∷◌, length, nat_eq, slice_get, Option, Some, None, refl, sym, ap, subst, ◌∙◌, arith, eqb-true, true≢false, Ordering}
-use Rattle.std.specs.declared.cmp.Ordering.TheVariants.{Less, Equal, Greater}
+use Rattle.std.proofs.Common.{unwrap_or, ◌≡◌, ℕ, zero, suc, ◌+◌, ◌≤◌, Bool, true, false, cond, not, ◌&&◌, ◌||◌, List, [], ◌∷◌, length, nat_eq, slice_get, Option, Some, None, refl, sym, ap, subst, ◌∙◌, arith, eqb-true, true≢false, Ordering}
+use Rattle.std.proofs.lemmas.Bool.Decides.{nat_tests}
 use Rattle.std.specs.List.{list_any, list_all}
-use Rattle.std.specs.Ordering.{nat_cmp, is_eq, match_ordering}
+use Rattle.std.specs.Ordering.{nat_cmp}
 use Rattle.std.specs.Str.{bytes_eq}
 use Rattle.std.specs.BTreeMap.{is_at, insert_entry}
 use Rattle.std.specs.BTreeSet.{insert_key}
@@ -52,27 +52,15 @@ pub record GateEffect (old : State) (done : Turn) : Type 0 where
   pub units : count_of done.state + cond (comes_back done.reply) 1 0 ≡ count_of old + cond (comes_out done.reply) 1 0
   pub tells : (count : ℕ) → told_count done.reply ≡ Some count → count_of done.state ≡ count
 
-or_nothing : (b : Bool) → b ≡ (b || false)
-or_nothing true = refl
-or_nothing false = refl
+pub or_nothing : (b : Bool) → b ≡ (b || false)
+or_nothing b = grind arith
 
 or_always : (b : Bool) → true ≡ (b || true)
-or_always true = refl
-or_always false = refl
+or_always b = grind arith
 
 -- a reply that changes nothing
 still : (state : State) → Sound state → (reply : Reply) → is_quiet reply ≡ true → (reply ≡ told.Closed → ⊥) → says_closed reply ≡ false → comes_back reply ≡ comes_out reply → ((count : ℕ) → told_count reply ≡ Some count → count_of state ≡ count) → GateEffect state (record { reply = reply; state = state })
-still state sound reply quiet other open_still even tells = record {
-  sound = sound;
-  within = λ within. within;
-  closes = λ closed. absurd (other closed);
-  closing = rw open_still (or_nothing state.gate.closed);
-  stays = λ closed. (closed, quiet);
-  max = refl;
-  as_many = refl;
-  units = rw even refl;
-  tells = tells;
-}
+still state sound reply quiet other open_still even tells = grind arith
 
 -- one that tells of no unit either
 abbrev is_silent : Reply → Bool
@@ -83,18 +71,13 @@ is_silent (told.Refused reason) = true
 is_silent _ = false
 
 silent : (state : State) → Sound state → (reply : Reply) → is_silent reply ≡ true → GateEffect state (record { reply = reply; state = state })
-silent state sound told.Lost is = still state sound told.Lost refl (λ e. absurd (cc)) refl refl (λ count e. absurd (cc))
-silent state sound told.Seen is = still state sound told.Seen refl (λ e. absurd (cc)) refl refl (λ count e. absurd (cc))
-silent state sound told.Empty is = still state sound told.Empty refl (λ e. absurd (cc)) refl refl (λ count e. absurd (cc))
-silent state sound (told.Refused reason) is = still state sound (told.Refused reason) refl (λ e. absurd (cc)) refl refl (λ count e. absurd (cc))
-silent state sound _ is = absurd (true≢false (sym is))
+silent state sound reply is = grind arith
 
 pub some_is : {A : Type 0} {x y : A} → Some x ≡ Some y → x ≡ y
 some_is {A} {x} {y} e = ap (λ o. unwrap_or o x) e
 
 or_second : (a b : Bool) → (a || b) ≡ false → b ≡ false
-or_second true b none = absurd (true≢false none)
-or_second false b none = none
+or_second a b none = grind arith
 
 within_length : {A : Type 0} (xs : List A) (k : ℕ) (x : A) → slice_get xs k ≡ Some x → k ≤ length xs
 within_length xs k x at = let below = slice_get_within xs k x at in omega arith
@@ -103,13 +86,7 @@ within_length xs k x at = let below = slice_get_within xs k x at in omega arith
 
 list_all-insert_entry : {X : Type 0} (p : X → Bool) (R : ℕ → ℕ → Ordering) (entries : List (ℕ × X)) (k : ℕ) (v : X) → list_all (λ e. p e.1) entries ≡ true → p v ≡ true → list_all (λ e. p e.1) (insert_entry R entries k v) ≡ true
 list_all-insert_entry p R [] k v all here = rw here refl
-list_all-insert_entry {X} p R (e ∷ es) k v all here = at_first (R k e.0) (p e.1) refl all (λ rest. list_all-insert_entry p R es k v rest here)
-  where
-    at_first : (o : Ordering) (b : Bool) → p e.1 ≡ b → (b && list_all (λ e. p e.1) es) ≡ true → (list_all (λ e. p e.1) es ≡ true → list_all (λ e. p e.1) (insert_entry R es k v) ≡ true) → list_all (λ e. p e.1) (match_ordering o ((k, v) ∷ e ∷ es) ((e.0, v) ∷ es) (e ∷ insert_entry R es k v)) ≡ true
-    at_first Less true first rest more = rw (here, first) rest
-    at_first Equal true first rest more = rw here rest
-    at_first Greater true first rest more = rw first (more rest)
-    at_first o false first rest more = absurd (cc)
+list_all-insert_entry {X} p R (e ∷ es) k v all here = grind (arith, nat_tests, list_all-insert_entry p R es k)
 
 list_all-remove_entry : {X : Type 0} (p : X → Bool) (test : ℕ → Bool) (entries : List (ℕ × X)) → list_all (λ e. p e.1) entries ≡ true → list_all (λ e. p e.1) (remove_entry test entries) ≡ true
 list_all-remove_entry p test [] all = refl
@@ -124,12 +101,7 @@ list_all-remove_entry {X} p test (e ∷ es) all = at_first (test e.0) (p e.1) re
 
 pub length-insert_key : (holders : List ℕ) (k : ℕ) → list_any (is_at (nat_cmp k)) holders ≡ false → length (insert_key nat_cmp holders k) ≡ suc (length holders)
 length-insert_key [] k absent = refl
-length-insert_key (x ∷ xs) k absent = at_first (nat_cmp k x) absent (length-insert_key xs k)
-  where
-    at_first : (o : Ordering) → (is_eq o || list_any (is_at (nat_cmp k)) xs) ≡ false → (list_any (is_at (nat_cmp k)) xs ≡ false → length (insert_key nat_cmp xs k) ≡ suc (length xs)) → length (match_ordering o (k ∷ x ∷ xs) (x ∷ xs) (x ∷ insert_key nat_cmp xs k)) ≡ suc (suc (length xs))
-    at_first Less none more = refl
-    at_first Equal none more = absurd (cc)
-    at_first Greater none more = ap suc (more none)
+length-insert_key (x ∷ xs) k absent = grind (arith, nat_tests, length-insert_key xs)
 
 -- one that holds a unit is counted
 pub holder_counts : (gate : GateSide) (messages sender : ℕ) → holds gate sender ≡ true → units_out (let_go gate sender) messages + 1 ≡ units_out gate messages
@@ -181,23 +153,7 @@ enter_sound state sound sender free (Some word) =
 
 -- a turn that gives a unit back: the same state with a smaller count
 fewer_sound : (state after : State) → Sound state → count_of after + 1 ≡ count_of state → after.gate.closed ≡ state.gate.closed → after.gate.max ≡ state.gate.max → after.gate.remembered ≡ state.gate.remembered → Rising 0 after.gate.holders → length after.subqueues ≡ length state.subqueues → EachSubqueue SubqueueInvariant after → GateEffect state (record { reply = told.Count (count_of after); state = after })
-fewer_sound state after sound fewer closed_is max_is remembered_is holders as_many queues = record {
-  sound = record {
-    empty = λ closed. let none = sound.empty (sym closed_is ∙ closed) in absurd (omega (arith, none, fewer));
-    met = λ opened. rw remembered_is (sound.met (sym closed_is ∙ opened));
-    holders = holders;
-    words = rw remembered_is sound.words;
-    queues = queues;
-  };
-  within = λ within. rw max_is (omega (arith, within, fewer));
-  closes = λ e. absurd (cc);
-  closing = closed_is ∙ or_nothing state.gate.closed;
-  stays = λ closed. let none = sound.empty closed in absurd (omega (arith, none, fewer));
-  max = max_is;
-  as_many = as_many;
-  units = omega (arith, fewer);
-  tells = λ count is. some_is is;
-}
+fewer_sound state after sound fewer closed_is max_is remembered_is holders as_many queues = grind arith
 
 close_sound : (state : State) → Sound state → GateKeeps state (close state.gate (unfinished_in state))
 close_sound state sound =
@@ -246,34 +202,11 @@ look_sound state sound sender = record {
 -- a message that the subqueue has accepted is not one of a URL that it has not
 unseen_differs : (accepted : List Message) (url : List ℕ) (i : ℕ) (m : Message) → has_url accepted url ≡ false → slice_get accepted i ≡ Some m → m.url ≡ url → ⊥
 unseen_differs [] url i m unseen at same = absurd (cc)
-unseen_differs (x ∷ xs) url zero m unseen at same =
-    let is_x : x ≡ m = some_is at in
-    let tied : bytes_eq x.url url ≡ true = rw (is_x, same) (nat_list_eq_equiv.refl url) in
-    let clash = rw tied at unseen in
-    true≢false clash
+unseen_differs (x ∷ xs) url zero m unseen at same = grind (arith, nat_tests, some_is, nat_list_eq_equiv, true≢false, or_second)
 unseen_differs (x ∷ xs) url (suc i) m unseen at same = unseen_differs xs url i m (or_second (bytes_eq x.url url) (has_url xs url) unseen) at same
 
 accepting_sound : (queue : Subqueue) (sender : ℕ) (url : List ℕ) → has_url queue.accepted url ≡ false → SubqueueInvariant queue → SubqueueInvariant (after_accepting queue (next_message queue sender url))
-accepting_sound queue sender url unseen inv =
-    let message = next_message queue sender url in
-    record {
-      within = rw length_push (omega (arith, inv.within));
-      distinct = λ i j m n at_i at_j same. elim (push_cases queue.accepted message i m at_i) [
-        | inl old_i ↦ elim (push_cases queue.accepted message j n at_j) [
-          | inl old_j ↦ inv.distinct i j m n old_i old_j same
-          | inr new_j ↦ absurd (unseen_differs queue.accepted url i m unseen old_i (same ∙ ap (λ (x : Message). x.url) new_j.1))
-        ]
-        | inr new_i ↦ elim (push_cases queue.accepted message j n at_j) [
-          | inl old_j ↦ absurd (unseen_differs queue.accepted url j n unseen old_j (sym same ∙ ap (λ (x : Message). x.url) new_i.1))
-          | inr new_j ↦ new_i.0 ∙ sym new_j.0
-        ]
-      ];
-      numbered = λ k m at. elim (push_cases queue.accepted message k m at) [
-        | inl old ↦ rw (take-append-le k queue.accepted (message ∷ []) (within_length queue.accepted k m old)) (inv.numbered k m old)
-        | inr new ↦ rw (new.0, new.1, take-append-le (length queue.accepted) queue.accepted (message ∷ []) (omega arith), take-length queue.accepted) refl
-      ];
-      begun = inv.begun;
-    }
+accepting_sound queue sender url unseen inv = grind (arith, length_push, push_cases, unseen_differs, take-append-le, within_length, take-length)
 
 -- each subqueue after a write at a place
 each_after : (state : State) (place : ℕ) (queue next : Subqueue) → slice_get state.subqueues place ≡ Some queue → EachSubqueue SubqueueInvariant state → SubqueueInvariant next → EachSubqueue SubqueueInvariant (with_subqueue state place next)
@@ -349,11 +282,7 @@ oldest_sound state sound place queue at idle (Some message) first =
     }
 
 take_sound : (state : State) → Sound state → (place : ℕ) (queue : Option Subqueue) → slice_get state.subqueues place ≡ queue → GateEffect state (take_from state place queue)
-take_sound state sound place None at = silent state sound (told.Refused why.NoSuch) refl
-take_sound state sound place (Some queue) at =
-    cond_both (GateEffect state) queue.busy _ _
-    (λ _. silent state sound (told.Refused why.Busy) refl)
-    (λ idle. oldest_sound state sound place queue at idle (oldest queue) refl)
+take_sound state sound place queue at = grind (arith, silent, cond_both, oldest_sound)
 
 done_sound : (state : State) → Sound state → (place : ℕ) (queue : Option Subqueue) → slice_get state.subqueues place ≡ queue → GateEffect state (done_with state place queue)
 done_sound state sound place None at = silent state sound (told.Refused why.NoSuch) refl

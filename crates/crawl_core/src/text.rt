@@ -1,25 +1,21 @@
-//! Texts are equal and print as their bytes. Their order is by hash.
-ghost use Rattle.std.specs.Prelude.{◌≡◌, Some, refl, IfOk};
+//! Texts are equal and print as their bytes.
+ghost use Rattle.std.specs.Prelude.{◌≡◌, Some, IfOk};
 ghost use Rattle.std.specs.Str.{bytes_eq};
 ghost use Rattle.std.specs.Cmp.{partial_equiv_from_equiv};
 ghost use Rattle.std.specs.Cmp.Lexicographic.{nat_list_eq_equiv};
-ghost use Rattle.hash_order.specs.HashOrder.{by_hash, by_hash_total, by_hash_ties, by_hash_po};
 
 use crate::error::NoMemory;
 use hash_index::Keyed;
 use hash_order::hash_of;
 use std::alloc::Global;
-use std::cmp::Ordering;
 use std::fmt;
 use std::marker::Model;
 use std::sync::ArcStr;
 
 /// A URL as the machine keeps it: any text, which contracts see as its bytes.
 ///
-/// Texts are equal and print as their bytes. Their order is by hash, and by bytes where hashes are equal: a search in a set of
-/// them reads another text only there, and texts that were picked to collide are found as fast as in byte order. The bytes are
-/// kept once and shared by all copies, in any threads. So a copy takes no memory, and fails only where the count of copies is
-/// at its limit.
+/// Texts are equal and print as their bytes, which are kept once and shared by all copies, in any threads. So a copy takes no
+/// memory, and fails only where the count of copies is at its limit.
 #[derive(Drop)]
 pub struct Text {
     hash: u64,
@@ -110,31 +106,4 @@ impl PartialEq for Text {
 
 impl Eq for Text {
     ghost laws = { nat_list_eq_equiv };
-}
-
-impl PartialOrd for Text {
-    ghost partial_cmp = { λ a b. Some (by_hash a b) };
-
-    ghost laws = { by_hash_po };
-
-    fn partial_cmp(&self, other: &Text) -> Option<Ordering> {
-        Some(self.cmp(other))
-    }
-}
-
-impl Ord for Text {
-    ghost cmp = { by_hash };
-
-    ghost total = { by_hash_total };
-
-    ghost matches_partial_cmp = { λ a b. refl };
-
-    ghost matches_eq = { by_hash_ties };
-
-    fn cmp(&self, other: &Text) -> Ordering {
-        match self.hash.cmp(&other.hash) {
-            Ordering::Equal => self.as_str().cmp(other.as_str()),
-            order => order,
-        }
-    }
 }

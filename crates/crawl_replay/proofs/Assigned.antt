@@ -1,10 +1,9 @@
 -- What the admission at a place names.
-use Rattle.std.proofs.Common.{◌≡◌, ℕ, zero, suc, List, [], ◌∷◌, slice_get, Some, Result, Ok, Err, IfOk, subst}
+use Rattle.std.proofs.Common.{◌≡◌, ℕ, zero, suc, List, [], ◌∷◌, slice_get, Some, Result, IfOk, subst, arith}
 use Rattle.std.specs.List.{AllByRecursion}
-use Rattle.std.proofs.lemmas.List.Elements.{recursion_from_All, All-weaker}
+use Rattle.std.proofs.lemmas.List.Elements.{recursion_from_All}
 use Rattle.crawl_core.specs.declared.event.Event.{Event}
-use Rattle.crawl_core.specs.declared.event.Event.TheVariants.{Admit}
-use Rattle.crawl_replay.specs.Assignment.{IsPlaced, IsAddressed, IsAssigned, AreAddressed}
+use Rattle.crawl_replay.specs.Assignment.{IsPlaced, IsAssigned, AreAddressed}
 use Rattle.crawl_replay.specs.declared.script.Script.{Script}
 use Rattle.crawl_replay.specs.declared.script.error.ScriptError.{ScriptError}
 
@@ -16,11 +15,6 @@ all_at P (y ∷ ys) (suc i) x all at = all_at P ys i x all.1 at
 pub placed_at : (workers : ℕ) (events : List Event) (place : ℕ) (event : Event) → IsAssigned workers events → slice_get events place ≡ Some event → IsPlaced workers event
 placed_at workers events place event assigned at = all_at (IsPlaced workers) events place event (recursion_from_All (IsPlaced workers) events assigned) at
 
-placed : (workers : ℕ) (event : Event) → IsAddressed workers event → IsPlaced workers event
-placed workers (Admit sender url queue) is = is.0
-placed workers event is = tt
-
 -- the admissions of a script that was read
 pub assigned_script : (read : Result Script ScriptError) → IfOk read (λ script. AreAddressed script.workers script.events.items) → IfOk read (λ script. IsAssigned script.workers script.events.items)
-assigned_script (Ok script) are = All-weaker (IsAddressed script.workers) (IsPlaced script.workers) (placed script.workers) script.events.items are
-assigned_script (Err fault) are = tt
+assigned_script read are = grind arith

@@ -1,5 +1,5 @@
 -- What a line after the first says, in the words of the format.
-use Rattle.std.proofs.Common.{◌≡◌, ◌⊎◌, ℕ, Bool, true, false, List, ◌∷◌, ◌++◌, Option, Some, None, Result, Ok, Err, refl, sym, ap, subst, ◌∙◌, codes, inl, inr}
+use Rattle.std.proofs.Common.{◌≡◌, ◌⊎◌, ℕ, Bool, true, List, ◌∷◌, ◌++◌, Option, Some, None, Result, Ok, Err, refl, sym, ap, subst, ◌∙◌, codes, inl, arith}
 use Rattle.std.specs.Prelude.{ok_or, option_and_then}
 use Rattle.std.specs.Bool.{if◌then◌else◌}
 use Rattle.std.specs.Option.{option_map}
@@ -21,8 +21,7 @@ use Rattle.crawl_replay.proofs.NumberText.{number_is, number_of_is, at_space-joi
 
 -- the value that a number gives
 by_number : (build : ℕ → Event) (found : Option ℕ) (event : Event) → option_map build found ≡ Some event → (value : ℕ) × (found ≡ Some value) × (build value ≡ event)
-by_number build None event e = absurd (cc)
-by_number build (Some value) event e = (value, refl, cc)
+by_number build found event e = grind arith
 
 numbered_line : (workers bits : ℕ) (build : ℕ → Event) (word : List ℕ) → ((value : ℕ) (line : List ℕ) → IsNumbered word bits value line → IsEventLine workers (build value) line) → (first number line : List ℕ) (event : Event) → line ≡ first ++ 32 ∷ number → bytes_eq first word ≡ true → option_map build (number_of bits number) ≡ Some event → IsEventLine workers event line
 numbered_line workers bits build word says first number line event split is_word e =
@@ -34,8 +33,7 @@ numbered_line workers bits build word says first number line event split is_word
 
 -- the first word that fits, or a later one
 by_word : {A : Type 0} (b : Bool) (first second : Option A) (x : A) (P : Type 0) → (b ≡ true → first ≡ Some x → P) → (second ≡ Some x → P) → (if b then first else second) ≡ Some x → P
-by_word true first second x P here later e = here refl e
-by_word false first second x P here later e = later e
+by_word b first second x P here later e = grind arith
 
 numbered_sound : (workers : ℕ) (first number line : List ℕ) (event : Event) → line ≡ first ++ 32 ∷ number → numbered_event first number ≡ Some event → IsEventLine workers event line
 numbered_sound workers first number line event split e =
@@ -56,8 +54,7 @@ plain_sound workers line event e =
 
 -- what an admission has behind its first space
 parts_by_number : (found : Option ℕ) (address : List ℕ) (q : ℕ × List ℕ) → option_map (λ sender. (sender, address)) found ≡ Some q → (found ≡ Some q.0) × (address ≡ q.1)
-parts_by_number None address q e = absurd (cc)
-parts_by_number (Some sender) address q e = let same : (sender, address) ≡ q = cc in (ap (λ (x : ℕ × List ℕ). Some x.0) same, ap (λ (x : ℕ × List ℕ). x.1) same)
+parts_by_number found address q e = grind arith
 
 parts_by_space : (rest line : List ℕ) (parts : Option (List ℕ × List ℕ)) (q : ℕ × List ℕ) → at_space rest ≡ parts → line ≡ codes "admit" ++ 32 ∷ rest → option_and_then (λ p. option_map (λ sender. (sender, p.1)) (number_of 64 p.0)) parts ≡ Some q → IsAdmit q.0 q.1 line
 parts_by_space rest line None q e split found = absurd (cc)
@@ -115,20 +112,17 @@ Stands workers number line (Ok event) = IsEventLine workers event line
 Stands workers number line (Err fault) = (fault ≡ BadLine number) ⊎ ((fault ≡ BadUrl number) × IsBadAdmission line)
 
 stands_plain : (workers number : ℕ) (line : List ℕ) (found : Option Event) → ((event : Event) → found ≡ Some event → IsEventLine workers event line) → Stands workers number line (ok_or found (BadLine number))
-stands_plain workers number line None sound = inl refl
-stands_plain workers number line (Some event) sound = sound event refl
+stands_plain workers number line found sound = grind arith
 
 stands_address : (workers number sender : ℕ) (address line : List ℕ) (read : Result (List ℕ) KeyError) → IsAdmit sender address line → canonical address ≡ read → Stands workers number line (admit_at sender (address_from workers number read))
-stands_address workers number sender address line (Ok url) admits read = record { address = address; admits = admits; named = read; placed = refl }
-stands_address workers number sender address line (Err refusal) admits read = inr (refl, record { sender = sender; address = address; admits = admits; refusal = refusal; refused = read })
+stands_address workers number sender address line read admits h2 = grind arith
 
 stands_admit : (workers number : ℕ) (rest line : List ℕ) (parts : Option (ℕ × List ℕ)) → ((q : ℕ × List ℕ) → parts ≡ Some q → IsAdmit q.0 q.1 line) → Stands workers number line (admit_with workers number parts)
 stands_admit workers number rest line None sound = inl refl
 stands_admit workers number rest line (Some q) sound = stands_address workers number q.0 q.1 line (canonical q.1) (sound q refl) refl
 
 stands_if : (workers number : ℕ) (line : List ℕ) (b : Bool) (first second : Result Event ScriptError) → (b ≡ true → Stands workers number line first) → Stands workers number line second → Stands workers number line (if b then first else second)
-stands_if workers number line true first second here later = here refl
-stands_if workers number line false first second here later = later
+stands_if workers number line b first second here later = grind arith
 
 stands_from : (workers number : ℕ) (line : List ℕ) (parts : Option (List ℕ × List ℕ)) → at_space line ≡ parts → Stands workers number line (event_from workers number line parts)
 stands_from workers number line None split = stands_plain workers number line (plain_event line) (plain_sound workers line)

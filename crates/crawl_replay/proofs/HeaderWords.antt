@@ -1,14 +1,13 @@
 -- What the first line of a script says is what the format says of it.
-use Rattle.std.proofs.Common.{◌≡◌, ℕ, Bool, true, false, ◌&&◌, List, ◌∷◌, ◌++◌, nat_le, Option, Some, None, Result, Ok, Err, refl, sym, ap, subst, ◌∙◌, codes, ok_or, option_and_then}
+use Rattle.std.proofs.Common.{◌≡◌, ℕ, Bool, true, ◌&&◌, List, ◌∷◌, ◌++◌, Option, Some, None, Result, Ok, Err, refl, sym, ap, subst, ◌∙◌, codes, ok_or, option_and_then, arith}
 use Rattle.std.specs.Bool.{if◌then◌else◌}
 use Rattle.std.specs.Str.{bytes_eq}
-use Rattle.std.proofs.lemmas.Bool.{le-leb, leb-true, and_parts}
+use Rattle.std.proofs.lemmas.Bool.{le-leb, and_parts}
 use Rattle.std.proofs.lemmas.Slice.Eq.{bytes_eq-Decides}
 use Rattle.crawl_limits.specs.Limits.{AreLimits, worker_limit, pending_limit}
 use Rattle.crawl_web.specs.Lines.{text_of}
 use Rattle.crawl_web.specs.Parts.{at_space}
 use Rattle.crawl_web.specs.declared.lines.LineError.{LineError}
-use Rattle.crawl_web.specs.declared.lines.LineError.TheVariants as without
 use Rattle.crawl_replay.specs.Numbers.{number_of}
 use Rattle.crawl_replay.specs.Script.{is_within, header_of, header_in, with_text}
 use Rattle.crawl_replay.specs.ScriptLines.{IsLineText, IsHeaderLine, HeaderSays}
@@ -20,26 +19,8 @@ use Rattle.crawl_replay.proofs.LineWords.{TextStands, text_stands, text_of-text,
 
 -- ---- the limits
 
-record All4 (a b c d : Bool) : Type 0 where
-  pub first : a ≡ true
-  pub second : b ≡ true
-  pub third : c ≡ true
-  pub fourth : d ≡ true
-
-all4 : (a b c d : Bool) → (a && b && c && d) ≡ true → All4 a b c d
-all4 true true true true e = record { first = refl; second = refl; third = refl; fourth = refl }
-all4 true true true false e = absurd (cc)
-all4 true true false d e = absurd (cc)
-all4 true false c d e = absurd (cc)
-all4 false b c d e = absurd (cc)
-
 pub within_limits : (workers max : ℕ) → is_within workers max ≡ true → AreLimits workers max
-within_limits workers max e = let all = all4 (nat_le 1 workers) (nat_le workers worker_limit) (nat_le 1 max) (nat_le max pending_limit) e in record {
-  some_worker = leb-true 1 workers all.first;
-  few_workers = leb-true workers worker_limit all.second;
-  some_pending = leb-true 1 max all.third;
-  few_pending = leb-true max pending_limit all.fourth;
-}
+within_limits workers max e = grind arith
 
 limits_within : (workers max : ℕ) → AreLimits workers max → is_within workers max ≡ true
 limits_within workers max are = rw (le-leb 1 workers are.some_worker, le-leb workers worker_limit are.few_workers, le-leb 1 max are.some_pending, le-leb max pending_limit are.few_pending) refl
@@ -48,13 +29,11 @@ limits_within workers max are = rw (le-leb 1 workers are.some_worker, le-leb wor
 
 -- a chain of two steps
 by_step : {A B : Type 0} (f : A → Option B) (o : Option A) (y : B) → option_and_then f o ≡ Some y → (x : A) × (o ≡ Some x) × (f x ≡ Some y)
-by_step f None y e = absurd (cc)
-by_step f (Some x) y e = (x, refl, e)
+by_step f o y e = grind arith
 
 -- a test that is passed
 by_check : {A : Type 0} (b : Bool) (o : Option A) (y : A) → (if b then o else None) ≡ Some y → (b ≡ true) × (o ≡ Some y)
-by_check true o y e = (refl, e)
-by_check false o y e = absurd (cc)
+by_check b o y e = grind arith
 
 pub header_stands : (line : List ℕ) (header : Header) → header_of line ≡ Some header → IsHeaderLine header.workers header.max line
 header_stands line header e =
@@ -106,9 +85,7 @@ header_by line (Some header) text is = (text, header_stands line header is)
 header_by line None text is = (text, λ workers max there. let says = header_said workers max line there in absurd (cc))
 
 first_by : (line : List ℕ) (read : Result (List ℕ) LineError) → TextStands 1 line read → HeaderSays line (with_text read (λ text. ok_or (header_of text) wrong.BadHeader))
-first_by line (Ok text) there = subst (λ t. HeaderSays line (ok_or (header_of t) wrong.BadHeader)) (sym there.0) (header_by line (header_of line) there.1 refl)
-first_by line (Err (without.TooLong n)) there = there
-first_by line (Err (without.NotText n)) there = there
+first_by line read there = grind (arith, ok_or, header_by)
 
 first_stands : (line : List ℕ) → HeaderSays line (header_in line)
 first_stands line = first_by line (text_of 1 line) (text_stands 1 line)

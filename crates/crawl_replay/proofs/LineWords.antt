@@ -1,5 +1,5 @@
 -- What a line of a script says is what the format says of it.
-use Rattle.std.proofs.Common.{◌≡◌, ◌≢◌, ℕ, suc, ◌<◌, ◌≤◌, Bool, true, false, List, [], ◌∷◌, length, nat_eq, nat_lt, Option, Some, None, Result, Ok, Err, refl, sym, ap, subst, ◌∙◌, arith, inl, inr, lt-ltb, ltb-true, ne_eqb}
+use Rattle.std.proofs.Common.{◌≡◌, ◌≢◌, ℕ, ◌<◌, ◌≤◌, Bool, false, List, [], length, nat_eq, nat_lt, Option, Some, None, Result, Ok, Err, refl, sym, ap, subst, ◌∙◌, arith, lt-ltb, ltb-true}
 use Rattle.std.specs.Bool.{if◌then◌else◌}
 use Rattle.std.specs.Str.{IsUtf8, is_utf8}
 use Rattle.std.proofs.lemmas.Str.{IsUtf8-from_is_utf8, is_utf8-from_IsUtf8, IsUtf8-nil}
@@ -30,12 +30,10 @@ not_below : (a b : ℕ) → b ≤ a → nat_lt a b ≡ false
 not_below a b h = grind (arith, nat_tests, h)
 
 text_by_utf8 : (number : ℕ) (line : List ℕ) (utf8 : Bool) → length line ≤ line_limit → is_utf8 line ≡ utf8 → TextStands number line (if utf8 then Ok line else Err (without.NotText number))
-text_by_utf8 number line true short is = (refl, record { short = short; text = IsUtf8-from_is_utf8 line is })
-text_by_utf8 number line false short is = (refl, short, λ text. let yes = is_utf8-from_IsUtf8 line text in absurd (cc))
+text_by_utf8 number line utf8 short is = grind (arith, IsUtf8-from_is_utf8, is_utf8-from_IsUtf8)
 
 text_by_length : (number : ℕ) (line : List ℕ) (long : Bool) → nat_lt line_limit (length line) ≡ long → TextStands number line (if long then Err (without.TooLong number) else if is_utf8 line then Ok line else Err (without.NotText number))
-text_by_length number line true is = (refl, ltb-true line_limit (length line) is)
-text_by_length number line false is = text_by_utf8 number line (is_utf8 line) (below_not line_limit (length line) is) refl
+text_by_length number line long is = grind (arith, ltb-true, text_by_utf8, below_not)
 
 pub text_stands : (number : ℕ) (line : List ℕ) → TextStands number line (text_of number line)
 text_stands number line = text_by_length number line (nat_lt line_limit (length line)) refl
@@ -44,11 +42,7 @@ pub text_of-too_long : (number : ℕ) (line : List ℕ) → line_limit < length 
 text_of-too_long number line long = rw (lt-ltb line_limit (length line) long) refl
 
 pub text_of-not_text : (number : ℕ) (line : List ℕ) → length line ≤ line_limit → (IsUtf8 line → ⊥) → text_of number line ≡ Err (without.NotText number)
-text_of-not_text number line short none = rw (not_below line_limit (length line) short, not_utf8 (is_utf8 line) refl) refl
-  where
-    not_utf8 : (b : Bool) → is_utf8 line ≡ b → is_utf8 line ≡ false
-    not_utf8 true is = absurd (none (IsUtf8-from_is_utf8 line is))
-    not_utf8 false is = is
+text_of-not_text number line short none = grind (arith, not_below, IsUtf8-from_is_utf8)
 
 pub text_of-text : (number : ℕ) (line : List ℕ) → IsLineText line → text_of number line ≡ Ok line
 text_of-text number line is = rw (not_below line_limit (length line) is.short, is_utf8-from_IsUtf8 line is.text) refl
@@ -60,30 +54,16 @@ abbrev some_said : ℕ → ℕ → List ℕ → Result (Option Event) ScriptErro
 some_said workers number text = if nat_eq (length text) 0 then Ok None else some_event (event_of workers number text)
 
 not_empty : (workers number : ℕ) (line : List ℕ) → line ≢ [] → some_said workers number line ≡ some_event (event_of workers number line)
-not_empty workers number [] some = absurd (some refl)
-not_empty workers number (x ∷ xs) some = rw (ne_eqb (suc (length xs)) 0 (λ e. omega (arith, e))) refl
+not_empty workers number line some = grind arith
 
 line_by_event : (workers number : ℕ) (line : List ℕ) (said : Result Event ScriptError) → IsLineText line → line ≢ [] → event_of workers number line ≡ said → Stands workers number line said → LineSays workers number line (some_event said)
-line_by_event workers number line (Ok event) text some is there = (text, there)
-line_by_event workers number line (Err fault) text some is (inr (same, bad)) = subst (λ f. LineSays workers number line (Err f)) (sym same) (refl, text, bad)
-line_by_event workers number line (Err fault) text some is (inl same) =
-    subst (λ f. LineSays workers number line (Err f)) (sym same) (
-      refl,
-      text,
-      some,
-      (λ event there. let says = event_said workers number event line there in absurd (cc)),
-      λ bad. let says = bad_url_said workers number line bad in absurd (cc),
-    )
+line_by_event workers number line said text some is there = grind (arith, event_said, bad_url_said)
 
 line_by_text : (workers number : ℕ) (line : List ℕ) → IsLineText line → LineSays workers number line (some_said workers number line)
-line_by_text workers number [] text = refl
-line_by_text workers number (x ∷ xs) text =
-    rw (not_empty workers number (x ∷ xs) (λ none. absurd (cc))) (line_by_event workers number (x ∷ xs) (event_of workers number (x ∷ xs)) text (λ none. absurd (cc)) refl (stands workers number (x ∷ xs)))
+line_by_text workers number line text = grind (arith, not_empty, line_by_event, stands)
 
 line_by : (workers number : ℕ) (line : List ℕ) (read : Result (List ℕ) LineError) → TextStands number line read → LineSays workers number line (with_text read (some_said workers number))
-line_by workers number line (Ok text) there = subst (λ t. LineSays workers number line (some_said workers number t)) (sym there.0) (line_by_text workers number line there.1)
-line_by workers number line (Err (without.TooLong n)) there = there
-line_by workers number line (Err (without.NotText n)) there = there
+line_by workers number line read there = grind (arith, line_by_text)
 
 line_stands : (workers number : ℕ) (line : List ℕ) → LineSays workers number line (said_by workers number line)
 line_stands workers number line = line_by workers number line (text_of number line) (text_stands number line)
@@ -96,9 +76,7 @@ with_event : (workers number : ℕ) (line : List ℕ) (said : Result Event Scrip
 with_event workers number line said text some is = ap (λ r. with_text r (some_said workers number)) (text_of-text number line text) ∙ not_empty workers number line some ∙ ap some_event is
 
 bad_line : (workers number : ℕ) (line : List ℕ) (said : Result Event ScriptError) → event_of workers number line ≡ said → Stands workers number line said → ((event : Event) → IsEventLine workers event line → ⊥) → (IsBadAdmission line → ⊥) → said ≡ Err (wrong.BadLine number)
-bad_line workers number line (Ok event) is there none_said none_bad = absurd (none_said event there)
-bad_line workers number line (Err fault) is (inl same) none_said none_bad = ap Err same
-bad_line workers number line (Err fault) is (inr (same, bad)) none_said none_bad = absurd (none_bad bad)
+bad_line workers number line said is there none_said none_bad = grind arith
 
 line_said : (workers number : ℕ) (line : List ℕ) (said : Result (Option Event) ScriptError) → LineSays workers number line said → said_by workers number line ≡ said
 line_said workers number line (Ok None) empty =

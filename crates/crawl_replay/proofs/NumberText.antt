@@ -1,15 +1,16 @@
 -- Which texts are numbers, and where the first space of a text stands.
-use Rattle.std.proofs.Common.{◌≡◌, ℕ, zero, suc, ◌+◌, ◌<◌, ◌≤◌, ◌^◌, Bool, true, false, not, ◌&&◌, List, [], ◌∷◌, ◌++◌, length, take, drop, get_or, nat_lt, nat_eq, nat_le, Option, Some, None, refl, sym, ap, subst, ◌∙◌, arith, lt-ltb, ltb-true, append_assoc, ne_eqb}
+use Rattle.std.proofs.Common.{◌≡◌, ℕ, suc, ◌+◌, ◌<◌, ◌≤◌, ◌^◌, Bool, true, false, not, ◌&&◌, List, [], ◌∷◌, ◌++◌, length, take, drop, get_or, nat_lt, nat_eq, nat_le, Option, Some, None, refl, sym, ap, subst, ◌∙◌, arith, lt-ltb, ltb-true, append_assoc}
 use Rattle.std.specs.Bool.{if◌then◌else◌, Decides}
 use Rattle.std.specs.List.{All, list_all, position_or_len, prefix_len, before_first, after_first}
 use Rattle.std.specs.Char.{is_ascii_digit}
 use Rattle.std.specs.Str.Parse.{digits_value}
 use Rattle.std.proofs.lemmas.Bool.{le-leb, leb-true, and_parts}
 use Rattle.std.proofs.lemmas.Bool.Decides.{Decides-by_and, nat_tests}
+use Rattle.std.proofs.lemmas.Option.{cond_some}
 use Rattle.std.proofs.lemmas.List.{take_at, drop_at, length-append}
 use Rattle.std.proofs.lemmas.List.Sums.{split_at_first, prefix_len_stops}
 use Rattle.crawl_web.specs.Parts.{is_space, at_space}
-use Rattle.crawl_replay.specs.Numbers.{number_of}
+use Rattle.crawl_replay.specs.Numbers.{is_number, number_of}
 use Rattle.crawl_replay.specs.ScriptLines.{IsNumber}
 
 digit : (b : ℕ) → Decides (is_ascii_digit b) ((48 ≤ b) × (b ≤ 57))
@@ -18,42 +19,27 @@ digit b = (λ e. grind (arith, nat_tests, e), λ e. grind (arith, nat_tests, e))
 pub digits : (text : List ℕ) → Decides (list_all is_ascii_digit text) (All (λ b. (48 ≤ b) × (b ≤ 57)) text)
 digits text = Decides-by_and is_ascii_digit (λ b. (48 ≤ b) × (b ≤ 57)) (list_all is_ascii_digit) digit refl (λ _ _. refl) text
 
--- four tests that all hold
-record All4 (a b c d : Bool) (x v : ℕ) : Type 0 where
-  pub first : a ≡ true
-  pub second : b ≡ true
-  pub third : c ≡ true
-  pub fourth : d ≡ true
-  pub same : x ≡ v
-
-all4 : (a b c d : Bool) (x v : ℕ) → (if a && b && c && d then Some x else None) ≡ Some v → All4 a b c d x v
-all4 true true true true x v e = record { first = refl; second = refl; third = refl; fourth = refl; same = cc }
-all4 true true true false x v e = absurd (cc)
-all4 true true false d x v e = absurd (cc)
-all4 true false c d x v e = absurd (cc)
-all4 false b c d x v e = absurd (cc)
-
 some_length : (n : ℕ) → not (nat_eq n 0) ≡ true → 1 ≤ n
-some_length zero e = absurd (cc)
-some_length (suc n) e = omega arith
+some_length n e = grind arith
 
 length_some : (n : ℕ) → 1 ≤ n → not (nat_eq n 0) ≡ true
-length_some zero some = absurd (omega (arith, some))
-length_some (suc n) some = rw (ne_eqb (suc n) 0 (λ e. omega (arith, e))) refl
+length_some n some = grind arith
 
 pub number_is : (bits : ℕ) (text : List ℕ) (value : ℕ) → number_of bits text ≡ Some value → IsNumber bits value text
 number_is bits text value e =
-    let all = all4 (not (nat_eq (length text) 0)) (nat_le (length text) 20) (list_all is_ascii_digit text) (nat_lt (digits_value 10 text) (2 ^ bits)) (digits_value 10 text) value e in record {
-      digits = (digits text).0 all.third;
-      some = some_length (length text) all.first;
-      few = leb-true (length text) 20 all.second;
-      means = all.same;
-      fits = subst (λ n. n < 2 ^ bits) all.same (ltb-true (digits_value 10 text) (2 ^ bits) all.fourth);
+    let found = cond_some (is_number text && nat_lt (digits_value 10 text) (2 ^ bits)) (digits_value 10 text) value e in
+    let fits = and_parts (is_number text) (nat_lt (digits_value 10 text) (2 ^ bits)) found.0 in
+    let shape = and_parts (not (nat_eq (length text) 0) && nat_le (length text) 20) (list_all is_ascii_digit text) fits.0 in
+    let sized = and_parts (not (nat_eq (length text) 0)) (nat_le (length text) 20) shape.0 in record {
+      digits = (digits text).0 shape.1;
+      some = some_length (length text) sized.0;
+      few = leb-true (length text) 20 sized.1;
+      means = found.1;
+      fits = subst (λ n. n < 2 ^ bits) found.1 (ltb-true (digits_value 10 text) (2 ^ bits) fits.1);
     }
 
 pub number_of_is : (bits : ℕ) (text : List ℕ) (value : ℕ) → IsNumber bits value text → number_of bits text ≡ Some value
-number_of_is bits text value is =
-    rw (length_some (length text) is.some, le-leb (length text) 20 is.few, (digits text).1 is.digits, is.means, lt-ltb value (2 ^ bits) is.fits) refl
+number_of_is bits text value is = grind (arith, length_some, le-leb, digits, lt-ltb)
 
 -- ---- the first space
 
@@ -75,10 +61,7 @@ digits_apart text are = list_all_weaker is_ascii_digit no_space digit_apart text
 
 first_space : (a b : List ℕ) → list_all no_space a ≡ true → prefix_len no_space (a ++ 32 ∷ b) ≡ length a
 first_space [] b e = refl
-first_space (x ∷ xs) b e =
-    let both = and_parts (no_space x) (list_all no_space xs) e in
-    let rest = first_space xs b both.1 in
-    rw (both.0, rest) (omega arith)
+first_space (x ∷ xs) b e = grind (arith, nat_tests, first_space xs, and_parts)
 
 -- what stands before a place and what stands after it, if it is one
 abbrev cut_at : ℕ → List ℕ → Option (List ℕ × List ℕ)

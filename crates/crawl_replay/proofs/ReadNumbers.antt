@@ -1,5 +1,5 @@
 -- What parsing a text of digits alone gives.
-use Rattle.std.proofs.Common.{◌≡◌, ℕ, zero, suc, ◌<◌, ◌^◌, Bool, true, false, ◌&&◌, not, List, length, nat_lt, nat_eq, nat_le, Some, None, Result, Ok, Err, refl, arith, rules, lt-ltb, ltb-true}
+use Rattle.std.proofs.Common.{◌≡◌, ℕ, ◌<◌, ◌^◌, Bool, true, ◌&&◌, not, List, length, nat_lt, nat_eq, nat_le, Some, None, Result, arith, rules}
 use Rattle.std.specs.Bool.{if◌then◌else◌}
 use Rattle.std.specs.List.{list_all}
 use Rattle.std.specs.Char.{is_ascii_digit}
@@ -12,22 +12,14 @@ own : IsNumeralModel (λ text. list_all is_ascii_digit text ≡ true) (digits_va
 own = numerals_by_value _ (search rules)
 
 last_of : (a b c : Bool) → (a && b && c) ≡ true → c ≡ true
-last_of true true c e = e
-last_of true false c e = absurd (cc)
-last_of false b c e = absurd (cc)
+last_of a b c e = grind arith
 
 first_of_all : (n : ℕ) (b c : Bool) → (not (nat_eq n 0) && b && c) ≡ true → 0 < n
-first_of_all zero b c e = absurd (cc)
-first_of_all (suc n) b c e = omega arith
+first_of_all n b c e = grind arith
 
 -- a test that cannot hold fails
-refuted : (b : Bool) → (b ≡ true → ⊥) → b ≡ false
-refuted true never = absurd (never refl)
-refuted false never = refl
-
 by_size : {E : Type 0} (limit n size : ℕ) (b : Bool) (r : Result ℕ E) → 0 < size → b ≡ true → OkIff r ((0 < size) × (n < limit)) n → result_ok r ≡ (if b && nat_lt n limit then Some n else None)
-by_size limit n size b (Ok x) some e (fits, same) = rw (e, lt-ltb n limit fits.1, same) refl
-by_size limit n size b (Err x) some e too_large = rw (e, refuted (nat_lt n limit) (λ below. too_large (some, ltb-true n limit below))) refl
+by_size limit n size b r some e too_large = grind arith
 
 pub parsed : {E : Type 0} (bits : ℕ) (text : List ℕ) (r : Result ℕ E) → ParsesUnsigned bits 10 text r → is_number text ≡ true → result_ok r ≡ number_of bits text
 parsed bits text r reads number =

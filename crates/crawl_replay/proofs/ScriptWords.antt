@@ -1,5 +1,5 @@
 -- What the lines of a script say together is what the format says of them.
-use Rattle.std.proofs.Common.{◌≡◌, ℕ, ◌+◌, List, [], ◌∷◌, Option, Some, None, Result, Ok, Err, refl, sym, ap, subst, ◌∙◌, inl, inr}
+use Rattle.std.proofs.Common.{◌≡◌, ℕ, ◌+◌, List, [], ◌∷◌, Option, Some, None, Result, Ok, Err, refl, sym, ap, subst, ◌∙◌, inl, inr, arith}
 use Rattle.crawl_core.specs.declared.event.Event.{Event}
 use Rattle.crawl_replay.specs.Script.{Said, script_in, header_in, with_header, with_events, unless_fault, least_fault, events_in, said_from, said_by}
 use Rattle.crawl_replay.specs.ScriptLines.{HeaderSays, LinesSay, IsScript}
@@ -26,14 +26,7 @@ record Without (header : Header) (fault : Option ScriptError) (events : List Eve
   pub same : script.events ≡ events
 
 without : (header : Header) (fault : Option ScriptError) (events : List Event) (script : Said) → with_events header (unless_fault fault events) ≡ Ok script → Without header fault events script
-without header (Some fault) events script e = absurd (cc)
-without header None events script e =
-    let is : record { workers = header.workers; max = header.max; events = events } ≡ script = cc in record {
-      none = refl;
-      workers = ap (λ (x : Said). x.workers) (sym is);
-      max = ap (λ (x : Said). x.max) (sym is);
-      same = ap (λ (x : Said). x.events) (sym is);
-    }
+without header fault events script e = grind arith
 
 by_header : (line : List ℕ) (more : List (List ℕ)) (script : Said) (read : Result Header ScriptError) → header_in line ≡ read → with_header read more ≡ Ok script → IsScript (line ∷ more) script
 by_header line more script (Err fault) is e = absurd (cc)
@@ -51,8 +44,7 @@ by_header line more script (Ok header) is e =
     }
 
 script_stands : (lines : List (List ℕ)) (script : Said) → script_in lines ≡ Ok script → IsScript lines script
-script_stands [] script e = absurd (cc)
-script_stands (line ∷ more) script e = by_header line more script (header_in line) refl e
+script_stands lines script e = grind (arith, by_header)
 
 -- ---- what stands there is said
 
