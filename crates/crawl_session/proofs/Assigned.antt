@@ -32,6 +32,7 @@ use Rattle.crawl_session.specs.Parts.{request_for}
 use Rattle.crawl_session.specs.Requests.{request_of, request_in, request_from, link_of, linked, offered}
 use Rattle.crawl_session.specs.Sessions.{answered, line_exchange}
 use Rattle.crawl_session.specs.Settings.{Settings}
+use Rattle.crawl_session.proofs.Choices.{either_way}
 use Rattle.crawl_session.proofs.Placed.{OffersWhere, for_keeps}
 use Rattle.crawl_session.proofs.Sees.{is_other, entry_tells}
 
@@ -121,33 +122,25 @@ abbrev Names : ℕ → Answer → Type 0
 Names named (Told (told.Accepted there number)) = there ≡ named
 Names named _ = Unit {0}
 
-names_if : (b : Bool) (named : ℕ) (x y : Exchange) → Names named x.answer → Names named y.answer → Names named (if b then x else y).answer
-names_if true named x y first second = first
-names_if false named x y first second = second
-
 names_other : (named : ℕ) (reply : Reply) → is_other reply ≡ true → Names named (Told reply)
 unfolding is_other
 names_other named (told.Accepted there number) other = absurd (true≢false (sym other))
 names_other named _ other = tt
 
-names_turn : (b : Bool) (named : ℕ) (x y : Turn) → Names named (Told x.reply) → Names named (Told y.reply) → Names named (Told (if b then x else y).reply)
-names_turn true named x y first second = first
-names_turn false named x y first second = second
-
 names_admission : (state : State) (sender : ℕ) (url : List ℕ) (named : ℕ) (queue : Option Subqueue) → Names named (Told (admit_to state sender url named queue).reply)
 names_admission state sender url named None = tt
 names_admission state sender url named (Some queue) =
     let again = if has_url queue.accepted url then record { reply = told.Seen; state = state } else put state sender url named queue in
-    names_turn (not (holds state.gate sender)) named (refused state why.Nothing) again tt
-    (names_turn (has_url queue.accepted url) named (record { reply = told.Seen; state = state }) (put state sender url named queue) tt refl)
+    either_way (λ (x : Turn). Names named (Told x.reply)) (not (holds state.gate sender)) (refused state why.Nothing) again tt
+    (either_way (λ (x : Turn). Names named (Told x.reply)) (has_url queue.accepted url) (record { reply = told.Seen; state = state }) (put state sender url named queue) tt refl)
 
 names_offer : (state : State) (url : List ℕ) (named : ℕ) → Names named (exchange state (Offer url named)).answer
 names_offer state url named =
     let first = turn state (event.Look client) in
     let second = turn first.state (event.Enter client) in
     let third = turn second.state (event.Admit client url named) in
-    names_if (is_entered second.reply) named _ (ends second.reply second.state)
-    (names_if (is_seen third.reply) named _ (ends third.reply third.state) tt (names_admission second.state client url named (slice_get second.state.subqueues named)))
+    either_way (λ (x : Exchange). Names named x.answer) (is_entered second.reply) _ (ends second.reply second.state)
+    (either_way (λ (x : Exchange). Names named x.answer) (is_seen third.reply) _ (ends third.reply third.state) tt (names_admission second.state client url named (slice_get second.state.subqueues named)))
     (names_other named second.reply (entry_tells first.state client))
 
 -- ---- lines

@@ -1,5 +1,7 @@
 -- The text of the lines that are needed has these lines.
-use Rattle.std.proofs.Common.{◌≡◌, ℕ, ◌-◌, ◌==◌, Bool, true, false, if◌then◌else◌, List, [], ◌∷◌, ◌++◌, length, take, slice_index, refl, sym, ap, subst, ◌∙◌, arith, append_assoc, length-append}
+use Rattle.std.proofs.Common.{◌≡◌, ℕ, ◌-◌, ◌==◌, Bool, true, false, if◌then◌else◌, List, [], ◌∷◌, ◌++◌, length, take, slice_index, refl, sym, ap, ◌∙◌, arith, append_assoc, length-append}
+use Rattle.std.proofs.lemmas.Grind.{common_steps}
+use Rattle.std.proofs.lemmas.Bool.Decides.{nat_tests}
 use Rattle.std.specs.List.{All, slice_split, onto_first}
 use Rattle.std.specs.Str.Lines.{lines, lines_of_parts, strip_carriage_return}
 use Rattle.std.proofs.lemmas.List.Elements.{All-nil, All-cons, All-head, All-tail, All-take}
@@ -27,11 +29,7 @@ onto_whole x (part ∷ parts) is all =
 parts_whole : (bytes : List ℕ) → AllWhole (slice_split is_lf bytes)
 unfolding AllWhole
 parts_whole [] = All-cons IsUnfinished [] [] (All-nil IsOther) (All-nil IsUnfinished)
-parts_whole (x ∷ xs) = by_byte (is_lf x) refl (parts_whole xs)
-  where
-    by_byte : (b : Bool) → is_lf x ≡ b → AllWhole (slice_split is_lf xs) → AllWhole (slice_split is_lf (x ∷ xs))
-    by_byte true is rest = subst AllWhole (sym (slice_split-cons_yes is_lf x xs is)) (All-cons IsUnfinished [] (slice_split is_lf xs) (All-nil IsOther) rest)
-    by_byte false is rest = subst AllWhole (sym (slice_split-cons_no is_lf x xs is)) (onto_whole x (slice_split is_lf xs) is rest)
+parts_whole (x ∷ xs) = grind (arith, nat_tests, parts_whole xs, AllWhole, All-cons, All-nil, is_lf, slice_split-cons_yes, slice_split-cons_no, onto_whole)
 
 stripped_whole : (line : List ℕ) → IsUnfinished line → IsUnfinished (strip_carriage_return line)
 stripped_whole line whole = by_end (slice_index line (length line - 1) == 13)
@@ -66,11 +64,7 @@ needed_whole settings had state (line ∷ more) all =
 -- ---- lines as they stand in a log are those lines
 
 strip_return : (line : List ℕ) → strip_carriage_return (line ++ 13 ∷ []) ≡ line
-strip_return line =
-    let long : length (line ++ 13 ∷ []) - 1 ≡ length line = omega (arith, length-append line (13 ∷ [])) in
-    ap (λ n. if slice_index (line ++ 13 ∷ []) n == 13 then take n (line ++ 13 ∷ []) else line ++ 13 ∷ []) long
-    ∙ ap (λ b. if b == 13 then take (length line) (line ++ 13 ∷ []) else line ++ 13 ∷ []) (get_or-append_seam line 13 [] 0)
-    ∙ take-append_seam line (13 ∷ [])
+strip_return line = grind (arith, nat_tests, common_steps, length-append, slice_index, get_or-append_seam, take-append_seam)
 
 line_stands : (line more : List ℕ) → IsUnfinished line → lines (log_line line ++ more) ≡ line ∷ lines more
 line_stands line more whole = by_end (slice_index line (length line - 1) == 13) refl

@@ -1,9 +1,8 @@
 -- Lines that were given to a session, one after another, and the text of those that are needed.
-use Rattle.std.proofs.Common.{◌≡◌, ℕ, Bool, true, false, if◌then◌else◌, List, [], ◌∷◌, ◌++◌, Option, refl, sym, ap, subst, ◌∙◌, append_assoc, append-nil}
+use Rattle.std.proofs.Common.{◌≡◌, ℕ, Bool, true, false, if◌then◌else◌, List, [], ◌∷◌, ◌++◌, Option, refl, sym, ap, ◌∙◌, append_assoc, append-nil, arith}
 use Rattle.std.specs.Io.KnownBytes.{Appends}
 use Rattle.std.proofs.KnownBytes.{Appends-nil, Appends-trans}
 use Rattle.std.proofs.lemmas.Grind.{flat_map-append}
-use Rattle.crawl_core.specs.Shows.{Shows}
 use Rattle.crawl_core.specs.State.{State}
 use Rattle.crawl_session.specs.Compacting.{Had, having, is_needed, needed, had_after, log_line, log_text, Gives, Compacts}
 use Rattle.crawl_session.specs.Parts.{request_for}
@@ -49,58 +48,16 @@ abbrev pub added : Bool → List ℕ → List ℕ
 added b line = if b then log_line line else []
 
 one_text : (b : Bool) (line : List ℕ) → log_text (if b then line ∷ [] else []) ≡ added b line
-one_text true line = append-nil (log_line line)
-one_text false line = refl
+one_text b line = grind (arith, append-nil)
 
 compacts_more : (had : Had) (old : SessionView) (front : List (List ℕ)) (text : List ℕ) (next : Had) (mid : SessionView) (line : List ℕ) (is : Bool) (last : Had) (new : SessionView)
     → Compacts had old front text next mid → Gives next mid line is last new → Compacts had old (front ++ line ∷ []) (text ++ added is line) last new
-compacts_more had old front text next mid line is last new so_far one = record {
-  settings = one.settings ∙ so_far.settings;
-  comes = λ state shown.
-      let came = so_far.comes state shown in
-      let between = state_after old.settings state front in
-      let P : Settings → Had → Type 0 = λ s h.
-      let done = line_exchange s between line in
-      (is ≡ is_needed h (request_for s line) done.answer) × ((last ≡ having h done.answer) × Shows new.core done.state) in
-      let by_settings : P old.settings next = subst (λ s. P s next) so_far.settings (one.comes between came.1.1) in
-      let gave : P old.settings (had_after old.settings had state front) = subst (P old.settings) came.1.0 by_settings in
-      let Q : State → Type 0 = λ s. Shows new.core s in (
-        ap (λ t. t ++ added is line) came.0
-            ∙ ap (λ t. log_text (needed old.settings had state front) ++ t) (ap (λ b. added b line) gave.0 ∙ sym (one_text _ line))
-            ∙ sym (flat_map-append log_line (needed old.settings had state front) _)
-            ∙ ap log_text (sym (needed-append old.settings had state front (line ∷ []))),
-        (
-          gave.1.0 ∙ sym (had_after-append old.settings had state front (line ∷ [])),
-          subst Q (sym (state_after-append old.settings state front (line ∷ []))) gave.1.1,
-        ),
-      );
-}
-
-pub compacts_none : (had : Had) (old : SessionView) → Compacts had old [] [] had old
-compacts_none had old = record { settings = refl; comes = λ state shown. (refl, (refl, shown)) }
+compacts_more had old front text next mid line is last new so_far one = grind (arith, one_text, flat_map-append, needed-append, had_after-append, state_after-append)
 
 -- lines, and more of them
 pub compacts_both : (had : Had) (old : SessionView) (front : List (List ℕ)) (text : List ℕ) (next : Had) (mid : SessionView) (back : List (List ℕ)) (more : List ℕ) (last : Had) (new : SessionView)
     → Compacts had old front text next mid → Compacts next mid back more last new → Compacts had old (front ++ back) (text ++ more) last new
-compacts_both had old front text next mid back more last new one two = record {
-  settings = two.settings ∙ one.settings;
-  comes = λ state shown.
-      let came = one.comes state shown in
-      let between = state_after old.settings state front in
-      let P : Settings → Had → Type 0 = λ s h. (more ≡ log_text (needed s h between back)) × ((last ≡ had_after s h between back) × Shows new.core (state_after s between back)) in
-      let by_settings : P old.settings next = subst (λ s. P s next) one.settings (two.comes between came.1.1) in
-      let gave : P old.settings (had_after old.settings had state front) = subst (P old.settings) came.1.0 by_settings in
-      let Q : State → Type 0 = λ s. Shows new.core s in (
-        ap (λ t. t ++ more) came.0
-            ∙ ap (λ t. log_text (needed old.settings had state front) ++ t) gave.0
-            ∙ sym (flat_map-append log_line (needed old.settings had state front) _)
-            ∙ ap log_text (sym (needed-append old.settings had state front back)),
-        (
-          gave.1.0 ∙ sym (had_after-append old.settings had state front back),
-          subst Q (sym (state_after-append old.settings state front back)) gave.1.1,
-        ),
-      );
-}
+compacts_both had old front text next mid back more last new one two = grind (arith, flat_map-append, needed-append, had_after-append, state_after-append)
 
 pub so_far_more : (had : Had) (old : SessionView) (out_old : Option (List ℕ)) (all rest : List (List ℕ)) (next : Had) (mid : SessionView) (out : Option (List ℕ)) (line : List ℕ) (more : List (List ℕ)) (is : Bool) (last : Had) (new : SessionView) (out_new : Option (List ℕ))
     → SoFar had old out_old all rest next mid out → rest ≡ line ∷ more → Gives next mid line is last new → Appends out out_new (added is line) → SoFar had old out_old all more last new out_new

@@ -6,6 +6,7 @@ use Rattle.std.specs.Ordering.{nat_cmp}
 use Rattle.std.specs.Map.{remove_entry}
 use Rattle.std.specs.Str.Lines.{lines}
 use Rattle.std.proofs.lemmas.Option.{slice_get-get_or}
+use Rattle.std.proofs.lemmas.Bool.{cond_both}
 use Rattle.crawl_core.specs.declared.event.Event.{Event}
 use Rattle.crawl_core.specs.declared.event.Event.TheVariants as event
 use Rattle.crawl_core.specs.declared.reply.Reply.{Reply}
@@ -30,10 +31,11 @@ use Rattle.crawl_session.specs.Parts.{request_for}
 use Rattle.crawl_session.specs.Serving.{with_words}
 use Rattle.crawl_session.specs.Sessions.{answered, answers, line_exchange, state_after}
 use Rattle.crawl_session.specs.Settings.{Settings}
+use Rattle.crawl_session.proofs.Choices.{either_way}
 use Rattle.crawl_session.proofs.Assigned.{IsAssigned, as_asked, assigns_for, assigned_below}
 use Rattle.crawl_session.proofs.Closings.{answered_closes}
 use Rattle.crawl_session.proofs.CompactText.{needed_stands}
-use Rattle.crawl_session.proofs.Rests.{AtRest, Entry, entry_is, gate_told, line_fits, looked_word, starts_at_rest, tries, turn_told}
+use Rattle.crawl_session.proofs.Rests.{AtRest, Entry, entry_is, line_fits, looked_word, starts_at_rest, tries}
 use Rattle.crawl_session.proofs.Runs.{answered_runs}
 use Rattle.crawl_session.proofs.Steps.{returned_gate}
 use Rattle.crawl_session.proofs.Words.{Words, answered_alike, words_forgotten}
@@ -52,7 +54,7 @@ record Idle (had : Had) (state : State) (done : Turn) : Type 0 where
 
 end_idle : (had : Had) (gate : GateSide) (messages : ℕ) → IdleGate had gate (end_seeds gate messages)
 end_idle had gate messages =
-    gate_told (IdleGate had gate) gate.opening (gave_back (record gate { opening = false }) messages) (turned_away gate why.Nothing)
+    either_way (IdleGate had gate) gate.opening (gave_back (record gate { opening = false }) messages) (turned_away gate why.Nothing)
     (record { same = λ e. absurd (true≢false e) }) (record { same = λ _. refl })
 
 closed_again : (gate : GateSide) (b : Bool) → (b ≡ true → gate.closed ≡ true) → not b ≡ false → record gate { closed = true } ≡ gate
@@ -61,13 +63,13 @@ closed_again gate false known e = absurd (true≢false e)
 
 close_idle : (had : Had) (gate : GateSide) (messages : ℕ) → (had.closed ≡ true → gate.closed ≡ true) → IdleGate had gate (close gate messages)
 close_idle had gate messages known =
-    gate_told (IdleGate had gate) (gate.closed || nat_eq (units_out gate messages) 0) (record { reply = told.Closed; gate = record gate { closed = true } }) (record { reply = told.Pending (units_out gate messages); gate = gate })
+    either_way (IdleGate had gate) (gate.closed || nat_eq (units_out gate messages) 0) (record { reply = told.Closed; gate = record gate { closed = true } }) (record { reply = told.Pending (units_out gate messages); gate = gate })
     (record { same = closed_again gate had.closed known }) (record { same = λ _. refl })
 
 done_idle : (had : Had) (state : State) (named : ℕ) (queue : Option Subqueue) → Idle had state (done_with state named queue)
 done_idle had state named None = record { same = λ _. refl }
 done_idle had state named (Some queue) =
-    turn_told (Idle had state) queue.busy (counted (with_subqueue state named (after_finishing queue))) (refused state why.Nothing)
+    either_way (Idle had state) queue.busy (counted (with_subqueue state named (after_finishing queue))) (refused state why.Nothing)
     (record { same = λ e. absurd (true≢false e) }) (record { same = λ _. refl })
 
 oldest_idle : (had : Had) (state : State) (named : ℕ) (queue : Subqueue) (message : Option Message) → Idle had state (take_oldest state named queue message)
@@ -77,7 +79,7 @@ oldest_idle had state named queue (Some message) = record { same = λ e. absurd 
 take_idle : (had : Had) (state : State) (named : ℕ) (queue : Option Subqueue) → Idle had state (take_from state named queue)
 take_idle had state named None = record { same = λ _. refl }
 take_idle had state named (Some queue) =
-    turn_told (Idle had state) queue.busy (refused state why.Busy) (take_oldest state named queue (oldest queue)) (record { same = λ _. refl }) (oldest_idle had state named queue (oldest queue))
+    either_way (Idle had state) queue.busy (refused state why.Busy) (take_oldest state named queue (oldest queue)) (record { same = λ _. refl }) (oldest_idle had state named queue (oldest queue))
 
 -- an entry that is refused leaves the gate
 record Refuses (gate : GateSide) (done : GateTurn) : Type 0 where
@@ -88,13 +90,13 @@ with_refuses gate messages None = record { same = λ _. refl }
 with_refuses gate messages (Some word) =
     let room = if nat_eq (units_out gate messages) gate.max then turned_away gate why.Full else grant gate messages client in
     let within = if gate.closed then turned_away gate why.Closed else room in
-    gate_told (Refuses gate) (not (same_word word (shown_word gate messages))) (record { reply = told.Lost; gate = gate }) within (record { same = λ _. refl })
-    (gate_told (Refuses gate) gate.closed (turned_away gate why.Closed) room (record { same = λ _. refl })
-    (gate_told (Refuses gate) (nat_eq (units_out gate messages) gate.max) (turned_away gate why.Full) (grant gate messages client) (record { same = λ _. refl }) (record { same = λ e. absurd (true≢false e) })))
+    either_way (Refuses gate) (not (same_word word (shown_word gate messages))) (record { reply = told.Lost; gate = gate }) within (record { same = λ _. refl })
+    (either_way (Refuses gate) gate.closed (turned_away gate why.Closed) room (record { same = λ _. refl })
+    (either_way (Refuses gate) (nat_eq (units_out gate messages) gate.max) (turned_away gate why.Full) (grant gate messages client) (record { same = λ _. refl }) (record { same = λ e. absurd (true≢false e) })))
 
 enter_refuses : (gate : GateSide) (messages : ℕ) → Refuses gate (enter gate messages client)
 enter_refuses gate messages =
-    gate_told (Refuses gate) (holds gate client) (turned_away gate why.Busy) (enter_with gate messages client (remembers gate client)) (record { same = λ _. refl })
+    either_way (Refuses gate) (holds gate client) (turned_away gate why.Busy) (enter_with gate messages client (remembers gate client)) (record { same = λ _. refl })
     (with_refuses gate messages (remembers gate client))
 
 -- a URL that is admitted by the one unit was seen, or is accepted
@@ -107,7 +109,7 @@ admits had state url named queue one =
     let held : holds state.gate client ≡ true = ap (λ (hs : List ℕ). list_any (is_at (nat_cmp client)) hs) one in
     let seen : Turn = record { reply = told.Seen; state = state } in
     let inner : Admits had state (if has_url queue.accepted url then seen else put state client url named queue) =
-    turn_told (Admits had state) (has_url queue.accepted url) seen (put state client url named queue)
+    either_way (Admits had state) (has_url queue.accepted url) seen (put state client url named queue)
     (record { seen = λ _. refl; other = λ e. absurd (true≢false e) }) (record { seen = λ e. absurd (true≢false (sym e)); other = λ _. refl }) in
     subst (λ b. Admits had state (if not b then refused state why.Nothing else (if has_url queue.accepted url then seen else put state client url named queue))) (sym held) inner
 
@@ -119,10 +121,6 @@ Quiet had (Unasked why) = Unit {0}
 
 record Stays (had : Had) (state : State) (x : Exchange) : Type 0 where
   same : Quiet had x.answer → Same state x.state
-
-stays_if : (b : Bool) (had : Had) (state : State) (x y : Exchange) → (b ≡ true → Stays had state x) → (b ≡ false → Stays had state y) → Stays had state (if b then x else y)
-stays_if true had state x y first second = first refl
-stays_if false had state x y first second = second refl
 
 stays_after : (had : Had) (old state : State) (e : Event) (more : Reply → State → Exchange) → Stays had old (more (turn state e).reply (turn state e).state) → Stays had old (after state e more)
 stays_after had old state e more stays = record { same = stays.same }
@@ -140,7 +138,7 @@ next_stays had state named known =
     let idle = take_idle had state named (slice_get state.subqueues named) in
     let still : is_empty done.reply ≡ true → done.state ≡ state = λ empty. idle.same (quiet_empty had done.reply empty) in
     stays_after had state state (event.Take named) (λ reply taken. if is_empty reply then after taken event.Close ends else ends reply taken)
-    (stays_if (is_empty done.reply) had state (after done.state event.Close ends) (ends done.reply done.state)
+    (cond_both (is_empty done.reply) (after done.state event.Close ends) (ends done.reply done.state) (Stays had state)
     (λ empty.
     let closing = close_idle had done.state.gate (unfinished_in done.state) (λ closed. ap (λ (s : State). s.gate.closed) (still empty) ∙ known closed) in
     record { same = λ quiet. as_it_was state _ (ap (λ (g : GateSide). record done.state { gate = g }) (closing.same quiet) ∙ still empty) })
@@ -155,7 +153,7 @@ admitting_stays had workers url named state old below shape one leaves =
     let done = turn state admit in
     let admission : Admits had state done = subst (λ q. Admits had state (admit_to state client url named q)) (sym there) (admits had state url named queue one) in
     stays_after had old state admit (λ reply admitted. if is_seen reply then after admitted (event.Back client) (λ _ left. ends told.Seen left) else ends reply admitted)
-    (stays_if (is_seen done.reply) had old (after done.state (event.Back client) (λ _ left. ends told.Seen left)) (ends done.reply done.state)
+    (cond_both (is_seen done.reply) (after done.state (event.Back client) (λ _ left. ends told.Seen left)) (ends done.reply done.state) (Stays had old)
     (λ seen. record { same = λ quiet. (leaves.0, ap (λ (s : State). (turn s (event.Back client)).state) (admission.seen seen) ∙ leaves.1) })
     (λ other. record { same = λ quiet. absurd (true≢false (sym (admission.other other) ∙ quiet)) }))
 
@@ -176,7 +174,7 @@ offer_stays had workers url named state below rest =
     ) in
     stays_after had state state (event.Look client) (λ _ looked. entering looked url named)
     (stays_after had state first.state (event.Enter client) (λ reply entered. if is_entered reply then admitting entered url named else ends reply entered)
-    (stays_if (is_entered second.reply) had state (admitting second.state url named) (ends second.reply second.state)
+    (cond_both (is_entered second.reply) (admitting second.state url named) (ends second.reply second.state) (Stays had state)
     (λ entered. admitting_stays had workers url named second.state state below shape (entry.entered entered) (back_as entered))
     (λ refused. record { same = λ quiet. (first.state.gate.remembered, ap (λ (g : GateSide). record first.state { gate = g }) ((enter_refuses first.state.gate messages).same refused)) })))
 

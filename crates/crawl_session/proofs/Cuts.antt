@@ -1,16 +1,19 @@
 -- Lines of bytes that are cut in two, and of bytes behind an unfinished line that was cut short.
-use Rattle.std.proofs.Common.{◌≡◌, ◌⊎◌, ℕ, zero, suc, ◌+◌, ◌-◌, ◌<◌, ◌==◌, inl, inr, Bool, true, false, if◌then◌else◌, List, [], ◌∷◌, ◌++◌, length, take, map, nat_lt, slice_index, codes, Option, Some, None, Result, Err, refl, sym, ap, subst, ◌∙◌, arith, append_assoc, eqb-true, ltb-true, ltb-false, lt-ltb, ne_eqb}
-use Rattle.std.specs.List.{slice_split, onto_first}
+use Rattle.std.proofs.Common.{◌≡◌, ◌⊎◌, ℕ, ◌+◌, ◌-◌, ◌<◌, ◌==◌, inl, inr, Bool, true, false, List, [], ◌∷◌, ◌++◌, length, take, map, nat_lt, slice_index, Option, Result, Err, refl, sym, ap, subst, ◌∙◌, arith, append-nil, append_assoc, eqb-true, ltb-true, ltb-false, lt-ltb, ne_eqb}
+use Rattle.std.proofs.lemmas.Grind.{common_steps}
+use Rattle.std.proofs.lemmas.Bool.Decides.{nat_tests}
+use Rattle.std.specs.List.{slice_split}
 use Rattle.std.specs.Str.{bytes_eq}
 use Rattle.std.proofs.lemmas.Slice.Eq.{bytes_eq-Decides}
 use Rattle.std.specs.Str.Lines.{lines, lines_of_parts, strip_carriage_return}
 use Rattle.std.proofs.lemmas.List.{length-append, length-take-le, take_all}
 use Rattle.std.proofs.lemmas.List.Elements.{All-nil, All-cons, All-append, All-take}
-use Rattle.std.proofs.lemmas.List.Splits.{slice_split-cons_yes, slice_split-cons_no, slice_split_none, slice_split_at, length-slice_split}
+use Rattle.std.proofs.lemmas.List.Splits.{slice_split_none, slice_split_at, length-slice_split}
 use Rattle.crawl_limits.specs.Limits.{line_limit}
+use Rattle.crawl_web.proofs.CutLines.{lines_cut}
 use Rattle.crawl_session.specs.declared.request.Request.{Request}
 use Rattle.crawl_session.specs.declared.request.RequestError.{RequestError}
-use Rattle.crawl_session.specs.declared.request.RequestError.TheVariants.{LineTooLong, Sync, Identity}
+use Rattle.crawl_session.specs.declared.request.RequestError.TheVariants.{LineTooLong}
 use Rattle.crawl_session.specs.Input.{held_limit, IsUnfinished, AreWhole}
 use Rattle.crawl_session.specs.Parts.{asked_of, request_for}
 use Rattle.crawl_session.specs.Requests.{request_of}
@@ -25,67 +28,31 @@ IsOther b = (b == 10) ≡ false
 
 -- a part that others follow loses its CR
 before_others : (part : List ℕ) (parts : List (List ℕ)) → 0 < length parts → lines_of_parts (part ∷ parts) ≡ strip_carriage_return part ∷ lines_of_parts parts
-before_others part [] h = absurd (omega arith)
-before_others part (next ∷ more) h = refl
+before_others part parts h = grind arith
 
 parts_below : (bytes : List ℕ) → 0 < length (slice_split is_lf bytes)
 parts_below bytes = omega (arith, length-slice_split is_lf bytes)
 
 -- ---- whole lines, and bytes behind them
 
-onto_front : (x : ℕ) (parts more : List (List ℕ)) → 0 < length parts → onto_first x (parts ++ more) ≡ onto_first x parts ++ more
-onto_front x [] more h = absurd (omega arith)
-onto_front x (part ∷ parts) more h = refl
-
-split_two : (f rest : List ℕ) → slice_split is_lf (f ++ 10 ∷ rest) ≡ slice_split is_lf f ++ slice_split is_lf rest
-split_two [] rest = refl
-split_two (x ∷ xs) rest = by_byte (is_lf x) refl (split_two xs rest)
-  where
-    by_byte : (b : Bool) → is_lf x ≡ b → slice_split is_lf (xs ++ 10 ∷ rest) ≡ slice_split is_lf xs ++ slice_split is_lf rest → slice_split is_lf (x ∷ xs ++ 10 ∷ rest) ≡ slice_split is_lf (x ∷ xs) ++ slice_split is_lf rest
-    by_byte true is more =
-        slice_split-cons_yes is_lf x (xs ++ 10 ∷ rest) is ∙ ap (λ l. [] ∷ l) more ∙ ap (λ l. l ++ slice_split is_lf rest) (sym (slice_split-cons_yes is_lf x xs is))
-    by_byte false is more =
-        slice_split-cons_no is_lf x (xs ++ 10 ∷ rest) is ∙ ap (onto_first x) more ∙ onto_front x (slice_split is_lf xs) (slice_split is_lf rest) (parts_below xs)
-        ∙ ap (λ l. l ++ slice_split is_lf rest) (sym (slice_split-cons_no is_lf x xs is))
-
-parts_two : (parts others : List (List ℕ)) → 0 < length others → lines_of_parts (parts ++ others) ≡ lines_of_parts (parts ++ [] ∷ []) ++ lines_of_parts others
-parts_two [] others h = refl
-parts_two (part ∷ parts) others h =
-    before_others part (parts ++ others) (omega (arith, length-append parts others))
-    ∙ ap (λ l. strip_carriage_return part ∷ l) (parts_two parts others h)
-    ∙ ap (λ l. l ++ lines_of_parts others) (sym (before_others part (parts ++ [] ∷ []) (omega (arith, length-append parts ([] ∷ [])))))
-
 -- whole lines, and then those of the bytes behind them
 pub lines_behind : (front rest : List ℕ) → AreWhole front → lines (front ++ rest) ≡ lines front ++ lines rest
-lines_behind front rest (inl none) = let P : List ℕ → Type 0 = λ f. lines (f ++ rest) ≡ lines f ++ lines rest in subst P (sym none) refl
-lines_behind front rest (inr whole) =
-    let P : List ℕ → Type 0 = λ f. lines (f ++ rest) ≡ lines f ++ lines rest in
-    subst P (sym whole.1)
-    (ap lines (append_assoc whole.0 (10 ∷ []) rest)
-    ∙ ap lines_of_parts (split_two whole.0 rest)
-    ∙ parts_two (slice_split is_lf whole.0) (slice_split is_lf rest) (parts_below rest)
-    ∙ ap (λ l. lines_of_parts l ++ lines rest) (sym (split_two whole.0 [])))
+lines_behind front rest whole = grind (arith, append_assoc, lines_cut)
 
 -- whole lines and whole lines are whole lines
 pub whole-append : (front more : List ℕ) → AreWhole front → AreWhole more → AreWhole (front ++ more)
-whole-append front more whole (inl none) = let P : List ℕ → Type 0 = λ m. AreWhole (front ++ m) in subst P (sym none) (subst AreWhole (sym (append_none front)) whole)
-  where
-    append_none : (l : List ℕ) → l ++ [] ≡ l
-    append_none [] = refl
-    append_none (x ∷ xs) = ap (λ l. x ∷ l) (append_none xs)
+whole-append front more whole (inl none) = let P : List ℕ → Type 0 = λ m. AreWhole (front ++ m) in subst P (sym none) (subst AreWhole (sym (append-nil front)) whole)
 whole-append front more whole (inr some) = inr (front ++ some.0, ap (λ l. front ++ l) some.1 ∙ sym (append_assoc front some.0 (10 ∷ [])))
 
 -- ---- a line whose end was not read
 
 -- bytes without LF are one line, or none
 one_line : (bytes : List ℕ) → IsUnfinished bytes → 0 < length bytes → lines bytes ≡ bytes ∷ []
-one_line bytes unfinished some =
-    rw (slice_split_none is_lf bytes unfinished) (rw (ne_eqb (length bytes) 0 (λ none. omega (arith, none, some))) refl)
+one_line bytes unfinished some = grind (arith, slice_split_none, ne_eqb)
 
 -- the first line of bytes with an LF
 pub line_before : (line more : List ℕ) → IsUnfinished line → lines (line ++ 10 ∷ more) ≡ strip_carriage_return line ∷ lines more
-line_before line more unfinished =
-    ap lines_of_parts (slice_split_at is_lf line 10 more unfinished refl) ∙ before_others line (slice_split is_lf more) (parts_below more)
+line_before line more unfinished = grind (arith, slice_split_at, before_others, parts_below)
 
 -- where the first line of whole lines ends
 record FirstEnd (bytes : List ℕ) : Type 0 where
@@ -110,35 +77,23 @@ requests settings ls = map (request_for settings) ls
 
 -- a longer line is another word
 another : (line word : List ℕ) → length word < length line → bytes_eq line word ≡ false
-another line word longer = by_test (bytes_eq line word) refl
-  where
-    by_test : (b : Bool) → bytes_eq line word ≡ b → b ≡ false
-    by_test true is = absurd (omega (arith, longer, ap length ((bytes_eq-Decides line word).0 is)))
-    by_test false is = refl
+another line word longer = grind (arith, bytes_eq-Decides)
 
 asks_too_long : (workers : ℕ) (suffixes : List (List ℕ)) (line : List ℕ) → line_limit < length line → request_of workers suffixes line ≡ Err LineTooLong
 asks_too_long workers suffixes line long = rw (lt-ltb line_limit (length line) long) refl
 
 refused_so : (part : Option Part) (line : List ℕ) → line_limit < length line → asked_of part line (Err LineTooLong) ≡ Err LineTooLong
-refused_so None line long = refl
-refused_so (Some part) line long =
-    ap (λ b. if b then Err Sync else if bytes_eq line (codes "identity") then Err (Identity part.identity) else Err LineTooLong) (another line (codes "sync") (omega (arith, long)))
-    ∙ ap (λ b. if b then Err (Identity part.identity) else Err LineTooLong) (another line (codes "identity") (omega (arith, long)))
+refused_so part line long = grind (arith, another)
 
 too_long : (settings : Settings) (line : List ℕ) → line_limit < length line → request_for settings line ≡ Err LineTooLong
-too_long settings line long =
-    ap (asked_of settings.part line) (asks_too_long settings.workers settings.suffixes line long) ∙ refused_so settings.part line long
+too_long settings line long = grind (arith, asks_too_long, refused_so)
 
 -- two lines that are too long
 both_long : (settings : Settings) (line other : List ℕ) → line_limit < length line → line_limit < length other → request_for settings line ≡ request_for settings other
 both_long settings line other first second = too_long settings line first ∙ sym (too_long settings other second)
 
 stripped_long : (line : List ℕ) → line_limit + 1 < length line → line_limit < length (strip_carriage_return line)
-stripped_long line long = by_end (slice_index line (length line - 1) == 13)
-  where
-    by_end : (b : Bool) → line_limit < length (if b then take (length line - 1) line else line)
-    by_end true = omega (arith, length-take-le (length line - 1) line (omega arith))
-    by_end false = omega arith
+stripped_long line long = grind (arith, slice_index, length-take-le)
 
 -- a line that was cut short, or that is as it was
 cut_or_whole : (tail : List ℕ) → (take held_limit tail ≡ tail) ⊎ ((line_limit + 1 < length (take held_limit tail)) × (line_limit + 1 < length tail))
@@ -185,9 +140,7 @@ front_asks settings tail front unfinished = by_cut (cut_or_whole tail)
 
 -- what was cut short, and cut short again with what follows
 pub take_cut : (n : ℕ) (xs ys : List ℕ) → take n (take n xs ++ ys) ≡ take n (xs ++ ys)
-take_cut zero xs ys = refl
-take_cut (suc n) [] ys = refl
-take_cut (suc n) (x ∷ xs) ys = ap (λ l. x ∷ l) (take_cut n xs ys)
+take_cut n xs ys = grind (arith, nat_tests, common_steps)
 
 pub unfinished-append : (xs ys : List ℕ) → IsUnfinished xs → IsUnfinished ys → IsUnfinished (xs ++ ys)
 unfinished-append xs ys first second = All-append IsOther xs ys first second

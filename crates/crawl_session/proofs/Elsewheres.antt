@@ -1,24 +1,23 @@
 -- A compacted log tells elsewhere what the whole one does, each URL once.
-use Rattle.std.proofs.Common.{◌≡◌, Bool, true, false, not, ◌||◌, if◌then◌else◌, ℕ, List, [], ◌∷◌, ◌++◌, Option, Some, None, Result, Ok, Err, refl, sym, ap, ◌∙◌}
+use Rattle.std.proofs.Common.{◌≡◌, Bool, true, false, not, ◌||◌, if◌then◌else◌, ℕ, List, [], ◌∷◌, ◌++◌, Option, Some, None, Result, Ok, Err, refl, ap, ◌∙◌, arith}
+use Rattle.std.proofs.lemmas.Bool.Decides.{nat_tests}
 use Rattle.std.specs.List.{cons_option, filter_map}
 use Rattle.std.specs.Str.Lines.{lines}
-use Rattle.crawl_core.specs.declared.event.Event.TheVariants as event
-use Rattle.crawl_core.specs.declared.reply.Reply.TheVariants as told
 use Rattle.crawl_core.specs.Kept.{has_text}
 use Rattle.crawl_core.specs.State.{State, start}
-use Rattle.crawl_core.specs.Step.{turn}
 use Rattle.crawl_session.specs.declared.answer.Answer.{Answer}
-use Rattle.crawl_session.specs.declared.answer.Answer.TheVariants.{Told, Unasked}
+use Rattle.crawl_session.specs.declared.answer.Answer.TheVariants.{Unasked}
 use Rattle.crawl_session.specs.declared.request.Request.{Request}
 use Rattle.crawl_session.specs.declared.request.Request.TheVariants.{Offer, Next, Again, Done, EndSeeds}
 use Rattle.crawl_session.specs.declared.request.RequestError.{RequestError}
 use Rattle.crawl_session.specs.declared.request.RequestError.TheVariants as wrong
 use Rattle.crawl_session.specs.Clients.{asked, elsewhere_of, first_of_each, told_elsewhere}
 use Rattle.crawl_session.specs.Compacting.{Had, had_none, having, is_needed, log_text, needed, says_closed, with_told}
-use Rattle.crawl_session.specs.Exchanges.{Exchange, admitting, client, ends, exchange, is_empty, is_entered, is_seen, after}
+use Rattle.crawl_session.specs.Exchanges.{Exchange, exchange}
 use Rattle.crawl_session.specs.Parts.{request_for}
 use Rattle.crawl_session.specs.Sessions.{answered, line_exchange}
 use Rattle.crawl_session.specs.Settings.{Settings}
+use Rattle.crawl_session.proofs.Choices.{either_way}
 use Rattle.crawl_session.proofs.CompactText.{needed_stands}
 
 -- ---- what is told elsewhere follows from what a line asks
@@ -30,29 +29,15 @@ told_by _ = None
 abbrev IsTold : Exchange → Type 0
 IsTold x = told_elsewhere x.answer ≡ None
 
-told_if : (b : Bool) (x y : Exchange) → IsTold x → IsTold y → IsTold (if b then x else y)
-told_if true x y first second = first
-told_if false x y first second = second
-
 request_told : (state : State) (request : Request) → IsTold (exchange state request)
-request_told state (Offer url queue) =
-    let looked = turn state (event.Look client) in
-    let entered = turn looked.state (event.Enter client) in
-    let admitted = turn entered.state (event.Admit client url queue) in
-    told_if (is_entered entered.reply) (admitting entered.state url queue) (ends entered.reply entered.state)
-    (told_if (is_seen admitted.reply) (after admitted.state (event.Back client) (λ _ left. ends told.Seen left)) (ends admitted.reply admitted.state) refl refl)
-    refl
-request_told state (Next queue) =
-    let taken = turn state (event.Take queue) in
-    told_if (is_empty taken.reply) (after taken.state event.Close ends) (ends taken.reply taken.state) refl refl
+request_told state (Offer url queue) = grind (arith, nat_tests, either_way)
+request_told state (Next queue) = grind (arith, nat_tests, either_way)
 request_told state (Again queue) = refl
 request_told state (Done queue) = refl
 request_told state EndSeeds = refl
 
 answer_tells : (state : State) (r : Result Request RequestError) → told_elsewhere (answered state r).answer ≡ told_by r
-answer_tells state (Ok request) = request_told state request
-answer_tells state (Err (wrong.Elsewhere part url)) = refl
-answer_tells state (Err _) = refl
+answer_tells state r = grind (arith, request_told)
 
 abbrev told_in : Settings → List (List ℕ) → List (List ℕ)
 told_in settings ls = filter_map (λ line. told_by (request_for settings line)) ls
@@ -67,9 +52,7 @@ told_asked settings state (line ∷ more) =
 -- ---- the lines that are needed
 
 told_stays : (texts : List (List ℕ)) (answer : Answer) → told_elsewhere answer ≡ None → with_told texts answer ≡ texts
-told_stays texts (Told reply) none = refl
-told_stays texts (Unasked (wrong.Elsewhere part url)) none = absurd (cc (none))
-told_stays texts (Unasked _) none = refl
+told_stays texts answer none = grind arith
 
 -- what is known once a URL was told elsewhere that was among those before, or was not
 abbrev knowing : Had → ℕ → List ℕ → Bool → Had
@@ -107,9 +90,4 @@ kept_told settings had state (line ∷ more) = by_asked (request_for settings li
 
 pub compacted_tells : (settings : Settings) (max : ℕ) (bytes : List ℕ)
     → elsewhere_of (asked settings (start settings.workers max) (lines (log_text (needed settings had_none (start settings.workers max) (lines bytes))))) ≡ first_of_each [] (elsewhere_of (asked settings (start settings.workers max) (lines bytes)))
-compacted_tells settings max bytes =
-    let begun = start settings.workers max in
-    ap (λ ls. elsewhere_of (asked settings begun ls)) (needed_stands settings had_none begun bytes)
-    ∙ told_asked settings begun (needed settings had_none begun (lines bytes))
-    ∙ kept_told settings had_none begun (lines bytes)
-    ∙ ap (first_of_each []) (sym (told_asked settings begun (lines bytes)))
+compacted_tells settings max bytes = grind (arith, needed_stands, told_asked, kept_told)

@@ -1,10 +1,10 @@
+pub mod Choices
 pub mod Closings
 pub mod CompactText
 pub mod Compacted
 pub mod Compactions
 pub mod Cuts
 pub mod Elsewheres
-pub mod Ends
 pub mod Lines
 pub mod LogStarts
 pub mod Logs

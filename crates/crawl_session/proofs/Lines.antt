@@ -1,12 +1,10 @@
 -- Lines, one after another.
-use Rattle.std.proofs.Common.{◌≡◌, ℕ, List, [], ◌∷◌, ◌++◌, Result, refl, sym, ap, subst, ◌∙◌, append_assoc}
+use Rattle.std.proofs.Common.{◌≡◌, ℕ, List, [], ◌∷◌, ◌++◌, Result, refl, sym, ap, ◌∙◌, append_assoc, arith}
 use Rattle.std.proofs.lemmas.Grind.{flat_map-append}
 use Rattle.crawl_core.specs.State.{State}
-use Rattle.crawl_core.specs.Shows.{Shows}
 use Rattle.crawl_session.specs.declared.answer.Answer.{Answer}
 use Rattle.crawl_session.specs.declared.request.Request.{Request}
 use Rattle.crawl_session.specs.declared.request.RequestError.{RequestError}
-use Rattle.crawl_session.specs.Answers.{answer_line, answer_lines}
 use Rattle.crawl_session.specs.Serving.{ServesAll}
 use Rattle.crawl_session.specs.Sessions.{answered, line_exchange, answers, state_after, history_of}
 use Rattle.crawl_session.specs.Settings.{Settings, SessionView}
@@ -59,29 +57,7 @@ serves_none old = record { settings = refl; comes = λ state shown. (refl, shown
 
 pub serves_more : (old : SessionView) (front : List (List ℕ)) (text : List ℕ) (mid : SessionView) (back : List (List ℕ)) (more : List ℕ) (new : SessionView)
     → ServesAll old front text mid → ServesAll mid back more new → ServesAll old (front ++ back) (text ++ more) new
-serves_more old front text mid back more new first second = record {
-  settings = second.settings ∙ first.settings;
-  comes = λ state shown.
-      let one = first.comes state shown in
-      let between = state_after old.settings state front in
-      let P : Settings → Type 0 = λ s. (more ≡ answer_lines (answers s between back)) × Shows new.core (state_after s between back) in
-      let two : P old.settings = subst P first.settings (second.comes between one.1) in
-      let Q : State → Type 0 = λ s. Shows new.core s in (
-        ap (λ t. t ++ more) one.0
-            ∙ ap (λ t. answer_lines (answers old.settings state front) ++ t) two.0
-            ∙ sym (flat_map-append answer_line (answers old.settings state front) (answers old.settings between back))
-            ∙ ap answer_lines (sym (answers-append old.settings state front back)),
-        subst Q (sym (state_after-append old.settings state front back)) two.1,
-      );
-}
+serves_more old front text mid back more new first second = grind (arith, flat_map-append, answers-append, state_after-append)
 
 pub serves_alike : (old : SessionView) (ls others : List (List ℕ)) (text : List ℕ) (new : SessionView) → requests old.settings ls ≡ requests old.settings others → ServesAll old ls text new → ServesAll old others text new
-serves_alike old ls others text new same serves = record {
-  settings = serves.settings;
-  comes = λ state shown.
-      let came = serves.comes state shown in
-      let Q : State → Type 0 = λ s. Shows new.core s in (
-        came.0 ∙ ap answer_lines (answers_alike old.settings state ls others same),
-        subst Q (state_alike old.settings state ls others same) came.1,
-      );
-}
+serves_alike old ls others text new same serves = grind (arith, answers_alike, state_alike)

@@ -1,5 +1,6 @@
 -- What stands before the settings in the first line of a log is read as it was written.
 use Rattle.std.proofs.Common.{◌≡◌, ℕ, ◌<◌, ◌^◌, true, false, not, if◌then◌else◌, List, [], ◌∷◌, ◌++◌, codes, Option, Some, None, option_and_then, IfSome, refl, ap, ◌∙◌, arith, append_assoc}
+use Rattle.std.proofs.lemmas.Bool.Decides.{nat_tests}
 use Rattle.std.specs.Fmt.{decimal}
 use Rattle.std.specs.List.{list_all}
 use Rattle.std.specs.Option.{option_map}
@@ -8,8 +9,8 @@ use Rattle.crawl_replay.specs.Numbers.{number_of}
 use Rattle.crawl_replay.specs.ScriptLines.{IsNumber}
 use Rattle.crawl_replay.proofs.NumberText.{at_space-joined, at_space-number, number_of_is}
 use Rattle.crawl_web.specs.Parts.{at_space, is_space}
-use Rattle.crawl_session.specs.Logs.{numbers_text, settings_line, within_text}
-use Rattle.crawl_session.specs.LogStarts.{identity_read, identity_text, part_in, part_read, part_text, read_part, read_start, start_text, value_in, value_of}
+use Rattle.crawl_session.specs.Logs.{settings_line}
+use Rattle.crawl_session.specs.LogStarts.{identity_read, identity_text, part_in, part_text, read_part, read_start, start_text, value_in, value_of}
 use Rattle.crawl_session.proofs.Logs.{front_of, number_printed}
 
 -- ---- what other words begin
@@ -18,14 +19,8 @@ other_word : (word first rest : List ℕ) → bytes_eq first word ≡ false → 
 other_word word first rest other = ap (λ b. if b then at_space rest else None) other
 
 settings_other : (word : List ℕ) (workers max : ℕ) (suffixes : List (List ℕ)) → bytes_eq (codes "workers") word ≡ false → bytes_eq (codes "within") word ≡ false → value_of word (settings_line workers max suffixes) ≡ None
-settings_other word workers max [] first second =
-    let rest = decimal workers ++ codes " max " ++ decimal max in
-    ap (option_and_then (value_in word)) (at_space-joined (numbers_text workers max) (codes "workers") rest refl refl) ∙ other_word word (codes "workers") rest first
-settings_other word workers max (suffix ∷ more) first second =
-    let rest = suffix ++ (codes " " ++ (within_text more ++ numbers_text workers max)) in
-    ap (value_of word) (front_of suffix more (numbers_text workers max))
-    ∙ ap (option_and_then (value_in word)) (at_space-joined (codes "within " ++ rest) (codes "within") rest refl refl)
-    ∙ other_word word (codes "within") rest second
+settings_other word workers max [] first second = grind (arith, nat_tests, option_and_then, at_space-joined, other_word, front_of)
+settings_other word workers max (suffix ∷ more) first second = grind (arith, nat_tests, option_and_then, at_space-joined, other_word, front_of)
 
 -- ---- the identity
 
@@ -34,22 +29,12 @@ identity_form text more = append_assoc (codes "identity " ++ text) (codes " ") m
 
 identity_back : (identity : Option (List ℕ)) (workers max : ℕ) (suffixes : List (List ℕ)) → IfSome identity (λ text. list_all (λ b. not (is_space b)) text ≡ true)
     → identity_read (identity_text identity ++ settings_line workers max suffixes) (value_of (codes "identity") (identity_text identity ++ settings_line workers max suffixes)) ≡ (identity, settings_line workers max suffixes)
-identity_back None workers max suffixes good = ap (identity_read (settings_line workers max suffixes)) (settings_other (codes "identity") workers max suffixes refl refl)
-identity_back (Some text) workers max suffixes good =
-    let more = settings_line workers max suffixes in
-    ap (identity_read (identity_text (Some text) ++ more))
-    (ap (value_of (codes "identity")) (identity_form text more)
-    ∙ ap (option_and_then (value_in (codes "identity"))) (at_space-joined (codes "identity" ++ 32 ∷ (text ++ 32 ∷ more)) (codes "identity") (text ++ 32 ∷ more) refl refl)
-    ∙ at_space-joined (text ++ 32 ∷ more) text more good refl)
+identity_back identity workers max suffixes good = grind (arith, settings_other, identity_form, option_and_then, at_space-joined)
 
 -- ---- the part
 
 part_form : (i k : ℕ) (more : List ℕ) → part_text (Some (i, k)) ++ more ≡ codes "part" ++ 32 ∷ (decimal i ++ 32 ∷ (codes "of" ++ 32 ∷ (decimal k ++ 32 ∷ more)))
-part_form i k more =
-    append_assoc (codes "part " ++ decimal i ++ codes " of " ++ decimal k) (codes " ") more
-    ∙ append_assoc (codes "part " ++ decimal i ++ codes " of ") (decimal k) (32 ∷ more)
-    ∙ append_assoc (codes "part " ++ decimal i) (codes " of ") (decimal k ++ 32 ∷ more)
-    ∙ append_assoc (codes "part ") (decimal i) (codes " of " ++ (decimal k ++ 32 ∷ more))
+part_form i k more = grind (arith, append_assoc)
 
 small : (n : ℕ) → n < 2 ^ 32 → IsNumber 32 n (decimal n)
 small n fits = number_printed 32 n (omega (arith, fits)) fits
@@ -70,26 +55,13 @@ part_some i k more first second =
     ∙ ap (option_map (λ parts. (i, (parts, more)))) (number_of_is 32 (decimal k) k (small k second))
 
 no_part : (identity : Option (List ℕ)) (workers max : ℕ) (suffixes : List (List ℕ)) → value_of (codes "part") (identity_text identity ++ settings_line workers max suffixes) ≡ None
-no_part None workers max suffixes = settings_other (codes "part") workers max suffixes refl refl
-no_part (Some text) workers max suffixes =
-    let more = settings_line workers max suffixes in
-    ap (value_of (codes "part")) (identity_form text more)
-    ∙ ap (option_and_then (value_in (codes "part"))) (at_space-joined (codes "identity" ++ 32 ∷ (text ++ 32 ∷ more)) (codes "identity") (text ++ 32 ∷ more) refl refl)
+no_part identity workers max suffixes = grind (arith, settings_other, identity_form, option_and_then, at_space-joined)
 
 part_back : (part : Option (ℕ × ℕ)) (identity : Option (List ℕ)) (workers max : ℕ) (suffixes : List (List ℕ)) → IfSome part (λ p. (p.0 < 2 ^ 32) × (p.1 < 2 ^ 32))
     → read_part (start_text part identity ++ settings_line workers max suffixes) ≡ (part, identity_text identity ++ settings_line workers max suffixes)
-part_back None identity workers max suffixes fits =
-    let text = identity_text identity ++ settings_line workers max suffixes in
-    let none : part_in text ≡ None =
-    ap (option_and_then (λ (a : List ℕ × List ℕ). option_and_then (λ (b : List ℕ × List ℕ). option_and_then (λ number. option_map (λ parts. (number, (parts, b.1))) (number_of 32 b.0)) (number_of 32 a.0)) (value_of (codes "of") a.1))) (no_part identity workers max suffixes) in
-    ap (part_read text) none
-part_back (Some p) identity workers max suffixes fits =
-    let text = identity_text identity ++ settings_line workers max suffixes in
-    ap read_part (append_assoc (part_text (Some p)) (identity_text identity) (settings_line workers max suffixes))
-    ∙ ap (part_read (part_text (Some p) ++ text)) (part_some p.0 p.1 text fits.0 fits.1)
+part_back None identity workers max suffixes fits = grind (arith, nat_tests, option_and_then, no_part, append_assoc, part_some)
+part_back (Some p) identity workers max suffixes fits = grind (arith, nat_tests, option_and_then, no_part, append_assoc, part_some)
 
 pub starts_back : (part : Option (ℕ × ℕ)) (identity : Option (List ℕ)) (workers max : ℕ) (suffixes : List (List ℕ)) → IfSome part (λ p. (p.0 < 2 ^ 32) × (p.1 < 2 ^ 32)) → IfSome identity (λ text. list_all (λ b. not (is_space b)) text ≡ true)
     → read_start (start_text part identity ++ settings_line workers max suffixes) ≡ (part, (identity, settings_line workers max suffixes))
-starts_back part identity workers max suffixes fits good =
-    ap (λ (r : Option (ℕ × ℕ) × List ℕ). (r.0, identity_read r.1 (value_of (codes "identity") r.1))) (part_back part identity workers max suffixes fits)
-    ∙ ap (λ (r : Option (List ℕ) × List ℕ). (part, r)) (identity_back identity workers max suffixes good)
+starts_back part identity workers max suffixes fits good = grind (arith, part_back, identity_back)

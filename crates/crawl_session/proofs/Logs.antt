@@ -1,18 +1,16 @@
 -- Logs: what they give back, and their first lines.
-use Rattle.std.proofs.Common.{◌≡◌, ℕ, ◌+◌, ◌<◌, ◌≤◌, ◌^◌, Bool, true, false, not, if◌then◌else◌, List, [], ◌∷◌, ◌++◌, length, nat_lt, codes, Option, Some, None, option_and_then, refl, sym, ap, subst, ◌∙◌, arith, append_assoc, append-nil}
+use Rattle.std.proofs.Common.{◌≡◌, ℕ, ◌+◌, ◌<◌, ◌≤◌, ◌^◌, Bool, true, not, if◌then◌else◌, List, [], ◌∷◌, ◌++◌, length, nat_lt, codes, Option, Some, None, option_and_then, refl, sym, ap, subst, ◌∙◌, arith, append_assoc, append-nil}
 use Rattle.std.specs.Fmt.{decimal}
 use Rattle.std.specs.List.{All, list_all}
 use Rattle.std.specs.Str.{bytes_eq}
 use Rattle.std.proofs.lemmas.Bool.{and_parts}
 use Rattle.std.proofs.lemmas.Bool.Decides.{nat_tests}
 use Rattle.std.proofs.lemmas.Fmt.{decimal_is_IsNumeral, length-decimal-le}
-use Rattle.std.proofs.lemmas.Grind.{flat_map-append}
+use Rattle.std.proofs.lemmas.Grind.{flat_map-append, get_or_default_zero}
 use Rattle.std.proofs.lemmas.List.Elements.{All-head, All-tail}
 use Rattle.std.proofs.lemmas.Slice.Eq.{bytes_eq-Decides}
 use Rattle.std.proofs.lemmas.Str.Parse.{digit_at}
 use Rattle.crawl_limits.specs.Limits.{AreLimits}
-use Rattle.crawl_core.specs.Shows.{Shows}
-use Rattle.crawl_core.specs.State.{State}
 use Rattle.crawl_keys.specs.HostFilter.{is_good, is_suffix_byte}
 use Rattle.crawl_replay.specs.Script.{header_of}
 use Rattle.crawl_replay.specs.ScriptLines.{IsNumber}
@@ -23,23 +21,13 @@ use Rattle.crawl_web.specs.Parts.{at_space, is_space}
 use Rattle.crawl_session.specs.declared.answer.Answer.{Answer}
 use Rattle.crawl_session.specs.Logs.{Reruns, within_text, numbers_text, settings_line, suffix_from, next_suffix}
 use Rattle.crawl_session.specs.Serving.{Serves}
-use Rattle.crawl_session.specs.Sessions.{line_exchange, state_after}
-use Rattle.crawl_session.specs.Settings.{Settings, SessionView}
-use Rattle.crawl_session.proofs.Ends.{any_other}
+use Rattle.crawl_session.specs.Settings.{SessionView}
 use Rattle.crawl_session.proofs.Lines.{state_after-append}
 
 -- ---- the state after the lines
 
 pub reruns_more : (old : SessionView) (front : List (List ℕ)) (mid : SessionView) (line : List ℕ) (answer : Answer) (new : SessionView) → Reruns old front mid → Serves mid line answer new → Reruns old (front ++ line ∷ []) new
-reruns_more old front mid line answer new reruns one = record {
-  settings = one.settings ∙ reruns.settings;
-  comes = λ state shown.
-      let between = state_after old.settings state front in
-      let P : Settings → Type 0 = λ s. Shows new.core (line_exchange s between line).state in
-      let moved : P old.settings = subst P reruns.settings (one.comes between (reruns.comes state shown)).1 in
-      let Q : State → Type 0 = λ s. Shows new.core s in
-      subst Q (sym (state_after-append old.settings state front (line ∷ []))) moved;
-}
+reruns_more old front mid line answer new reruns one = grind (arith, state_after-append)
 
 pub reruns_on : (old mid new : SessionView) (all rest : List (List ℕ)) (line : List ℕ) (more : List (List ℕ)) (answer : Answer) → ((front : List (List ℕ)) × (all ≡ front ++ rest) × Reruns old front mid) → rest ≡ line ∷ more → Serves mid line answer new
     → (front : List (List ℕ)) × (all ≡ front ++ more) × Reruns old front new
@@ -69,8 +57,7 @@ next_some suffix more good =
     ∙ at_space-joined (suffix ++ 32 ∷ more) suffix more word refl
 
 next_none : (workers max : ℕ) → next_suffix (numbers_text workers max) ≡ None
-next_none workers max =
-    ap (option_and_then suffix_from) (at_space-joined (numbers_text workers max) (codes "workers") (decimal workers ++ codes " max " ++ decimal max) refl refl)
+next_none workers max = grind arith
 
 -- what was read so far: these suffixes, and a rest; so of a line that was written with some suffixes, these are the first
 pub record Reads (line : List ℕ) (so_far : List (List ℕ)) (rest : List ℕ) : Type 0 where
@@ -79,14 +66,10 @@ pub record Reads (line : List ℕ) (so_far : List (List ℕ)) (rest : List ℕ) 
       → (back : List (List ℕ)) × (suffixes ≡ so_far ++ back) × (All IsGood back × (rest ≡ settings_line workers max back))
 
 pub front_of : (suffix : List ℕ) (more : List (List ℕ)) (rest : List ℕ) → within_text (suffix ∷ more) ++ rest ≡ codes "within " ++ (suffix ++ (codes " " ++ (within_text more ++ rest)))
-front_of suffix more rest =
-    append_assoc (codes "within " ++ suffix ++ codes " ") (within_text more) rest
-    ∙ append_assoc (codes "within " ++ suffix) (codes " ") (within_text more ++ rest)
-    ∙ append_assoc (codes "within ") suffix (codes " " ++ (within_text more ++ rest))
+front_of suffix more rest = grind (arith, append_assoc)
 
 from_word : (p : List ℕ × List ℕ) (b : Bool) (found : List ℕ × List ℕ) → bytes_eq p.0 (codes "within") ≡ b → (if b then at_space p.1 else None) ≡ Some found → (bytes_eq p.0 (codes "within") ≡ true) × (at_space p.1 ≡ Some found)
-from_word p true found is e = (is, e)
-from_word p false found is e = absurd (cc)
+from_word p b found is e = grind arith
 
 -- what is cut stands there
 next_stands : (text suffix more : List ℕ) (p : Option (List ℕ × List ℕ)) → at_space text ≡ p → option_and_then suffix_from p ≡ Some (suffix, more) → text ≡ codes "within " ++ (suffix ++ (codes " " ++ more))
@@ -124,7 +107,7 @@ reads_more line so_far rest suffix more reads next = record {
 pub number_printed : (bits n : ℕ) → n < 2 ^ 64 → n < 2 ^ bits → IsNumber bits n (decimal n)
 number_printed bits n wide fits =
     let numeral = decimal_is_IsNumeral n wide in record {
-      digits = λ k d inside. subst (λ b. (48 ≤ b) × (b ≤ 57)) (sym (any_other (decimal n) k d inside)) (digit_at (decimal n) k numeral.0.1 inside);
+      digits = λ k d inside. subst (λ b. (48 ≤ b) × (b ≤ 57)) (sym (get_or_default_zero (decimal n) k d inside)) (digit_at (decimal n) k numeral.0.1 inside);
       some = omega (arith, numeral.0.0);
       few = length-decimal-le 20 n (omega arith) (omega (arith, wide)) wide;
       means = numeral.1;
@@ -132,8 +115,7 @@ number_printed bits n wide fits =
     }
 
 numbers_form : (workers max : ℕ) → numbers_text workers max ≡ codes "workers" ++ (codes " " ++ (decimal workers ++ (codes " max" ++ (codes " " ++ decimal max))))
-numbers_form workers max =
-    append_assoc (codes "workers " ++ decimal workers) (codes " max ") (decimal max) ∙ append_assoc (codes "workers ") (decimal workers) (codes " max " ++ decimal max)
+numbers_form workers max = grind (arith, append_assoc)
 
 header_printed : (workers max : ℕ) → AreLimits workers max → header_of (numbers_text workers max) ≡ Some (record { workers = workers; max = max })
 header_printed workers max limits =

@@ -9,6 +9,7 @@ use Rattle.std.specs.Set.{remove_key}
 use Rattle.std.proofs.lemmas.Cmp.{nat_cmp_total}
 use Rattle.std.proofs.lemmas.List.Elements.{All-nil, All-cons}
 use Rattle.std.proofs.lemmas.Option.{slice_get-get_or}
+use Rattle.std.proofs.lemmas.Bool.{cond_both}
 use Rattle.crawl_core.specs.declared.event.Event.{Event}
 use Rattle.crawl_core.specs.declared.event.Event.TheVariants as event
 use Rattle.crawl_core.specs.declared.reply.Reply.{Reply}
@@ -34,6 +35,7 @@ use Rattle.crawl_session.specs.Parts.{request_for}
 use Rattle.crawl_session.specs.Sessions.{answered}
 use Rattle.crawl_session.specs.Settings.{Settings}
 use Rattle.crawl_session.specs.Tables.{can_be_told, CanBeAnswered}
+use Rattle.crawl_session.proofs.Choices.{either_way}
 use Rattle.crawl_session.proofs.Assigned.{IsAssigned, as_asked, assigns_for, assigned_below}
 
 -- a state of a session between two requests
@@ -53,22 +55,10 @@ record Fits (workers : ℕ) (request : Request) (x : Exchange) : Type 0 where
   rests : AtRest workers x.state
   told : CanBeAnswered (Ok request) x.answer
 
-fits_if : (b : Bool) (workers : ℕ) (request : Request) (x y : Exchange) → (b ≡ true → Fits workers request x) → (b ≡ false → Fits workers request y) → Fits workers request (if b then x else y)
-fits_if true workers request x y first second = first refl
-fits_if false workers request x y first second = second refl
-
 fits_after : (workers : ℕ) (request : Request) (state : State) (e : Event) (more : Reply → State → Exchange) → Fits workers request (more (turn state e).reply (turn state e).state) → Fits workers request (after state e more)
 fits_after workers request state e more fits = record { rests = fits.rests; told = fits.told }
 
 -- ---- requests of a subqueue's worker
-
-pub turn_told : (P : Turn → Type 0) (b : Bool) (x y : Turn) → P x → P y → P (if b then x else y)
-turn_told P true x y first second = first
-turn_told P false x y first second = second
-
-pub gate_told : (P : GateTurn → Type 0) (b : Bool) (x y : GateTurn) → P x → P y → P (if b then x else y)
-gate_told P true x y first second = first
-gate_told P false x y first second = second
 
 -- a turn leaves the holders as they are, and its reply passes the test
 record Leaves (holders : List ℕ) (test : Reply → Bool) (done : Turn) : Type 0 where
@@ -88,13 +78,13 @@ take_leaves : (state : State) (named : ℕ) (queue : Option Subqueue) → Leaves
 unfolding taken_or_empty
 take_leaves state named None = record { same = refl; passes = refl }
 take_leaves state named (Some queue) =
-    turn_told (Leaves state.gate.holders (taken_or_empty named)) queue.busy (refused state why.Busy) (take_oldest state named queue (oldest queue)) (record { same = refl; passes = refl })
+    either_way (Leaves state.gate.holders (taken_or_empty named)) queue.busy (refused state why.Busy) (take_oldest state named queue (oldest queue)) (record { same = refl; passes = refl })
     (oldest_leaves state named queue (oldest queue))
 
 done_leaves : (state : State) (named : ℕ) (queue : Option Subqueue) → Leaves state.gate.holders (can_be_told (Done named)) (done_with state named queue)
 done_leaves state named None = record { same = refl; passes = refl }
 done_leaves state named (Some queue) =
-    turn_told (Leaves state.gate.holders (can_be_told (Done named))) queue.busy (counted (with_subqueue state named (after_finishing queue))) (refused state why.Nothing) (record { same = refl; passes = refl }) (record { same = refl; passes = refl })
+    either_way (Leaves state.gate.holders (can_be_told (Done named))) queue.busy (counted (with_subqueue state named (after_finishing queue))) (refused state why.Nothing) (record { same = refl; passes = refl }) (record { same = refl; passes = refl })
 
 -- the same of a gate's turn
 record Keeps (holders : List ℕ) (test : Reply → Bool) (done : GateTurn) : Type 0 where
@@ -102,10 +92,10 @@ record Keeps (holders : List ℕ) (test : Reply → Bool) (done : GateTurn) : Ty
   passes : test done.reply ≡ true
 
 close_keeps : (named : ℕ) (gate : GateSide) (messages : ℕ) → Keeps gate.holders (can_be_told (Next named)) (if gate.closed || nat_eq (units_out gate messages) 0 then record { reply = told.Closed; gate = record gate { closed = true } } else record { reply = told.Pending (units_out gate messages); gate = gate })
-close_keeps named gate messages = gate_told (Keeps gate.holders (can_be_told (Next named))) (gate.closed || nat_eq (units_out gate messages) 0) _ _ (record { same = refl; passes = refl }) (record { same = refl; passes = refl })
+close_keeps named gate messages = either_way (Keeps gate.holders (can_be_told (Next named))) (gate.closed || nat_eq (units_out gate messages) 0) _ _ (record { same = refl; passes = refl }) (record { same = refl; passes = refl })
 
 end_keeps : (gate : GateSide) (messages : ℕ) → Keeps gate.holders (can_be_told EndSeeds) (if gate.opening then gave_back (record gate { opening = false }) messages else turned_away gate why.Nothing)
-end_keeps gate messages = gate_told (Keeps gate.holders (can_be_told EndSeeds)) gate.opening _ _ (record { same = refl; passes = refl }) (record { same = refl; passes = refl })
+end_keeps gate messages = either_way (Keeps gate.holders (can_be_told EndSeeds)) gate.opening _ _ (record { same = refl; passes = refl }) (record { same = refl; passes = refl })
 
 or_other : (a b : Bool) → (a || b) ≡ true → a ≡ false → b ≡ true
 or_other true b passes none = absurd (true≢false none)
@@ -119,7 +109,7 @@ next_fits workers named state rest =
     let at_rest = rests_after workers state (event.Take named) rest.sound rest.shape (leaves.same ∙ rest.nobody) in
     let closing = close_keeps named done.state.gate (unfinished_in done.state) in
     fits_after workers (Next named) state (event.Take named) (λ reply taken. if is_empty reply then after taken event.Close ends else ends reply taken)
-    (fits_if (is_empty done.reply) workers (Next named) (after done.state event.Close ends) (ends done.reply done.state)
+    (cond_both (is_empty done.reply) (after done.state event.Close ends) (ends done.reply done.state) (Fits workers (Next named))
     (λ empty. record { rests = rests_after workers done.state event.Close at_rest.sound at_rest.shape (closing.same ∙ at_rest.nobody); told = closing.passes })
     (λ some. record { rests = at_rest; told = or_other (is_empty done.reply) (can_be_told (Next named) done.reply) leaves.passes some }))
 
@@ -151,9 +141,9 @@ pub record Entry (url : List ℕ) (named : ℕ) (done : GateTurn) : Type 0 where
 
 pub tries : (url : List ℕ) (named : ℕ) (gate : GateSide) (messages : ℕ) → gate.holders ≡ [] → Entry url named (tried gate messages)
 tries url named gate messages nobody =
-    gate_told (Entry url named) gate.closed (turned_away gate why.Closed) (if nat_eq (units_out gate messages) gate.max then turned_away gate why.Full else grant gate messages client)
+    either_way (Entry url named) gate.closed (turned_away gate why.Closed) (if nat_eq (units_out gate messages) gate.max then turned_away gate why.Full else grant gate messages client)
     (record { refused = λ _. (refl, nobody); entered = λ e. absurd (true≢false (sym e)) })
-    (gate_told (Entry url named) (nat_eq (units_out gate messages) gate.max) (turned_away gate why.Full) (grant gate messages client)
+    (either_way (Entry url named) (nat_eq (units_out gate messages) gate.max) (turned_away gate why.Full) (grant gate messages client)
     (record { refused = λ _. (refl, nobody); entered = λ e. absurd (true≢false (sym e)) })
     (record { refused = λ e. absurd (true≢false e); entered = λ _. ap (λ (hs : List ℕ). insert_key nat_cmp hs client) nobody }))
 
@@ -170,7 +160,7 @@ admits state url named queue one =
     let held : holds state.gate client ≡ true = ap (λ (hs : List ℕ). list_any (is_at (nat_cmp client)) hs) one in
     let seen : Turn = record { reply = told.Seen; state = state } in
     let inner : Admission state url named (if has_url queue.accepted url then seen else put state client url named queue) =
-    turn_told (Admission state url named) (has_url queue.accepted url) seen (put state client url named queue)
+    either_way (Admission state url named) (has_url queue.accepted url) seen (put state client url named queue)
     (record { seen = λ _. refl; other = λ e. absurd (true≢false e) })
     (record { seen = λ e. absurd (true≢false (sym e)); other = λ _. (refl, ap (λ (hs : List ℕ). remove_key (is_at (nat_cmp client)) hs) one) }) in
     subst (λ b. Admission state url named (if not b then refused state why.Nothing else (if has_url queue.accepted url then seen else put state client url named queue))) (sym held) inner
@@ -189,7 +179,7 @@ admitting_fits workers url named state below sound shape one =
     let admission : Admission state url named done = subst (λ q. Admission state url named (admit_to state client url named q)) (sym there) (admits state url named queue one) in
     let effect = gate_effect state sound admit in
     fits_after workers (Offer url named) state admit (λ reply admitted. if is_seen reply then after admitted (event.Back client) (λ _ left. ends told.Seen left) else ends reply admitted)
-    (fits_if (is_seen done.reply) workers (Offer url named) (after done.state (event.Back client) (λ _ left. ends told.Seen left)) (ends done.reply done.state)
+    (cond_both (is_seen done.reply) (after done.state (event.Back client) (λ _ left. ends told.Seen left)) (ends done.reply done.state) (Fits workers (Offer url named))
     (λ seen.
     let still : done.state.gate.holders ≡ client ∷ [] = ap (λ (s : State). s.gate.holders) (admission.seen seen) ∙ one in
     record {
@@ -210,7 +200,7 @@ offer_fits workers url named state below rest =
     subst (Entry url named) (sym (entry_is first.state.gate messages rest.nobody (looked_word state.gate messages))) (tries url named first.state.gate messages rest.nobody) in
     fits_after workers (Offer url named) state (event.Look client) (λ _ looked. entering looked url named)
     (fits_after workers (Offer url named) first.state (event.Enter client) (λ reply entered. if is_entered reply then admitting entered url named else ends reply entered)
-    (fits_if (is_entered second.reply) workers (Offer url named) (admitting second.state url named) (ends second.reply second.state)
+    (cond_both (is_entered second.reply) (admitting second.state url named) (ends second.reply second.state) (Fits workers (Offer url named))
     (λ entered. admitting_fits workers url named second.state below entering_it.sound (entering_it.as_many ∙ shape) (entry.entered entered))
     (λ refused. record { rests = rests_after workers first.state (event.Enter client) looking.sound shape (entry.refused refused).1; told = (entry.refused refused).0 })))
 

@@ -1,20 +1,22 @@
 -- The events of a session are a run.
-use Rattle.std.proofs.Common.{◌≡◌, ℕ, suc, length, Bool, true, false, if◌then◌else◌, List, [], ◌∷◌, ◌++◌, map, Result, Ok, Err, refl, sym, ap, subst}
+use Rattle.std.proofs.Common.{◌≡◌, ℕ, length, List, [], ◌∷◌, ◌++◌, map, Result, refl, sym, ap, subst, arith}
+use Rattle.std.proofs.lemmas.Grind.{common_steps}
+use Rattle.std.proofs.lemmas.Bool.Decides.{nat_tests}
 use Rattle.std.specs.List.{zip}
 use Rattle.crawl_core.specs.declared.event.Event.{Event}
 use Rattle.crawl_core.specs.declared.event.Event.TheVariants as event
 use Rattle.crawl_core.specs.declared.reply.Reply.{Reply}
-use Rattle.crawl_core.specs.declared.reply.Reply.TheVariants as told
 use Rattle.crawl_core.specs.Run.{Run, IsRun}
 use Rattle.crawl_core.specs.State.{State, start}
 use Rattle.crawl_core.specs.Step.{turn}
 use Rattle.crawl_session.specs.declared.request.Request.{Request}
 use Rattle.crawl_session.specs.declared.request.Request.TheVariants.{Offer, Next, Again, Done, EndSeeds}
 use Rattle.crawl_session.specs.declared.request.RequestError.{RequestError}
-use Rattle.crawl_session.specs.Exchanges.{Exchange, client, after, ends, admitting, entering, exchange, is_entered, is_seen, is_empty}
+use Rattle.crawl_session.specs.Exchanges.{Exchange, client, after, ends, entering, exchange}
 use Rattle.crawl_session.specs.Parts.{request_for}
 use Rattle.crawl_session.specs.Sessions.{answered, line_exchange, history_of, state_after}
 use Rattle.crawl_session.specs.Settings.{Settings}
+use Rattle.crawl_session.proofs.Choices.{either_way}
 
 -- the events of an exchange lead from the state to its state
 abbrev RunsFrom : State → Exchange → Type 0
@@ -23,35 +25,18 @@ RunsFrom state x = Run state x.history x.state
 runs_after : (state : State) (e : Event) (more : Reply → State → Exchange) → ((reply : Reply) (next : State) → RunsFrom next (more reply next)) → RunsFrom state (after state e more)
 runs_after state e more rest = ((turn state e).state, record { reply_is = refl; state_is = refl }, rest (turn state e).reply (turn state e).state)
 
-runs_if : (b : Bool) (state : State) (x y : Exchange) → RunsFrom state x → RunsFrom state y → RunsFrom state (if b then x else y)
-runs_if true state x y first second = first
-runs_if false state x y first second = second
-
-admitting_runs : (state : State) (url : List ℕ) (queue : ℕ) → RunsFrom state (admitting state url queue)
-admitting_runs state url queue =
-    runs_after state (event.Admit client url queue)
-    (λ reply admitted. if is_seen reply then after admitted (event.Back client) (λ _ left. ends told.Seen left) else ends reply admitted)
-    (λ reply admitted.
-    runs_if (is_seen reply) admitted (after admitted (event.Back client) (λ _ left. ends told.Seen left)) (ends reply admitted)
-    (runs_after admitted (event.Back client) (λ _ left. ends told.Seen left) (λ _ left. refl)) refl)
-
 entering_runs : (state : State) (url : List ℕ) (queue : ℕ) → RunsFrom state (entering state url queue)
-entering_runs state url queue =
-    runs_after state (event.Enter client) (λ reply entered. if is_entered reply then admitting entered url queue else ends reply entered)
-    (λ reply entered. runs_if (is_entered reply) entered (admitting entered url queue) (ends reply entered) (admitting_runs entered url queue) refl)
+entering_runs state url queue = grind arith
 
 pub exchange_runs : (state : State) (request : Request) → RunsFrom state (exchange state request)
 exchange_runs state (Offer url queue) = runs_after state (event.Look client) (λ _ looked. entering looked url queue) (λ _ looked. entering_runs looked url queue)
-exchange_runs state (Next queue) =
-    runs_after state (event.Take queue) (λ reply taken. if is_empty reply then after taken event.Close ends else ends reply taken)
-    (λ reply taken. runs_if (is_empty reply) taken (after taken event.Close ends) (ends reply taken) (runs_after taken event.Close ends (λ _ closed. refl)) refl)
+exchange_runs state (Next queue) = grind (arith, nat_tests, runs_after, entering_runs, either_way)
 exchange_runs state (Again queue) = refl
 exchange_runs state (Done queue) = runs_after state (event.Done queue) ends (λ _ done. refl)
 exchange_runs state EndSeeds = runs_after state event.EndSeeds ends (λ _ ended. refl)
 
 pub answered_runs : (state : State) (asked : Result Request RequestError) → RunsFrom state (answered state asked)
-answered_runs state (Ok request) = exchange_runs state request
-answered_runs state (Err why) = refl
+answered_runs state asked = grind (arith, exchange_runs)
 
 -- a run, and another from where it ended
 pub run_join : (old : State) (front : List (Event × Reply)) (mid : State) (back : List (Event × Reply)) (new : State) → Run old front mid → Run mid back new → Run old (front ++ back) new
@@ -72,8 +57,7 @@ zipped [] = refl
 zipped (x ∷ xs) = ap (λ l. x ∷ l) (zipped xs)
 
 as_long : (history : List (Event × Reply)) → length (map (λ x. x.1) history) ≡ length (map (λ x. x.0) history)
-as_long [] = refl
-as_long (x ∷ xs) = ap suc (as_long xs)
+as_long history = grind (arith, nat_tests, common_steps)
 
 pub as_run : (workers max : ℕ) (history : List (Event × Reply)) (end : State) → Run (start workers max) history end → IsRun workers max (map (λ x. x.0) history) (map (λ x. x.1) history)
 as_run workers max history end run = record {

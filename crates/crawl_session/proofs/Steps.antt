@@ -1,29 +1,28 @@
 -- From the steps of the machine to what comes of a request.
-use Rattle.std.proofs.Common.{◌≡◌, ◌⊎◌, inl, inr, Bool, true, false, not, ◌||◌, cond, if◌then◌else◌, List, [], ◌∷◌, nat_eq, Option, Some, None, Result, Ok, Err, IfOk, OnErr, refl, sym, ap, subst, ◌∙◌, true≢false, ℕ, Ordering}
+use Rattle.std.proofs.Common.{◌≡◌, ◌⊎◌, inl, inr, Bool, true, false, if◌then◌else◌, List, [], ◌∷◌, Option, Result, IfOk, OnErr, refl, sym, ap, subst, ◌∙◌, true≢false, ℕ, arith}
+use Rattle.std.proofs.lemmas.Bool.Decides.{nat_tests}
 use Rattle.std.specs.declared.alloc.AllocError.{AllocError}
-use Rattle.std.specs.declared.cmp.Ordering.TheVariants.{Less, Equal, Greater}
 use Rattle.std.specs.BTreeMap.{is_at}
 use Rattle.std.specs.BTreeSet.{insert_key}
 use Rattle.std.specs.List.{list_any}
 use Rattle.std.specs.Map.{remove_entry}
-use Rattle.std.specs.Ordering.{nat_cmp, is_eq, match_ordering}
+use Rattle.std.specs.Ordering.{nat_cmp}
 use Rattle.std.specs.Result.{IsOk}
 use Rattle.std.specs.Set.{remove_key}
 use Rattle.std.proofs.lemmas.Cmp.{nat_cmp_total}
 use Rattle.crawl_core.specs.declared.event.Event.{Event}
 use Rattle.crawl_core.specs.declared.event.Event.TheVariants.{Look, Enter, Back}
 use Rattle.crawl_core.specs.declared.reply.Reply.{Reply}
-use Rattle.crawl_core.specs.declared.reply.Reply.TheVariants as told
 use Rattle.crawl_core.specs.declared.reply.Refusal.TheVariants as why
 use Rattle.crawl_core.specs.declared.word.Word.{Word}
 use Rattle.crawl_core.specs.GateSide as gate_side
-use Rattle.crawl_core.specs.GateSide.{GateSide, GateTurn, back, enter, enter_with, grant, holds, let_go, remembers, same_word, shown_word, turned_away, units_out}
+use Rattle.crawl_core.specs.GateSide.{GateSide, GateTurn, back, enter, enter_with, grant, holds, let_go, remembers, turned_away}
 use Rattle.crawl_core.specs.Kept.{Kept}
 use Rattle.crawl_core.specs.Shows.{Shows, Makes}
 use Rattle.crawl_core.specs.State.{State, unfinished_in}
 use Rattle.crawl_core.specs.Step.{turn}
 use Rattle.crawl_core.proofs.Sets.{list_any-insert_key}
-use Rattle.crawl_session.specs.Exchanges.{client, is_entered, after}
+use Rattle.crawl_session.specs.Exchanges.{client, is_entered}
 use Rattle.crawl_session.specs.Serving.{Leads, GoesBack, GivenUp, GivesUp, returned}
 
 -- ---- out of memory
@@ -33,12 +32,10 @@ leads old e reply new makes state shown = let made = makes.step state shown in s
 
 -- a call that needs no memory is not refused
 pub never_refused : {X E : Type 0} (result : Result X E) (A : Type 0) → IsOk result → OnErr result A
-never_refused (Ok x) A ok = tt
-never_refused (Err e) A ok = absurd (cc (ok))
+never_refused result A ok = grind arith
 
 pub gave_back : (old : Kept) (result : Result Reply AllocError) (new : Kept) → IfOk result (λ reply. Makes old (Back client) reply new) → IsOk result → Leads old (Back client) new
-gave_back old (Ok reply) new makes ok = leads old (Back client) reply new makes
-gave_back old (Err refused) new makes ok = absurd (cc (ok))
+gave_back old result new makes ok = grind arith
 
 -- nothing happened
 pub gives_up_at_once : (old new : Kept) → new ≡ old → GivesUp old new
@@ -56,48 +53,20 @@ gives_up_at_once old new same state shown = record {
 pub goes_back_at_once : (old new : Kept) → new ≡ old → GoesBack old new
 goes_back_at_once old new same state shown = inl (subst (λ (kept : Kept). Shows kept state) (sym same) shown)
 
-entered_back : (old : Kept) (reply : Reply) (mid new : Kept) → is_entered reply ≡ true → Makes old (Enter client) reply mid → Leads mid (Back client) new → GoesBack old new
-entered_back old reply mid new entered makes goes state shown =
-    let made = makes.step state shown in
-    inr (subst (λ (r : Reply). is_entered r ≡ true) made.1.reply_is entered, goes (turn state (Enter client)).state (leads old (Enter client) reply mid makes state shown))
-
 pub goes_back_entered : {X E : Type 0} (old : Kept) (reply : Reply) (mid : Kept) (result : Result X E) (new : Kept) → is_entered reply ≡ true → Makes old (Enter client) reply mid → OnErr result (Leads mid (Back client) new) → OnErr result (GoesBack old new)
-goes_back_entered old reply mid (Ok x) new entered makes goes = tt
-goes_back_entered old reply mid (Err e) new entered makes goes = entered_back old reply mid new entered makes goes
+goes_back_entered old reply mid result new entered makes goes = grind arith
 
 -- an entry that is granted
 record Granted (gate : GateSide) (messages : ℕ) (done : GateTurn) : Type 0 where
   same : is_entered done.reply ≡ true → done.gate ≡ (grant gate messages client).gate
 
-granted_if : (gate : GateSide) (messages : ℕ) (b : Bool) (x y : GateTurn) → Granted gate messages x → Granted gate messages y → Granted gate messages (if b then x else y)
-granted_if gate messages true x y first second = first
-granted_if gate messages false x y first second = second
-
 granted : (gate : GateSide) (messages : ℕ) (word : Option Word) → Granted gate messages (enter_with gate messages client word)
-granted gate messages None = record { same = λ entered. absurd (true≢false (sym entered)) }
-granted gate messages (Some word) =
-    let full = turned_away gate why.Full in
-    let room = if nat_eq (units_out gate messages) gate.max then full else grant gate messages client in
-    let closed = turned_away gate why.Closed in
-    let within = if gate.closed then closed else room in
-    let lost : GateTurn = record { reply = told.Lost; gate = gate } in
-    granted_if gate messages (not (same_word word (shown_word gate messages))) lost within (record { same = λ entered. absurd (true≢false (sym entered)) })
-    (granted_if gate messages gate.closed closed room (record { same = λ entered. absurd (true≢false (sym entered)) })
-    (granted_if gate messages (nat_eq (units_out gate messages) gate.max) full (grant gate messages client) (record { same = λ entered. absurd (true≢false (sym entered)) }) (record { same = λ entered. refl })))
+granted gate messages word = grind arith
 
 -- the client goes out of the holders as it came in
 back_out : (ks : List ℕ) → list_any (is_at (nat_cmp client)) ks ≡ false → remove_key (is_at (nat_cmp client)) (insert_key nat_cmp ks client) ≡ ks
 back_out [] free = refl
-back_out (x ∷ xs) free = at_first (nat_cmp client x) refl free (back_out xs)
-  where
-    at_first : (o : Ordering) → nat_cmp client x ≡ o → (is_eq o || list_any (is_at (nat_cmp client)) xs) ≡ false
-        → (list_any (is_at (nat_cmp client)) xs ≡ false → remove_key (is_at (nat_cmp client)) (insert_key nat_cmp xs client) ≡ xs)
-        → remove_key (is_at (nat_cmp client)) (match_ordering o (client ∷ x ∷ xs) (x ∷ xs) (x ∷ insert_key nat_cmp xs client)) ≡ x ∷ xs
-    at_first Less is free more = refl
-    at_first Equal is free more = absurd (true≢false free)
-    at_first Greater is free more =
-        ap (λ (o : Ordering). cond (is_eq o) (insert_key nat_cmp xs client) (x ∷ remove_key (is_at (nat_cmp client)) (insert_key nat_cmp xs client))) is
-        ∙ ap (λ (l : List ℕ). x ∷ l) (more free)
+back_out (x ∷ xs) free = grind (arith, nat_tests, back_out xs, true≢false)
 
 -- the gate after an entry and the return
 pub returned_gate : (gate : GateSide) (before behind : ℕ) → is_entered (enter gate before client).reply ≡ true
@@ -144,14 +113,12 @@ after_return state new entered shows =
     }
 
 by_end : (state : State) (new : Kept) → Shows new (looked state) ⊎ ((is_entered (turn (looked state) (Enter client)).reply ≡ true) × Shows new (returned (looked state))) → GivenUp state new
-by_end state new (inl shows) = after_look state new shows
-by_end state new (inr goes) = after_return state new goes.0 goes.1
+by_end state new shown = grind (arith, after_look, after_return)
 
 looked_back : (old : Kept) (reply : Reply) (mid new : Kept) → Makes old (Look client) reply mid → GoesBack mid new → GivesUp old new
 looked_back old reply mid new makes more state shown = by_end state new (more (looked state) (leads old (Look client) reply mid makes state shown))
 
 pub gives_up_looking : {X E : Type 0} (old : Kept) (reply : Reply) (mid : Kept) (result : Result X E) (new : Kept) → Makes old (Look client) reply mid → OnErr result (GoesBack mid new) → OnErr result (GivesUp old new)
-gives_up_looking old reply mid (Ok x) new makes more = tt
-gives_up_looking old reply mid (Err e) new makes more = looked_back old reply mid new makes more
+gives_up_looking old reply mid result new makes more = grind (arith, looked_back)
 
 -- ---- a line

@@ -1,7 +1,7 @@
 -- No answer depends on the words that senders remember from before.
-use Rattle.std.proofs.Common.{◌≡◌, ℕ, Bool, true, false, not, ◌||◌, if◌then◌else◌, List, [], ◌∷◌, nat_eq, slice_get, Option, Some, None, Result, Ok, Err, refl, sym, ap, subst, ◌∙◌}
-use Rattle.std.specs.BTreeMap.{is_at, insert_entry}
-use Rattle.std.specs.Map.{remove_entry}
+use Rattle.std.proofs.Common.{◌≡◌, ℕ, Bool, true, false, if◌then◌else◌, List, [], ◌∷◌, slice_get, Option, Some, None, Result, Ok, Err, refl, sym, ap, ◌∙◌, arith}
+use Rattle.std.proofs.lemmas.Bool.Decides.{nat_tests}
+use Rattle.std.specs.BTreeMap.{insert_entry}
 use Rattle.std.specs.Ordering.{nat_cmp}
 use Rattle.std.proofs.lemmas.Cmp.{nat_cmp_total}
 use Rattle.crawl_core.specs.declared.event.Event.{Event}
@@ -10,8 +10,8 @@ use Rattle.crawl_core.specs.declared.reply.Reply.{Reply}
 use Rattle.crawl_core.specs.declared.reply.Reply.TheVariants as told
 use Rattle.crawl_core.specs.declared.reply.Refusal.TheVariants as why
 use Rattle.crawl_core.specs.declared.word.Word.{Word}
-use Rattle.crawl_core.specs.GateSide.{GateSide, GateTurn, back, close, end_seeds, enter, enter_with, holds, remembers, same_word, shown_word, turned_away, units_out}
-use Rattle.crawl_core.specs.Messages.{Message, has_url}
+use Rattle.crawl_core.specs.GateSide.{GateSide, GateTurn, back, close, end_seeds, enter, enter_with, holds, remembers, shown_word}
+use Rattle.crawl_core.specs.Messages.{Message}
 use Rattle.crawl_core.specs.State.{State, unfinished_in}
 use Rattle.crawl_core.specs.Step.{Turn, turn, admit_to, by_gate, done_with, take_from, take_oldest}
 use Rattle.crawl_core.specs.Subqueue.{Subqueue, oldest}
@@ -50,23 +50,17 @@ alike_if true x y v w first second = first
 alike_if false x y v w first second = second
 
 turn_if : (b : Bool) (x y v w : Turn) → AlikeTurn x v → AlikeTurn y w → AlikeTurn (if b then x else y) (if b then v else w)
-turn_if true x y v w first second = first
-turn_if false x y v w first second = second
+turn_if b x y v w first second = grind arith
 
 gate_if : (b : Bool) (x y v w : GateTurn) → AlikeGate x v → AlikeGate y w → AlikeGate (if b then x else y) (if b then v else w)
-gate_if true x y v w first second = first
-gate_if false x y v w first second = second
+gate_if b x y v w first second = grind arith
 
 alike_end : (reply : Reply) (state : State) (words : Words) → Alike (ends reply (with_words state words)) (ends reply state)
 alike_end reply state words = record { answer = refl; words = words; state = refl }
 
 alike_after : (other state : State) (e : Event) (more : Reply → State → Exchange) → (same : AlikeTurn (turn other e) (turn state e))
     → Alike (more (turn state e).reply (with_words (turn state e).state same.words)) (more (turn state e).reply (turn state e).state) → Alike (after other e more) (after state e more)
-alike_after other state e more same rest =
-    let own = more (turn state e).reply (turn state e).state in
-    let by_state : Alike (more (turn state e).reply (turn other e).state) own = subst (λ (s : State). Alike (more (turn state e).reply s) own) (sym same.state) rest in
-    let both : Alike (more (turn other e).reply (turn other e).state) own = subst (λ (r : Reply). Alike (more r (turn other e).state) own) (sym same.reply) by_state in
-    record { answer = both.answer; words = both.words; state = both.state }
+alike_after other state e more same rest = grind arith
 
 gate_turn : (state : State) (words : Words) (x y : GateTurn) → AlikeGate x y → AlikeTurn (by_gate (with_words state words) x) (by_gate state y)
 gate_turn state words x y same = record { reply = same.reply; words = same.words; state = ap (λ (g : GateSide). record state { gate = g }) same.gate }
@@ -77,8 +71,7 @@ abbrev with_gate : GateSide → Words → GateSide
 with_gate gate words = record gate { remembered = words }
 
 close_alike : (gate : GateSide) (words : Words) (messages : ℕ) → AlikeGate (close (with_gate gate words) messages) (close gate messages)
-close_alike gate words messages =
-    gate_if (gate.closed || nat_eq (units_out gate messages) 0) _ _ _ _ (record { reply = refl; words = words; gate = refl }) (record { reply = refl; words = words; gate = refl })
+close_alike gate words messages = grind (arith, gate_if)
 
 end_alike : (gate : GateSide) (words : Words) (messages : ℕ) → AlikeGate (end_seeds (with_gate gate words) messages) (end_seeds gate messages)
 end_alike gate words messages = gate_if gate.opening _ _ _ _ (record { reply = refl; words = words; gate = refl }) (record { reply = refl; words = words; gate = refl })
@@ -88,19 +81,11 @@ back_alike gate words messages = gate_if (holds gate client) _ _ _ _ (record { r
 
 with_alike : (gate : GateSide) (words : Words) (messages : ℕ) (word : Option Word) → AlikeGate (enter_with (with_gate gate words) messages client word) (enter_with gate messages client word)
 with_alike gate words messages None = record { reply = refl; words = words; gate = refl }
-with_alike gate words messages (Some word) =
-    gate_if (not (same_word word (shown_word gate messages))) _ _ _ _ (record { reply = refl; words = words; gate = refl })
-    (gate_if gate.closed _ _ _ _ (record { reply = refl; words = words; gate = refl })
-    (gate_if (nat_eq (units_out gate messages) gate.max) _ _ _ _ (record { reply = refl; words = words; gate = refl })
-    (record { reply = refl; words = remove_entry (is_at (nat_cmp client)) words; gate = refl })))
+with_alike gate words messages (Some word) = grind (arith, nat_tests, gate_if)
 
 -- the client enters by the word that it read last
 enter_alike : (gate : GateSide) (words : Words) (messages : ℕ) → remembers (with_gate gate words) client ≡ remembers gate client → AlikeGate (enter (with_gate gate words) messages client) (enter gate messages client)
-enter_alike gate words messages same =
-    let P : Option Word → Type 0 = λ o.
-    AlikeGate (if holds gate client then turned_away (with_gate gate words) why.Busy else enter_with (with_gate gate words) messages client o) (enter gate messages client) in
-    subst P (sym same)
-    (gate_if (holds gate client) _ _ _ _ (record { reply = refl; words = words; gate = refl }) (with_alike gate words messages (remembers gate client)))
+enter_alike gate words messages same = grind (arith, gate_if, with_alike)
 
 -- ---- the subqueues
 
@@ -118,9 +103,7 @@ done_alike state words named (Some queue) = turn_if queue.busy _ _ _ _ (record {
 
 admit_alike : (state : State) (words : Words) (url : List ℕ) (named : ℕ) (queue : Option Subqueue) → AlikeTurn (admit_to (with_words state words) client url named queue) (admit_to state client url named queue)
 admit_alike state words url named None = record { reply = refl; words = words; state = refl }
-admit_alike state words url named (Some queue) =
-    turn_if (not (holds state.gate client)) _ _ _ _ (record { reply = refl; words = words; state = refl })
-    (turn_if (has_url queue.accepted url) _ _ _ _ (record { reply = refl; words = words; state = refl }) (record { reply = refl; words = words; state = refl }))
+admit_alike state words url named (Some queue) = grind (arith, nat_tests, turn_if)
 
 -- ---- requests
 

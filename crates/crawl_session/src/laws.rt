@@ -1,5 +1,5 @@
 //! Laws of sessions: what holds of any lines and their answers. None does anything when it is called.
-ghost use Rattle.std.specs.Prelude.{◌≡◌, ◌≢◌, ◌≤◌, ℕ, List, [], ◌∷◌, ◌++◌, length, slice_get, ◌<◌, ◌^◌, true, not, Option, Some, None, IfSome, Ok};
+ghost use Rattle.std.specs.Prelude.{◌≡◌, ◌≢◌, ◌≤◌, ℕ, List, [], ◌∷◌, ◌++◌, slice_get, ◌<◌, ◌^◌, true, not, Option, Some, None, IfSome, Ok};
 ghost use Rattle.std.specs.List.{All, list_all};
 ghost use Rattle.std.specs.Str.Lines.{lines};
 ghost use Rattle.crawl_core.specs.History.{accepted_urls, taken_urls, done_in};

@@ -2,7 +2,7 @@
 ghost use Rattle.std.specs.Prelude.{◌≡◌, ℕ, ◌<◌, ◌≤◌, List, [], ◌∷◌, ◌++◌, length, take, drop, true, false, IfOk, string_bytes};
 ghost use Rattle.std.specs.Io.KnownBytes.{Appends, Consumes, IsAtEnd};
 ghost use Rattle.std.specs.Str.Lines.{lines};
-ghost use Rattle.crawl_session.specs.Input.{Ends, Holds, IsUnfinished, ServesInput, AnswersWhole, Turns, held_limit};
+ghost use Rattle.crawl_session.specs.Input.{Ends, Holds, ServesInput, AnswersWhole, Turns, held_limit};
 ghost use Rattle.crawl_session.specs.Serving.{ServesAll};
 ghost use Rattle.crawl_session.specs.declared.serving.ServeError.TheVariants as wrong;
 
