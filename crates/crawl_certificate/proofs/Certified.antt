@@ -1,13 +1,13 @@
 -- A run without a fault has the pages of exactly the URLs that can be reached.
-use Rattle.std.proofs.Common.{◌≡◌, ◌↔◌, inl, inr, ℕ, zero, suc, ◌+◌, ◌==◌, Bool, true, false, ◌&&◌, not, IsTrue, List, [], ◌∷◌, ◌++◌, map, Option, Some, None, refl, sym, ap, subst, ◌∙◌, arith, length-append}
-use Rattle.std.specs.Bool.{if◌then◌else◌}
-use Rattle.std.specs.List.{Contains, list_any}
+use Rattle.std.proofs.Common.{◌≡◌, ◌↔◌, inl, inr, ℕ, zero, suc, ◌+◌, ◌==◌, Bool, true, false, ◌&&◌, not, IsTrue, List, [], ◌∷◌, ◌++◌, map, None, refl, sym, ap, subst, ◌∙◌, arith, length-append}
+use Rattle.std.proofs.lemmas.Grind.{common_steps}
+use Rattle.std.proofs.lemmas.Bool.Decides.{nat_tests}
+use Rattle.std.specs.List.{Contains}
 use Rattle.std.specs.Str.{bytes_eq}
 use Rattle.std.proofs.lemmas.Bool.{or_parts, and_parts, both_ways, false_from_ne_true, not-false, cond-true, cond-false, eqb-true, ne_eqb}
 use Rattle.crawl_frontier.specs.declared.entry.Entry.{Entry}
 use Rattle.crawl_web.specs.declared.page.Page.{Page}
 use Rattle.crawl_web.specs.declared.page.PageResult.{PageResult}
-use Rattle.crawl_certificate.specs.declared.error.CertError.{CertError}
 use Rattle.crawl_certificate.specs.CertFaults.{is_accepted, has_result, stands_in, some_missing, seed_missing, not_fetched, link_missing, is_behind, is_linked, is_founded, unfounded, twice, first_fault}
 use Rattle.crawl_web.specs.Pages.{links_of}
 use Rattle.crawl_certificate.specs.ResultPages.{page_in}
@@ -22,18 +22,8 @@ pub record NoFault (allowed : List ℕ → Bool) (seeds : List (List ℕ)) (entr
   pub founded : unfounded allowed seeds entries results ≡ false
   pub once : twice results ≡ false
 
-step_over : (b : Bool) (x : CertError) (o : Option CertError) → (if b then Some x else o) ≡ None → (b ≡ false) × (o ≡ None)
-step_over true x o h = absurd (cc)
-step_over false x o h = (refl, h)
-
 pub no_fault : (allowed : List ℕ → Bool) (seeds : List (List ℕ)) (entries : List Entry) (results : List PageResult) → first_fault allowed seeds entries results ≡ None → NoFault allowed seeds entries results
-no_fault allowed seeds entries results h =
-    let a = step_over (seed_missing allowed seeds entries) _ _ h in
-    let b = step_over (not_fetched entries results) _ _ a.1 in
-    let c = step_over (link_missing allowed entries results) _ _ b.1 in
-    let d = step_over (unfounded allowed seeds entries results) _ _ c.1 in
-    let e = step_over (twice results) _ _ d.1 in
-    record { seeds_accepted = a.0; fetched = b.0; links_accepted = c.0; founded = d.0; once = e.0 }
+no_fault allowed seeds entries results h = grind arith
 
 -- ---- what the tests say
 
@@ -48,26 +38,16 @@ pub record ResultWith (results : List PageResult) (url : List ℕ) : Type 0 wher
   pub has : one.url ≡ url
 
 pub entry_with : (entries : List Entry) (url : List ℕ) → is_accepted entries url ≡ true → EntryWith entries url
-entry_with entries url h =
-    let found = some_has (λ (e : Entry). bytes_eq e.url url) entries h in
-    record { entry = found.0; among = found.1; has = same_text found.0.url url found.2 }
+entry_with entries url h = grind (arith, some_has, same_text)
 
 pub result_with : (results : List PageResult) (url : List ℕ) → has_result results url ≡ true → ResultWith results url
-result_with results url h =
-    let found = some_has (λ (r : PageResult). bytes_eq r.url url) results h in
-    record { one = found.0; among = found.1; has = same_text found.0.url url found.2 }
+result_with results url h = grind (arith, some_has, same_text)
 
 text_stands : (urls : List (List ℕ)) (url : List ℕ) → stands_in urls url ≡ true → Contains urls url
-text_stands urls url h =
-    let found = some_has (λ own. bytes_eq own url) urls h in
-    subst (λ u. Contains urls u) (same_text found.0 url found.2) found.1
+text_stands urls url h = grind (arith, some_has, same_text)
 
 pub in_map : {X Y : Type 0} (f : X → Y) (xs : List X) (x : X) → Contains xs x → Contains (map f xs) (f x)
-in_map f [] x has = absurd (no_element x has)
-in_map f (y ∷ ys) x has = elim (first_or_later y x ys has) [
-  | inl first ↦ subst (λ z. Contains (f y ∷ map f ys) z) (ap f first) (here (f y) (map f ys))
-  | inr later ↦ there (f y) (f x) (map f ys) (in_map f ys x later)
-]
+in_map f xs x has = grind (arith, nat_tests, common_steps, no_element, first_or_later, here, there)
 
 pub from_map : {X Y : Type 0} (f : X → Y) (xs : List X) (y : Y) → Contains (map f xs) y → (x : X) × Contains xs x × (f x ≡ y)
 from_map f [] y has = absurd (no_element y has)
@@ -97,8 +77,7 @@ GoesOn-push page allowed url [] end next goes link allows = (subst (λ u. Contai
 GoesOn-push page allowed url (x ∷ rest) end next goes link allows = (goes.0, goes.1, GoesOn-push page allowed x rest end next goes.2 link allows)
 
 IsWalk-push : (page : List ℕ → Page) (allowed : List ℕ → Bool) (seeds walk : List (List ℕ)) (end next : List ℕ) → IsWalk page allowed seeds walk end → Contains (links_of (page end)) next → IsTrue (allowed next) → IsWalk page allowed seeds (walk ++ next ∷ []) next
-IsWalk-push page allowed seeds [] end next walks link allows = absurd walks
-IsWalk-push page allowed seeds (first ∷ rest) end next walks link allows = (walks.0, walks.1, GoesOn-push page allowed first rest end next walks.2 link allows)
+IsWalk-push page allowed seeds walk end next walks link allows = grind (arith, GoesOn-push)
 
 -- ---- the entries have walks, by induction on their hops
 
@@ -123,9 +102,7 @@ linked_walk page allowed seeds entries results hops agrees before e far allows l
     }
 
 founded_entry : (allowed : List ℕ → Bool) (seeds : List (List ℕ)) (entries : List Entry) (results : List PageResult) → NoFault allowed seeds entries results → (e : Entry) → Contains entries e → is_founded allowed seeds entries results e ≡ true
-founded_entry allowed seeds entries results clear e among =
-    let all = or_parts (list_any (λ (x : Entry). not (is_founded allowed seeds entries results x)) entries) _ clear.founded in
-    not-false _ (none_has (λ (x : Entry). not (is_founded allowed seeds entries results x)) entries e all.0 among)
+founded_entry allowed seeds entries results clear e among = grind (arith, nat_tests, common_steps, or_parts, not-false, none_has)
 
 pub entry_walk : (page : List ℕ → Page) (allowed : List ℕ → Bool) (seeds : List (List ℕ)) (entries : List Entry) (results : List PageResult) → ((r : PageResult) → Contains results r → page r.url ≡ r.page) → NoFault allowed seeds entries results → (hops : ℕ) (e : Entry) → Contains entries e → e.hops ≡ hops → WalkOf page allowed seeds hops e.url
 entry_walk page allowed seeds entries results agrees clear zero e among far =
@@ -141,13 +118,10 @@ entry_walk page allowed seeds entries results agrees clear (suc hops) e among fa
 -- ---- what a walk reaches is accepted, by induction on the walk
 
 second_false : (a b : Bool) → a ≡ true → (a && b) ≡ false → b ≡ false
-second_false true b h none = none
-second_false false b h none = absurd (cc)
+second_false a b h none = grind arith
 
 accepted_missing : (allowed accepted : List ℕ → Bool) (urls : List (List ℕ)) (url : List ℕ) → some_missing allowed accepted urls ≡ false → Contains urls url → IsTrue (allowed url) → accepted url ≡ true
-accepted_missing allowed accepted urls url none has allows =
-    let missing = none_has (λ u. allowed u && not (accepted u)) urls url none has in
-    not-false _ (second_false (allowed url) (not (accepted url)) allows missing)
+accepted_missing allowed accepted urls url none has allows = grind (arith, nat_tests, common_steps, none_has, not-false, second_false)
 
 pub accepted_has_result : (entries : List Entry) (results : List PageResult) (url : List ℕ) → not_fetched entries results ≡ false → is_accepted entries url ≡ true → ResultWith results url
 accepted_has_result entries results url fetched accepted =
@@ -168,16 +142,12 @@ walk_accepted page allowed seeds entries results agrees clear url (next ∷ rest
     walk_accepted page allowed seeds entries results agrees clear next rest end (next_accepted page allowed seeds entries results agrees clear url next accepted goes.0 goes.1) goes.2
 
 pub reached_accepted : (page : List ℕ → Page) (allowed : List ℕ → Bool) (seeds : List (List ℕ)) (entries : List Entry) (results : List PageResult) → ((r : PageResult) → Contains results r → page r.url ≡ r.page) → NoFault allowed seeds entries results → (walk : List (List ℕ)) (end : List ℕ) → IsWalk page allowed seeds walk end → is_accepted entries end ≡ true
-reached_accepted page allowed seeds entries results agrees clear [] end walks = absurd walks
-reached_accepted page allowed seeds entries results agrees clear (first ∷ rest) end walks =
-    walk_accepted page allowed seeds entries results agrees clear first rest end (accepted_missing allowed (is_accepted entries) seeds first clear.seeds_accepted walks.0 walks.1) walks.2
+reached_accepted page allowed seeds entries results agrees clear walk end walks = grind (arith, nat_tests, common_steps, walk_accepted, accepted_missing)
 
 -- ---- together
 
 pub result_accepted : (allowed : List ℕ → Bool) (seeds : List (List ℕ)) (entries : List Entry) (results : List PageResult) → NoFault allowed seeds entries results → (r : PageResult) → Contains results r → is_accepted entries r.url ≡ true
-result_accepted allowed seeds entries results clear r among =
-    let all = or_parts _ (list_any (λ (x : PageResult). not (is_accepted entries x.url)) results) clear.founded in
-    not-false _ (none_has (λ (x : PageResult). not (is_accepted entries x.url)) results r all.1 among)
+result_accepted allowed seeds entries results clear r among = grind (arith, nat_tests, common_steps, or_parts, not-false, none_has)
 
 pub results_reached : (page : List ℕ → Page) (allowed : List ℕ → Bool) (seeds : List (List ℕ)) (entries : List Entry) (results : List PageResult) → ((r : PageResult) → Contains results r → page r.url ≡ r.page) → NoFault allowed seeds entries results → (url : List ℕ) → Contains (map (λ r. r.url) results) url ↔ Reachable page allowed seeds url
 results_reached page allowed seeds entries results agrees clear url = (

@@ -1,5 +1,5 @@
 -- What a certificate says, from its faults and its order.
-use Rattle.std.proofs.Common.{◌≡◌, ℕ, Bool, true, List, None, refl, sym, subst, ◌∙◌}
+use Rattle.std.proofs.Common.{◌≡◌, ℕ, Bool, true, List, None, sym, subst, ◌∙◌, arith}
 use Rattle.std.specs.Cmp.Lexicographic.{slice_cmp}
 use Rattle.std.specs.Ordering.{nat_cmp}
 use Rattle.std.specs.List.{All, Contains}
@@ -51,10 +51,7 @@ one_each allowed seeds entries results pages none apart moved =
     (IsPermutation-map (λ (r : PageResult). r.url) results pages moved)
 
 pub entries_walk : (allowed : List ℕ → Bool) (seeds : List (List ℕ)) (entries : List Entry) (results : List PageResult) → first_fault allowed seeds entries results ≡ None → All (λ e. WalkOf (page_in results) allowed seeds e.hops e.url) entries
-entries_walk allowed seeds entries results none =
-    All-weaker (Contains entries) (λ (e : Entry). WalkOf (page_in results) allowed seeds e.hops e.url)
-    (λ e among. entry_walk (page_in results) allowed seeds entries results (own_pages allowed seeds entries results none) (no_fault allowed seeds entries results none) e.hops e among refl)
-    entries (All-contains_itself entries)
+entries_walk allowed seeds entries results none = grind (arith, All-weaker, entry_walk, own_pages, no_fault, All-contains_itself)
 
 pub whole_crawl : (meaning : List ℕ → Page) (allowed : List ℕ → Bool) (seeds : List (List ℕ)) (entries : List Entry) (results pages : List PageResult) → first_fault allowed seeds entries results ≡ None → ArePages meaning results → IsPermutation results pages → IsAscending (result_urls pages) → IsCrawl meaning allowed seeds pages
 whole_crawl meaning allowed seeds entries results pages none means moved ascending = record {

@@ -1,5 +1,5 @@
 -- From the least URL of each fault to the culprit.
-use Rattle.std.proofs.Common.{◌≡◌, ◌⊎◌, inl, inr, ℕ, ◌==◌, Bool, false, ◌||◌, ◌&&◌, not, List, Option, Some, None, is_some, Result, Ok, Err, refl, sym, ap, subst, ◌∙◌}
+use Rattle.std.proofs.Common.{◌≡◌, ◌⊎◌, inl, inr, ℕ, ◌==◌, Bool, ◌||◌, ◌&&◌, not, List, Option, Some, None, is_some, Result, Ok, Err, sym, ap, subst, ◌∙◌, arith}
 use Rattle.std.specs.Bool.{if◌then◌else◌}
 use Rattle.std.specs.List.{list_any}
 use Rattle.std.specs.Str.{bytes_eq}
@@ -50,22 +50,8 @@ module _ (at : CertError → List ℕ → Bool) (cause : CertError) (url : List 
   names_one first here' (Err culprit) (inl told) = inl (names_it first here' culprit told.0 told.1 told.2)
   names_one first here' (Err culprit) (inr refused) = inr refused
 
-names_none : (at : CertError → List ℕ → Bool) (result : Result (Unit {0}) Culprit) → NamesFirst None result → Names result None at
-names_none at (Ok x) none = refl
-names_none at (Err culprit) (inl told) = absurd (cc)
-names_none at (Err culprit) (inr refused) = inr refused
-
 named : (at : CertError → List ℕ → Bool) (a b c d e : Option (List ℕ)) (again : Bool) → IsLeast (at fault.SeedMissing) a → IsLeast (at fault.NotFetched) b → IsLeast (at fault.LinkMissing) c → IsLeast (at fault.Unfounded) d → (d ≡ None → IsLeast (at fault.Twice) e × (is_some e ≡ again)) → (result : Result (Unit {0}) Culprit) → NamesFirst (first_named a b c d e) result → Names result (first_of (is_some a) (is_some b) (is_some c) (is_some d) again) at
-named at (Some url) b c d e again p q r s t result told = names_one at fault.SeedMissing url p _ refl result told
-named at None (Some url) c d e again p q r s t result told = names_one at fault.NotFetched url q _ refl result told
-named at None None (Some url) d e again p q r s t result told = names_one at fault.LinkMissing url r _ refl result told
-named at None None None (Some url) e again p q r s t result told = names_one at fault.Unfounded url s _ refl result told
-named at None None None None (Some url) again p q r s t result told =
-    let last = t refl in
-    subst (λ x. Names result (first_of false false false false x) at) last.1 (names_one at fault.Twice url last.0 _ refl result told)
-named at None None None None None again p q r s t result told =
-    let last = t refl in
-    subst (λ x. Names result (first_of false false false false x) at) last.1 (names_none at result told)
+named at a b c d e again p q r s t result told = grind arith
 
 -- what a pass over the results found, and what was found of seeds and entries
 pub culprit_named : (allowed : List ℕ → Bool) (seeds : List (List ℕ)) (entries : List Entry) (results : List PageResult) (marks : Marks) → AreMarks allowed entries results marks → (seed fetched groundless : Option (List ℕ))
@@ -96,5 +82,4 @@ culprit_named allowed seeds entries results marks found seed fetched groundless 
 -- ---- the cause alone
 
 pub cause_told : (first : Option CertError) (at : CertError → List ℕ → Bool) (culprit : Culprit) (cause : CertError) → cause ≡ culprit.cause → IsCulprit first at culprit ⊎ (culprit ≡ no_memory) → IsRefusal fault.NoMemory (unless_fault first) cause
-cause_told first at culprit cause is (inl found) = inl (ap unless_fault found.cause ∙ ap Err (sym is))
-cause_told first at culprit cause is (inr refused) = inr (is ∙ ap (λ (c : Culprit). c.cause) refused)
+cause_told first at culprit cause is told = grind arith

@@ -18,9 +18,7 @@ Small bytes = AllBelowBase 256 bytes
 
 rises : (count : ℕ) (s t : List ℕ) (i j a b : ℕ) → Small (bytes_from s i count) → a < b → after a (bytes_from s i count) < after b (bytes_from t j count)
 rises zero s t i j a b small less = less
-rises (suc count) s t i j a b small less =
-    let byte : slice_index s i < 256 = small.0 in
-    rises count s t (suc i) (suc j) (a * 256 + slice_index s i) (b * 256 + slice_index t j) small.1 (omega arith)
+rises (suc count) s t i j a b small less = grind (arith, nat_tests, rises count, slice_index)
 
 -- the bytes of two texts are the same from an index on, up to one where that of the first is less
 record FirstLess (s t : List ℕ) (from : ℕ) : Type 0 where
@@ -57,28 +55,6 @@ less_somewhere (suc count) s t from n small_s small_t less = elim (cases_order (
       | inr (inr above) ↦ omega arith
     ]
 
-same_bytes : (count : ℕ) (s t : List ℕ) (from n : ℕ) → Small (bytes_from s from count) → Small (bytes_from t from count)
-    → after n (bytes_from s from count) ≡ after n (bytes_from t from count) → (k : ℕ) → from ≤ k → k < from + count → slice_index s k ≡ slice_index t k
-same_bytes zero s t from n small_s small_t same k least below = absurd (omega arith)
-same_bytes (suc count) s t from n small_s small_t same k least below = elim (cases_order (slice_index s from) (slice_index t from)) [
-  | inl first ↦
-      let rest = same_bytes count s t (suc from) (n * 256 + slice_index s from) small_s.1 small_t.1
-      (subst (λ v. after (n * 256 + slice_index s from) (bytes_from s (suc from) count) ≡ after (n * 256 + v) (bytes_from t (suc from) count)) (sym first) same) in
-      elim (cases_order k from) [
-        | inl here ↦ ap (slice_index s) here ∙ first ∙ ap (slice_index t) (sym here)
-        | inr (inl before) ↦ absurd (omega arith)
-        | inr (inr later) ↦ rest k (omega arith) (omega arith)
-      ]
-  | inr (inl less) ↦
-      let byte : slice_index s from < 256 = small_s.0 in
-      let more = rises count s t (suc from) (suc from) (n * 256 + slice_index s from) (n * 256 + slice_index t from) small_s.1 (omega arith) in
-      absurd (omega (arith, more, same))
-  | inr (inr above) ↦
-      let byte : slice_index t from < 256 = small_t.0 in
-      let more = rises count t s (suc from) (suc from) (n * 256 + slice_index t from) (n * 256 + slice_index s from) small_t.1 (omega arith) in
-      absurd (omega (arith, more, same))
-]
-
 -- ---- texts
 
 is_less : (x y : ℕ) → x < y → nat_cmp x y ≡ Less
@@ -106,7 +82,4 @@ less_number a b from m n alike one other less =
     ap is_lt (nat_list_cmp_total.antisymm b a ∙ ap ordering_reverse is)
 
 pub equal_number : (a b : List ℕ) (from m n : ℕ) → BeginAlike from a b → IsEight a from m → IsEight b from n → m ≡ n → BeginAlike (from + 8) a b
-equal_number a b from m n alike one other same = λ k below. elim (cases_lt k from) [
-  | inl early ↦ alike k early
-  | inr late ↦ same_bytes 8 a b from 0 one.bytes other.bytes (sym one.value ∙ same ∙ other.value) k late below
-]
+equal_number a b from m n alike one other same = grind arith

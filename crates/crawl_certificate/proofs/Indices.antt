@@ -1,5 +1,7 @@
 -- The index of a URL among the entries of all subqueues is by its index in its own.
-use Rattle.std.proofs.Common.{◌≡◌, ◌≢◌, inl, inr, ℕ, zero, suc, ◌+◌, ◌<◌, Bool, true, false, List, [], ◌∷◌, ◌++◌, length, take, get_or, slice_get, Option, Some, None, is_some, refl, sym, ap, subst, ◌∙◌, arith, length-append}
+use Rattle.std.proofs.Common.{◌≡◌, inl, inr, ℕ, zero, suc, ◌+◌, ◌<◌, Bool, true, List, [], ◌∷◌, ◌++◌, length, take, get_or, slice_get, Option, Some, None, is_some, refl, sym, ap, subst, ◌∙◌, arith, length-append}
+use Rattle.std.proofs.lemmas.Grind.{common_steps}
+use Rattle.std.proofs.lemmas.Bool.Decides.{nat_tests}
 use Rattle.std.specs.Bool.{if◌then◌else◌}
 use Rattle.std.specs.List.{Contains}
 use Rattle.std.specs.Option.{option_map}
@@ -28,24 +30,16 @@ use Rattle.crawl_certificate.proofs.Queues.{QueuesFrom, at_least, from_first}
 -- ---- numbers in options
 
 add_none : (o : Option ℕ) → o ≡ option_map (λ i. 0 + i) o
-add_none None = refl
-add_none (Some i) = let same : i ≡ 0 + i = omega arith in ap Some same
-
-add_next : (n : ℕ) (o : Option ℕ) → option_map suc (option_map (λ i. n + i) o) ≡ option_map (λ i. suc n + i) o
-add_next n None = refl
-add_next n (Some i) = let same : suc (n + i) ≡ suc n + i = omega arith in ap Some same
+add_none o = grind arith
 
 add_both : (a b c : ℕ) → c ≡ a + b → (o : Option ℕ) → option_map (λ i. a + i) (option_map (λ i. b + i) o) ≡ option_map (λ i. c + i) o
-add_both a b c is None = refl
-add_both a b c is (Some i) = let same : a + (b + i) ≡ c + i = omega (arith, is) in ap Some same
+add_both a b c is o = grind arith
 
 -- ---- a text's index in two lists, one after the other
 
 later_step : (b : Bool) (o whole rest : Option ℕ) (n : ℕ) → (if b then Some 0 else option_map suc o) ≡ None → (o ≡ None → whole ≡ option_map (λ i. n + i) rest)
     → (if b then Some 0 else option_map suc whole) ≡ option_map (λ i. suc n + i) rest
-later_step true o whole rest n none more = absurd (cc)
-later_step false None whole rest n none more = ap (option_map suc) (more refl) ∙ add_next n rest
-later_step false (Some k) whole rest n none more = absurd (cc)
+later_step b o whole rest n none more = grind arith
 
 -- where the first does not have it
 behind : (front back : List (List ℕ)) (key : List ℕ) → index_of front key ≡ None → index_of (front ++ back) key ≡ option_map (λ i. length front + i) (index_of back key)
@@ -94,10 +88,7 @@ in_queues subqueue n (es ∷ rest) from url (suc queue) own here at =
     ∙ add_both (length (entry_urls es)) (length before) (length (es ++ before)) long (index_of (entry_urls own) url)
 
 take_less : {X : Type 0} (n k : ℕ) (xs : List X) → k < n → take k (take n xs) ≡ take k xs
-take_less n zero xs below = refl
-take_less zero (suc k) xs below = absurd (omega (arith, below))
-take_less (suc n) (suc k) [] below = refl
-take_less (suc n) (suc k) (x ∷ xs) below = ap (λ ys. x ∷ ys) (take_less n k xs (omega (arith, below)))
+take_less n k xs below = grind (arith, nat_tests, common_steps)
 
 module _ (account : AccountId) (all : List Entry) (firsts : List ℕ) (are : AreLaidOut account all firsts) (url : List ℕ) (queue : ℕ) (own : queue ≡ subqueue_of url account.workers) (below : queue < account.workers) where
   abbrev before : ℕ
@@ -116,10 +107,7 @@ module _ (account : AccountId) (all : List Entry) (firsts : List ℕ) (are : Are
       ∙ ap (option_map (λ i. before + i)) (sym (told there.0 there.1))
 
 pub no_firsts : (queues : List (List Entry)) (firsts : List ℕ) → AreFirsts 0 queues firsts
-no_firsts queues firsts = λ queue below. absurd (nothing queue below)
-  where
-    nothing : (n : ℕ) → n < 0 → ⊥
-    nothing n below = omega (arith, below)
+no_firsts queues firsts = λ queue below. absurd (omega (arith, below))
 
 -- one more queue
 pub firsts_push : (n : ℕ) (queues : List (List Entry)) (firsts : List ℕ) (first : ℕ) (own : List Entry) → length firsts ≡ n → first ≡ length (entries_in (take n queues)) → slice_get queues n ≡ Some own
@@ -140,32 +128,11 @@ laid_apart account all firsts are = subst DifferByUrl (sym are.whole) (account_d
 
 -- entries of one URL stand at one index
 same_index : (entries : List Entry) → DifferByUrl entries → (i k : ℕ) (x e : Entry) → slice_get entries i ≡ Some x → slice_get entries k ≡ Some e → x.url ≡ e.url → i ≡ k
-same_index entries apart i k x e at_i at_k same =
-    let first : i < k → ⊥ = λ before. clash i k x e at_i at_k same before in
-    let second : k < i → ⊥ = λ before. clash k i e x at_k at_i (sym same) before in
-    elim (cases_lt i k) [
-      | inl before ↦ absurd (first before)
-      | inr behind' ↦ elim (cases_lt k i) [
-        | inl before ↦ absurd (second before)
-        | inr there ↦ omega (arith, behind', there)
-      ]
-    ]
-  where
-    clash : (i k : ℕ) (x e : Entry) → slice_get entries i ≡ Some x → slice_get entries k ≡ Some e → x.url ≡ e.url → i < k → ⊥
-    clash i k x e at_i at_k same before =
-        let differs = apart i k x before (slice_get_within entries k e at_k) in
-        let near = get_or_from_slice_get entries i x x at_i in
-        let far = get_or_from_slice_get entries k e x at_k in
-        let P : Entry → Type 0 = λ z. z.url ≢ (get_or entries k x).url in
-        let Q : Entry → Type 0 = λ z. x.url ≢ z.url in
-        subst Q far (subst P near differs) same
+same_index entries apart i k x e at_i at_k same = grind (arith, cases_lt, slice_get_within, get_or_from_slice_get)
 
 -- an entry is found by its URL
 finds_entry : (entries : List Entry) → DifferByUrl entries → (url : List ℕ) (k : ℕ) (e : Entry) → slice_get entries k ≡ Some e → e.url ≡ url → Finds entries url (Some k)
-finds_entry entries apart url k e at is = (
-  (e, at, is),
-  λ i x here same. same_index entries apart i k x e here at (sym (same_text url x.url same) ∙ sym is),
-)
+finds_entry entries apart url k e at is = grind (arith, same_index, same_text)
 
 finds_of : (entries : List Entry) → DifferByUrl entries → (url : List ℕ) (o : Option ℕ) → index_of (entry_urls entries) url ≡ o → Finds entries url o
 finds_of entries apart url None found = λ k e at. false_from_ne_true _ (λ same. absent_at (entry_urls entries) url found k (url_at entries k e at ∙ ap Some (sym (same_text url e.url same))))

@@ -1,9 +1,10 @@
 -- The lists of an account are subqueues: by their rule no URL stands there twice, and each belongs there.
-use Rattle.std.proofs.Common.{◌≡◌, inl, inr, ℕ, zero, suc, ◌+◌, ◌<◌, false, List, [], ◌∷◌, ◌++◌, take, slice_get, Some, refl, sym, ap, subst, ◌∙◌, arith}
+use Rattle.std.proofs.Common.{◌≡◌, ℕ, zero, suc, ◌+◌, ◌<◌, false, List, [], ◌∷◌, ◌++◌, take, refl, arith}
+use Rattle.std.proofs.lemmas.Bool.Decides.{nat_tests}
 use Rattle.std.specs.List.{AllByRecursion, IsDistinct}
 use Rattle.std.specs.List.Sorted.{IsPermutation}
 use Rattle.std.specs.Str.{bytes_eq}
-use Rattle.std.proofs.lemmas.Bool.{or_parts, or_from, cases_lt}
+use Rattle.std.proofs.lemmas.Bool.{or_parts, or_from}
 use Rattle.std.proofs.lemmas.List.Elements.{All-from_recursion}
 use Rattle.crawl_keys.specs.Assignment.{subqueue_of}
 use Rattle.crawl_frontier.specs.declared.entry.Entry.{Entry}
@@ -19,15 +20,11 @@ use Rattle.crawl_certificate.proofs.Queues.{differ_from, queues_differ, queue_co
 -- a URL that is not in the whole is not in its front
 not_in_front : (url : List ℕ) (xs ys : List Entry) → has_url url (xs ++ ys) ≡ false → has_url url xs ≡ false
 not_in_front url [] ys none = refl
-not_in_front url (x ∷ xs) ys none =
-    let parts = or_parts (bytes_eq x.url url) (has_url url (xs ++ ys)) none in
-    or_from (bytes_eq x.url url) (has_url url xs) parts.0 (not_in_front url xs ys parts.1)
+not_in_front url (x ∷ xs) ys none = grind (arith, nat_tests, not_in_front url xs, or_parts, or_from)
 
 not_the_last : (url : List ℕ) (xs : List Entry) (e : Entry) → has_url url (xs ++ e ∷ []) ≡ false → bytes_eq e.url url ≡ false
 not_the_last url [] e none = let parts = or_parts (bytes_eq e.url url) false none in parts.0
-not_the_last url (x ∷ xs) e none =
-    let parts = or_parts (bytes_eq x.url url) (has_url url (xs ++ e ∷ [])) none in
-    not_the_last url xs e parts.1
+not_the_last url (x ∷ xs) e none = grind (arith, nat_tests, not_the_last url xs, or_parts)
 
 -- an entry that stands before these, as `knows` says, has another URL than each of them
 earlier_differs : (workers place : ℕ) (before es : List Entry) (x : Entry) → ((url : List ℕ) → has_url url before ≡ false → bytes_eq x.url url ≡ false) → KeepsRule workers place before es → AllByRecursion (λ url. bytes_eq x.url url ≡ false) (entry_urls es)
@@ -67,23 +64,10 @@ abbrev pub KeptBelow : ℕ → AccountId → Type 0
 KeptBelow n account = (queue : ℕ) (es : List Entry) → queue < n → At account.queues queue es → KeepsRule account.workers queue [] es
 
 pub none_kept : (account : AccountId) → KeptBelow 0 account
-none_kept account = λ queue es below at. absurd (nothing_below queue below)
-  where
-    nothing_below : (n : ℕ) → n < 0 → ⊥
-    nothing_below n below = omega (arith, below)
-
-same_element : {X : Type 0} (a b : X) → Some a ≡ Some b → a ≡ b
-same_element a b same = cc
+none_kept account = λ queue es below at. absurd (omega (arith, below))
 
 pub one_more_kept : (n : ℕ) (account : AccountId) (own : List Entry) → KeptBelow n account → At account.queues n own → KeepsRule account.workers n [] own → KeptBelow (n + 1) account
-one_more_kept n account own kept here keeps = λ queue es below at. elim (cases_lt queue n) [
-  | inl before ↦ kept queue es before at
-  | inr not_before ↦
-      let last : queue ≡ n = omega (arith, below, not_before) in
-      let Q : ℕ → Type 0 = λ k. KeepsRule account.workers k [] own in
-      let same : own ≡ es = same_element own es (sym here ∙ ap (slice_get account.queues) (sym last) ∙ at) in
-      subst (λ xs. KeepsRule account.workers queue [] xs) same (subst Q (sym last) keeps)
-]
+one_more_kept n account own kept here keeps = grind arith
 
 -- so where those of all subqueues do, they are the subqueues of their URLs, and no two entries have one URL
 pub account_queues : (account : AccountId) → KeptBelow account.workers account → AreQueues (λ url. subqueue_of url account.workers) (take account.workers account.queues)
@@ -97,10 +81,7 @@ account_differs account are = queues_differ (λ url. subqueue_of url account.wor
 -- ---- counts
 
 pub at_whole : {X : Type 0} (n : ℕ) (xs : List X) (k : ℕ) (x : X) → k < n → At xs k x → At (take n xs) k x
-at_whole zero xs k x below at = absurd (nothing k below)
-  where
-    nothing : (k : ℕ) → k < 0 → ⊥
-    nothing k below = omega (arith, below)
+at_whole zero xs k x below at = grind (arith, nat_tests)
 at_whole (suc n) [] k x below at = absurd (cc)
 at_whole (suc n) (y ∷ ys) zero x below at = at
 at_whole (suc n) (y ∷ ys) (suc k) x below at = at_whole n ys k x (omega (arith, below)) at

@@ -1,5 +1,7 @@
 -- The least text that passes a test, and how two such are put together.
-use Rattle.std.proofs.Common.{◌≡◌, ◌⊎◌, inl, inr, ℕ, ◌+◌, ◌<◌, ◌≤◌, Bool, true, false, ◌||◌, ◌&&◌, List, [], ◌∷◌, ◌++◌, length, take, get_or, Option, Some, None, is_some, refl, sym, ap, subst, ◌∙◌}
+use Rattle.std.proofs.Common.{◌≡◌, inl, inr, ℕ, ◌+◌, ◌<◌, ◌≤◌, Bool, true, false, ◌||◌, ◌&&◌, List, [], ◌∷◌, ◌++◌, length, take, get_or, Option, Some, None, is_some, refl, sym, ap, subst, ◌∙◌, arith}
+use Rattle.std.proofs.lemmas.Grind.{common_steps}
+use Rattle.std.proofs.lemmas.Bool.Decides.{nat_tests}
 use Rattle.std.specs.Borrow.{Bor}
 use Rattle.std.specs.Bool.{if◌then◌else◌}
 use Rattle.std.specs.Cmp.{IsStrictWeakOrder}
@@ -19,7 +21,7 @@ use Rattle.crawl_frontier.specs.declared.entry.Entry.{Entry}
 use Rattle.crawl_certificate.specs.Least.{is_below, IsLeast, url_if, lesser}
 use Rattle.crawl_certificate.specs.Lookups.{pointed}
 use Rattle.crawl_certificate.proofs.Lists.{some_has, any_from, same_text, text_itself}
-use Rattle.crawl_certificate.proofs.Places.{any_push}
+use Rattle.crawl_certificate.proofs.Places.{any_push, or_false}
 
 -- ---- the order
 
@@ -41,17 +43,10 @@ neither_below a b p q = by (slice_cmp nat_cmp a b) refl
 -- ---- tests
 
 pub same_bool : (a b : Bool) → (a ≡ true → b ≡ true) → (b ≡ true → a ≡ true) → a ≡ b
-same_bool true b there' back = sym (there' refl)
-same_bool false b there' back = sym (false_from_ne_true b (λ yes. both_ways false refl (back yes)))
+same_bool a b there' back = grind arith
 
 or_and : (a b c : Bool) → ((a && c) || (b && c)) ≡ ((a || b) && c)
-or_and true b true = refl
-or_and true b false = and_false b
-  where
-    and_false : (b : Bool) → (b && false) ≡ false
-    and_false true = refl
-    and_false false = refl
-or_and false b c = refl
+or_and a b c = grind arith
 
 -- the same test in other words
 pub by_test : (p q : List ℕ → Bool) (told : Option (List ℕ)) → ((text : List ℕ) → p text ≡ q text) → IsLeast p told → IsLeast q told
@@ -61,83 +56,30 @@ by_test p q told same is = subst (λ t. IsLeast t told) (λ i text. same text i)
 
 -- a text alone, where it passes the test
 pub only_one : (text : List ℕ) (test : List ℕ → Bool) → IsLeast (λ t. bytes_eq text t && test t) (url_if (test text) text)
-only_one text test = by (test text) refl
-  where
-    by : (b : Bool) → test text ≡ b → IsLeast (λ t. bytes_eq text t && test t) (url_if b text)
-    by true is = (
-      and_from _ _ (text_itself text) is,
-      λ t passes.
-          let parts = and_parts (bytes_eq text t) (test t) passes in
-          subst (λ u. is_below u text ≡ false) (same_text text t parts.0) (not_below_itself text),
-    )
-    by false is = λ t. false_from_ne_true _ (λ passes.
-        let parts = and_parts (bytes_eq text t) (test t) passes in
-        both_ways _ is (subst (λ u. test u ≡ true) (sym (same_text text t parts.0)) parts.1))
+only_one text test = grind (arith, and_from, text_itself, and_parts, same_text, not_below_itself, false_from_ne_true, both_ways)
 
 two_least : (p q : List ℕ → Bool) (a b : List ℕ) → IsLeast p (Some a) → IsLeast q (Some b) → (below : Bool) → is_below b a ≡ below → IsLeast (λ t. p t || q t) (Some (if below then b else a))
-two_least p q a b of_a of_b true is = (
-  or_right _ _ of_b.0,
-  λ t passes. elim (or_cases (p t) (q t) passes) [
-    | inl first ↦ ranks.chain t a b (of_a.1 t first) (ranks.one_way b a is)
-    | inr second ↦ of_b.1 t second
-  ],
-)
-two_least p q a b of_a of_b false is = (
-  or_left _ _ of_a.0,
-  λ t passes. elim (or_cases (p t) (q t) passes) [
-    | inl first ↦ of_a.1 t first
-    | inr second ↦ ranks.chain t b a (of_b.1 t second) is
-  ],
-)
+two_least p q a b of_a of_b below is = grind (arith, or_right, or_cases, ranks, or_left)
 
 -- the least of what passes one of two tests is the lesser of the two least
 pub least_of_both : (p q : List ℕ → Bool) (a b : Option (List ℕ)) → IsLeast p a → IsLeast q b → IsLeast (λ t. p t || q t) (lesser a b)
-least_of_both p q None None of_a of_b = λ t. or_from (p t) (q t) (of_a t) (of_b t)
-least_of_both p q (Some a) None of_a of_b = (
-  or_left _ _ of_a.0,
-  λ t passes. elim (or_cases (p t) (q t) passes) [
-    | inl first ↦ of_a.1 t first
-    | inr second ↦ absurd (both_ways _ (of_b t) second)
-  ],
-)
-least_of_both p q None (Some b) of_a of_b = (
-  or_right _ _ of_b.0,
-  λ t passes. elim (or_cases (p t) (q t) passes) [
-    | inl first ↦ absurd (both_ways _ (of_a t) first)
-    | inr second ↦ of_b.1 t second
-  ],
-)
-least_of_both p q (Some a) (Some b) of_a of_b = two_least p q a b of_a of_b (is_below b a) refl
+least_of_both p q a b of_a of_b = grind (arith, or_from, or_left, or_cases, both_ways, or_right, two_least)
 
 pub lesser_none : (a b : Option (List ℕ)) → lesser a b ≡ None → (a ≡ None) × (b ≡ None)
-lesser_none None None none = (refl, refl)
-lesser_none (Some a) None none = absurd (cc)
-lesser_none None (Some b) none = absurd (cc)
-lesser_none (Some a) (Some b) none = absurd (cc)
+lesser_none a b none = grind arith
 
 pub some_lesser : (a b : Option (List ℕ)) → is_some (lesser a b) ≡ (is_some a || is_some b)
-some_lesser None None = refl
-some_lesser (Some a) None = refl
-some_lesser None (Some b) = refl
-some_lesser (Some a) (Some b) = refl
+some_lesser a b = grind arith
 
 -- ---- lists
 
 -- one more element, each of which is at fault with some texts
 pub least_push : {X : Type 0} (at : X → List ℕ → Bool) (xs : List X) (x : X) (told one : Option (List ℕ)) → IsLeast (λ t. list_any (λ y. at y t) xs) told → IsLeast (at x) one → IsLeast (λ t. list_any (λ y. at y t) (xs ++ x ∷ [])) (lesser told one)
-least_push at xs x told one before now =
-    by_test _ _ (lesser told one) (λ t. sym (any_push (λ y. at y t) xs x)) (least_of_both (λ t. list_any (λ y. at y t) xs) (at x) told one before now)
+least_push at xs x told one before now = grind (arith, by_test, any_push, least_of_both)
 
 -- the same, of texts that pass a test besides
 pub least_append : {X : Type 0} (at : X → List ℕ → Bool) (bad : List ℕ → Bool) (xs ys : List X) (told one : Option (List ℕ)) → IsLeast (λ t. list_any (λ y. at y t) xs && bad t) told → IsLeast (λ t. list_any (λ y. at y t) ys && bad t) one → IsLeast (λ t. list_any (λ y. at y t) (xs ++ ys) && bad t) (lesser told one)
-least_append at bad xs ys told one before now =
-    by_test _ _ (lesser told one)
-    (λ t. or_and (list_any (λ y. at y t) xs) (list_any (λ y. at y t) ys) (bad t) ∙ ap (λ b. b && bad t) (sym (list_any-append (λ y. at y t) xs ys)))
-    (least_of_both (λ t. list_any (λ y. at y t) xs && bad t) (λ t. list_any (λ y. at y t) ys && bad t) told one before now)
-
-or_false : (b : Bool) → (b || false) ≡ b
-or_false true = refl
-or_false false = refl
+least_append at bad xs ys told one before now = grind (arith, by_test, or_and, list_any-append, least_of_both)
 
 pub least_more : {X : Type 0} (at : X → List ℕ → Bool) (bad : List ℕ → Bool) (xs : List X) (x : X) (told one : Option (List ℕ)) → IsLeast (λ t. list_any (λ y. at y t) xs && bad t) told → IsLeast (λ t. at x t && bad t) one → IsLeast (λ t. list_any (λ y. at y t) (xs ++ x ∷ []) && bad t) (lesser told one)
 least_more at bad xs x told one before now =
@@ -146,20 +88,13 @@ least_more at bad xs x told one before now =
 -- the URLs of elements that pass a test are those that pass it themselves
 pub at_urls : {X : Type 0} (url : X → List ℕ) (test : List ℕ → Bool) (xs : List X) (text : List ℕ) → list_any (λ x. bytes_eq (url x) text && test (url x)) xs ≡ (list_any (λ x. bytes_eq (url x) text) xs && test text)
 at_urls url test [] text = refl
-at_urls url test (x ∷ xs) text =
-    (λ i. here' (cases_Bool (bytes_eq (url x) text)) i || at_urls url test xs text i)
-    ∙ or_and (bytes_eq (url x) text) (list_any (λ y. bytes_eq (url y) text) xs) (test text)
-  where
-    here' : (bytes_eq (url x) text ≡ true) ⊎ (bytes_eq (url x) text ≡ false) → (bytes_eq (url x) text && test (url x)) ≡ (bytes_eq (url x) text && test text)
-    here' (inl same) = ap (λ u. bytes_eq (url x) text && test u) (same_text (url x) text same)
-    here' (inr other) = ap (λ b. b && test (url x)) other ∙ sym (ap (λ b. b && test text) other)
+at_urls url test (x ∷ xs) text = grind (arith, nat_tests, at_urls url test xs, cases_Bool, or_and, same_text)
 
 -- ---- whether there is one
 
 -- there is one exactly where something is the case that goes with it
 pub some_least : (holds : Bool) (test : List ℕ → Bool) (told : Option (List ℕ)) → IsLeast test told → (holds ≡ true → (t : List ℕ) × (test t ≡ true)) → ((t : List ℕ) → test t ≡ true → holds ≡ true) → is_some told ≡ holds
-some_least holds test None is found back = sym (false_from_ne_true holds (λ yes. let t = found yes in both_ways _ (is t.0) t.1))
-some_least holds test (Some least) is found back = sym (back least is.0)
+some_least holds test told is found back = grind arith
 
 -- elements whose own URL is at fault
 pub urls_at : {X : Type 0} (url : X → List ℕ) (bad : List ℕ → Bool) (xs : List X) (t : List ℕ) → (list_any (λ x. bytes_eq (url x) t) xs && bad t) ≡ true → list_any (λ x. bad (url x)) xs ≡ true
@@ -169,18 +104,11 @@ urls_at url bad xs t passes =
     any_from (λ y. bad (url y)) xs x.0 x.1 (subst (λ u. bad u ≡ true) (sym (same_text (url x.0) t x.2)) parts.1)
 
 pub some_of_urls : {X : Type 0} (url : X → List ℕ) (bad : List ℕ → Bool) (xs : List X) (told : Option (List ℕ)) → IsLeast (λ t. list_any (λ x. bytes_eq (url x) t) xs && bad t) told → is_some told ≡ list_any (λ x. bad (url x)) xs
-some_of_urls url bad xs told is =
-    some_least (list_any (λ x. bad (url x)) xs) (λ t. list_any (λ x. bytes_eq (url x) t) xs && bad t) told is
-    (λ yes.
-    let x = some_has (λ y. bad (url y)) xs yes in
-    (url x.0, and_from _ _ (any_from (λ y. bytes_eq (url y) (url x.0)) xs x.0 x.1 (text_itself (url x.0))) x.2))
-    (urls_at url bad xs)
+some_of_urls url bad xs told is = grind (arith, nat_tests, common_steps, some_least, some_has, and_from, any_from, text_itself, urls_at)
 
 -- elements that are at fault themselves
 pub elements_at : {X : Type 0} (url : X → List ℕ) (bad : X → Bool) (xs : List X) (t : List ℕ) → list_any (λ x. bytes_eq (url x) t && bad x) xs ≡ true → list_any bad xs ≡ true
-elements_at url bad xs t passes =
-    let x = some_has (λ y. bytes_eq (url y) t && bad y) xs passes in
-    any_from bad xs x.0 x.1 (and_parts (bytes_eq (url x.0) t) (bad x.0) x.2).1
+elements_at url bad xs t passes = grind (arith, nat_tests, common_steps, some_has, any_from, and_parts)
 
 pub some_of_elements : {X : Type 0} (url : X → List ℕ) (bad : X → Bool) (xs : List X) (told : Option (List ℕ)) → IsLeast (λ t. list_any (λ x. bytes_eq (url x) t && bad x) xs) told → is_some told ≡ list_any bad xs
 some_of_elements url bad xs told is =

@@ -1,5 +1,5 @@
 -- A run that lost nothing has none of the first three faults.
-use Rattle.std.proofs.Common.{◌≡◌, inl, inr, ℕ, Bool, true, false, ◌&&◌, not, IsTrue, List, subst}
+use Rattle.std.proofs.Common.{◌≡◌, ℕ, Bool, true, false, not, List, subst, arith}
 use Rattle.std.specs.List.{Contains}
 use Rattle.std.proofs.lemmas.Bool.{and_right, not_from_true, and_left, cases_Bool}
 use Rattle.std.proofs.lemmas.List.Elements.{All-weaker}
@@ -23,14 +23,7 @@ result_in results url has =
     subst (λ u. has_result results u ≡ true) r.2 (any_from _ results r.0 r.1 (text_itself r.0.url))
 
 none_missing : (allowed : List ℕ → Bool) (entries : List Entry) (urls : List (List ℕ)) → AllowedAreIn allowed (entry_urls entries) urls → some_missing allowed (is_accepted entries) urls ≡ false
-none_missing allowed entries urls all =
-    list_any_none (λ u. allowed u && not (is_accepted entries u)) urls
-    (All-weaker (λ u. IsTrue (allowed u) → Contains (entry_urls entries) u) (λ u. (allowed u && not (is_accepted entries u)) ≡ false)
-    (λ u among. elim (cases_Bool (allowed u)) [
-      | inl allows ↦ and_right (allowed u) _ (not_from_true _ (accepted_in entries u (among allows)))
-      | inr refused ↦ and_left (allowed u) _ refused
-    ])
-    urls all)
+none_missing allowed entries urls all = grind (arith, list_any_none, All-weaker, cases_Bool, and_right, not_from_true, accepted_in, and_left)
 
 pub nothing_lost : (allowed : List ℕ → Bool) (seeds : List (List ℕ)) (entries : List Entry) (results : List PageResult) → NothingLost allowed seeds entries results → (seed_missing allowed seeds entries ≡ false) × (not_fetched entries results ≡ false) × (link_missing allowed entries results ≡ false)
 nothing_lost allowed seeds entries results kept = (

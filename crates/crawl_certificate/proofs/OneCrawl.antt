@@ -1,5 +1,6 @@
 -- The pages of a whole crawl are one list.
-use Rattle.std.proofs.Common.{◌≡◌, inl, inr, ℕ, zero, suc, Bool, List, [], ◌∷◌, map, refl, sym, ap, subst, ◌∙◌, suc-le-suc, zero-le}
+use Rattle.std.proofs.Common.{◌≡◌, inl, inr, ℕ, zero, suc, Bool, List, [], ◌∷◌, map, refl, sym, ap, subst, ◌∙◌, suc-le-suc, zero-le, arith}
+use Rattle.std.proofs.lemmas.Bool.Decides.{nat_tests}
 use Rattle.std.specs.Cmp.Lexicographic.{slice_cmp, nat_list_cmp_total}
 use Rattle.std.specs.Ordering.{nat_cmp, ordering_reverse}
 use Rattle.std.specs.declared.cmp.Ordering.TheVariants.{Less, Greater}
@@ -50,9 +51,7 @@ one_ascending (x ∷ xs) (y ∷ ys) p q there' back' =
 -- a list of results is its URLs with the page of each
 pub results_from_urls : (meaning : List ℕ → Page) (results : List PageResult) → AllByRecursion (λ r. r.page ≡ meaning r.url) results → results ≡ map (λ url. record { url = url; page = meaning url }) (result_urls results)
 results_from_urls meaning [] means = refl
-results_from_urls meaning (r ∷ rs) means =
-    let P : Page → PageResult = λ p. record { url = r.url; page = p } in
-    ap (λ p. P p ∷ rs) means.0 ∙ ap (λ zs. P (meaning r.url) ∷ zs) (results_from_urls meaning rs means.1)
+results_from_urls meaning (r ∷ rs) means = grind (arith, nat_tests, results_from_urls meaning rs)
 
 pub one_crawl : (meaning : List ℕ → Page) (allowed : List ℕ → Bool) (seeds : List (List ℕ)) (pages others : List PageResult) → IsCrawl meaning allowed seeds pages → IsCrawl meaning allowed seeds others → pages ≡ others
 one_crawl meaning allowed seeds pages others own other =

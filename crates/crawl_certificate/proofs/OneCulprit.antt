@@ -1,5 +1,5 @@
 -- What follows of culprits from their definition.
-use Rattle.std.proofs.Common.{◌≡◌, ℕ, Bool, not, List, Option, Some, sym, ap, subst, ◌∙◌}
+use Rattle.std.proofs.Common.{◌≡◌, ℕ, Bool, not, List, Option, arith}
 use Rattle.std.proofs.lemmas.Bool.{both_ways, false_from_ne_true, or_parts, or_from}
 use Rattle.crawl_frontier.specs.declared.entry.Entry.{Entry}
 use Rattle.crawl_web.specs.declared.page.PageResult.{PageResult}
@@ -8,19 +8,12 @@ use Rattle.crawl_certificate.specs.declared.error.CertError.{CertError}
 use Rattle.crawl_certificate.specs.declared.culprit.Culprit.{Culprit}
 use Rattle.crawl_certificate.specs.CertFaults.{is_accepted, has_result, is_founded}
 use Rattle.crawl_certificate.specs.Culprits.{is_lost, HasNoneAt, IsCulprit}
-use Rattle.crawl_certificate.specs.Least.{IsLeast}
 use Rattle.crawl_certificate.proofs.LeastUrls.{neither_below, urls_at, elements_at, lists_at}
 use Rattle.crawl_certificate.proofs.Twice.{url_is_twice}
 
 -- a fault has one culprit
 pub one_culprit : (first : Option CertError) (at : CertError → List ℕ → Bool) (culprit other : Culprit) → IsCulprit first at culprit → IsCulprit first at other → culprit ≡ other
-one_culprit first at culprit other k m =
-    let both : ◌≡◌ {A = Option CertError} (Some culprit.cause) (Some other.cause) = sym k.cause ∙ m.cause in
-    let cause' : culprit.cause ≡ other.cause = cc in
-    let its : IsLeast (at culprit.cause) (Some m.url) = subst (λ c. IsLeast (at c) (Some m.url)) (sym cause') m.least in
-    let url' : k.url ≡ m.url = neither_below k.url m.url (its.1 k.url k.least.0) (k.least.1 m.url its.0) in
-    let named' = k.named ∙ ap Some url' ∙ sym m.named in
-    λ i. (let c : Culprit = record { cause = cause' i; url = named' i } in c)
+one_culprit first at culprit other k m = grind (arith, neither_below)
 
 -- where a run has not a fault, no URL is at fault
 pub none_at : (allowed : List ℕ → Bool) (seeds : List (List ℕ)) (entries : List Entry) (results : List PageResult) → HasNoneAt allowed seeds entries results

@@ -1,5 +1,7 @@
 -- What is known while entries, seeds and results are looked up.
-use Rattle.std.proofs.Common.{◌≡◌, ◌⊎◌, inl, inr, ℕ, zero, suc, ◌+◌, ◌<◌, ◌==◌, Bool, true, false, ◌||◌, ◌&&◌, cond, List, [], ◌∷◌, ◌++◌, length, map, take, replicate, get_or, set, slice_get, Option, Some, None, refl, sym, ap, subst, ◌∙◌, arith}
+use Rattle.std.proofs.Common.{◌≡◌, inl, inr, ℕ, zero, suc, ◌+◌, ◌<◌, ◌==◌, Bool, true, false, ◌||◌, ◌&&◌, cond, List, [], ◌∷◌, ◌++◌, length, map, take, replicate, get_or, set, slice_get, Some, None, refl, sym, ap, subst, ◌∙◌, arith}
+use Rattle.std.proofs.lemmas.Grind.{common_steps}
+use Rattle.std.proofs.lemmas.Bool.Decides.{nat_tests}
 use Rattle.std.specs.Borrow.{Bor}
 use Rattle.std.specs.BTreeSet as sorted
 use Rattle.hash_order.specs.HashOrder.{by_hash, by_hash_ties}
@@ -11,6 +13,7 @@ use Rattle.std.proofs.lemmas.List.{get_or-map}
 use Rattle.std.proofs.Math.Seq.{take-append_seam}
 use Rattle.std.proofs.lemmas.List.Folds.{list_any-append}
 use Rattle.crawl_frontier.specs.declared.entry.Entry.{Entry}
+use Rattle.crawl_frontier.proofs.Gets.{same_at}
 use Rattle.crawl_web.specs.declared.page.PageResult.{PageResult}
 use Rattle.crawl_certificate.specs.CertFaults.{has_result, stands_in, is_behind, is_linked}
 use Rattle.crawl_web.specs.Pages.{links_of}
@@ -19,9 +22,8 @@ use Rattle.crawl_certificate.proofs.Lists.{no_element, first_or_later, some_has,
 
 -- ---- lists
 
-or_false : (b : Bool) → (b || false) ≡ b
-or_false true = refl
-or_false false = refl
+pub or_false : (b : Bool) → (b || false) ≡ b
+or_false b = grind arith
 
 -- one more element to look at
 pub any_push : {X : Type 0} (p : X → Bool) (xs : List X) (x : X) → list_any p (xs ++ x ∷ []) ≡ (list_any p xs || p x)
@@ -56,25 +58,17 @@ get_last (z ∷ zs) y = get_last zs y
 
 -- what a reference at a place points to
 pub get_pointed : {X : Type 0} (xs : List (Bor X)) (k : ℕ) (d : Bor X) → get_or (pointed xs) k d.now ≡ (get_or xs k d).now
-get_pointed [] k d = refl
-get_pointed (y ∷ ys) zero d = refl
-get_pointed (y ∷ ys) (suc k) d = get_pointed ys k d
+get_pointed xs k d = grind (arith, nat_tests, common_steps)
 
 pub read_pointed : {X : Type 0} (xs : List (Bor X)) (k : ℕ) (x : Bor X) → x ≡ get_or xs k x → get_or (pointed xs) k x.now ≡ x.now
 read_pointed xs k x is = get_pointed xs k x ∙ ap (λ (y : Bor _). y.now) (sym is)
 
 pub length_pointed : {X : Type 0} (xs : List (Bor X)) → length (pointed xs) ≡ length xs
-length_pointed [] = refl
-length_pointed (x ∷ xs) = ap suc (length_pointed xs)
+length_pointed xs = grind (arith, nat_tests, common_steps)
 
 -- the mark of an entry
 pub mark_of : {X : Type 0} (linked : X → Bool) (xs : List (Bor X)) (marks : List Bool) (k : ℕ) (x : Bor X) (d : Bool) → marks ≡ map linked (pointed xs) → k < length xs → x ≡ get_or xs k x → get_or marks k d ≡ linked x.now
-mark_of linked xs marks k x d is below at = ap (λ ms. get_or ms k d) is ∙ by_place linked (pointed xs) k x.now d (omega (arith, length_pointed xs)) ∙ ap linked (read_pointed xs k x at)
-  where
-    by_place : {X : Type 0} (linked : X → Bool) (xs : List X) (k : ℕ) (x : X) (d : Bool) → k < length xs → get_or (map linked xs) k d ≡ linked (get_or xs k x)
-    by_place linked [] k x d below = absurd (omega arith)
-    by_place linked (y ∷ ys) zero x d below = refl
-    by_place linked (y ∷ ys) (suc k) x d below = by_place linked ys k x d (omega (arith, below))
+mark_of linked xs marks k x d is below at = ap (λ ms. get_or ms k d) is ∙ get_or-map linked (pointed xs) k x.now d (omega (arith, length_pointed xs)) ∙ ap linked (read_pointed xs k x at)
 
 pub none_marked : {X : Type 0} (xs : List X) → map (λ _. false) xs ≡ replicate (length xs) false
 none_marked [] = refl
@@ -97,10 +91,7 @@ set_put old new key updates url =
 
 -- the entry at the index that was found has the URL
 own_url : (entries : List Entry) (url : List ℕ) (k : ℕ) → Finds entries url (Some k) → (e : Entry) → slice_get entries k ≡ Some e → e.url ≡ url
-own_url entries url k found e at =
-    let both : Some found.0.0 ≡ Some e = sym found.0.1 ∙ at in
-    let same : found.0.0 ≡ e = cc in
-    sym (ap (λ (z : Entry). z.url) same) ∙ found.0.2
+own_url entries url k found e at = grind arith
 
 found_eq : (entries : List Entry) (url : List ℕ) (k : ℕ) → Finds entries url (Some k) → (e : Entry) → slice_get entries k ≡ Some e → bytes_eq url e.url ≡ true
 found_eq entries url k found e at = subst (λ u. bytes_eq url u ≡ true) (sym (own_url entries url k found e at)) (text_itself url)
@@ -110,10 +101,6 @@ other_eq entries url k found i e at differs = false_from_ne_true _ (λ same. dif
 
 pub found_within : (entries : List Entry) (url : List ℕ) (k : ℕ) → Finds entries url (Some k) → k < length entries
 found_within entries url k found = slice_get_within entries k found.0.0 found.0.1
-
-same_entry : {X : Type 0} (o : Option X) (x y : X) → o ≡ Some x → o ≡ Some y → x ≡ y
-same_entry o x y p q =
-    let both : Some x ≡ Some y = sym p ∙ q in cc
 
 -- ---- marks
 
@@ -130,55 +117,30 @@ set_agrees f g (x ∷ xs) (suc k) v at others =
     ∙ ap (λ ys. g x ∷ ys) (set_agrees f g xs k v at (λ i z here' differs. others (suc i) z here' (λ e. differs (omega (arith, e)))))
 
 or_none : (a b c : Bool) → b ≡ false → a ≡ (a || (b && c))
-or_none true b c h = refl
-or_none false true c h = absurd (cc)
-or_none false false c h = refl
+or_none a b c h = grind arith
 
 or_none_last : (a b c : Bool) → c ≡ false → a ≡ (a || (b && c))
-or_none_last true b c h = refl
-or_none_last false true c h = sym h
-or_none_last false false c h = refl
+or_none_last a b c h = grind arith
 
 or_both : (a b c : Bool) → b ≡ true → c ≡ true → true ≡ (a || (b && c))
-or_both true b c p q = refl
-or_both false b c p q = sym (and_from b c p q)
+or_both a b c p q = grind arith
 
 -- what is known of the entries after the one with this URL was marked, if it passes the test
 pub marked : (entries : List Entry) (url : List ℕ) (k : ℕ) → Finds entries url (Some k) → (known test : Entry → Bool) (e : Entry) → slice_get entries k ≡ Some e → test e ≡ true → set (map known entries) k true ≡ map (λ e. known e || (bytes_eq url e.url && test e)) entries
-marked entries url k found known test e at passes =
-    set_agrees known (λ x. known x || (bytes_eq url x.url && test x)) entries k true
-    (λ x here'. or_both (known x) (bytes_eq url x.url) (test x) (found_eq entries url k found x here') (subst (λ z. test z ≡ true) (same_entry (slice_get entries k) e x at here') passes))
-    (λ i x here' differs. or_none (known x) (bytes_eq url x.url) (test x) (other_eq entries url k found i x here' differs))
+marked entries url k found known test e at passes = grind (arith, set_agrees, or_both, found_eq, same_at, or_none, other_eq)
 
 pub unmarked : (entries : List Entry) (url : List ℕ) (k : ℕ) → Finds entries url (Some k) → (known test : Entry → Bool) (e : Entry) → slice_get entries k ≡ Some e → test e ≡ false → map known entries ≡ map (λ e. known e || (bytes_eq url e.url && test e)) entries
-unmarked entries url k found known test e at fails =
-    maps_agree known (λ x. known x || (bytes_eq url x.url && test x)) entries
-    (λ i x here'. elim (cases_Bool (bytes_eq url x.url)) [
-      | inl same ↦
-          let there : slice_get entries k ≡ Some x = subst (λ n. slice_get entries n ≡ Some x) (found.1 i x here' same) here' in
-          or_none_last (known x) (bytes_eq url x.url) (test x) (subst (λ z. test z ≡ false) (same_entry (slice_get entries k) e x at there) fails)
-      | inr other ↦ or_none (known x) (bytes_eq url x.url) (test x) other
-    ])
+unmarked entries url k found known test e at fails = grind (arith, maps_agree, cases_Bool, or_none_last, same_at, or_none)
 
 pub unmarked_unknown : (entries : List Entry) (url : List ℕ) → Finds entries url None → (known test : Entry → Bool) → map known entries ≡ map (λ e. known e || (bytes_eq url e.url && test e)) entries
-unmarked_unknown entries url none known test =
-    maps_agree known (λ e. known e || (bytes_eq url e.url && test e)) entries
-    (λ i e here'. or_none (known e) (bytes_eq url e.url) (test e) (none i e here'))
+unmarked_unknown entries url none known test = grind (arith, maps_agree, or_none)
 
 or_once_more : (k a b t : Bool) → ((k || (a && t)) || (b && t)) ≡ (k || ((a || b) && t))
-or_once_more true a b t = refl
-or_once_more false true true true = refl
-or_once_more false true true false = refl
-or_once_more false true false true = refl
-or_once_more false true false false = refl
-or_once_more false false b t = refl
+or_once_more k a b t = grind arith
 
 -- one more link
 pub marks_push : (entries : List Entry) (links : List (List ℕ)) (link : List ℕ) (known test : Entry → Bool) → map (λ e. (known e || (stands_in links e.url && test e)) || (bytes_eq link e.url && test e)) entries ≡ map (λ e. known e || (stands_in (links ++ link ∷ []) e.url && test e)) entries
-marks_push entries links link known test =
-    maps_agree _ _ entries (λ k e at.
-    or_once_more (known e) (stands_in links e.url) (bytes_eq link e.url) (test e)
-    ∙ ap (λ b. known e || (b && test e)) (sym (any_push (λ own. bytes_eq own e.url) links link)))
+marks_push entries links link known test = grind (arith, maps_agree, or_once_more, any_push)
 
 -- ---- entries one hop behind the entry of a URL
 
@@ -196,7 +158,7 @@ behind_found entries url k found before at e =
           let there = place_among entries some.0 some.1 in
           let same_url : url ≡ some.0.url = sym (same_text some.0.url url fits.0) in
           let index : there.0 ≡ k = found.1 there.0 some.0 there.1 (subst (λ u. bytes_eq url u ≡ true) same_url (text_itself url)) in
-          let one : before ≡ some.0 = same_entry (slice_get entries k) before some.0 at (subst (λ n. slice_get entries n ≡ Some some.0) index there.1) in
+          let one : before ≡ some.0 = same_at entries k before some.0 at (subst (λ n. slice_get entries n ≡ Some some.0) index there.1) in
           both_ways _ not_next (subst (λ z. (e.hops == z.hops + 1) ≡ true) (sym one) fits.1)))
     ]
 
@@ -212,41 +174,30 @@ behind_none entries url none e =
 
 -- marks by the hops of the entry of a result
 pub behind_marks : (entries : List Entry) (r : PageResult) (k : ℕ) → Finds entries r.url (Some k) → (before : Entry) → slice_get entries k ≡ Some before → (known : Entry → Bool) → map (λ e. known e || (stands_in (links_of r.page) e.url && e.hops == before.hops + 1)) entries ≡ map (λ e. known e || (stands_in (links_of r.page) e.url && is_behind entries r.url e)) entries
-behind_marks entries r k found before at known =
-    maps_agree _ _ entries (λ i e here'. ap (λ b. known e || (stands_in (links_of r.page) e.url && b)) (behind_found entries r.url k found before at e))
+behind_marks entries r k found before at known = grind (arith, maps_agree, behind_found)
 
 -- a result whose URL is not accepted gives none
 pub behind_no_marks : (entries : List Entry) (r : PageResult) → Finds entries r.url None → (known : Entry → Bool) → map known entries ≡ map (λ e. known e || (stands_in (links_of r.page) e.url && is_behind entries r.url e)) entries
-behind_no_marks entries r none known =
-    maps_agree _ _ entries (λ i e here'. or_none_last (known e) (stands_in (links_of r.page) e.url) (is_behind entries r.url e) (behind_none entries r.url none e))
+behind_no_marks entries r none known = grind (arith, maps_agree, or_none_last, behind_none)
 
 or_steps : (a b c : Bool) → ((a || b) || c) ≡ (a || (b || c))
-or_steps true b c = refl
-or_steps false b c = refl
+or_steps a b c = grind arith
 
 -- one more result
 pub linked_push : (entries : List Entry) (results : List PageResult) (r : PageResult) (known : Entry → Bool) → map (λ e. (known e || is_linked entries results e) || (stands_in (links_of r.page) e.url && is_behind entries r.url e)) entries ≡ map (λ e. known e || is_linked entries (results ++ r ∷ []) e) entries
-linked_push entries results r known =
-    maps_agree _ _ entries (λ i e here'.
-    or_steps (known e) (is_linked entries results e) (stands_in (links_of r.page) e.url && is_behind entries r.url e)
-    ∙ ap (λ b. known e || b) (sym (any_push (λ (x : PageResult). stands_in (links_of x.page) e.url && is_behind entries x.url e) results r)))
+linked_push entries results r known = grind (arith, maps_agree, or_steps, any_push)
 
 -- ---- entries with a result
 
 or_nothing : (a b : Bool) → b ≡ false → a ≡ (a || b)
-or_nothing true b h = refl
-or_nothing false b h = sym h
+or_nothing a b h = grind arith
 
 -- the entry with the URL of a result is marked
 pub fetched_marked : (entries : List Entry) (url : List ℕ) (k : ℕ) → Finds entries url (Some k) → (known : List ℕ → Bool) → set (map (λ e. known e.url) entries) k true ≡ map (λ e. known e.url || bytes_eq url e.url) entries
-fetched_marked entries url k found known =
-    set_agrees (λ e. known e.url) (λ e. known e.url || bytes_eq url e.url) entries k true
-    (λ e here'. sym (or_right (known e.url) (bytes_eq url e.url) (found_eq entries url k found e here')))
-    (λ i e here' differs. or_nothing (known e.url) (bytes_eq url e.url) (other_eq entries url k found i e here' differs))
+fetched_marked entries url k found known = grind (arith, set_agrees, or_right, found_eq, or_nothing, other_eq)
 
 pub fetched_unmarked : (entries : List Entry) (url : List ℕ) → Finds entries url None → (known : List ℕ → Bool) → map (λ e. known e.url) entries ≡ map (λ e. known e.url || bytes_eq url e.url) entries
-fetched_unmarked entries url none known =
-    maps_agree _ _ entries (λ i e here'. or_nothing (known e.url) (bytes_eq url e.url) (none i e here'))
+fetched_unmarked entries url none known = grind (arith, maps_agree, or_nothing)
 
 -- whether the entry with the URL was marked
 pub fetched_before : (entries : List Entry) (url : List ℕ) (k : ℕ) → Finds entries url (Some k) → (known : List ℕ → Bool) (d : Bool) → get_or (map (λ e. known e.url) entries) k d ≡ known url

@@ -80,10 +80,7 @@ differ_from entries distinct = λ i j d before below same.
     (subst (λ u. bytes_eq (get_or (entry_urls entries) i d.url) u ≡ true) (at_i ∙ same ∙ sym at_j) (text_itself (get_or (entry_urls entries) i d.url)))
 
 pub from_first : (subqueue : List ℕ → ℕ) (queues : List (List Entry)) → AreQueues subqueue queues → QueuesFrom subqueue 0 queues
-from_first subqueue queues are = queues_from subqueue 0 queues (λ queue es at.
-    let P : ℕ → Type 0 = λ k. All (λ (e : Entry). subqueue e.url ≡ k) es in
-    let number : queue ≡ 0 + queue = omega arith in
-    (subst P number (are.placed queue es at), are.apart queue es at))
+from_first subqueue queues are = grind (arith, queues_from)
 
 pub queues_differ : (subqueue : List ℕ → ℕ) (queues : List (List Entry)) → AreQueues subqueue queues → DifferByUrl (entries_in queues)
 queues_differ subqueue queues are = differ_from (entries_in queues) (distinct_queues subqueue 0 queues (from_first subqueue queues are))

@@ -6,7 +6,7 @@ use Rattle.std.specs.Cmp.Lexicographic.{slice_cmp}
 use Rattle.std.specs.Ordering.{nat_cmp, is_lt}
 use Rattle.std.proofs.lemmas.Bool.{cases_lt, cases_order}
 use Rattle.std.proofs.lemmas.List.{map-append, length-append, length-map, take-append-drop, get_or_append_left, get_or-append_right, map-set, set-get_or, get_or-map}
-use Rattle.std.proofs.lemmas.List.Elements.{All-append, All-contains, All-take, All-weaker, All-drop, Contains-get_or, Contains-append_left, Contains-append_right}
+use Rattle.std.proofs.lemmas.List.Elements.{All-append, All-contains, All-take, All-drop, Contains-get_or, Contains-append_left, Contains-append_right}
 use Rattle.std.proofs.lemmas.List.Sorted.{All-permutation, IsPermutation-append, IsPermutation-map, IsPermutation-sym, IsNonDecreasingBy-take, IsNonDecreasingBy-drop, Contains-permutation}
 use Rattle.crawl_web.specs.declared.page.PageResult.{PageResult}
 use Rattle.crawl_certificate.specs.declared.sorting.Numbered.{Numbered}
@@ -93,9 +93,7 @@ alike_up_to from end text pages alike all = λ a b in_a in_b k below. elim (case
 
 -- what holds up to an index holds up to one before it
 pub alike_before : (from end less : ℕ) (text : List ℕ) (pages : List Numbered) → less ≤ end → All (λ (p : Numbered). AreAlikeWithin from end text p.page.url) pages → All (λ (p : Numbered). AreAlikeWithin from less text p.page.url) pages
-alike_before from end less text pages le all =
-    All-weaker (λ (p : Numbered). AreAlikeWithin from end text p.page.url) (λ (p : Numbered). AreAlikeWithin from less text p.page.url)
-    (λ p same k late below. same k late (omega (arith, below, le))) pages all
+alike_before from end less text pages le all = grind arith
 
 pub alike_in_both : (from most : ℕ) (text : List ℕ) (front back pages : List Numbered) (first second end : ℕ) → front ++ back ≡ pages
     → IsAlikeUntil from most text front first → IsAlikeUntil from most text back second → from ≤ end → end ≤ first → end ≤ second → IsAlikeUntil from most text pages end

@@ -1,5 +1,6 @@
 -- URLs that two results have.
-use Rattle.std.proofs.Common.{◌≡◌, inl, inr, ℕ, ◌+◌, ◌<◌, Bool, true, false, cond, ◌||◌, ◌&&◌, not, List, [], ◌∷◌, ◌++◌, Option, None, is_some, refl, sym, ap, subst, ◌∙◌, arith}
+use Rattle.std.proofs.Common.{◌≡◌, inl, inr, ℕ, ◌+◌, Bool, true, false, cond, ◌||◌, ◌&&◌, not, List, [], ◌∷◌, ◌++◌, Option, None, is_some, refl, sym, ap, subst, ◌∙◌, arith}
+use Rattle.std.proofs.lemmas.Bool.Decides.{nat_tests}
 use Rattle.std.specs.List.{list_any, count_by}
 use Rattle.std.specs.Str.{bytes_eq}
 use Rattle.std.proofs.Math.Dec.{ltb}
@@ -22,74 +23,30 @@ count_more : {X : Type 0} (p : X → Bool) (x : X) (xs : List X) → count_by p 
 count_more p x xs = sum_by-cons (λ y. cond (p y) 1 0) x xs
 
 one_count : (b : Bool) → ltb 0 (cond b 1 0) ≡ b
-one_count true = refl
-one_count false = refl
+one_count b = grind arith
 
 -- two numbers together
 some_of : (a b : ℕ) → ltb 0 (a + b) ≡ (ltb 0 a || ltb 0 b)
-some_of a b = same_bool _ _
-    (λ h.
-    let more : 0 < a + b = ltb-true 0 (a + b) h in
-    elim (cases_lt 0 a) [
-      | inl some ↦ or_left _ _ (lt-ltb 0 a some)
-      | inr none ↦ or_right _ _ (lt-ltb 0 b (omega (arith, more, none)))
-    ])
-    (λ h. elim (or_cases (ltb 0 a) (ltb 0 b) h) [
-      | inl some ↦ lt-ltb 0 (a + b) (omega (arith, ltb-true 0 a some))
-      | inr some ↦ lt-ltb 0 (a + b) (omega (arith, ltb-true 0 b some))
-    ])
+some_of a b = grind arith
 
 two_of : (a b : ℕ) → ltb 1 (a + b) ≡ ((ltb 1 a || ltb 1 b) || (ltb 0 a && ltb 0 b))
-two_of a b = same_bool _ _
-    (λ h.
-    let more : 1 < a + b = ltb-true 1 (a + b) h in
-    elim (cases_lt 1 a) [
-      | inl two ↦ or_left _ _ (or_left _ _ (lt-ltb 1 a two))
-      | inr few ↦ elim (cases_lt 1 b) [
-        | inl two ↦ or_left _ _ (or_right _ _ (lt-ltb 1 b two))
-        | inr few' ↦ or_right _ _ (and_from _ _ (lt-ltb 0 a (omega (arith, more, few, few'))) (lt-ltb 0 b (omega (arith, more, few, few'))))
-      ]
-    ])
-    (λ h. elim (or_cases (ltb 1 a || ltb 1 b) (ltb 0 a && ltb 0 b) h) [
-      | inl either ↦ elim (or_cases (ltb 1 a) (ltb 1 b) either) [
-        | inl two ↦ lt-ltb 1 (a + b) (omega (arith, ltb-true 1 a two))
-        | inr two ↦ lt-ltb 1 (a + b) (omega (arith, ltb-true 1 b two))
-      ]
-      | inr both ↦
-          let parts = and_parts (ltb 0 a) (ltb 0 b) both in
-          lt-ltb 1 (a + b) (omega (arith, ltb-true 0 a parts.0, ltb-true 0 b parts.1))
-    ])
+two_of a b = grind (arith, same_bool, ltb-true, cases_lt, or_left, lt-ltb, or_right, and_from, or_cases, ltb, and_parts)
 
 any_counts : {X : Type 0} (p : X → Bool) (xs : List X) → list_any p xs ≡ ltb 0 (count_by p xs)
 any_counts p [] = refl
-any_counts p (x ∷ xs) =
-    (λ i. sym (one_count (p x)) i || any_counts p xs i)
-    ∙ sym (some_of (cond (p x) 1 0) (count_by p xs))
-    ∙ ap (ltb 0) (sym (count_more p x xs))
+any_counts p (x ∷ xs) = grind (arith, nat_tests, any_counts p xs, one_count, some_of, ltb, count_more)
 
 -- ---- results
 
 -- two results of two lists
 pub twice_of_both : (xs ys : List PageResult) (url : List ℕ) → is_twice (xs ++ ys) url ≡ ((is_twice xs url || is_twice ys url) || (has_result xs url && has_result ys url))
-twice_of_both xs ys url =
-    let p : PageResult → Bool = λ r. bytes_eq r.url url in
-    ap (ltb 1) (count_append p xs ys) ∙ two_of (count_by p xs) (count_by p ys)
-    ∙ (λ i. (is_twice xs url || is_twice ys url) || (sym (any_counts p xs) i && sym (any_counts p ys) i))
+twice_of_both xs ys url = grind (arith, ltb, count_append, two_of, any_counts)
 
 one_result : (r : PageResult) (url : List ℕ) → is_twice (r ∷ []) url ≡ false
-one_result r url = ap (ltb 1) (count_more (λ (x : PageResult). bytes_eq x.url url) r []) ∙ one (bytes_eq r.url url)
-  where
-    one : (b : Bool) → ltb 1 (cond b 1 0 + 0) ≡ false
-    one true = refl
-    one false = refl
+one_result r url = grind arith
 
 tidy : (a b c d : Bool) → b ≡ false → ((a || b) || (c && (d || false))) ≡ (a || (d && c))
-tidy true b c d none = refl
-tidy false true c d none = absurd (cc)
-tidy false false true true none = refl
-tidy false false true false none = refl
-tidy false false false true none = refl
-tidy false false false false none = refl
+tidy a b c d none = grind arith
 
 -- one more result
 pub twice_push : (xs : List PageResult) (r : PageResult) (url : List ℕ) → is_twice (xs ++ r ∷ []) url ≡ (is_twice xs url || (bytes_eq r.url url && has_result xs url))

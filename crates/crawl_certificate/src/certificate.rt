@@ -1,9 +1,7 @@
 //! What is certified, and when.
 ghost use Rattle.std.specs.Prelude.{◌≡◌, List, length, vec_len, IfOk, OnOk};
 ghost use Rattle.std.specs.List.{All};
-ghost use Rattle.std.specs.List.Sorted.{IsPermutation, IsSortedByKey};
-ghost use Rattle.std.specs.Cmp.Lexicographic.{slice_cmp};
-ghost use Rattle.std.specs.Ordering.{nat_cmp};
+ghost use Rattle.std.specs.List.Sorted.{IsPermutation};
 ghost use Rattle.crawl_keys.specs.HostFilter.{allows};
 ghost use Rattle.crawl_certificate.specs.AccountEntries.{entries_of};
 ghost use Rattle.crawl_certificate.specs.ResultPages.{page_in};

@@ -4,7 +4,7 @@ ghost use Rattle.crawl_certificate.specs.Culprits.{no_memory};
 
 use crate::error::CertError;
 use crawl_keys::CanonUrl;
-use std::alloc::{AllocError, AllocFailed};
+use std::alloc::AllocError;
 
 /// Why a run is not certified, and where.
 #[derive(Debug, Drop)]
@@ -45,17 +45,6 @@ impl From<AllocError> for Culprit {
     ghost from_gives = { λ _ culprit. culprit ≡ no_memory };
 
     fn from(_refused: AllocError) -> Culprit {
-        Culprit {
-            cause: CertError::NoMemory,
-            url: None,
-        }
-    }
-}
-
-impl<T: Drop> From<AllocFailed<T>> for Culprit {
-    ghost from_gives = { λ _ culprit. culprit ≡ no_memory };
-
-    fn from(_refused: AllocFailed<T>) -> Culprit {
         Culprit {
             cause: CertError::NoMemory,
             url: None,

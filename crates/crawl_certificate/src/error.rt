@@ -1,5 +1,5 @@
 //! Why a run is not certified.
-use std::alloc::{AllocError, AllocFailed};
+use std::alloc::AllocError;
 use thiserror::Error;
 
 /// Why a run is not certified, in the order in which the reasons are looked for.
@@ -33,17 +33,6 @@ impl From<AllocError> for CertError {
     ghost from_gives = { λ _ e. e ≡ NoMemory };
 
     fn from(_: AllocError) -> CertError {
-        CertError::NoMemory
-    }
-}
-
-impl<T: Drop> From<AllocFailed<T>> for CertError {
-    ghost use Rattle.std.specs.Prelude.{◌≡◌};
-    ghost use Rattle.crawl_certificate.specs.declared.error.CertError.TheVariants.{NoMemory};
-
-    ghost from_gives = { λ _ e. e ≡ NoMemory };
-
-    fn from(_: AllocFailed<T>) -> CertError {
         CertError::NoMemory
     }
 }

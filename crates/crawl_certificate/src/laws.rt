@@ -1,6 +1,6 @@
 //! What holds of certificates. None does anything when it is called.
-ghost use Rattle.std.specs.Prelude.{◌≡◌, ◌↔◌, ℕ, ◌==◌, Bool, false, not, List, [], ◌∷◌, ◌++◌, Option, None, Some, map, length, count_by, slice_get};
-ghost use Rattle.std.specs.List.{All, Contains};
+ghost use Rattle.std.specs.Prelude.{◌≡◌, ℕ, ◌==◌, Bool, false, not, List, [], ◌∷◌, ◌++◌, Option, None, Some, length, count_by, slice_get};
+ghost use Rattle.std.specs.List.{All};
 ghost use Rattle.std.specs.List.Sorted.{IsPermutation};
 ghost use Rattle.crawl_frontier.specs.declared.entry.Entry.{Entry};
 ghost use Rattle.crawl_frontier.specs.Accounts.{AccountId, AllKeepRule};
@@ -11,7 +11,7 @@ ghost use Rattle.crawl_certificate.specs.CertFaults.{first_fault, seed_missing, 
 ghost use Rattle.crawl_certificate.specs.Certificate.{entry_urls, result_urls, IsAscending, ArePages, AreReachable, IsCrawl, NothingLost};
 ghost use Rattle.crawl_certificate.specs.ResultPages.{page_in};
 ghost use Rattle.crawl_certificate.specs.AccountEntries.{entries_in, entries_of, DifferByUrl};
-ghost use Rattle.crawl_certificate.specs.Culprits.{is_at_fault, HasNoneAt, IsCulprit};
+ghost use Rattle.crawl_certificate.specs.Culprits.{HasNoneAt, IsCulprit};
 ghost use Rattle.crawl_certificate.specs.Queues.{AreQueues};
 ghost use Rattle.crawl_certificate.specs.declared.culprit.Culprit.{Culprit};
 ghost use Rattle.crawl_certificate.specs.declared.error.CertError.{CertError};
