@@ -70,7 +70,7 @@ impl<'a> Folder<'a> {
         &self.page
     }
 
-    /// Whether it is worth knowing links of it: of many folders there is one page.
+    /// Whether another page of it came before.
     pub fn comes_again(&self) -> bool {
         self.again
     }

@@ -20,6 +20,9 @@ use crawl_keys::{Base, CanonUrl, is_of_folder};
 use std::alloc::{AllocError, Global};
 use std::mem;
 
+/// So many texts of a page are not known to its folder before another page of it comes: of many folders there is one page.
+const FEW_TEXTS: usize = 8;
+
 /// A list of so many links, or fewer, has room for just these.
 const FEW_LINKS: usize = 1_024;
 
@@ -128,8 +131,8 @@ fn take_links(alloc: Global, buffer: &mut Vec<CanonUrl>) -> Result<Vec<CanonUrl>
     Ok(links)
 }
 
-/// Where a link with this text leads: what is of a folder that comes again is known to it from now on, and what is not to this
-/// page.
+/// Where a link with this text leads: what is of the folder is known to it from now on, but for the first of its first page, and
+/// what is not to this page.
 fn link_on<'a>(
     alloc: Global,
     folder: &mut Folder<'a>,
@@ -148,7 +151,8 @@ fn link_on<'a>(
         return Ok(copy_of(link)?);
     }
     let front = whole.before_fragment();
-    if folder.comes_again() && is_of_folder(front.as_str()) {
+    let many = folder.comes_again() || known.len() >= FEW_TEXTS;
+    if many && is_of_folder(front.as_str()) {
         folder.link(alloc, &front)
     } else {
         known.link(alloc, folder.page(), &front)
