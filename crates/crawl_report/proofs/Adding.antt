@@ -58,13 +58,10 @@ queue_more out mid more counts k d below p q =
 
 -- ---- texts that are referred to
 
-pub pointed_line_more : (f : List ℕ → Line) (out mid more : Out) (xs : List (Bor (List ℕ))) (k : ℕ) (x : Bor (List ℕ)) → k < length xs → x ≡ get_or xs k x → Adds out mid (map f (pointed (take k xs))) → Adds mid more (f x.now ∷ []) → Adds out more (map f (pointed (take (k + 1) xs)))
-pointed_line_more f out mid more xs k x below at p q =
-    adds_same out more _ _ (sym (map-append f (pointed (take k xs)) (x.now ∷ [])) ∙ ap (map f) (sym (pointed_more xs k x below at)))
-    (adds_both out mid more (map f (pointed (take k xs))) (f x.now ∷ []) p q)
-
-pub pointed_lines_all : (f : List ℕ → Line) (out more : Out) (xs : List (Bor (List ℕ))) (k : ℕ) → length xs ≤ k → Adds out more (map f (pointed (take k xs))) → Adds out more (map f (pointed xs))
-pointed_lines_all f out more xs k past is = adds_same out more _ _ (ap (λ ys. map f (pointed ys)) (take_all k xs past)) is
+pub pointed_line_at : (f : List ℕ → Line) (out mid more : Out) (xs : List (Bor (List ℕ))) (k : ℕ) (d : Bor (List ℕ)) → k < length xs → Adds out mid (map f (pointed (take k xs))) → Adds mid more (f (get_or xs k d).now ∷ []) → Adds out more (map f (pointed (take (k + 1) xs)))
+pointed_line_at f out mid more xs k d below p q =
+    adds_same out more _ _ (sym (map-append f (pointed (take k xs)) ((get_or xs k d).now ∷ [])) ∙ ap (map f) (sym (map_more (λ (y : Bor (List ℕ)). y.now) xs k d below)))
+    (adds_both out mid more (map f (pointed (take k xs))) (f (get_or xs k d).now ∷ []) p q)
 
 -- ---- a whole report
 
@@ -85,8 +82,3 @@ told_more f out mid more xs k x below at p q =
 pub then_more : {E : Type 0} (result : Result Out E) (out mid : Out) (xs ys zs : List Line) → Adds out mid xs → xs ++ ys ≡ zs → IfOk result (λ more. Adds mid more ys) → IfOk result (λ more. Adds out more zs)
 then_more (Ok more) out mid xs ys zs before same after = adds_same out more (xs ++ ys) zs same (adds_both out mid more xs ys before after)
 then_more (Err e) out mid xs ys zs before same after = tt
-
-pub pointed_line_at : (f : List ℕ → Line) (out mid more : Out) (xs : List (Bor (List ℕ))) (k : ℕ) (d : Bor (List ℕ)) → k < length xs → Adds out mid (map f (pointed (take k xs))) → Adds mid more (f (get_or xs k d).now ∷ []) → Adds out more (map f (pointed (take (k + 1) xs)))
-pointed_line_at f out mid more xs k d below p q =
-    adds_same out more _ _ (sym (map-append f (pointed (take k xs)) ((get_or xs k d).now ∷ [])) ∙ ap (map f) (sym (map_more (λ (y : Bor (List ℕ)). y.now) xs k d below)))
-    (adds_both out mid more (map f (pointed (take k xs))) (f (get_or xs k d).now ∷ []) p q)

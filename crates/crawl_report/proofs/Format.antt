@@ -56,8 +56,11 @@ missing_sources pages sorted =
     ∙ (λ i. flat_map (λ (r : PageResult). line_of pages r.url) (filter (λ (r : PageResult). missing_alone r.page i) pages))
     ∙ ap (λ rs. flat_map (λ (r : PageResult). line_of pages r.url) (filter (λ (r : PageResult). is_missing r.page) rs)) (in_order pages sorted)
 
+pub queues_alone : (counts : List ℕ) → flat_map text_line (rows.queue_lines counts) ≡ queue_lines counts
+queues_alone counts = same_queues (enumerate_from 0 counts)
+
 told_queues : (with_queues : Bool) (counts : List ℕ) → flat_map text_line (rows.queue_lines (if with_queues then counts else [])) ≡ (if with_queues then queue_lines counts else [])
-told_queues true counts = same_queues (enumerate_from 0 counts)
+told_queues true counts = queues_alone counts
 told_queues false counts = refl
 
 told_sources : (with_sources : Bool) (pages : List PageResult) → IsSortedByKey (λ r. r.url) (slice_cmp nat_cmp) pages → flat_map text_line (rows.source_lines (if with_sources then told.First else told.None) false pages) ≡ (if with_sources then sources pages else [])

@@ -6,6 +6,7 @@ mod as_json;
 pub mod laws;
 mod out;
 mod printing;
+mod queues;
 mod report;
 mod row;
 mod sources;
@@ -16,6 +17,7 @@ mod web_urls;
 
 pub use crawl_web::NoMemory;
 pub use printing::{print, print_in_threads};
+pub use queues::queue_text;
 pub use report::{Parts, Report, Sources};
 pub use row::Row;
 pub use unseen::unreached;

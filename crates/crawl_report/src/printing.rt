@@ -152,7 +152,7 @@ fn is_moved(page: &Page) -> bool
     matches!(page, Page::Moved { .. })
 }
 
-fn with_queues(mut out: Out, counts: &[u64]) -> Result<Out, NoMemory>
+pub(crate) fn with_queues(mut out: Out, counts: &[u64]) -> Result<Out, NoMemory>
     ensures { IfOk result (λ more. Adds out more (queue_lines counts.now)) }
 {
     for (queue, count) in counts.iter().enumerate() {

@@ -1,7 +1,8 @@
-use Rattle.std.proofs.Common.{ℕ, List, [], ◌∷◌, ap}
+use Rattle.std.proofs.Common.{ℕ, List, [], ◌∷◌, map, ap, ◌∙◌}
+use Rattle.std.specs.Borrow.{Bor}
 use Rattle.crawl_report.specs.Lines as line
-use Rattle.crawl_report.specs.Lines.{Line}
-use Rattle.crawl_report.proofs.Adding.{adds_none, adds_same, pointed_line_more, pointed_lines_all}
+use Rattle.crawl_report.specs.Tallies.{pointed}
+use Rattle.crawl_report.proofs.Adding.{adds_none, adds_same, lines_all, pointed_line_at}
 use Rattle.crawl_report.proofs.printing.with_unreached.Goals as goal
 
 pub loop-url-init : goal.loop-url-init
@@ -9,8 +10,8 @@ loop-url-init c = adds_none c.args.out
 
 pub loop-url-preserved : goal.loop-url-preserved
 loop-url-preserved c =
-    pointed_line_more line.unreached c.args.out c.loop-url.out c.in_ok-out.out c.args.urls.now c.loop-url.url-index c.url-item.result c.loop-url-test.true c.url-item.is
-    c.loop-url.invariant (adds_same c.loop-url.out c.in_ok-out.out _ _ (ap (λ (t : List ℕ). line.unreached t ∷ []) c.as_str.ensures.value) c.in_ok-out.ensures)
+    pointed_line_at line.unreached c.args.out c.loop-url.out c.in_ok-out.out c.args.urls.now c.loop-url.url-index c.url-item.result c.loop-url-test.true
+    c.loop-url.invariant (adds_same c.loop-url.out c.in_ok-out.out _ _ (ap (λ (t : List ℕ). line.unreached t ∷ []) (c.as_str.ensures.value ∙ ap (λ (u : Bor (List ℕ)). u.now) c.url-item.is)) c.in_ok-out.ensures)
 
 pub returns : goal.returns
-returns c = pointed_lines_all line.unreached c.args.out c.loop-url.out c.args.urls.now c.loop-url.url-index c.loop-url-test.false c.loop-url.invariant
+returns c = lines_all (λ us. map line.unreached (pointed us)) c.args.out c.loop-url.out c.args.urls.now c.loop-url.url-index c.loop-url-test.false c.loop-url.invariant

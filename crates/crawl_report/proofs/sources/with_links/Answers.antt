@@ -1,7 +1,8 @@
-use Rattle.std.proofs.Common.{[], ◌∷◌, ap}
+use Rattle.std.proofs.Common.{[], ◌∷◌, map, ap}
 use Rattle.crawl_report.specs.Lines as line
 use Rattle.crawl_report.specs.Lines.{Line}
-use Rattle.crawl_report.proofs.Adding.{adds_none, adds_same, pointed_line_at, pointed_lines_all}
+use Rattle.crawl_report.specs.Tallies.{pointed}
+use Rattle.crawl_report.proofs.Adding.{adds_none, adds_same, lines_all, pointed_line_at}
 use Rattle.crawl_report.proofs.sources.with_links.Goals as goal
 
 pub loop-page-init : goal.loop-page-init
@@ -13,4 +14,4 @@ loop-page-preserved c =
     c.loop-page.invariant (adds_same c.loop-page.out c.in_ok-out.out _ _ (ap (λ (l : Line). l ∷ []) c.link_row.ensures) c.in_ok-out.ensures)
 
 pub returns : goal.returns
-returns c = pointed_lines_all (λ page. line.link page c.args.url.now) c.args.out c.loop-page.out c.args.pages.now c.loop-page.page-index c.loop-page-test.false c.loop-page.invariant
+returns c = lines_all (λ pages. map (λ page. line.link page c.args.url.now) (pointed pages)) c.args.out c.loop-page.out c.args.pages.now c.loop-page.page-index c.loop-page-test.false c.loop-page.invariant

@@ -1,0 +1,16 @@
+//! How many URLs each queue had, in lines alone.
+ghost use Rattle.std.specs.Prelude.{◌≡◌, IfOk};
+ghost use Rattle.crawl_report.specs.Today.{queue_lines};
+
+use crate::out::Out;
+use crate::printing::with_queues;
+use crawl_web::NoMemory;
+use std::alloc::Global;
+
+/// A line `queue Q COUNT` for each count in order, Q its number from 0, each ended by LF.
+pub fn queue_text(alloc: Global, counts: &[u64]) -> Result<Vec<u8>, NoMemory>
+    ensures { IfOk result (λ text. text.items ≡ queue_lines counts.now) }
+{
+    let lines = with_queues(Out::new(alloc, false), counts)?;
+    Ok(lines.into_bytes())
+}
