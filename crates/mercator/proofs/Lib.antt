@@ -1,5 +1,5 @@
-pub mod QueueCounts
 pub mod CrawlTexts
+pub mod EndedRuns
 pub mod PlanTexts
 pub mod PlainTexts
 pub mod RunResults

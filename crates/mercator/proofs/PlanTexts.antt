@@ -1,5 +1,5 @@
 -- What a crawl tells; and plans that ask for one text are told one.
-use Rattle.std.proofs.Common.{◌≡◌, ℕ, Bool, true, false, not, ◌&&◌, List, [], ◌∷◌, ◌++◌, Option, Some, None, Result, Ok, Err, String, Vec, Global, IfOk, IfErr, IfSome, ◌≤◌, length, map, string_bytes, refl, sym, ap, subst, ◌∙◌}
+use Rattle.std.proofs.Common.{◌≡◌, ℕ, Bool, true, false, not, ◌&&◌, List, [], ◌∷◌, ◌++◌, Option, Some, None, Result, Ok, Err, String, Vec, Global, IfOk, IfErr, IfSome, ◌<◌, ◌≤◌, length, map, string_bytes, refl, sym, ap, subst, ◌∙◌}
 use Rattle.std.specs.Bool.{if◌then◌else◌}
 use Rattle.std.specs.List.{flat_map}
 use Rattle.std.specs.List.Sorted.{IsPermutation}
@@ -27,7 +27,8 @@ use Rattle.mercator.specs.declared.commands.fault.Fault.TheVariants as wrong
 use Rattle.mercator.specs.declared.crawling.Crawled.{Crawled}
 use Rattle.mercator.specs.declared.commands.planned.Plan.{Plan}
 use Rattle.mercator.specs.declared.commands.planned.Plan.TheVariants as asks
-use Rattle.mercator.proofs.QueueCounts.{one_count}
+use Rattle.std.proofs.lemmas.Grind.{same_number_lists}
+use Rattle.std.proofs.lemmas.Option.{get_or_from_slice_get}
 use Rattle.mercator.proofs.SiteCrawls.{one_site_crawl}
 
 -- what is known of a file's bytes holds of them
@@ -50,6 +51,13 @@ one_unreached parts its bytes suffixes pages others urls other same_parts same_p
     let both : unreached_of (allows suffixes) pages (asked_pages parts (lines bytes)) ≡ unreached_of (allows suffixes) others (asked_pages its (lines bytes)) =
     λ i. unreached_of (allows suffixes) (same_pages i) (asked_pages (same_parts i) (lines bytes)) in
     one_order (unreached_of (allows suffixes) others (asked_pages its (lines bytes))) urls other (subst (λ us. IsPermutation us urls) both own.same) their.same own.ascends their.ascends
+
+-- URLs have one list of counts
+one_count : (workers : ℕ) (urls : List (List ℕ)) (counts others : List ℕ) → AreCounts workers urls counts → AreCounts workers urls others → counts ≡ others
+one_count workers urls counts others own its =
+    same_number_lists counts others (own.len ∙ sym its.len)
+    (λ k within. let few : k < workers = subst (λ n. k < n) own.len within in
+    get_or_from_slice_get counts k _ 0 (own.each k few) ∙ sym (get_or_from_slice_get others k _ 0 (its.each k few)))
 
 -- what is printed of the same pages, counts and unreached pages with the same parts
 one_print : (queues : Bool) (options its : CrawlOptions) (pages others : List PageResult) (counts their : List ℕ) (urls other : List (List ℕ)) → AskForOneReport options its → pages ≡ others → (if queues then counts else []) ≡ (if queues then their else []) → urls ≡ other
@@ -83,16 +91,7 @@ one_output (asks.Crawl workers max queues file seeds within options) (asks.Crawl
     let same_filter = subst (λ s. IsCrawlText others other_queues other_options bytes [] texts s other.text) (sym filtered) same_seeds in
     let second : IsCrawlText others queues other_options bytes [] texts suffixes other.text = subst (λ q. IsCrawlText others q other_options bytes [] texts suffixes other.text) (sym queued) same_filter in
     own.gained ∙ ap (λ t. before ++ t) (one_text workers others queues options other_options bytes [] texts suffixes own.text other.text many parts first second) ∙ sym other.gained
-one_output (asks.Crawl workers max queues file seeds within options) (asks.Key url others) bytes before after its ask own other = absurd ask
-one_output (asks.Crawl workers max queues file seeds within options) (asks.Replay other_file) bytes before after its ask own other = absurd ask
-one_output (asks.Crawl workers max queues file seeds within options) (asks.Serve asked) bytes before after its ask own other = absurd ask
-one_output (asks.Crawl workers max queues file seeds within options) (asks.Compact log new) bytes before after its ask own other = absurd ask
-one_output (asks.Crawl workers max queues file seeds within options) (asks.ServeLog asked) bytes before after its ask own other = absurd ask
-one_output (asks.Compact log new) other_plan bytes before after its ask own other = absurd ask
-one_output (asks.Serve asked) other_plan bytes before after its ask own other = absurd ask
-one_output (asks.ServeLog asked) other_plan bytes before after its ask own other = absurd ask
-one_output (asks.Key url workers) other_plan bytes before after its ask own other = absurd ask
-one_output (asks.Replay file) other_plan bytes before after its ask own other = absurd ask
+one_output plan other_plan bytes before after its ask own other = absurd ask
 
 -- the filter of a crawl is that of its suffix, which is good
 single : (suffix : List ℕ) (bad : Bool) (filter : List (List ℕ)) → not (is_good suffix) ≡ bad → filter_of (suffix ∷ []) ≡ Ok filter → (bad ≡ false) × (filter ≡ suffix ∷ [])
@@ -190,17 +189,9 @@ pub fails : (workers max : ℕ) (within : Option (String Global)) (file : List �
     → OfFiles file listed input (λ bytes list. IsUnbegun workers max bytes list seeds fault) → FailsCrawl workers max within file listed seeds input fault
 fails workers max within file listed seeds input wrong.CannotRead good of = good
 fails workers max within file listed seeds input wrong.CannotReadSeeds good of = absurd of.holds.holds
-fails workers max within file listed seeds input (wrong.Script fault) good of = (good, of)
-fails workers max within file listed seeds input (wrong.Web fault) good of = (good, of)
-fails workers max within file listed seeds input (wrong.Seeds fault) good of = (good, of)
-fails workers max within file listed seeds input wrong.NoSeed good of = (good, of)
-fails workers max within file listed seeds input (wrong.Seed number refusal) good of = (good, of)
-fails workers max within file listed seeds input (wrong.Url refusal) good of = (good, of)
-fails workers max within file listed seeds input (wrong.Crawl error) good of = (good, of)
-fails workers max within file listed seeds input (wrong.Log fault) good of = (good, of)
 fails workers max within file listed seeds input wrong.BadSuffix good of = absurd of.holds.holds
-fails workers max within file listed seeds input wrong.CannotWrite good of = (good, of)
 fails workers max within file listed seeds input wrong.NoMemory good of = tt
+fails workers max within file listed seeds input fault good of = (good, of)
 
 -- what a crawl of inputs finds is found in the files that they were read from
 pub found_in_files : (workers : ℕ) (within : Option (String Global)) (file : List ℕ) (listed : Option (String Global)) (texts : List (List ℕ)) (input : Option (List ℕ)) (inputs : Inputs) (result : Result WebFound Failure)
@@ -240,11 +231,7 @@ explains_files within file listed texts input inputs (Err failure) is are at = e
 -- what is told whole is written without a URL
 pub written_at_none : (plan : Plan) (input : Option (List ℕ)) → Explains plan input wrong.CannotWrite None
 written_at_none (asks.Crawl workers max queues file seeds within options) input = tt
-written_at_none (asks.Key url workers) input = refl
-written_at_none (asks.Replay file) input = refl
-written_at_none (asks.Serve asked) input = refl
-written_at_none (asks.ServeLog asked) input = refl
-written_at_none (asks.Compact log new) input = refl
+written_at_none plan input = refl
 
 pub ends_at_none : (plan : Plan) (input : Option (List ℕ)) (text : List ℕ) (old new : Option (List ℕ)) (how : Result (Unit {0}) Fault) → EndsByText text old new how → IfErr how (λ fault. Explains plan input fault None)
 ends_at_none plan input text old new (Ok done) ends = tt

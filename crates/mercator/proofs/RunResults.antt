@@ -24,9 +24,8 @@ use Rattle.mercator.specs.declared.crawling.error.CrawlError.TheVariants as wron
 
 pub all_pages : {K : _} (workers : ℕ) (allowed : List ℕ → Bool) (meaning : List ℕ → Page) (starts : List WorkerId) (ends : List (WorkerEnd K)) → AllRan workers allowed meaning starts ends → AllPages meaning ends
 all_pages {K} workers allowed meaning [] [] ran = All-nil (λ (e : WorkerEnd K). ArePages meaning e.results.items)
-all_pages {K} workers allowed meaning [] (e ∷ es) ran = absurd ran
-all_pages {K} workers allowed meaning (s ∷ ss) [] ran = absurd ran
 all_pages {K} workers allowed meaning (s ∷ ss) (e ∷ es) ran = All-cons (λ (x : WorkerEnd K). ArePages meaning x.results.items) e es ran.0.0.pages (all_pages workers allowed meaning ss es ran.1)
+all_pages {K} workers allowed meaning starts ends ran = absurd ran
 
 -- one worker's results go to the others'
 pub pages_on : {K : _} (meaning : List ℕ → Page) (e : WorkerEnd K) (rest all : List (WorkerEnd K)) (results : List PageResult) → all ≡ e ∷ rest → AllPages meaning all → ArePages meaning results → AllPages meaning rest × ArePages meaning (results ++ e.results.items)
@@ -66,11 +65,7 @@ urls_counted account urls counts counted own = record {
 judged_at : (meaning : List ℕ → Page) (allowed : List ℕ → Bool) (seeds : List (List ℕ)) (entries : List Entry) (results : List PageResult) (cause : CertError) (url : List ℕ) → ArePages meaning results → first_fault allowed seeds entries results ≡ Some cause
     → IsLeast (is_at_fault allowed seeds entries results cause) (Some url) → IsJudgedAt meaning allowed seeds (of_cert cause) (Some url)
 judged_at meaning allowed seeds entries results cert.NoMemory url means first least = absurd (true≢false (sym least.0))
-judged_at meaning allowed seeds entries results cert.SeedMissing url means first least = record { entries = entries; results = results; means = means; first = first; least = least }
-judged_at meaning allowed seeds entries results cert.NotFetched url means first least = record { entries = entries; results = results; means = means; first = first; least = least }
-judged_at meaning allowed seeds entries results cert.LinkMissing url means first least = record { entries = entries; results = results; means = means; first = first; least = least }
-judged_at meaning allowed seeds entries results cert.Unfounded url means first least = record { entries = entries; results = results; means = means; first = first; least = least }
-judged_at meaning allowed seeds entries results cert.Twice url means first least = record { entries = entries; results = results; means = means; first = first; least = least }
+judged_at meaning allowed seeds entries results cause url means first least = record { entries = entries; results = results; means = means; first = first; least = least }
 
 -- a culprit of these entries and results, as the crawl tells it
 pub culprit_judged : (meaning : List ℕ → Page) (allowed : List ℕ → Bool) (seeds : List (List ℕ)) (entries : List Entry) (results : List PageResult) (culprit : Culprit) → ArePages meaning results
@@ -83,34 +78,22 @@ culprit_judged meaning allowed seeds entries results culprit means told = elim t
 -- the cause of a culprit is an error of a run
 pub cause_of_run : (cause : CertError) → IsOfRun (of_cert cause)
 cause_of_run cert.NoMemory = tt
-cause_of_run cert.SeedMissing = tt
-cause_of_run cert.NotFetched = tt
-cause_of_run cert.LinkMissing = tt
-cause_of_run cert.Unfounded = tt
-cause_of_run cert.Twice = tt
+cause_of_run cause = tt
 
 -- and comes in either mode
 pub cause_comes : (mode : Mode) (cause : CertError) → ComesIn mode (of_cert cause)
 cause_comes mode cert.NoMemory = tt
-cause_comes mode cert.SeedMissing = tt
-cause_comes mode cert.NotFetched = tt
-cause_comes mode cert.LinkMissing = tt
-cause_comes mode cert.Unfounded = tt
-cause_comes mode cert.Twice = tt
+cause_comes mode cause = tt
 
 -- an error without a certificate is told with no URL
 pub uncertified_judged : (meaning : List ℕ → Page) (allowed : List ℕ → Bool) (seeds : List (List ℕ)) (error : CrawlError) → IsUncertified error → IsOfRun error × IsJudgedAt meaning allowed seeds error None
 uncertified_judged meaning allowed seeds (wrong.Frontier error) is = absurd is
-uncertified_judged meaning allowed seeds (wrong.Run error) is = (is, tt)
-uncertified_judged meaning allowed seeds (wrong.Finish error) is = (is, tt)
 uncertified_judged meaning allowed seeds (wrong.Cert error) is = absurd is
 uncertified_judged meaning allowed seeds wrong.NoMemory is = (tt, tt)
+uncertified_judged meaning allowed seeds error is = (is, tt)
 
 -- the error alone
 pub judged_alone : (meaning : List ℕ → Page) (allowed : List ℕ → Bool) (seeds : List (List ℕ)) (error : CrawlError) (culprit : Option (List ℕ)) → IsJudgedAt meaning allowed seeds error culprit → IsJudged meaning allowed seeds error
 judged_alone meaning allowed seeds (wrong.Cert error) (Some url) at = record { entries = at.entries; results = at.results; means = at.means; first = at.first }
 judged_alone meaning allowed seeds (wrong.Cert error) None at = absurd at
-judged_alone meaning allowed seeds (wrong.Frontier error) culprit at = tt
-judged_alone meaning allowed seeds (wrong.Run error) culprit at = tt
-judged_alone meaning allowed seeds (wrong.Finish error) culprit at = tt
-judged_alone meaning allowed seeds wrong.NoMemory culprit at = tt
+judged_alone meaning allowed seeds error culprit at = tt

@@ -48,12 +48,7 @@ gains_answers session asked input out_old out_new new shown is good served =
 -- one that broke off
 pub breaks_off : (asked : SessionPlan) (input : Option (List ℕ)) (why : ServeError) (Unwritten : Type 0) → is_bad_suffix asked.within ≡ false → EndsBy (asks.Serve asked) input (of_session why) Unwritten
 breaks_off asked input serving.CannotRead Unwritten good = inr (inr good)
-breaks_off asked input serving.CannotWrite Unwritten good = inr (inr good)
-breaks_off asked input serving.NoMemory Unwritten good = inr (inr good)
-
--- a session was given the requests in these bytes of a log: none
-pub reruns_none : (session : SessionView) → (bytes : List ℕ) × Reruns session (lines bytes) session
-reruns_none session = ([], record { settings = refl; comes = λ state shown. shown })
+breaks_off asked input why Unwritten good = inr (inr good)
 
 -- a session that went on from a log, and was served to the end of its input
 pub gains_on : (session : SessionView) (asked : LogPlan) (identity : List ℕ) (resumed : SessionView) (input given out_old out_new : Option (List ℕ)) (new : SessionView) → Shows session.core (start (queues_of asked.session) asked.session.max) → session.settings ≡ settings_of asked.session identity
@@ -83,25 +78,14 @@ gains_on session asked identity resumed input given out_old out_new new shown is
 pub breaks_off_log : (asked : LogPlan) (input : Option (List ℕ)) (why : ServeError) (fault : Fault) (Unwritten : Type 0) → is_bad_suffix asked.session.within ≡ false → (fault ≡ of_session why) ⊎ (fault ≡ wrong.Log unlogged.CannotWrite)
     → EndsBy (asks.ServeLog asked) input fault Unwritten
 breaks_off_log asked input serving.CannotRead fault Unwritten good (inl is) = subst (λ f. EndsBy (asks.ServeLog asked) input f Unwritten) (sym is) (inr (inr good))
-breaks_off_log asked input serving.CannotWrite fault Unwritten good (inl is) = subst (λ f. EndsBy (asks.ServeLog asked) input f Unwritten) (sym is) (inr (inr good))
-breaks_off_log asked input serving.NoMemory fault Unwritten good (inl is) = subst (λ f. EndsBy (asks.ServeLog asked) input f Unwritten) (sym is) (inr (inr good))
+breaks_off_log asked input why fault Unwritten good (inl is) = subst (λ f. EndsBy (asks.ServeLog asked) input f Unwritten) (sym is) (inr (inr good))
 breaks_off_log asked input why fault Unwritten good (inr is) = subst (λ f. EndsBy (asks.ServeLog asked) input f Unwritten) (sym is) (inr (inr good))
 
 -- one that did not begin
 pub log_fails : (within : Option (String Global)) (fault : Fault) → is_bad_suffix within ≡ false → IsLogFault fault → FailsLog within fault
 log_fails within wrong.NoMemory good is = tt
 log_fails within (wrong.Log why) good is = good
-log_fails within wrong.CannotRead good is = absurd is
-log_fails within wrong.CannotReadSeeds good is = absurd is
-log_fails within (wrong.Script fault) good is = absurd is
-log_fails within (wrong.Web fault) good is = absurd is
-log_fails within (wrong.Seeds fault) good is = absurd is
-log_fails within wrong.NoSeed good is = absurd is
-log_fails within (wrong.Seed number refusal) good is = absurd is
-log_fails within (wrong.Url refusal) good is = absurd is
-log_fails within (wrong.Crawl error) good is = absurd is
-log_fails within wrong.BadSuffix good is = absurd is
-log_fails within wrong.CannotWrite good is = absurd is
+log_fails within fault good is = absurd is
 
 pub fails_log : (asked : LogPlan) (input : Option (List ℕ)) (fault : Fault) (Unwritten : Type 0) → is_bad_suffix asked.session.within ≡ false → IsLogFault fault → Unwritten → EndsBy (asks.ServeLog asked) input fault Unwritten
 fails_log asked input fault Unwritten good is none = inl (log_fails asked.session.within fault good is, none)
@@ -110,53 +94,29 @@ fails_log asked input fault Unwritten good is none = inl (log_fails asked.sessio
 pub plain_log : (fault : Fault) → IsLogFault fault → status_of_fault fault ≡ 1
 plain_log wrong.NoMemory is = refl
 plain_log (wrong.Log why) is = refl
-plain_log wrong.CannotRead is = absurd is
-plain_log wrong.CannotReadSeeds is = absurd is
-plain_log (wrong.Script fault) is = absurd is
-plain_log (wrong.Web fault) is = absurd is
-plain_log (wrong.Seeds fault) is = absurd is
-plain_log wrong.NoSeed is = absurd is
-plain_log (wrong.Seed number refusal) is = absurd is
-plain_log (wrong.Url refusal) is = absurd is
-plain_log (wrong.Crawl error) is = absurd is
-plain_log wrong.BadSuffix is = absurd is
-plain_log wrong.CannotWrite is = absurd is
+plain_log fault is = absurd is
 
 -- a plan that is no session tells a text, and notes nothing
 pub is_telling : (plan : Plan) → ((asked : SessionPlan) → plan ≡ asks.Serve asked → ⊥) → ((asked : LogPlan) → plan ≡ asks.ServeLog asked → ⊥) → ((log : LogPlan) (new : String Global) → plan ≡ asks.Compact log new → ⊥) → IsTelling plan
-is_telling (asks.Crawl workers max queues file seeds within options) other logged compacts = tt
-is_telling (asks.Key url workers) other logged compacts = tt
-is_telling (asks.Replay file) other logged compacts = tt
 is_telling (asks.Serve asked) other logged compacts = other asked refl
 is_telling (asks.ServeLog asked) other logged compacts = logged asked refl
 is_telling (asks.Compact log new) other logged compacts = compacts log new refl
+is_telling plan other logged compacts = tt
 
 pub notes_nothing : (plan : Plan) (old new : Option (List ℕ)) → ((asked : LogPlan) → plan ≡ asks.ServeLog asked → ⊥) → MayNote plan old new
-notes_nothing (asks.Crawl workers max queues file seeds within options) old new plain = tt
-notes_nothing (asks.Key url workers) old new plain = tt
-notes_nothing (asks.Replay file) old new plain = tt
-notes_nothing (asks.Serve asked) old new plain = tt
-notes_nothing (asks.Compact log file) old new plain = tt
 notes_nothing (asks.ServeLog asked) old new plain = absurd (plain asked refl)
+notes_nothing plan old new plain = tt
 
 -- a fault's line is told, behind what a session with a log may have told
 pub tells_fault : (plan : Plan) (old middle new : Option (List ℕ)) (line : List ℕ) → (has_log plan ≡ false → middle ≡ old) → MayNote plan old middle → Begins middle new line → TellsFault plan old new line
-tells_fault (asks.Crawl workers max queues file seeds within options) old middle new line silent noted told = subst (λ o. Begins o new line) (silent refl) told
-tells_fault (asks.Key url workers) old middle new line silent noted told = subst (λ o. Begins o new line) (silent refl) told
-tells_fault (asks.Replay file) old middle new line silent noted told = subst (λ o. Begins o new line) (silent refl) told
-tells_fault (asks.Compact log file) old middle new line silent noted told = subst (λ o. Begins o new line) (silent refl) told
-tells_fault (asks.Serve asked) old middle new line silent noted told = subst (λ o. Begins o new line) (silent refl) told
 tells_fault (asks.ServeLog asked) old middle new line silent noted told = (middle, noted, told)
+tells_fault plan old middle new line silent noted told = subst (λ o. Begins o new line) (silent refl) told
 
 -- words are done that are a plan's
 pub done_words : {E : Type 0} (plan : Plan) (contents : E → Option (List ℕ)) (input out_old out_new : Option (List ℕ)) (old new : E) → IsWithinLimits plan → Gains plan input out_old out_new → (has_log plan ≡ false → new ≡ old) → MayNote plan (contents old) (contents new)
     → (new ≡ old) ⊎ ((plan : Plan) × IsWithinLimits plan × IsDoneWithNote plan input out_old out_new (contents old) (contents new))
-done_words (asks.Crawl workers max queues file seeds within options) contents input out_old out_new old new limits gains silent noted = inl (silent refl)
-done_words (asks.Key url workers) contents input out_old out_new old new limits gains silent noted = inl (silent refl)
-done_words (asks.Replay file) contents input out_old out_new old new limits gains silent noted = inl (silent refl)
-done_words (asks.Compact log file) contents input out_old out_new old new limits gains silent noted = inl (silent refl)
-done_words (asks.Serve asked) contents input out_old out_new old new limits gains silent noted = inl (silent refl)
 done_words (asks.ServeLog asked) contents input out_old out_new old new limits gains silent noted = inr (asks.ServeLog asked, limits, record { logged = refl; gains = gains; noted = noted })
+done_words plan contents input out_old out_new old new limits gains silent noted = inl (silent refl)
 
 -- what a compaction did, and more of it
 pub compacted_more : (had : Had) (old : SessionView) (next : Had) (mid : SessionView) (last : Had) (new : SessionView) (out_old out_mid out_new : Option (List ℕ)) → Compacted had old next mid out_old out_mid → Compacted next mid last new out_mid out_new → Compacted had old last new out_old out_new
@@ -165,14 +125,6 @@ compacted_more had old next mid last new out_old out_mid out_new one two = recor
   text = one.text ++ two.text;
   gained = Appends-trans out_old out_mid out_new one.text two.text one.gained two.gained;
   compacts = compacts_both had old one.requests one.text next mid two.requests two.text last new one.compacts two.compacts;
-}
-
-pub behind_first : (session : SessionView) (first : List ℕ) (out_old out_mid out_new : Option (List ℕ)) → Appends out_old out_mid first → IsCompacted session [] out_mid out_new → IsCompacted session first out_old out_new
-behind_first session first out_old out_mid out_new written all = record {
-  requests = all.requests;
-  text = all.text;
-  gained = Appends-trans out_old out_mid out_new first all.text written all.gained;
-  shortest = all.shortest;
 }
 
 pub fails_compacting : (log : LogPlan) (file : String Global) (r : Result (Unit {0}) Fault) → is_bad_suffix log.session.within ≡ false → IfErr r IsLogFault → IfErr r (λ fault. (input : Option (List ℕ)) → Fails (asks.Compact log file) input fault)

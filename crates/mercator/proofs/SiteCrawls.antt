@@ -13,7 +13,9 @@ use Rattle.crawl_web.specs.declared.page.PageResult.{PageResult}
 use Rattle.std.specs.Str.Lines.{lines}
 use Rattle.crawl_web.specs.WebFaults.{IsSound}
 use Rattle.mercator.specs.Crawls.{AreCounts, IsFaultAt, IsJudgedAt}
-use Rattle.mercator.specs.WebCrawl.{AreAllSeeds, IsFound, IsNamedAt, IsSiteCrawl, IsSiteFault, IsCrawlReport, IsUnread}
+use Rattle.crawl_workers.specs.declared.losses.Losses.{Losses}
+use Rattle.mercator.specs.Losses.{IsLost}
+use Rattle.mercator.specs.WebCrawl.{AreAllSeeds, IsFound, IsLostAt, IsNamedAt, IsSiteCrawl, IsSiteFault, IsCrawlReport, IsUnread}
 use Rattle.mercator.specs.Faults.{of_crawl}
 use Rattle.mercator.specs.declared.commands.fault.Fault.{Fault}
 use Rattle.mercator.specs.declared.commands.fault.Fault.TheVariants as wrong
@@ -68,31 +70,14 @@ site_fault bytes listed texts suffixes meaning seeds error url sound same named 
 pub named_of : (bytes listed : List ℕ) (texts suffixes : List (List ℕ)) (meaning : List ℕ → Page) (seeds : List (List ℕ)) (error : CrawlError) (culprit : Option (List ℕ)) → IsSound (lines bytes) → ((url : List ℕ) → meaning url ≡ page_of (lines bytes) url)
     → AreAllSeeds listed texts seeds → IsJudgedAt meaning (allows suffixes) seeds error culprit → IsNamedAt bytes listed texts suffixes (of_crawl error) culprit
 named_of bytes listed texts suffixes meaning seeds (crawl.Cert error) (Some url) sound same named at = site_fault bytes listed texts suffixes meaning seeds error url sound same named at
-named_of bytes listed texts suffixes meaning seeds (crawl.Cert error) None sound same named at = at
-named_of bytes listed texts suffixes meaning seeds (crawl.Frontier error) (Some url) sound same named at = at
-named_of bytes listed texts suffixes meaning seeds (crawl.Frontier error) None sound same named at = tt
-named_of bytes listed texts suffixes meaning seeds (crawl.Run error) (Some url) sound same named at = at
-named_of bytes listed texts suffixes meaning seeds (crawl.Run error) None sound same named at = tt
-named_of bytes listed texts suffixes meaning seeds (crawl.Finish error) (Some url) sound same named at = at
-named_of bytes listed texts suffixes meaning seeds (crawl.Finish error) None sound same named at = tt
-named_of bytes listed texts suffixes meaning seeds crawl.NoMemory (Some url) sound same named at = at
-named_of bytes listed texts suffixes meaning seeds crawl.NoMemory None sound same named at = tt
+named_of bytes listed texts suffixes meaning seeds crawl.NoMemory None sound same named at = at
+named_of bytes listed texts suffixes meaning seeds error None sound same named at = at
+named_of bytes listed texts suffixes meaning seeds error (Some url) sound same named at = at
 
 -- a fault before it is told with none
 pub unread_named : (bytes listed : List ℕ) (texts suffixes : List (List ℕ)) (fault : Fault) → IsUnread bytes listed texts fault → IsNamedAt bytes listed texts suffixes fault None
-unread_named bytes listed texts suffixes (wrong.Web fault) is = tt
-unread_named bytes listed texts suffixes (wrong.Seeds fault) is = tt
-unread_named bytes listed texts suffixes (wrong.Seed number refusal) is = tt
-unread_named bytes listed texts suffixes wrong.NoMemory is = tt
-unread_named bytes listed texts suffixes wrong.CannotRead is = tt
-unread_named bytes listed texts suffixes wrong.CannotReadSeeds is = tt
-unread_named bytes listed texts suffixes (wrong.Script fault) is = tt
-unread_named bytes listed texts suffixes wrong.NoSeed is = tt
-unread_named bytes listed texts suffixes (wrong.Url refusal) is = tt
 unread_named bytes listed texts suffixes (wrong.Crawl error) is = absurd is
-unread_named bytes listed texts suffixes wrong.BadSuffix is = tt
-unread_named bytes listed texts suffixes wrong.CannotWrite is = tt
-unread_named bytes listed texts suffixes (wrong.Log fault) is = tt
+unread_named bytes listed texts suffixes fault is = tt
 
 -- a file of seeds and texts have one list of seeds
 one_seeds : (listed : List ℕ) (texts seeds others : List (List ℕ)) → AreAllSeeds listed texts seeds → AreAllSeeds listed texts others → seeds ≡ others
@@ -111,3 +96,9 @@ one_site_crawl bytes listed texts suffixes pages others own other =
 pub one_report : (bytes : List ℕ) (texts suffixes text other : _) → IsCrawlReport bytes texts suffixes text → IsCrawlReport bytes texts suffixes other → text ≡ other
 one_report bytes texts suffixes text other own its =
     own.written ∙ ap report (one_site_crawl bytes [] texts suffixes own.pages its.pages own.crawl its.crawl) ∙ sym its.written
+
+-- a fault of what is missing as a command tells it
+pub lost_at : (error : CrawlError) (culprit : Option (List ℕ)) (losses : Losses) → IsLost error losses → IsLostAt (of_crawl error) culprit losses
+lost_at error None losses is = tt
+lost_at crawl.NoMemory (Some url) losses is = tt
+lost_at error (Some url) losses is = is

@@ -18,6 +18,7 @@ use Rattle.crawl_gate.specs.GateError.{IsMaximum}
 use Rattle.crawl_keys.specs.Assignment.{subqueue_of}
 use Rattle.crawl_web.specs.declared.page.Page.{Page}
 use Rattle.crawl_web.specs.declared.page.PageResult.{PageResult}
+use Rattle.crawl_workers.specs.Losses.{no_losses}
 use Rattle.crawl_workers.specs.declared.error.RunError.{RunError}
 use Rattle.crawl_workers.specs.declared.error.RunError.TheVariants as run
 use Rattle.crawl_workers.specs.declared.worker_end.WorkerEnd.{WorkerEnd}
@@ -105,7 +106,7 @@ IsJudgedAt meaning allowed seeds error (Some url) = ⊥
 
 -- told with no URL
 abbrev pub without_url : CrawlError → CrawlFailure
-without_url error = record { error = error; culprit = None }
+without_url error = record { error = error; culprit = None; losses = no_losses }
 
 -- a fault of a certificate that is told is such a one
 abbrev pub IsJudged : (List ℕ → Page) → (List ℕ → Bool) → List (List ℕ) → CrawlError → Type 0

@@ -1,5 +1,5 @@
 -- The texts of faults, and their lines.
-use Rattle.std.specs.Prelude.{ℕ, List, [], ◌∷◌, ◌++◌, codes, Option, Some, None}
+use Rattle.std.specs.Prelude.{ℕ, ◌+◌, List, [], ◌∷◌, ◌++◌, codes, Option, Some, None}
 use Rattle.std.specs.Fmt.{decimal}
 use Rattle.crawl_certificate.specs.declared.error.CertError.{CertError}
 use Rattle.crawl_certificate.specs.declared.error.CertError.TheVariants as cert
@@ -12,6 +12,7 @@ use Rattle.crawl_web.specs.declared.saved_web.error.WebError.{WebError}
 use Rattle.crawl_web.specs.declared.saved_web.error.WebError.TheVariants as web
 use Rattle.crawl_sources.specs.declared.seeds.SeedsFault.{SeedsFault}
 use Rattle.crawl_sources.specs.declared.seeds.SeedsFault.TheVariants as seeds
+use Rattle.crawl_workers.specs.declared.losses.Losses.{Losses}
 use Rattle.mercator.specs.declared.commands.fault.Fault.{Fault}
 use Rattle.mercator.specs.declared.commands.fault.Fault.TheVariants as wrong
 use Rattle.mercator.specs.declared.commands.log_file.LogFault.{LogFault}
@@ -114,9 +115,19 @@ abbrev pub fault_line : List ℕ → Fault → List ℕ
 fault_line file fault = codes "mercator: " ++ fault_text file fault ++ 10 ∷ []
 
 -- the line that tells a fault at this URL
-abbrev pub culprit_line : List ℕ → Fault → Option (List ℕ) → List ℕ
-culprit_line file fault None = []
-culprit_line file fault (Some url) = codes "mercator: " ++ fault_text file fault ++ codes ": " ++ url ++ 10 ∷ []
+abbrev pub culprit_line : List ℕ → Fault → List ℕ → List ℕ
+culprit_line file fault url = codes "mercator: " ++ fault_text file fault ++ codes ": " ++ url ++ 10 ∷ []
+
+-- the line that tells how much was lost, by why
+abbrev pub losses_line : Losses → List ℕ
+losses_line losses =
+    codes "mercator: lost: full " ++ (decimal losses.full ++ (codes ", too far " ++ (decimal losses.too_far ++ (codes ", crossed " ++ (decimal losses.crossed
+    ++ (codes ", failed " ++ (decimal losses.failed ++ (codes ", out of memory " ++ (decimal (losses.no_memory + losses.unkept) ++ 10 ∷ [])))))))))
+
+-- the lines that tell a fault at this URL, and what was lost
+abbrev pub culprit_lines : List ℕ → Fault → Option (List ℕ) → Losses → List ℕ
+culprit_lines file fault None losses = []
+culprit_lines file fault (Some url) losses = culprit_line file fault url ++ losses_line losses
 
 -- the line that tells that the last line of this log had no end, and is cut off
 abbrev pub torn_line : List ℕ → List ℕ

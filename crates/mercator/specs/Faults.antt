@@ -10,6 +10,7 @@ use Rattle.crawl_sources.specs.declared.seeds.SeedsFault.{SeedsFault}
 use Rattle.crawl_sources.specs.declared.seeds.SeedsFault.TheVariants as seeds
 use Rattle.crawl_session.specs.declared.serving.ServeError.{ServeError}
 use Rattle.crawl_session.specs.declared.serving.ServeError.TheVariants as serving
+use Rattle.crawl_workers.specs.Losses.{no_losses}
 use Rattle.mercator.specs.declared.commands.fault.Fault.{Fault}
 use Rattle.mercator.specs.declared.commands.fault.Fault.TheVariants as wrong
 use Rattle.mercator.specs.declared.commands.failure.Failure.{Failure}
@@ -61,7 +62,7 @@ of_crawl error = wrong.Crawl error
 
 -- told with no URL
 abbrev pub without_url : Fault → Failure
-without_url fault = record { fault = fault; culprit = None }
+without_url fault = record { fault = fault; culprit = None; losses = no_losses }
 
 -- the status of a fault: 2 where a crawl is incomplete, since it was not certified, has no account or had no thread
 abbrev pub status_of_fault : Fault → ℕ

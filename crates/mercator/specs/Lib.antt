@@ -7,8 +7,8 @@ pub mod Input
 pub mod KeyLine
 pub mod Limits
 pub mod LogFile
+pub mod Losses
 pub mod LosslessRuns
 pub mod Plans
-pub mod QueueLines
 pub mod Told
 pub mod WebCrawl

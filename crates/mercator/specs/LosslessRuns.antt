@@ -1,15 +1,25 @@
 -- A run of all workers in which nothing is lost.
-use Rattle.std.specs.Prelude.{◌≡◌, ℕ, Bool, List, []}
+use Rattle.std.specs.Prelude.{◌≡◌, ℕ, Bool, List, [], ◌∷◌, ◌++◌}
 use Rattle.crawl_frontier.specs.Parts.{WorkerId}
 use Rattle.crawl_web.specs.declared.page.Page.{Page}
 use Rattle.crawl_web.specs.declared.page.PageResult.{PageResult}
 use Rattle.crawl_workers.specs.Ran.{Ran}
+use Rattle.crawl_workers.specs.declared.worker_end.WorkerEnd.{WorkerEnd}
 
 -- what one worker did: how it began, how it ended, and what it found
 pub record Share : Type 0 where
   pub start : WorkerId
   pub now : WorkerId
   pub found : List PageResult
+
+-- the workers that ended so, and what all of them found, in their order
+abbrev pub all_closed : {K : _} → List (WorkerEnd K) → List WorkerId
+all_closed [] = []
+all_closed (e ∷ es) = e.closed ∷ all_closed es
+
+abbrev pub all_found : {K : _} → List (WorkerEnd K) → List PageResult
+all_found [] = []
+all_found (e ∷ es) = e.results.items ++ all_found es
 
 -- it had taken nothing before, and lost nothing
 abbrev pub IsWithoutLoss : ℕ → (List ℕ → Bool) → (List ℕ → Page) → Share → Type 0

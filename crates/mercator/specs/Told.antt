@@ -4,7 +4,7 @@ use Rattle.std.specs.Io.KnownBytes.{Appends}
 use Rattle.std.specs.declared.alloc.Global.{Global}
 use Rattle.crawl_keys.specs.CanonicalText.{canonical}
 use Rattle.mercator.specs.Ending.{Begins}
-use Rattle.mercator.specs.FaultText.{culprit_line, fault_line, torn_line}
+use Rattle.mercator.specs.FaultText.{culprit_lines, fault_line, torn_line}
 use Rattle.mercator.specs.Faults.{status_of_fault}
 use Rattle.mercator.specs.KeyLine.{IsKeyLine}
 use Rattle.mercator.specs.Limits.{most_input_bytes}
@@ -17,7 +17,8 @@ use Rattle.crawl_session.specs.Settings.{Settings}
 use Rattle.crawl_session.specs.declared.part.Part.{Part}
 use Rattle.crawl_core.specs.State.{start}
 use Rattle.std.specs.Str.Lines.{lines}
-use Rattle.mercator.specs.WebCrawl.{IsAtNone, IsBegun, IsCrawlText, IsNamedAt, IsUnbegun}
+use Rattle.crawl_workers.specs.declared.losses.Losses.{Losses}
+use Rattle.mercator.specs.WebCrawl.{IsAtNone, IsBegun, IsCrawlText, IsLostAt, IsNamedAt, IsUnbegun}
 use Rattle.mercator.specs.declared.commands.planned.CrawlOptions.{CrawlOptions}
 use Rattle.mercator.specs.declared.commands.planned.Plan.{Plan}
 use Rattle.mercator.specs.declared.commands.planned.SessionPlan.{SessionPlan}
@@ -191,10 +192,11 @@ abbrev pub TellsFault : Plan → Option (List ℕ) → Option (List ℕ) → Lis
 TellsFault (asks.ServeLog asked) old new line = (middle : Option (List ℕ)) × MayNote (asks.ServeLog asked) old middle × Begins middle new line
 TellsFault plan old new line = Begins old new line
 
--- the lines that tell a fault: its own; and where they are asked for, behind it the one that tells it at its URL
-abbrev pub told_lines : Plan → Fault → Option (List ℕ) → List ℕ
-told_lines plan fault culprit =
-    if explains plan then fault_line (told_file plan fault) fault ++ culprit_line (told_file plan fault) fault culprit else fault_line (told_file plan fault) fault
+-- the lines that tell a fault: its own; and where they are asked for, behind it those that tell it at its URL and what was lost
+abbrev pub told_lines : Plan → Fault → Option (List ℕ) → Losses → List ℕ
+told_lines plan fault culprit losses =
+    if explains plan then fault_line (told_file plan fault) fault ++ culprit_lines (told_file plan fault) fault culprit losses
+    else fault_line (told_file plan fault) fault
 
 -- a command ended by a fault. The status is the fault's, and the writer for faults gained the fault's lines, up to where it
 -- refused them
@@ -203,7 +205,9 @@ pub record EndsByFault (plan : Plan) (ended : ℕ) (input err_old err_new : Opti
   pub status : ended ≡ status_of_fault fault
   pub culprit : Option (List ℕ)
   pub named : Explains plan input fault culprit
-  pub told : TellsFault plan err_old err_new (told_lines plan fault culprit)
+  pub losses : Losses
+  pub lost : IsLostAt fault culprit losses
+  pub told : TellsFault plan err_old err_new (told_lines plan fault culprit losses)
   pub why : EndsBy plan input fault Unwritten
 
 -- both crawls tell the same parts, in the same form

@@ -8,10 +8,10 @@ use Rattle.std.specs.Str.Lines.{lines}
 use Rattle.crawl_keys.specs.CanonicalText.{canonical}
 use Rattle.crawl_report.specs.Json.{printed_line}
 use Rattle.crawl_report.specs.Rows.{plain_parts, rows_with}
+use Rattle.crawl_report.specs.Today.{told_text}
 use Rattle.crawl_report.specs.Unreached.{asked_pages, unreached_of}
 use Rattle.crawl_report.specs.declared.report.Parts.{Parts}
 use Rattle.crawl_sources.specs.Seeds.{seeds_in}
-use Rattle.crawl_sources.specs.Sources.{sources}
 use Rattle.crawl_web.specs.SavedWeb.{page_of}
 use Rattle.crawl_keys.specs.declared.error.KeyError.{KeyError}
 use Rattle.crawl_web.specs.WebFaults.{IsSound, IsWebFault}
@@ -22,7 +22,8 @@ use Rattle.crawl_certificate.specs.Certificate.{IsCrawl, result_urls}
 use Rattle.crawl_certificate.specs.declared.error.CertError.{CertError}
 use Rattle.crawl_keys.specs.HostFilter.{allows}
 use Rattle.mercator.specs.Crawls.{AreCounts, ComesIn, CrawlFails, IsFaultAt, NamesNone}
-use Rattle.mercator.specs.QueueLines.{queue_lines}
+use Rattle.crawl_workers.specs.declared.losses.Losses.{Losses}
+use Rattle.mercator.specs.Losses.{IsLost}
 use Rattle.mercator.specs.declared.crawling.Crawled.{Crawled}
 use Rattle.mercator.specs.declared.crawling.Mode.{Mode}
 use Rattle.mercator.specs.declared.crawling.error.CrawlError.TheVariants as crawl
@@ -104,6 +105,12 @@ abbrev pub IsAtNone : Fault → Type 0
 IsAtNone (wrong.Crawl error) = NamesNone error
 IsAtNone fault = Unit {0}
 
+-- a fault of a seed, a page or a link that is missing, which is told at a URL, is told with a loss at least
+abbrev pub IsLostAt : Fault → Option (List ℕ) → Losses → Type 0
+IsLostAt fault None losses = Unit {0}
+IsLostAt (wrong.Crawl error) (Some url) losses = IsLost error losses
+IsLostAt fault (Some url) losses = Unit {0}
+
 -- a fault of the certificate is told with such a URL, and another fault with none
 abbrev pub IsNamedAt : List ℕ → List ℕ → List (List ℕ) → List (List ℕ) → Fault → Option (List ℕ) → Type 0
 IsNamedAt bytes listed texts suffixes fault None = IsAtNone fault
@@ -162,11 +169,6 @@ pub record IsCrawlText (workers : ℕ) (with_queues : Bool) (options : CrawlOpti
   pub told : IsTextOf with_queues options bytes suffixes pages counts text
 
 -- ---- the text of a crawl that asks for no more than subqueues and sources
-
--- the report, then where they are wanted the lines that count its URLs by subqueue, and then where they are wanted those that tell
--- where its missing URLs are linked from
-abbrev pub told_text : Bool → Bool → List PageResult → List ℕ → List ℕ
-told_text with_queues with_sources pages counts = report pages ++ (if with_queues then queue_lines counts else []) ++ (if with_sources then sources pages else [])
 
 -- the text is that of such a crawl
 pub record IsPlainText (workers : ℕ) (with_queues with_sources : Bool) (bytes listed : List ℕ) (texts suffixes : List (List ℕ)) (text : List ℕ) : Type 0 where

@@ -5,6 +5,8 @@ ghost use Rattle.mercator.specs.Ending.{Begins};
 ghost use Rattle.mercator.specs.FaultText.{fault_line};
 ghost use Rattle.mercator.specs.Faults.{status_of_fault};
 ghost use Rattle.mercator.specs.Plans.{IsShown, IsWithinLimits, has_log, reads_input};
+ghost use Rattle.crawl_workers.specs.Losses.{no_losses};
+ghost use Rattle.mercator.specs.WebCrawl.{IsLostAt};
 ghost use Rattle.mercator.specs.Told.{CannotTell, EndsBy, EndsByFault, Explains, FailsWithoutPlan, Gains, IsDoneWithNote, MayLose, MayNote, TellsWords};
 ghost use Rattle.mercator.specs.declared.commands.planned.Plan.{Plan};
 ghost use Rattle.mercator.specs.declared.commands.words.PlanError.{PlanError};
@@ -23,7 +25,6 @@ mod log_file;
 mod opening;
 mod planned;
 mod platform;
-mod queues;
 mod report_words;
 mod resuming;
 mod serving;
@@ -34,15 +35,16 @@ mod window;
 mod words;
 mod writing;
 
-use crate::crawling::{Observe, Unobserved};
+use crate::crawling::{Observe, Unobserved, no_losses};
 use compacting::compact_log;
 use crawl_keys::CanonUrl;
+use crawl_workers::Losses;
+use failure::Failure;
 pub use fault::Fault;
 pub use input::{INPUT_LIMIT, InputLimits, READ_LIMIT, Unread, read_input};
 pub use log_file::{LockFile, LogFault, NoLocks};
 pub use planned::{CrawlOptions, LogPlan, Plan, SessionPlan};
 pub use platform::Platform;
-pub use queues::queue_text;
 use resuming::serve_log;
 use serving::serve_plan;
 use std::alloc::Global;
@@ -129,7 +131,7 @@ pub fn run_words_with<
     ensures bad_words { result ≡ 3 → (error : PlanError) × TellsWords error (E.contents err.old) (E.contents err.new) }
 {
     match plan(alloc, words) {
-        Ok(plan) => run_plan_with(platform, alloc, &plan, input, out, err),
+        Ok(plan) => run_plan(platform, alloc, &plan, input, out, err),
         Err(error) => show(alloc, error, out, err),
     }
 }
@@ -140,40 +142,9 @@ pub fn run_words_with<
 ///
 /// It is for a process that ends then: a crawl's web and pages are not dropped but left to its end, which gives their memory back
 /// at once. What crawls again and again in one process calls [`crawl_saved_web`], which leaves nothing.
-pub fn run_plan<R: Files + Threads + Wait + Sync, I: Read, O: Write, E: Write>(
-    rt: &R,
-    alloc: Global,
-    plan: &Plan,
-    input: &mut I,
-    out: &mut O,
-    err: &mut E,
-) -> u8
-    requires { IsWithinLimits plan.now }
-    ensures statuses { result ≤ 2 }
-
-    // What is written when a command is done, by the bytes of its FILE.
-    ensures done { result ≡ 0 → Gains plan.now (I.remaining input.old) (O.contents out.old) (O.contents out.new) }
-    ensures silent { has_log plan.now ≡ false → result ≡ 0 → err.new ≡ err.old }
-
-    // The last line of a log may be torn.
-    ensures noted { result ≡ 0 → MayNote plan.now (E.contents err.old) (E.contents err.new) }
-
-    // Else it ends by a fault, which is told in its line; the fault that comes first, and one by which this plan fails.
-    ensures fault { 0 < result → EndsByFault plan.now result (I.remaining input.old) (E.contents err.old) (E.contents err.new) (out.new ≡ out.old) }
-
-    // A command that has nothing to tell ends by a fault, and nothing is written.
-    ensures refused { CannotTell plan.now (I.remaining input.old) → (result ≡ 1) × (out.new ≡ out.old) }
-
-    // Only a crawl of a saved web is incomplete, and nothing is written then.
-    ensures incomplete { result ≡ 2 → MayLose plan.now (I.remaining input.old) }
-    ensures unreported { result ≡ 2 → out.new ≡ out.old }
-    ensures unread { reads_input plan.now ≡ false → input.new ≡ input.old }
-{
-    run_plan_with(&alone(rt), alloc, plan, input, out, err)
-}
-
-/// The same on a platform, which may lock the files of logs, and have an observer of crawls.
-pub fn run_plan_with<
+///
+/// Its platform may lock the files of logs, and have an observer of crawls.
+pub fn run_plan<
     R: Files + Threads + Wait + Sync,
     L: LockFile<R::File>,
     V: Observe + Sync,
@@ -213,25 +184,35 @@ pub fn run_plan_with<
     match ended.how {
         Ok(()) => 0,
         Err(fault) => {
-            tell_ended(alloc, err, plan, fault, &ended.culprit);
+            let failure = Failure {
+                fault,
+                culprit: ended.culprit,
+                losses: ended.losses,
+            };
+            tell_ended(alloc, err, plan, &failure);
             fault.status()
         }
     }
 }
 
-/// How a plan's command ended; of a crawl that is not certified, at which URL.
+/// How a plan's command ended; of a crawl that is not certified, at which URL, and what was lost.
 #[derive(Drop)]
 struct Ended {
     how: Result<(), Fault>,
     culprit: Option<CanonUrl>,
+    losses: Losses,
 }
 
 impl Ended {
     /// At none.
     fn at_none(how: Result<(), Fault>) -> Ended
-        ensures { result ≡ record { how = how; culprit = None } }
+        ensures { result ≡ record { how = how; culprit = None; losses = no_losses } }
     {
-        Ended { how, culprit: None }
+        Ended {
+            how,
+            culprit: None,
+            losses: no_losses(),
+        }
     }
 }
 
@@ -264,6 +245,7 @@ fn run<
     ensures done { IfOk result.how (λ _. Gains plan.now (I.remaining input.old) (O.contents out.old) (O.contents out.new)) }
     ensures fault { IfErr result.how (λ fault. EndsBy plan.now (I.remaining input.old) fault (out.new ≡ out.old)) }
     ensures named { IfErr result.how (λ fault. Explains plan.now (I.remaining input.old) fault result.culprit) }
+    ensures lost { IfErr result.how (λ fault. IsLostAt fault result.culprit result.losses) }
     ensures refused { CannotTell plan.now (I.remaining input.old) → IfErr result.how (λ fault. status_of_fault fault ≡ 1) × IsErr result.how × (out.new ≡ out.old) }
     ensures incomplete { IfErr result.how (λ fault. status_of_fault fault ≡ 2 → MayLose plan.now (I.remaining input.old) × (out.new ≡ out.old)) }
     ensures unread { reads_input plan.now ≡ false → input.new ≡ input.old }
@@ -281,6 +263,7 @@ fn run<
             Err(failure) => Ended {
                 how: Err(failure.fault),
                 culprit: failure.culprit,
+                losses: failure.losses,
             },
         },
     }

@@ -5,11 +5,13 @@ ghost use Rattle.crawl_frontier.specs.Limits.{IsWorkers};
 ghost use Rattle.crawl_gate.specs.GateError.{IsMaximum};
 ghost use Rattle.crawl_keys.specs.HostFilter.{allows};
 ghost use Rattle.mercator.specs.Crawls.{AreCounts, ComesIn, CrawlFails, IsJudged, IsJudgedAt};
+ghost use Rattle.mercator.specs.Losses.{IsLost};
 
 mod certified;
 mod error;
 mod failure;
 mod gather;
+mod losses;
 mod named;
 mod settings;
 mod watched;
@@ -20,6 +22,7 @@ use crawl_keys::{CanonUrl, Filter};
 use crawl_web::{Fetch, SessionFetch, WithoutSession};
 pub use error::CrawlError;
 pub use failure::CrawlFailure;
+pub(crate) use losses::no_losses;
 use named::crawl_named;
 pub use settings::CrawlSettings;
 use std::alloc::Global;
@@ -111,7 +114,8 @@ pub fn crawl_with<F: SessionFetch + Sync, R: Threads + Wait + Sync>(
     }
 }
 
-/// As [`crawl_with`], and where a fault of the certificate is told, the least URL, byte by byte, that has it.
+/// As [`crawl_with`], and where a fault of the certificate is told, the least URL, byte by byte, that has it, and how much was
+/// lost.
 ///
 /// # Errors
 /// Those of [`crawl`], of which those of the certificate name a URL.
@@ -128,6 +132,8 @@ pub fn crawl_explained<F: SessionFetch + Sync, R: Threads + Wait + Sync>(
     ensures mode { IfErr result (λ failure. ComesIn settings.now.mode failure.error) }
     // A fault of the certificate is the first one of some entries and of results that have the fetcher's pages, and no lesser URL has it.
     ensures judged { IfErr result (λ failure. IsJudgedAt (F.meaning fetcher.now) (allows settings.now.filter.now) seeds.now failure.error failure.culprit) }
+    // A seed, a page or a link that is missing was lost.
+    ensures lost { IfErr result (λ failure. IsLost failure.error failure.losses) }
 {
     match Setup::new(alloc, settings.workers, settings.max_pending) {
         Ok(setup) => crawl_named::<Brand, F, R>(rt, alloc, setup, fetcher, settings, seeds),
@@ -153,6 +159,7 @@ pub fn crawl_watched<F: SessionFetch + Sync, V: Observe + Sync, R: Threads + Wai
     ensures mode { IfErr result (λ failure. ComesIn settings.now.mode failure.error) }
     // A fault of the certificate is the first one of some entries and of results that have the fetcher's pages, and no lesser URL has it.
     ensures judged { IfErr result (λ failure. IsJudgedAt (F.meaning fetcher.now) (allows settings.now.filter.now) seeds.now failure.error failure.culprit) }
+    ensures lost { IfErr result (λ failure. IsLost failure.error failure.losses) }
 {
     let source = Watched::new(fetcher, observer);
     crawl_explained(rt, alloc, &source, settings, seeds)

@@ -11,12 +11,12 @@ pub mod laws;
 pub use commands::{
     BAD_COMMAND_LINE, CrawlOptions, Fault, INPUT_LIMIT, InputLimits, LockFile, LogFault, LogPlan,
     NoLocks, Plan, PlanError, Platform, READ_LIMIT, Report, SessionPlan, Unread, crawl_saved_web,
-    fault_line, plan, queue_text, read_input, report_of_saved_web, run_plan, run_plan_with,
-    run_words, run_words_with, whole_command,
+    fault_line, plan, read_input, report_of_saved_web, run_plan, run_words, run_words_with,
+    whole_command,
 };
 pub use crawl_certificate::{CertError, CrawlResult, certify};
 pub use crawl_replay::{Script, ScriptError, read_script, replay_text};
-pub use crawl_report::Sources;
+pub use crawl_report::{Sources, queue_text};
 pub use crawl_web::{LINE_LIMIT, SessionFetch};
 pub use crawl_workers::{RunError, WorkerEnd, run_threads, run_turns, run_worker};
 pub use crawling::{

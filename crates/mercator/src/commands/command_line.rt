@@ -116,7 +116,7 @@ const TELLING_FLAGS: &[Flag] = &[
     },
     Flag {
         name: "explain",
-        help: "Where the crawl is incomplete, also tells the first URL at fault",
+        help: "Where the crawl is incomplete, also tells the first URL at fault, and what was lost",
     },
     Flag {
         name: "progress",

@@ -1,13 +1,15 @@
 //! What a command writes: its text to the output, or a fault's line to the writer for faults.
 ghost use Rattle.std.specs.Prelude.{◌≡◌, ◌++◌, [], IfOk, string_bytes};
 ghost use Rattle.mercator.specs.Ending.{Begins, EndsByText};
-ghost use Rattle.mercator.specs.FaultText.{culprit_line, fault_line};
+ghost use Rattle.mercator.specs.FaultText.{culprit_line, culprit_lines, fault_line, losses_line};
 ghost use Rattle.mercator.specs.Told.{told_lines};
 
+use crate::commands::failure::Failure;
 use crate::commands::fault::Fault;
 use crate::commands::fault_text::FaultText;
 use crate::commands::planned::Plan;
 use crawl_keys::CanonUrl;
+use crawl_workers::Losses;
 use std::alloc::{AllocError, Global};
 use std::io::Write;
 
@@ -30,49 +32,36 @@ pub fn tell_fault<E: Write>(alloc: Global, err: &mut E, fault: Fault)
     }
 }
 
-/// Tells the fault by which a plan's command ended, at this URL, as [`tell_fault`] does; the URL in a second line, where the plan
-/// asks for it.
-pub fn tell_ended<E: Write>(
-    alloc: Global,
-    err: &mut E,
-    plan: &Plan,
-    fault: Fault,
-    culprit: &Option<CanonUrl>,
-)
-    ensures { Begins (E.contents err.old) (E.contents err.new) (told_lines plan.now fault culprit.now) }
+/// Tells the failure by which a plan's command ended as [`tell_fault`] does; its URL and what was lost in further lines, where the
+/// plan asks for them.
+pub fn tell_ended<E: Write>(alloc: Global, err: &mut E, plan: &Plan, failure: &Failure)
+    ensures { Begins (E.contents err.old) (E.contents err.new) (told_lines plan.now failure.now.fault failure.now.culprit failure.now.losses) }
 {
-    if let Ok(lines) = told_lines(alloc, plan, fault, culprit) {
+    if let Ok(lines) = told_lines(alloc, plan, failure) {
         begin(err, lines.as_bytes());
     }
 }
 
-fn told_lines(
-    alloc: Global,
-    plan: &Plan,
-    fault: Fault,
-    culprit: &Option<CanonUrl>,
-) -> Result<String, AllocError>
-    ensures { IfOk result (λ lines. string_bytes lines ≡ told_lines plan.now fault culprit.now) }
+fn told_lines(alloc: Global, plan: &Plan, failure: &Failure) -> Result<String, AllocError>
+    ensures { IfOk result (λ lines. string_bytes lines ≡ told_lines plan.now failure.now.fault failure.now.culprit failure.now.losses) }
 {
-    let file = plan.told_file(fault);
+    let file = plan.told_file(failure.fault);
     if plan.explains() {
-        lines_at(alloc, file, fault, culprit)
+        lines_at(alloc, file, failure)
     } else {
-        fault_line(alloc, file, fault)
+        fault_line(alloc, file, failure.fault)
     }
 }
 
-/// The line of a fault, and behind it the one that tells it at its URL.
-fn lines_at(
-    alloc: Global,
-    file: &str,
-    fault: Fault,
-    culprit: &Option<CanonUrl>,
-) -> Result<String, AllocError>
-    ensures { IfOk result (λ lines. string_bytes lines ≡ fault_line file.now fault ++ culprit_line file.now fault culprit.now) }
+/// The line of a fault, and behind it those that tell it at its URL and what was lost.
+fn lines_at(alloc: Global, file: &str, failure: &Failure) -> Result<String, AllocError>
+    ensures { IfOk result (λ lines. string_bytes lines ≡ fault_line file.now failure.now.fault ++ culprit_lines file.now failure.now.fault failure.now.culprit failure.now.losses) }
 {
-    let mut lines = fault_line(alloc, file, fault)?;
-    push_culprit(&mut lines, file, fault, culprit)?;
+    let mut lines = fault_line(alloc, file, failure.fault)?;
+    if let Some(url) = &failure.culprit {
+        push_culprit(&mut lines, file, failure.fault, url)?;
+        push_losses(&mut lines, failure.losses)?;
+    }
     Ok(lines)
 }
 
@@ -80,14 +69,29 @@ fn push_culprit(
     lines: &mut String,
     file: &str,
     fault: Fault,
-    culprit: &Option<CanonUrl>,
+    url: &CanonUrl,
 ) -> Result<(), AllocError>
-    ensures { IfOk result (λ _. string_bytes lines.new ≡ string_bytes lines.old ++ culprit_line file.now fault culprit.now) }
+    ensures { IfOk result (λ _. string_bytes lines.new ≡ string_bytes lines.old ++ culprit_line file.now fault url.now) }
 {
-    if let Some(url) = culprit {
-        let (text, url) = (FaultText { file, fault }, url.as_str());
-        writeln!(lines, "mercator: {text}: {url}")?;
-    }
+    let (text, url) = (FaultText { file, fault }, url.as_str());
+    writeln!(lines, "mercator: {text}: {url}")?;
+    Ok(())
+}
+
+fn push_losses(lines: &mut String, losses: Losses) -> Result<(), AllocError>
+    ensures { IfOk result (λ _. string_bytes lines.new ≡ string_bytes lines.old ++ losses_line losses) }
+{
+    let (full, too_far, crossed, failed) = (
+        losses.full,
+        losses.too_far,
+        losses.crossed,
+        losses.failed,
+    );
+    let memory = u128::from(losses.no_memory) + u128::from(losses.unkept);
+    writeln!(
+        lines,
+        "mercator: lost: full {full}, too far {too_far}, crossed {crossed}, failed {failed}, out of memory {memory}"
+    )?;
     Ok(())
 }
 

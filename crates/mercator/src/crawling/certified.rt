@@ -2,11 +2,13 @@
 ghost use Rattle.std.specs.Prelude.{◌≡◌, ℕ, List, IfErr, IfOk};
 ghost use Rattle.std.specs.List.Sorted.{IsPermutation};
 ghost use Rattle.crawl_certificate.specs.AccountEntries.{entries_of};
-ghost use Rattle.crawl_certificate.specs.Certificate.{ArePages, IsAscending, IsCrawl, CountsOf, result_urls};
+ghost use Rattle.crawl_certificate.specs.Certificate.{ArePages, IsAscending, IsCrawl, CountsOf, NothingLost, result_urls};
 ghost use Rattle.crawl_certificate.specs.Culprits.{NamesCulprit};
 ghost use Rattle.crawl_keys.specs.HostFilter.{allows};
 ghost use Rattle.crawl_web.specs.declared.page.Page.{Page};
 ghost use Rattle.mercator.specs.Crawls.{AreCounts, ComesIn, IsJudgedAt, IsOfRun};
+ghost use Rattle.crawl_workers.specs.Losses.{all_losses};
+ghost use Rattle.mercator.specs.Losses.{IsLost};
 ghost use Rattle.mercator.specs.declared.crawling.Mode.{Mode};
 
 use crate::crawling::gather::{Ran, counts_of};
@@ -31,11 +33,20 @@ pub fn crawled_of<R: Threads + Sync>(
     ensures errors { IfErr result (λ failure. IsOfRun failure.error) }
     ensures mode { (mode : Mode) → IfErr result (λ failure. ComesIn mode failure.error) }
     ensures judged { (meaning : List ℕ → Page) → ArePages meaning ran.results.items → IfErr result (λ failure. IsJudgedAt meaning (allows settings.now.filter.now) seeds.now failure.error failure.culprit) }
+    ensures lost { (all_losses ran.losses ≡ 0 → NothingLost (allows settings.now.filter.now) seeds.now (entries_of ran.account) ran.results.items) → IfErr result (λ failure. IsLost failure.error failure.losses) }
 {
-    let Ran { account, results } = ran;
-    let result = certified(rt, alloc, settings, seeds, &account, results)?;
-    let counts = counts_of(alloc, &account)?;
-    Ok(Crawled { result, counts })
+    let Ran {
+        account,
+        results,
+        losses,
+    } = ran;
+    match certified(rt, alloc, settings, seeds, &account, results) {
+        Ok(result) => {
+            let counts = counts_of(alloc, &account)?;
+            Ok(Crawled { result, counts })
+        }
+        Err(culprit) => Err(CrawlFailure::of_culprit(culprit, losses)),
+    }
 }
 
 /// Certifies the results. Where no worker had a thread, none is started here.

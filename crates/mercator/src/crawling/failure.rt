@@ -4,8 +4,10 @@ ghost use Rattle.mercator.specs.Crawls.{of_cert, without_url};
 ghost use Rattle.mercator.specs.declared.crawling.error.CrawlError.TheVariants as wrong;
 
 use crate::crawling::CrawlError;
+use crate::crawling::losses::no_losses;
 use crawl_certificate::Culprit;
 use crawl_keys::CanonUrl;
+use crawl_workers::Losses;
 use std::alloc::AllocError;
 
 /// Why a crawl came to no certified result, and at which URL.
@@ -15,6 +17,8 @@ pub struct CrawlFailure {
     pub error: CrawlError,
     /// Of a fault of the certificate, the least URL, byte by byte, that has it; else none.
     pub culprit: Option<CanonUrl>,
+    /// How much seeder and workers lost, by why, of a fault of the certificate.
+    pub losses: Losses,
 }
 
 impl From<CrawlError> for CrawlFailure {
@@ -24,17 +28,20 @@ impl From<CrawlError> for CrawlFailure {
         CrawlFailure {
             error,
             culprit: None,
+            losses: no_losses(),
         }
     }
 }
 
-impl From<Culprit> for CrawlFailure {
-    ghost from_gives = { λ culprit failure. failure ≡ record { error = of_cert culprit.cause; culprit = culprit.url } };
-
-    fn from(culprit: Culprit) -> CrawlFailure {
+impl CrawlFailure {
+    /// That of a run that lost so many, where its certificate names this culprit.
+    pub(in crate::crawling) fn of_culprit(culprit: Culprit, losses: Losses) -> CrawlFailure
+        ensures { result ≡ record { error = of_cert culprit.cause; culprit = culprit.url; losses = losses } }
+    {
         CrawlFailure {
             error: CrawlError::from(culprit.cause),
             culprit: culprit.url,
+            losses,
         }
     }
 }
@@ -46,6 +53,7 @@ impl From<AllocError> for CrawlFailure {
         CrawlFailure {
             error: CrawlError::NoMemory,
             culprit: None,
+            losses: no_losses(),
         }
     }
 }

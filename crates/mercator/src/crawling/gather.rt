@@ -1,44 +1,66 @@
 //! What a run left, put together.
-ghost use Rattle.std.specs.Prelude.{◌≡◌, ℕ, List, IfErr, IfOk, MatchResult};
+ghost use Rattle.std.specs.Prelude.{◌≡◌, ◌∷◌, [], ℕ, List, IfErr, IfOk, MatchResult};
 ghost use Rattle.crawl_certificate.specs.Certificate.{ArePages};
 ghost use Rattle.crawl_frontier.specs.Accounts.{Accounts, FinishFails};
 ghost use Rattle.crawl_web.specs.declared.page.Page.{Page};
 ghost use Rattle.mercator.specs.Crawls.{AllPages, ComesIn, CountedBelow, IsUncertified};
+ghost use Rattle.mercator.specs.Losses.{losses_with};
+ghost use Rattle.mercator.specs.LosslessRuns.{all_closed, all_found};
 ghost use Rattle.mercator.specs.declared.crawling.Mode.{Mode};
 
+use crate::crawling::losses::both_losses;
 use crate::crawling::{CrawlError, Mode};
 use crawl_frontier::{Account, ClosedWorker, FinishError, Frontier, Name, Sender};
 use crawl_web::PageResult;
-use crawl_workers::WorkerEnd;
+use crawl_workers::{Losses, WorkerEnd};
 use std::alloc::{AllocError, Global};
 use std::thread::Threads;
 
-/// What a run left: its account, and the results of all workers.
+/// What a run left: its account, the results of all workers, and what seeder and workers lost.
 #[derive(Drop)]
 pub struct Ran {
     pub account: Account,
     pub results: Vec<PageResult>,
+    pub losses: Losses,
 }
 
-/// What is left of a run of this frontier that ended so, whose seeds this sender offered.
+/// What the workers left, and what was lost until then.
+#[derive(Drop)]
+pub struct EndedRun<K: Name> {
+    pub closed: Vec<ClosedWorker<K>>,
+    pub results: Vec<PageResult>,
+    pub losses: Losses,
+}
+
+/// What is left of a run of this frontier whose workers left this, and whose seeds this sender offered.
 pub fn ran_of<K: Name, R: Threads + Sync>(
     rt: &R,
     alloc: Global,
     mode: Mode,
     frontier: Frontier<K>,
-    ends: Vec<WorkerEnd<K>>,
+    left: EndedRun<K>,
     sender: Sender<K>,
 ) -> Result<Ran, CrawlError>
-    ensures pages { (meaning : List ℕ → Page) → AllPages meaning ends.items → IfOk result (λ ran. ArePages meaning ran.results.items) }
     ensures workers { IfOk result (λ ran. ran.account.workers ≡ K.workers) }
+    ensures account { IfOk result (λ ran. Accounts K.workers left.closed.items (sender ∷ []) ran.account.queues) }
+    ensures found { IfOk result (λ ran. ran.results.items ≡ left.results.items) }
+    ensures losses { IfOk result (λ ran. ran.losses ≡ left.losses) }
     ensures errors { IfErr result IsUncertified }
     ensures mode { (mode : Mode) → IfErr result (ComesIn mode) }
 {
-    let (closed, results) = gathered(alloc, ends)?;
+    let EndedRun {
+        closed,
+        results,
+        losses,
+    } = left;
     let mut senders = Vec::new(alloc);
     senders.push(sender)?;
     let account = account_of(rt, mode, frontier, closed, senders)?;
-    Ok(Ran { account, results })
+    Ok(Ran {
+        account,
+        results,
+        losses,
+    })
 }
 
 /// The account of the run. Where no worker had a thread, none is started here.
@@ -59,27 +81,37 @@ fn account_of<K: Name, R: Threads + Sync>(
     }
 }
 
-/// The closed workers, and the results of all of them, in the order of the ends: so the results come in the order of an
-/// account's entries, where the certificate looks for each first.
-fn gathered<K: Name>(
+/// The closed workers, the results of all of them, and their losses beside those before. All come in the order of the ends: so
+/// the results come in the order of an account's entries, where the certificate looks for each first.
+pub fn gathered<K: Name>(
     alloc: Global,
     ends: Vec<WorkerEnd<K>>,
-) -> Result<(Vec<ClosedWorker<K>>, Vec<PageResult>), AllocError>
-    ensures { (meaning : List ℕ → Page) → AllPages meaning ends.items → IfOk result (λ r. ArePages meaning r.1.items) }
+    before: Losses,
+) -> Result<EndedRun<K>, AllocError>
+    ensures pages { (meaning : List ℕ → Page) → AllPages meaning ends.items → IfOk result (λ left. ArePages meaning left.results.items) }
+    ensures closed { IfOk result (λ left. left.closed.items ≡ all_closed ends.items) }
+    ensures found { IfOk result (λ left. left.results.items ≡ all_found ends.items) }
+    ensures losses { IfOk result (λ left. left.losses ≡ losses_with before ends.items) }
 {
     let mut closed = Vec::new(alloc);
     let mut results = Vec::new(alloc);
+    let mut losses = before;
     for end in ends {
         let WorkerEnd {
             closed: worker,
             results: mut found,
             lost: _,
-            losses: _,
+            losses: lost,
         } = end;
         closed.push(worker)?;
         results.append(&mut found)?;
+        losses = both_losses(losses, lost);
     }
-    Ok((closed, results))
+    Ok(EndedRun {
+        closed,
+        results,
+        losses,
+    })
 }
 
 /// How many entries each subqueue has.

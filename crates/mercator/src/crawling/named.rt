@@ -1,20 +1,24 @@
 //! A crawl on a frontier that has a name.
 ghost use Rattle.std.specs.Prelude.{◌≡◌, ◌⊎◌, ◌≤◌, true, false, IfOk, IfErr, vec_len};
-ghost use Rattle.crawl_certificate.specs.Certificate.{ArePages, IsCrawl, result_urls};
+ghost use Rattle.crawl_certificate.specs.AccountEntries.{entries_of};
+ghost use Rattle.crawl_certificate.specs.Certificate.{ArePages, IsCrawl, NothingLost, result_urls};
 ghost use Rattle.crawl_keys.specs.HostFilter.{allows};
 ghost use Rattle.crawl_workers.specs.Logs.{AllLogged, Grows, HasLine};
+ghost use Rattle.crawl_workers.specs.Losses.{all_losses};
 ghost use Rattle.crawl_workers.specs.Runs.{AllRan};
 ghost use Rattle.crawl_workers.specs.declared.error.RunError.TheVariants as unrun;
 ghost use Rattle.mercator.specs.Crawls.{AreCounts, ComesIn, IsJudgedAt, IsOfRun, IsUncertified};
+ghost use Rattle.mercator.specs.Losses.{IsLost};
 ghost use Rattle.mercator.specs.declared.crawling.Mode.TheVariants as modes;
 
 use crate::crawling::certified::crawled_of;
-use crate::crawling::gather::{Ran, ran_of};
+use crate::crawling::gather::{Ran, gathered, ran_of};
+use crate::crawling::losses::{no_losses, with_refusal};
 use crate::crawling::{CrawlError, CrawlFailure, CrawlSettings, Crawled, Mode};
-use crawl_frontier::{Frontier, Name, OfferError, Seeder, Setup, Worker};
+use crawl_frontier::{Frontier, Name, Seeder, Setup, Worker};
 use crawl_keys::CanonUrl;
 use crawl_web::SessionFetch;
-use crawl_workers::{RunError, WorkerEnd, run_threads_in, run_turns_in};
+use crawl_workers::{Losses, RunError, WorkerEnd, run_threads_in, run_turns_in};
 use std::alloc::Global;
 use std::sync::Wait;
 use std::thread::Threads;
@@ -37,6 +41,7 @@ pub fn crawl_named<K: Name + Send + Sync, F: SessionFetch + Sync, R: Threads + W
     ensures errors { IfErr result (λ failure. IsOfRun failure.error) }
     ensures mode { IfErr result (λ failure. ComesIn settings.now.mode failure.error) }
     ensures judged { IfErr result (λ failure. IsJudgedAt (F.meaning fetcher.now) (allows settings.now.filter.now) seeds.now failure.error failure.culprit) }
+    ensures lost { IfErr result (λ failure. IsLost failure.error failure.losses) }
 {
     let ran = run_from::<K, F, R>(rt, alloc, setup, fetcher, settings, seeds)?;
     crawled_of(rt, alloc, settings, seeds, ran)
@@ -57,50 +62,51 @@ fn run_from<K: Name + Send + Sync, F: SessionFetch + Sync, R: Threads + Wait + S
     requires filter { settings.now.filter.now ≡ K.filter }
     ensures pages { IfOk result (λ ran. ArePages (F.meaning fetcher.now) ran.results.items) }
     ensures workers { IfOk result (λ ran. ran.account.workers ≡ setup.workers) }
+    // What was asked for is accepted and fetched, where seeder and workers lost nothing.
+    ensures lost { IfOk result (λ ran. all_losses ran.losses ≡ 0 → NothingLost (allows settings.now.filter.now) seeds.now (entries_of ran.account) ran.results.items) }
     ensures errors { IfErr result IsUncertified }
     ensures mode { IfErr result (ComesIn settings.now.mode) }
 {
     let (frontier, workers, mut seeder) = Frontier::<K>::new(alloc, setup, settings.filter)?;
     // A seed that was refused may still come in by a link, and the certificate asks for it.
-    let _refused = offer_seeds(rt, &frontier, &mut seeder, seeds);
+    let refused = offer_seeds(rt, &frontier, &mut seeder, seeds);
     let sender = seeder.end(&frontier);
     let ends = run(rt, alloc, &frontier, workers, fetcher, settings.mode)?;
-    ran_of(rt, alloc, settings.mode, frontier, ends, sender)
+    let left = gathered(alloc, ends, refused)?;
+    ran_of(rt, alloc, settings.mode, frontier, left, sender)
 }
 
-/// Offers the seeds in order, and answers how many are refused.
+/// Offers the seeds in order, and answers how many are lost, by why.
 fn offer_seeds<K: Name, R: Wait>(
     rt: &R,
     frontier: &Frontier<K>,
     seeder: &mut Seeder<K>,
     seeds: &[CanonUrl],
-) -> usize
-    ensures { result ≡ 0 → AllLogged K.workers (allows K.filter) seeder.new.book.log seeds.now }
+) -> Losses
+    ensures { all_losses result ≡ 0 → AllLogged K.workers (allows K.filter) seeder.new.book.log seeds.now }
 {
-    let mut refused = 0;
+    let mut lost = no_losses();
     for seed in seeds {
-        if is_refused(rt, frontier, seeder, seed) {
-            refused += 1;
-        }
+        lost = offer_seed(rt, frontier, seeder, seed, lost);
     }
-    refused
+    lost
 }
 
-/// Offers a seed, and answers whether it is refused. One that the filter does not allow is not.
-fn is_refused<K: Name, R: Wait>(
+/// Offers a seed, and answers what is lost with it. One that the filter does not allow is not lost.
+fn offer_seed<K: Name, R: Wait>(
     rt: &R,
     frontier: &Frontier<K>,
     seeder: &mut Seeder<K>,
     seed: &CanonUrl,
-) -> bool
+    before: Losses,
+) -> Losses
     ensures grows { Grows seeder.old.book seeder.new.book }
-    ensures line { result ≡ false → allows K.filter seed.now ≡ true → HasLine K.workers seeder.new.book.log seed.now }
-    ensures filtered { allows K.filter seed.now ≡ false → result ≡ false }
+    ensures line { all_losses result ≡ 0 → (all_losses before ≡ 0) × (allows K.filter seed.now ≡ true → HasLine K.workers seeder.new.book.log seed.now) }
+    ensures filtered { allows K.filter seed.now ≡ false → result ≡ before }
 {
     match seeder.offer(rt, frontier, seed) {
-        Ok(_) => false,
-        Err(OfferError::Filtered) => false,
-        Err(_) => true,
+        Ok(_) => before,
+        Err(refused) => with_refusal(before, refused),
     }
 }
 

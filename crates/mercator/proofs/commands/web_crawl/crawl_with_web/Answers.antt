@@ -1,6 +1,6 @@
 use Rattle.std.proofs.lemmas.Result.{err_from_is_err_and}
 use Rattle.crawl_web.specs.KnownPages.{page_at}
-use Rattle.mercator.proofs.SiteCrawls.{found_of, named_of, unread_named}
+use Rattle.mercator.proofs.SiteCrawls.{found_of, lost_at, named_of, unread_named}
 use Rattle.mercator.proofs.commands.web_crawl.crawl_with_web.Goals as goal
 
 pub returns-clause-found : goal.returns-clause-found
@@ -21,3 +21,10 @@ returns-in_err-web-clause-named g c =
     let r = c.from_residual in
     let p = err_from_is_err_and r.result r.ensures.1 in
     rw (p.1, p.2) (unread_named c.args.bytes.now c.args.listed.now _ c.args.settings.now.filter.now c.in_err-web.field-0.0 c.in_err-web.ensures.unread)
+
+pub returns-in_err-found-clause-lost : goal.returns-in_err-found-clause-lost
+returns-in_err-found-clause-lost g c =
+    let r = c.from_residual-in_err-found in
+    let p = err_from_is_err_and r.result r.ensures.1 in
+    let failure = c.in_err-found.field-0.0 in
+    rw (p.1, p.2) (lost_at failure.error failure.culprit failure.losses c.in_err-found.ensures.lost)

@@ -1,8 +1,19 @@
 use Rattle.std.specs.Vec.Iter.{into_iter_items}
 use Rattle.mercator.proofs.RunResults.{pages_on}
+use Rattle.mercator.proofs.EndedRuns.{closed_on, found_on, losses_on}
 use Rattle.mercator.proofs.crawling.gather.gathered.Goals as goal
 
 pub loop-end-preserved : goal.loop-end-preserved
-loop-end-preserved g c = λ meaning all.
-    let before = c.loop-end.invariant meaning all in
-    rw c.in_ok-append.ensures.items (pages_on meaning c.in-Some.end (into_iter_items c.next.new.self) (into_iter_items c.loop-end.end-iterator) c.loop-end.results.items c.in-Some.ensures.steps.0 before.0 before.1)
+loop-end-preserved g c =
+    let inv = c.loop-end.invariant in
+    let rest = into_iter_items c.next.new.self in
+    let before = into_iter_items c.loop-end.end-iterator in
+    let is = c.in-Some.ensures.steps.0 in
+    record {
+      pages = λ meaning all.
+          let own = inv.pages meaning all in
+          rw c.in_ok-append.ensures.items (pages_on meaning c.in-Some.end rest before c.loop-end.results.items is own.0 own.1);
+      closed = rw c.in_ok-push.ensures.items (closed_on c.in-Some.end rest before c.loop-end.closed.items _ is inv.closed);
+      found = rw c.in_ok-append.ensures.items (found_on c.in-Some.end rest before c.loop-end.results.items _ is inv.found);
+      losses = rw c.both_losses-losses.ensures (losses_on c.in-Some.end rest before c.loop-end.losses _ is inv.losses);
+    }

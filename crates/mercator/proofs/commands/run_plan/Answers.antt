@@ -1,14 +1,17 @@
 use Rattle.std.proofs.Common.{◌≡◌, Err, IfErr, ap, subst}
 use Rattle.mercator.specs.Ending.{Begins}
 use Rattle.mercator.specs.Told.{EndsBy, Explains, told_lines}
+use Rattle.mercator.specs.WebCrawl.{IsLostAt}
 use Rattle.mercator.proofs.Serves.{tells_fault}
-use Rattle.mercator.proofs.commands.run_plan_with.Goals as goal
+use Rattle.mercator.proofs.commands.run_plan.Goals as goal
 
-pub returns-clause-fault : goal.returns-clause-fault
-returns-clause-fault g c = λ some. record {
+pub returns-in-Err-clause-fault : goal.returns-in-Err-clause-fault
+returns-in-Err-clause-fault g c = λ some. record {
   fault = c.in-Err.fault;
   status = c.status.ensures;
   culprit = c.run-ended.result.culprit;
+  losses = c.run-ended.result.losses;
+  lost = subst (λ r. IfErr r (λ fault. IsLostAt fault c.run-ended.result.culprit c.run-ended.result.losses)) c.in-Err.is c.run-ended.ensures.lost;
   named = subst (λ r. IfErr r (λ fault. Explains c.args.plan.now (g.I.Read.remaining c.args.input.now) fault c.run-ended.result.culprit)) c.in-Err.is c.run-ended.ensures.named;
   told =
       tells_fault c.args.plan.now (g.E.Write.contents c.args.err.now) (g.E.Write.contents c.run-ended.new.err) (g.E.Write.contents c.tell_ended.new.err) _ (λ plain. ap (g.E.Write.contents) (c.run-ended.ensures.silent plain)) c.run-ended.ensures.noted c.tell_ended.ensures;

@@ -1,0 +1,23 @@
+use Rattle.std.proofs.Common.{◌∙◌}
+use Rattle.crawl_keys.specs.HostFilter.{allows}
+use Rattle.crawl_workers.proofs.Running.{offer_grows, offer_line}
+use Rattle.crawl_workers.specs.Logs.{HasLine}
+use Rattle.mercator.proofs.EndedRuns.{refusal_filtered, refusal_line}
+use Rattle.mercator.proofs.crawling.named.offer_seed.Goals as goal
+
+pub returns-in-Ok-clause-grows : goal.returns-in-Ok-clause-grows
+returns-in-Ok-clause-grows g c = offer_grows g.K.Name.workers _ _ c.args.seed.now 0 _ c.offer.ensures.books
+
+pub returns-in-Ok-clause-line : goal.returns-in-Ok-clause-line
+returns-in-Ok-clause-line g c = λ none. (none, λ _. offer_line g.K.Name.workers _ _ c.args.seed.now 0 c.in-Ok.field-0 c.in-Ok.ensures.books)
+
+pub returns-in-Err-clause-grows : goal.returns-in-Err-clause-grows
+returns-in-Err-clause-grows g c = offer_grows g.K.Name.workers _ _ c.args.seed.now 0 _ c.offer.ensures.books
+
+pub returns-in-Err-clause-line : goal.returns-in-Err-clause-line
+returns-in-Err-clause-line g c = λ none.
+    refusal_line c.in-Err.refused c.args.before (allows g.K.Name.filter c.args.seed.now) (HasLine g.K.Name.workers c.offer.new.self.book.log c.args.seed.now) _ _ _ _
+    c.in-Err.ensures.words c.in-Err.ensures.filtered.0 (rw c.with_refusal.ensures at none)
+
+pub returns-in-Err-clause-filtered : goal.returns-in-Err-clause-filtered
+returns-in-Err-clause-filtered g c = λ no. c.with_refusal.ensures ∙ refusal_filtered c.in-Err.refused c.args.before (c.in-Err.ensures.filtered.1 no)
