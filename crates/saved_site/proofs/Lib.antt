@@ -1,3 +1,4 @@
+pub mod Behind
 pub mod Found
 pub mod Lines
 pub mod Printing

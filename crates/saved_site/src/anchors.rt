@@ -1,5 +1,5 @@
 //! The parts of documents, and links to parts.
-use crate::cleaning::{has_breaks, push_without_breaks, trimmed};
+use crate::cleaning::{trimmed, without_breaks};
 use crate::found_links::Found;
 use crate::targets::Targets;
 use crate::texts::Texts;
@@ -46,15 +46,35 @@ pub(crate) fn anchors_of(
 ) -> Result<Anchors, AllocError> {
     let mut ids = ids;
     ids.sort()?;
+    let links = anchor_links(alloc, found, texts, url)?;
+    Ok(Anchors { ids, links })
+}
+
+/// The links with a `#` that have a canonical URL.
+fn anchor_links(
+    alloc: Global,
+    found: &Found,
+    texts: Texts,
+    url: &CanonUrl,
+) -> Result<Vec<AnchorLinks>, AllocError> {
     let mut targets = Targets::new(alloc, texts, url)?;
     let parts = parts_by_target(alloc, found, &mut targets)?;
-    let mut links = Vec::new(alloc);
-    for (url, parts) in targets.into_urls().into_iter().zip(parts) {
+    with_urls(alloc, targets.into_urls(), parts)
+}
+
+/// The links of each target that has a URL.
+fn with_urls(
+    alloc: Global,
+    urls: Vec<Option<CanonUrl>>,
+    parts: Vec<Vec<AnchorLink>>,
+) -> Result<Vec<AnchorLinks>, AllocError> {
+    let mut all = Vec::new(alloc);
+    for (url, links) in urls.into_iter().zip(parts) {
         if let Some(url) = url {
-            links.push(AnchorLinks { url, links: parts })?;
+            all.push(AnchorLinks { url, links })?;
         }
     }
-    Ok(Anchors { ids, links })
+    Ok(all)
 }
 
 /// The links with a `#`, by the numbers of their targets.
@@ -92,16 +112,10 @@ fn push_at(
 
 /// What is behind the first `#` of a link.
 fn fragment_of(alloc: Global, link: &[u8]) -> Result<Option<Vec<u8>>, AllocError> {
-    let Some(fragment) = behind_mark(trimmed(link)) else {
-        return Ok(None);
-    };
-    let mut text = Vec::new(alloc);
-    if has_breaks(fragment) {
-        push_without_breaks(fragment, &mut text)?;
-    } else {
-        text.extend_from_slice(fragment)?;
+    match behind_mark(trimmed(link)) {
+        Some(fragment) => Ok(Some(without_breaks(alloc, fragment)?)),
+        None => Ok(None),
     }
-    Ok(Some(text))
 }
 
 fn behind_mark(text: &[u8]) -> Option<&[u8]> {

@@ -1,5 +1,5 @@
 //! What the links of a page mean whose base is given.
-use crate::cleaning::{is_web, push_without_breaks, scheme_of, trimmed};
+use crate::cleaning::{is_web, scheme_of, trimmed, without_breaks};
 use crawl_keys::{Base, CanonUrl, KeyError};
 use std::alloc::{AllocError, Global};
 
@@ -24,21 +24,35 @@ pub(crate) enum Meant {
 
 /// The base that the `href` of a page's `base` gives.
 pub(crate) fn given_of(alloc: Global, href: &[u8], url: &CanonUrl) -> Result<Given, AllocError> {
-    let mut text = Vec::new(alloc);
-    push_without_breaks(trimmed(href), &mut text)?;
-    let page = base_of(alloc, url)?;
-    if let Some(target) = resolved(alloc, &page, text.as_slice())? {
-        return Ok(Given::Url(base_of(alloc, &target)?));
+    let text = without_breaks(alloc, trimmed(href))?;
+    match target_of(alloc, text.as_slice(), url)? {
+        Some(target) => Ok(Given::Url(base_of(alloc, &target)?)),
+        None => given_scheme(alloc, text.as_slice()),
     }
-    match scheme_of(text.as_slice()) {
+}
+
+/// The canonical URL of a link of the page at a URL, where it has one.
+fn target_of(alloc: Global, text: &[u8], url: &CanonUrl) -> Result<Option<CanonUrl>, AllocError> {
+    let page = base_of(alloc, url)?;
+    resolved(alloc, &page, text)
+}
+
+/// The base of another scheme that a text without breaks gives.
+fn given_scheme(alloc: Global, text: &[u8]) -> Result<Given, AllocError> {
+    match scheme_of(text) {
         Some(scheme) if !is_web(Some(scheme)) && !is_no_base(scheme) => {
-            let mut front = scheme.to_vec(alloc)?;
-            front.make_ascii_lowercase();
-            front.push(b':')?;
-            Ok(Given::Scheme(front))
+            Ok(Given::Scheme(front_of(alloc, scheme)?))
         }
         _ => Ok(Given::None),
     }
+}
+
+/// A scheme in small letters, with its colon.
+fn front_of(alloc: Global, scheme: &[u8]) -> Result<Vec<u8>, AllocError> {
+    let mut front = scheme.to_vec(alloc)?;
+    front.make_ascii_lowercase();
+    front.push(b':')?;
+    Ok(front)
 }
 
 /// Whether a base with this scheme is none.

@@ -1,10 +1,14 @@
 //! The bytes of files that are read together.
+use crate::notes::Note;
 use std::alloc::{AllocError, Global};
-use std::io;
 use std::io::Read;
+use std::{io, mem};
 
 /// About how many bytes are read before they are looked at: few enough that they are near the processor still.
-const BATCH_LENGTH: usize = 1 << 23;
+const BATCH_LENGTH: usize = 1 << 22;
+
+/// The most room that is made before a file is read.
+const ROOM: usize = 1 << 23;
 
 /// By how many bytes the room for documents grows at least.
 const GROWTH: usize = 1 << 20;
@@ -18,6 +22,8 @@ pub(crate) struct Batch {
     used: usize,
     /// Where each begins and ends.
     bounds: Vec<(usize, usize)>,
+    /// Which of them cannot be read.
+    unread: Vec<Note>,
 }
 
 impl Batch {
@@ -26,6 +32,7 @@ impl Batch {
             bytes: Vec::new(alloc),
             used: 0,
             bounds: Vec::new(alloc),
+            unread: Vec::new(alloc),
         }
     }
 
@@ -33,9 +40,7 @@ impl Batch {
     pub(crate) fn with_room(alloc: Global, length: usize) -> Result<Batch, AllocError> {
         let mut batch = Batch::new(alloc);
         // One byte more, so that the end is met without more room.
-        batch
-            .bytes
-            .resize(length.min(BATCH_LENGTH).saturating_add(1), 0)?;
+        batch.bytes.resize(length.min(ROOM).saturating_add(1), 0)?;
         Ok(batch)
     }
 
@@ -60,6 +65,11 @@ impl Batch {
         self.used > BATCH_LENGTH
     }
 
+    /// How many files it has.
+    pub(crate) fn count(&self) -> usize {
+        self.bounds.len()
+    }
+
     /// The bytes of the file with this number; none where there is none.
     pub(crate) fn body(&self, number: usize) -> &[u8] {
         match self.bounds.get(number) {
@@ -79,9 +89,25 @@ impl Batch {
         self.used
     }
 
-    /// Takes back what was read from here on.
-    pub(crate) fn cut(&mut self, begin: usize) {
+    /// Takes back what was read from here on of a file that cannot be read.
+    pub(crate) fn cut(&mut self, begin: usize, note: Note) -> Result<(), AllocError> {
         self.used = self.used.min(begin);
+        self.unread.push(note)?;
+        Ok(())
+    }
+
+    /// Takes which files cannot be read.
+    pub(crate) fn take_unread(&mut self) -> Vec<Note> {
+        let alloc = *self.unread.allocator();
+        mem::replace(&mut self.unread, Vec::new(alloc))
+    }
+
+    /// Appends bytes of a file.
+    pub(crate) fn push(&mut self, bytes: &[u8]) -> Result<(), AllocError> {
+        self.bytes.truncate(self.used);
+        self.bytes.extend_from_slice(bytes)?;
+        self.used = self.bytes.len();
+        Ok(())
     }
 
     /// Reads to the end, into room that is not made empty before, as that of `read_to_end` is.

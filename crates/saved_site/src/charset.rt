@@ -1,5 +1,6 @@
 //! The encoding of a document.
-ghost use Rattle.std.specs.Prelude.{◌≤◌, ◌<◌, length, IfSome};
+ghost use Rattle.std.specs.Prelude.{◌≡◌, ◌≤◌, ◌<◌, length, true, IsAscii, IfOk, IfSome};
+ghost use Rattle.saved_site.specs.Places.{keeps_ascii};
 
 use crate::kinds::{behind_front, start_of};
 use memchr::memchr;
@@ -24,20 +25,31 @@ impl Charset {
 }
 
 /// The encoding of a document: by its first bytes, its head, and whether it is UTF-8.
-pub(crate) fn charset_of(body: &[u8]) -> Charset {
+pub(crate) fn charset_of(body: &[u8]) -> Charset
+    ensures { IsAscii body.now → keeps_ascii result ≡ true }
+{
     match body {
-        [0xef, 0xbb, 0xbf, ..] => return Charset::Utf8,
-        [0xff, 0xfe, ..] => return Charset::Utf16Le,
-        [0xfe, 0xff, ..] => return Charset::Utf16Be,
-        _ => {}
+        [0xef, 0xbb, 0xbf, ..] => Charset::Utf8,
+        [0xff, 0xfe, ..] => Charset::Utf16Le,
+        [0xfe, 0xff, ..] => Charset::Utf16Be,
+        _ => charset_unmarked(body),
     }
+}
+
+/// The encoding of a document whose first bytes are no mark.
+fn charset_unmarked(body: &[u8]) -> Charset
+    ensures { keeps_ascii result ≡ true }
+{
     match declared(start_of(body)) {
         Some(name) => charset_named(name, body),
         None => undeclared(body, Charset::Windows1252),
     }
 }
 
-fn undeclared(body: &[u8], otherwise: Charset) -> Charset {
+fn undeclared(body: &[u8], otherwise: Charset) -> Charset
+    requires { keeps_ascii otherwise ≡ true }
+    ensures { keeps_ascii result ≡ true }
+{
     if simdutf8::is_utf8(body) {
         Charset::Utf8
     } else {
@@ -45,7 +57,9 @@ fn undeclared(body: &[u8], otherwise: Charset) -> Charset {
     }
 }
 
-fn charset_named(name: &[u8], body: &[u8]) -> Charset {
+fn charset_named(name: &[u8], body: &[u8]) -> Charset
+    ensures { keeps_ascii result ≡ true }
+{
     if is_among(name, "utf-8 utf8 utf-16 utf-16le utf-16be utf_8 u8") {
         Charset::Utf8
     } else if is_among(
@@ -152,7 +166,9 @@ static WINDOWS: [char; 32] = [
 ];
 
 /// The text of a document in Windows' encoding.
-pub(crate) fn from_windows(alloc: Global, body: &[u8]) -> Result<Vec<u8>, AllocError> {
+pub(crate) fn from_windows(alloc: Global, body: &[u8]) -> Result<Vec<u8>, AllocError>
+    ensures { IsAscii body.now → IfOk result (λ text. text.items ≡ body.now) }
+{
     let mut text = String::new(alloc);
     for byte in body {
         text.push(character_of(*byte))?;
@@ -160,7 +176,9 @@ pub(crate) fn from_windows(alloc: Global, body: &[u8]) -> Result<Vec<u8>, AllocE
     Ok(text.into_bytes())
 }
 
-fn character_of(byte: u8) -> char {
+fn character_of(byte: u8) -> char
+    ensures { byte < 128 → result ≡ byte }
+{
     match byte {
         0x80..=0x9f => WINDOWS[(byte - 0x80) as usize],
         _ => byte as char,

@@ -1,6 +1,6 @@
 //! What a URL parser reads of a link's text.
 use memchr::{memchr, memchr3};
-use std::alloc::AllocError;
+use std::alloc::{AllocError, Global};
 
 /// The text without the bytes up to a space at its ends.
 pub(crate) fn trimmed(text: &[u8]) -> &[u8] {
@@ -34,8 +34,18 @@ pub(crate) fn is_over_lines(text: &[u8]) -> bool {
     memchr(b'\n', text).is_some()
 }
 
+/// The text without tabs and line breaks.
+pub(crate) fn without_breaks(alloc: Global, text: &[u8]) -> Result<Vec<u8>, AllocError> {
+    if !has_breaks(text) {
+        return text.to_vec(alloc);
+    }
+    let mut clean = Vec::new(alloc);
+    push_without_breaks(text, &mut clean)?;
+    Ok(clean)
+}
+
 /// Appends the text without tabs and line breaks.
-pub(crate) fn push_without_breaks(text: &[u8], out: &mut Vec<u8>) -> Result<(), AllocError> {
+fn push_without_breaks(text: &[u8], out: &mut Vec<u8>) -> Result<(), AllocError> {
     for piece in text.split(|byte| matches!(*byte, b'\t' | b'\n' | b'\r')) {
         out.extend_from_slice(piece)?;
     }

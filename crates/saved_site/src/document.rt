@@ -1,4 +1,7 @@
 //! The links of a document, whatever its encoding.
+ghost use Rattle.std.specs.Prelude.{◌≡◌, true, IsAscii, IfOk, IfSome};
+ghost use Rattle.saved_site.specs.Places.{keeps_ascii};
+
 use crate::anchors::Anchors;
 use crate::charset::{Charset, charset_of, declared, from_utf16, from_windows};
 use crate::kinds::start_of;
@@ -75,17 +78,30 @@ pub(crate) fn made_text(
     alloc: Global,
     body: &[u8],
     charset: Charset,
-) -> Result<Option<Vec<u8>>, AllocError> {
+) -> Result<Option<Vec<u8>>, AllocError>
+    ensures { IsAscii body.now → keeps_ascii charset ≡ true → IfOk result (λ made. IfSome made (λ text. text.items ≡ body.now)) }
+{
     match charset {
         Charset::Utf8 => mended(alloc, without_mark(body)),
-        Charset::Utf16Le => from_utf16(alloc, body.get(2..).unwrap_or(&[]), true).map(Some),
-        Charset::Utf16Be => from_utf16(alloc, body.get(2..).unwrap_or(&[]), false).map(Some),
-        Charset::Windows1252 | Charset::Other => from_windows(alloc, body).map(Some),
+        Charset::Utf16Le => wide_text(alloc, body, true),
+        Charset::Utf16Be => wide_text(alloc, body, false),
+        Charset::Windows1252 | Charset::Other => {
+            let text = from_windows(alloc, body)?;
+            Ok(Some(text))
+        }
     }
 }
 
+/// The text of a document in UTF-16 behind its mark.
+fn wide_text(alloc: Global, body: &[u8], is_little: bool) -> Result<Option<Vec<u8>>, AllocError> {
+    let text = from_utf16(alloc, body.get(2..).unwrap_or(&[]), is_little)?;
+    Ok(Some(text))
+}
+
 /// The bytes with U+FFFD for what is not UTF-8; none where all is.
-fn mended(alloc: Global, bytes: &[u8]) -> Result<Option<Vec<u8>>, AllocError> {
+fn mended(alloc: Global, bytes: &[u8]) -> Result<Option<Vec<u8>>, AllocError>
+    ensures { IsAscii bytes.now → IfOk result (λ made. IfSome made (λ text. text.items ≡ bytes.now)) }
+{
     if simdutf8::is_utf8(bytes) {
         return Ok(None);
     }
@@ -94,7 +110,9 @@ fn mended(alloc: Global, bytes: &[u8]) -> Result<Option<Vec<u8>>, AllocError> {
 }
 
 /// The document without the mark of UTF-8.
-pub(crate) fn without_mark(body: &[u8]) -> &[u8] {
+pub(crate) fn without_mark(body: &[u8]) -> &[u8]
+    ensures { IsAscii body.now → result.now ≡ body.now }
+{
     match body {
         [0xef, 0xbb, 0xbf, behind @ ..] => behind,
         _ => body,

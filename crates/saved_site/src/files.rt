@@ -2,6 +2,8 @@
 ghost use Rattle.std.specs.Prelude.{◌≡◌, string_bytes};
 
 use crate::error::SiteError;
+use crate::make::Given;
+use crate::notes::Note;
 use crate::site::{Rules, Site, Source};
 use crate::spellings::plain_of;
 use crate::web::SiteNames;
@@ -13,6 +15,8 @@ pub struct SiteFiles<'a> {
     site: Site,
     names: &'a [String],
     rules: &'a Rules,
+    /// The files that have no page, since another has their URL.
+    doubles: Vec<Note>,
 }
 
 impl<'a> SiteFiles<'a> {
@@ -27,9 +31,31 @@ impl<'a> SiteFiles<'a> {
             rules,
             ..
         } = input;
-        let mut notes = Vec::new(alloc);
-        let site = Site::new(alloc, base, names, rules, &mut notes)?;
-        Ok(SiteFiles { site, names, rules })
+        let mut doubles = Vec::new(alloc);
+        let site = Site::new(alloc, base, names, rules, &mut doubles)?;
+        Ok(SiteFiles {
+            site,
+            names,
+            rules,
+            doubles,
+        })
+    }
+
+    /// What its pages are made by.
+    pub(crate) fn given(&self) -> Given<'_> {
+        Given {
+            site: &self.site,
+            names: self.names,
+            rules: self.rules,
+        }
+    }
+
+    /// Tells the files that have no page.
+    pub(crate) fn tell_doubles(&self, notes: &mut Vec<Note>) -> Result<(), AllocError> {
+        for note in &self.doubles {
+            notes.push(note.copy()?)?;
+        }
+        Ok(())
     }
 
     /// The URL of the site's top.

@@ -22,6 +22,11 @@ impl Found {
             indices: Vec::new(alloc),
         }
     }
+
+    pub(crate) fn into_texts(self) -> Vec<Vec<u8>> {
+        let Found { texts, .. } = self;
+        texts
+    }
 }
 
 impl Links for Found {

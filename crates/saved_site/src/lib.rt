@@ -35,11 +35,13 @@ pub use error::SiteError;
 pub use files::SiteFiles;
 pub use link_lines::LinkLines;
 pub use notes::{Left, Note};
-pub use on_disk::{FolderNames, folder_body, folder_names, folder_web, folder_web_of};
+pub use on_disk::{
+    FolderNames, folder_body, folder_files_web, folder_names, folder_web, folder_web_of,
+};
 pub use page::{SitePage, Under};
 pub use places::{TextPlace, text_places};
 pub use print::print_web;
 pub use site::Rules;
 pub use text::LineText;
 pub use texts::LinkCounts;
-pub use web::{LinkPlaces, PageAnchors, SiteNames, Summary, Web, site_web};
+pub use web::{LinkPlaces, PageAnchors, SiteNames, Summary, Web, files_web, site_web};

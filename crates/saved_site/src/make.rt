@@ -12,6 +12,7 @@ use crate::text::LineText;
 use crate::texts::LinkCounts;
 use crawl_keys::CanonUrl;
 use std::alloc::{AllocError, Global};
+use std::sync::atomic::{AtomicUsize, Ordering};
 
 /// A page that is to be made: its URL, and which page of the site it is.
 #[derive(Drop)]
@@ -61,20 +62,22 @@ pub(crate) struct Made {
     pub(crate) notes: Vec<Note>,
 }
 
-/// The pages of each task whose number leaves this rest by `of`.
-pub(crate) fn every(
+/// The pages of the tasks that one of several threads took. Each takes the next task until there is none, so that a long file
+/// keeps one thread alone.
+pub(crate) fn taken(
     alloc: Global,
     given: Given<'_>,
     tasks: &[Task],
     batch: &Batch,
-    rest: usize,
-    of: usize,
+    next: &AtomicUsize,
 ) -> Result<Vec<Made>, AllocError> {
     let mut made = Vec::new(alloc);
-    for (number, task) in tasks.iter().enumerate() {
-        if number.checked_rem(of) == Some(rest) {
-            made.push(page_of(alloc, given, task, batch.body(number))?)?;
-        }
+    for _ in 0..tasks.len() {
+        let number = next.fetch_add(1, Ordering::SeqCst);
+        let Some(task) = tasks.get(number) else {
+            break;
+        };
+        made.push(page_of(alloc, given, task, batch.body(number))?)?;
     }
     Ok(made)
 }
@@ -130,6 +133,21 @@ fn linked_page(
         indices,
         encoding,
     } = document;
+    let notes = document_notes(alloc, task, counts, encoding)?;
+    let found = found_spellings(alloc, given, task, links.as_bytes())?;
+    let mut made = Made::new(task, Under::Links(links), found, counts, notes)?;
+    made.anchors = anchors;
+    made.indices = indices;
+    Ok(made)
+}
+
+/// What is told of a document, whose encoding has this name where it is not known here.
+fn document_notes(
+    alloc: Global,
+    task: &Task,
+    counts: LinkCounts,
+    encoding: Option<String>,
+) -> Result<Vec<Note>, AllocError> {
     let mut notes = Vec::new(alloc);
     if let Some(name) = encoding {
         let place = format!(in alloc; "{} ({name})", task.url.as_str())?;
@@ -139,17 +157,16 @@ fn linked_page(
     if counts.left_out > 0 {
         notes.push(Note::at(alloc, Left::LongLinks, &task.url)?)?;
     }
-    let found = spellings(
-        alloc,
-        given.site,
-        given.rules,
-        task.page(),
-        links.as_bytes(),
-    )?;
-    let mut made = Made::new(task, Under::Links(links), found, counts, notes)?;
-    made.anchors = anchors;
-    made.indices = indices;
-    Ok(made)
+    Ok(notes)
+}
+
+fn found_spellings(
+    alloc: Global,
+    given: Given<'_>,
+    task: &Task,
+    lines: &[u8],
+) -> Result<Vec<Spelling>, AllocError> {
+    spellings(alloc, given.site, given.rules, task.page(), lines)
 }
 
 /// A folder without its slash, which a server sends on to the folder with it, with the query that it was asked with.
@@ -159,14 +176,30 @@ fn moved_page(
     task: &Task,
     target: &str,
 ) -> Result<Made, AllocError> {
+    let target = with_query(alloc, target, task.url.as_str())?;
+    let text = without_origin(target.as_str(), given.site.origin.as_str());
+    let line = format!(in alloc; "moved {text}")?;
+    let found = found_spellings(alloc, given, task, line.as_bytes())?;
+    moved_to(alloc, task, text, found)
+}
+
+/// The target with the query of a URL, where that has one.
+fn with_query(alloc: Global, target: &str, url: &str) -> Result<String, AllocError> {
     let mut target = String::from_str(alloc, target)?;
-    if let Some((_, query)) = task.url.as_str().split_once('?') {
+    if let Some((_, query)) = url.split_once('?') {
         target.push('?')?;
         target.push_str(query)?;
     }
-    let text = without_origin(target.as_str(), given.site.origin.as_str());
-    let line = format!(in alloc; "moved {text}")?;
-    let found = spellings(alloc, given.site, given.rules, task.page(), line.as_bytes())?;
+    Ok(target)
+}
+
+/// A page that moved to what this text leads to; without a target, where that does not stand in a line.
+fn moved_to(
+    alloc: Global,
+    task: &Task,
+    text: &str,
+    found: Vec<Spelling>,
+) -> Result<Made, AllocError> {
     let mut notes = Vec::new(alloc);
     let under = match LineText::new(alloc, text.as_bytes())? {
         Some(text) => Under::Moved(text),

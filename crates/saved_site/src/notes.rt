@@ -60,4 +60,13 @@ impl Note {
         let place = String::from_str(alloc, url.as_str())?;
         Ok(Note { left, place })
     }
+
+    /// The same once more.
+    pub(crate) fn copy(&self) -> Result<Note, AllocError> {
+        let place = self.place.clone()?;
+        Ok(Note {
+            left: self.left,
+            place,
+        })
+    }
 }

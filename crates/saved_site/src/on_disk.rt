@@ -4,13 +4,14 @@ ghost use Rattle.saved_site.specs.Meaning.{IsSiteWeb};
 
 use crate::batch::Batch;
 use crate::error::SiteError;
+use crate::files::SiteFiles;
 use crate::folder::entries_below;
 use crate::kinds::{Kind, START_LENGTH, is_document_start, kind_of};
 use crate::make::{Given, Task};
 use crate::notes::{Left, Note};
 use crate::site::{Rules, split_name};
 use crate::web::{Contents, SiteNames, Web, web_of};
-use std::alloc::Global;
+use std::alloc::{AllocError, Global};
 use std::io::Read;
 use std::rt::Files;
 use std::thread::Threads;
@@ -75,8 +76,26 @@ pub fn folder_web_of<R: Files + Threads + Sync>(
 ) -> Result<Web, SiteError>
     ensures { IfOk result (λ web. IsSiteWeb web.bytes.items) }
 {
-    let mut contents = OnDisk { rt, alloc, folder };
-    web_of(rt, alloc, input, told, &mut contents)
+    let files = SiteFiles::new(alloc, input)?;
+    folder_files_web(rt, alloc, folder, &files, input.seeds, told)
+}
+
+/// The same of a site whose files are below a folder. Its seeds are those of `SiteNames`.
+///
+/// # Errors
+/// `TooLarge`; `NoMemory` where a growth was refused.
+pub fn folder_files_web<R: Files + Threads + Sync>(
+    rt: &R,
+    alloc: Global,
+    folder: &str,
+    files: &SiteFiles<'_>,
+    seeds: &[String],
+    told: Vec<Note>,
+) -> Result<Web, SiteError>
+    ensures { IfOk result (λ web. IsSiteWeb web.bytes.items) }
+{
+    let contents = OnDisk { rt, alloc, folder };
+    web_of(rt, alloc, files, seeds, told, &contents)
 }
 
 /// The bytes of a file below a folder.
@@ -105,58 +124,52 @@ struct OnDisk<'a, R> {
 }
 
 impl<R: Files> Contents for OnDisk<'_, R> {
-    fn read(
-        &mut self,
-        given: Given<'_>,
-        tasks: &[Task],
-        batch: &mut Batch,
-        notes: &mut Vec<Note>,
-    ) -> Result<usize, SiteError> {
-        for (number, task) in tasks.iter().enumerate() {
+    fn read(&self, given: Given<'_>, tasks: &[Task], batch: &mut Batch) -> Result<(), AllocError> {
+        for task in tasks {
             if batch.is_full() {
-                return Ok(number);
+                break;
             }
-            let begin = batch.begin();
-            if let Some(name) = given.name_of(task) {
-                let (path, _) = split_name(name, given.rules.queries);
-                if read_file(
-                    self.rt,
-                    self.alloc,
-                    self.folder,
-                    name,
-                    kind_of(path),
-                    batch,
-                ).is_err()
-                {
-                    batch.cut(begin);
-                    let place = String::from_str(self.alloc, name)?;
-                    let left = Left::FileUnread;
-                    notes.push(Note { left, place })?;
-                }
-            }
-            batch.end_file(begin)?;
+            self.read_task(given, task, batch)?;
         }
-        Ok(tasks.len())
+        Ok(())
     }
 }
 
-/// Reads a file, where it may be a document.
-fn read_file<R: Files>(
-    rt: &R,
-    alloc: Global,
-    folder: &str,
-    name: &str,
-    kind: Kind,
-    batch: &mut Batch,
-) -> io::Result<()> {
-    if kind == Kind::Other {
-        return Ok(());
+impl<R: Files> OnDisk<'_, R> {
+    /// Reads the file of a task, or notes that it cannot be read.
+    fn read_task(
+        &self,
+        given: Given<'_>,
+        task: &Task,
+        batch: &mut Batch,
+    ) -> Result<(), AllocError> {
+        let begin = batch.begin();
+        if let Some(name) = given.name_of(task)
+            && self.read_named(given.rules, name, batch).is_err()
+        {
+            let place = String::from_str(self.alloc, name)?;
+            let left = Left::FileUnread;
+            batch.cut(begin, Note { left, place })?;
+        }
+        batch.end_file(begin)
     }
-    let path = format!(in alloc; "{folder}/{name}")?;
-    if kind == Kind::Unknown && !is_document(rt, path.as_str())? {
-        return Ok(());
+
+    /// Reads a file, where it may be a document.
+    fn read_named(&self, rules: &Rules, name: &str, batch: &mut Batch) -> io::Result<()> {
+        let (path, _) = split_name(name, rules.queries);
+        match kind_of(path) {
+            Kind::Other => Ok(()),
+            kind => self.read_file(name, kind, batch),
+        }
     }
-    batch.read(&mut fs::open(rt, path.as_str())?)
+
+    fn read_file(&self, name: &str, kind: Kind, batch: &mut Batch) -> io::Result<()> {
+        let path = format!(in self.alloc; "{}/{name}", self.folder)?;
+        if kind == Kind::Unknown && !is_document(self.rt, path.as_str())? {
+            return Ok(());
+        }
+        batch.read(&mut fs::open(self.rt, path.as_str())?)
+    }
 }
 
 /// Whether the first bytes of a file are those of a document.

@@ -1,4 +1,7 @@
 //! Lines and characters of a document.
+ghost use Rattle.std.specs.Prelude.{◌≡◌, ◌++◌, ◌+◌, ◌<◌, ◌≤◌, ◌^◌, ℕ, List, [], IsAscii, IfOk, map, length, take, count_by};
+ghost use Rattle.saved_site.specs.Places.{ArePlaces, begins_character, is_lf, place_at, place_of};
+
 use crate::charset::charset_of;
 use crate::document::{made_text, without_mark};
 use memchr::memrchr;
@@ -13,7 +16,8 @@ pub struct TextPlace {
     pub column: u64,
 }
 
-/// The places of these indices in the text of a document with these bytes, in their order. The text is gone through once.
+/// The places of these indices in the text of a document with these bytes, in their order. Where the indices ascend, the text is
+/// gone through once.
 ///
 /// # Errors
 /// Where a growth was refused.
@@ -21,56 +25,98 @@ pub fn text_places(
     alloc: Global,
     body: &[u8],
     indices: &[usize],
-) -> Result<Vec<TextPlace>, AllocError> {
+) -> Result<Vec<TextPlace>, AllocError>
+    ensures one { IfOk result (λ places. ArePlaces indices.now places.items) }
+    // Which is the document itself where all of it is ASCII.
+    ensures ascii { IsAscii body.now → IfOk result (λ places. places.items ≡ map (place_at body.now) indices.now) }
+{
     match made_text(alloc, body, charset_of(body))? {
         Some(text) => places_in(alloc, text.as_slice(), indices),
         None => places_in(alloc, without_mark(body), indices),
     }
 }
 
-fn places_in(alloc: Global, text: &[u8], indices: &[usize]) -> Result<Vec<TextPlace>, AllocError> {
-    let mut place = TextPlace { line: 1, column: 1 };
-    let mut places = vec![in alloc; place; indices.len()]?;
-    let mut begin = 0;
-    for (index, number) in in_order(alloc, indices)? {
-        place = behind(place, text.get(begin..index).unwrap_or(&[]));
-        begin = index;
-        if let Some(own) = places.get_mut(number) {
-            *own = place;
-        }
+/// A place, and the index at which it is.
+#[derive(Clone, Copy)]
+struct Known {
+    index: usize,
+    place: TextPlace,
+}
+
+fn places_in(alloc: Global, text: &[u8], indices: &[usize]) -> Result<Vec<TextPlace>, AllocError>
+    ensures { IfOk result (λ places. places.items ≡ map (place_at text.now) indices.now) }
+{
+    let mut places = Vec::new(alloc);
+    let mut known = first();
+    for index in indices {
+        known = known_at(text, known, *index);
+        places.push(known.place)?;
     }
     Ok(places)
 }
 
-/// The indices, each with its number, from the least on.
-fn in_order(alloc: Global, indices: &[usize]) -> Result<Vec<(usize, usize)>, AllocError> {
-    let mut ordered = Vec::new(alloc);
-    for (number, index) in indices.iter().enumerate() {
-        ordered.push((*index, number))?;
+fn first() -> Known
+    ensures index { result.index ≡ 0 }
+    ensures place { result.place ≡ place_of [] }
+{
+    Known {
+        index: 0,
+        place: TextPlace { line: 1, column: 1 },
     }
-    ordered.sort()?;
-    Ok(ordered)
 }
 
-/// The place behind these bytes.
-fn behind(place: TextPlace, bytes: &[u8]) -> TextPlace {
+/// What is known at an index, by what is known at another.
+fn known_at(text: &[u8], known: Known, index: usize) -> Known
+    requires within { known.index ≤ length text.now }
+    requires known { known.place ≡ place_at text.now known.index }
+    ensures within { result.index ≤ length text.now }
+    ensures known { result.place ≡ place_at text.now result.index }
+    ensures asked { result.place ≡ place_at text.now index }
+{
+    let begin = if index < known.index { first() } else { known };
+    known_on(text, begin, index.min(text.len()))
+}
+
+fn known_on(text: &[u8], known: Known, index: usize) -> Known
+    requires order { known.index ≤ index }
+    requires within { index ≤ length text.now }
+    requires known { known.place ≡ place_at text.now known.index }
+    ensures index { result.index ≡ index }
+    ensures known { result.place ≡ place_at text.now index }
+{
+    let place = behind(known.place, &text[known.index..index]);
+    Known { index, place }
+}
+
+/// The place behind these bytes, from that before them.
+fn behind(place: TextPlace, bytes: &[u8]) -> TextPlace
+    requires line { place.line + length bytes.now < 2 ^ 64 }
+    requires column { place.column + length bytes.now < 2 ^ 64 }
+    ensures { (front : List ℕ) → place ≡ place_of front → result ≡ place_of (front ++ bytes.now) }
+{
     match memrchr(b'\n', bytes) {
         Some(end) => TextPlace {
-            line: place.line.saturating_add(line_feeds(bytes) as u64),
-            column: (characters(&bytes[end + 1..]) as u64).saturating_add(1),
+            line: place.line + line_feeds(bytes) as u64,
+            column: characters(&bytes[end + 1..]) as u64 + 1,
         },
         None => TextPlace {
             line: place.line,
-            column: place.column.saturating_add(characters(bytes) as u64),
+            column: place.column + characters(bytes) as u64,
         },
     }
 }
 
-fn line_feeds(bytes: &[u8]) -> usize {
+fn line_feeds(bytes: &[u8]) -> usize
+    ensures count { result ≡ count_by is_lf bytes.now }
+    ensures small { result ≤ length bytes.now }
+{
     bytes.iter().filter(|byte| **byte == b'\n').count()
 }
 
 /// How many characters of UTF-8 begin in the bytes.
-fn characters(bytes: &[u8]) -> usize {
+fn characters(bytes: &[u8]) -> usize
+    ensures count { result ≡ count_by begins_character bytes.now }
+    ensures small { result ≤ length bytes.now }
+{
     bytes.iter().filter(|byte| **byte & 0xc0 != 0x80).count()
 }

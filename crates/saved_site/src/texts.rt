@@ -6,8 +6,7 @@ use crate::anchors::{Anchors, anchors_of};
 use crate::base_href::{Given, Meant, given_of, meaning_of};
 use crate::charset::Charset;
 use crate::cleaning::{
-    before_fragment, cut, has_breaks, is_over_lines, is_web, push_without_breaks, scheme_of,
-    trimmed,
+    before_fragment, cut, has_breaks, is_over_lines, is_web, scheme_of, trimmed, without_breaks,
 };
 use crate::found_links::Found;
 use crate::in_query::push_with_query;
@@ -72,18 +71,12 @@ pub(crate) fn links_at(
     let mut found = Found::new(alloc);
     let mut ids = Found::new(alloc);
     let base = found_in(alloc, text, rules, &mut found, &mut ids)?;
-    // The base also holds for the links before it, so all are read first.
-    let mut texts = Texts::under(alloc, charset, base, url)?;
-    if rules.places {
-        texts.indices = Some(Indices::new(alloc, url)?);
-    }
-    texts.push_all(&found)?;
-    let lines = mem::replace(&mut texts.links, LinkLines::new(alloc));
+    let mut texts = texts_of(alloc, charset, base, url, &found, rules.places)?;
+    let lines = texts.take_lines();
     let indices = texts.take_indices();
     let counts = texts.counts;
-    let Found { texts: ids, .. } = ids;
     let anchors = if rules.anchors {
-        Some(anchors_of(alloc, ids, &found, texts, url)?)
+        Some(anchors_of(alloc, ids.into_texts(), &found, texts, url)?)
     } else {
         None
     };
@@ -93,6 +86,24 @@ pub(crate) fn links_at(
         anchors,
         indices,
     })
+}
+
+/// The lines of the links that were found in a page with this base at a URL, and where they stand if that is wanted. The base also
+/// holds for the links before it, so all are found first.
+fn texts_of(
+    alloc: Global,
+    charset: Charset,
+    base: Base,
+    url: &CanonUrl,
+    found: &Found,
+    places: bool,
+) -> Result<Texts, AllocError> {
+    let mut texts = Texts::under(alloc, charset, base, url)?;
+    if places {
+        texts.indices = Some(Indices::new(alloc, url)?);
+    }
+    texts.push_all(found)?;
+    Ok(texts)
 }
 
 /// Finds the links of a document, and its ids where its anchors are wanted.
@@ -155,10 +166,15 @@ impl Texts {
         }
     }
 
+    /// The lines that were pushed. None are left.
+    fn take_lines(&mut self) -> LinkLines {
+        mem::replace(&mut self.links, LinkLines::new(self.alloc))
+    }
+
     /// The line of this link's text alone, if it has one.
     pub(crate) fn line_of(&mut self, text: &[u8]) -> Result<LinkLines, AllocError> {
         self.push(text)?;
-        Ok(mem::replace(&mut self.links, LinkLines::new(self.alloc)))
+        Ok(self.take_lines())
     }
 
     /// The next link's text.
@@ -170,8 +186,7 @@ impl Texts {
         if is_over_lines(text) {
             self.counts.over_lines = self.counts.over_lines.saturating_add(1);
         }
-        let mut clean = Vec::new(self.alloc);
-        push_without_breaks(text, &mut clean)?;
+        let clean = without_breaks(self.alloc, text)?;
         self.push_clean(clean.as_slice())
     }
 

@@ -5,18 +5,20 @@ ghost use Rattle.saved_site.specs.Meaning.{IsSiteWeb};
 use crate::anchors::Anchors;
 use crate::batch::Batch;
 use crate::error::SiteError;
-use crate::make::{Given, Made, Task, every};
+use crate::files::SiteFiles;
+use crate::make::{Given, Made, Task, taken};
 use crate::notes::Note;
 use crate::page::SitePage;
 use crate::print::site_text;
-use crate::site::{Rules, Site};
+use crate::site::Rules;
 use crate::tasks::{first_tasks, new_tasks, seed_tasks};
 use crate::texts::LinkCounts;
 use crawl_keys::CanonUrl;
 use std::alloc::{AllocError, Global};
 use std::collections::BTreeSet;
-use std::thread;
+use std::sync::atomic::AtomicUsize;
 use std::thread::Threads;
+use std::{io, thread};
 
 /// The most bytes of a web, which a crawl takes.
 const WEB_LIMIT: usize = 1 << 30;
@@ -62,18 +64,6 @@ pub struct Summary {
     pub links: LinkCounts,
 }
 
-/// Where the bytes of files come from.
-pub(crate) trait Contents {
-    /// Reads the bytes of the files of the first tasks, and answers of how many.
-    fn read(
-        &mut self,
-        given: Given<'_>,
-        tasks: &[Task],
-        batch: &mut Batch,
-        notes: &mut Vec<Note>,
-    ) -> Result<usize, SiteError>;
-}
-
 /// The names of a site's files, the URL of its top, and how names become pages. A name that ends in a slash is a folder.
 #[derive(Clone, Copy)]
 pub struct SiteNames<'a> {
@@ -96,8 +86,34 @@ pub fn site_web<R: Threads + Sync>(
 ) -> Result<Web, SiteError>
     ensures { IfOk result (λ web. IsSiteWeb web.bytes.items) }
 {
-    let mut contents = InMemory { bodies };
-    web_of(rt, alloc, input, Vec::new(alloc), &mut contents)
+    let files = SiteFiles::new(alloc, input)?;
+    files_web(rt, alloc, &files, input.seeds, bodies)
+}
+
+/// The saved web of a site whose files have these bytes, in the order of their names. Its seeds are those of `SiteNames`.
+///
+/// # Errors
+/// `TooLarge`; `NoMemory` where a growth was refused.
+pub fn files_web<R: Threads + Sync>(
+    rt: &R,
+    alloc: Global,
+    files: &SiteFiles<'_>,
+    seeds: &[String],
+    bodies: &[Vec<u8>],
+) -> Result<Web, SiteError>
+    ensures { IfOk result (λ web. IsSiteWeb web.bytes.items) }
+{
+    let contents = InMemory { bodies };
+    web_of(rt, alloc, files, seeds, Vec::new(alloc), &contents)
+}
+
+/// Where the bytes of files come from.
+pub(crate) trait Contents {
+    /// Reads the files of the first tasks into a batch, one at least.
+    ///
+    /// # Errors
+    /// Where a growth was refused.
+    fn read(&self, given: Given<'_>, tasks: &[Task], batch: &mut Batch) -> Result<(), AllocError>;
 }
 
 /// Files in memory.
@@ -107,26 +123,20 @@ struct InMemory<'a> {
 }
 
 impl Contents for InMemory<'_> {
-    fn read(
-        &mut self,
-        given: Given<'_>,
-        tasks: &[Task],
-        batch: &mut Batch,
-        _notes: &mut Vec<Note>,
-    ) -> Result<usize, SiteError> {
-        for (number, task) in tasks.iter().enumerate() {
+    fn read(&self, given: Given<'_>, tasks: &[Task], batch: &mut Batch) -> Result<(), AllocError> {
+        for task in tasks {
             if batch.is_full() {
-                return Ok(number);
+                break;
             }
             let begin = batch.begin();
             if let Some(index) = given.file_of(task)
                 && let Some(body) = self.bodies.get(index)
             {
-                batch.read(&mut body.as_slice())?;
+                batch.push(body.as_slice())?;
             }
             batch.end_file(begin)?;
         }
-        Ok(tasks.len())
+        Ok(())
     }
 }
 
@@ -140,36 +150,20 @@ struct Making {
     places: Vec<LinkPlaces>,
 }
 
-/// The saved web of files with these names, whose bytes are read.
+/// The saved web of a site whose files are read, and what was told of their names before.
 pub(crate) fn web_of<R: Threads + Sync, C: Contents>(
     rt: &R,
     alloc: Global,
-    input: SiteNames<'_>,
+    files: &SiteFiles<'_>,
+    seeds: &[String],
     told: Vec<Note>,
-    contents: &mut C,
+    contents: &C,
 ) -> Result<Web, SiteError>
     ensures { IfOk result (λ web. IsSiteWeb web.bytes.items) }
 {
-    let SiteNames {
-        names,
-        base,
-        rules,
-        seeds,
-    } = input;
-    let mut making = Making {
-        pages: Vec::new(alloc),
-        summary: Summary::default(),
-        notes: told,
-        anchors: Vec::new(alloc),
-        places: Vec::new(alloc),
-    };
-    let site = Site::new(alloc, base, names, rules, &mut making.notes)?;
-    let given = Given {
-        site: &site,
-        names,
-        rules,
-    };
-    make_all(rt, alloc, given, seeds, contents, &mut making)?;
+    let mut making = Making::new(alloc, told);
+    files.tell_doubles(&mut making.notes)?;
+    make_all(rt, alloc, files.given(), seeds, contents, &mut making)?;
     finish(alloc, making)
 }
 
@@ -206,7 +200,7 @@ fn make_all<R: Threads + Sync, C: Contents>(
     alloc: Global,
     given: Given<'_>,
     seeds: &[String],
-    contents: &mut C,
+    contents: &C,
     making: &mut Making,
 ) -> Result<(), SiteError> {
     let mut tasks = first_tasks(alloc, given)?;
@@ -214,19 +208,11 @@ fn make_all<R: Threads + Sync, C: Contents>(
     let mut more = seed_tasks(alloc, given, seeds, &mut known)?;
     making.summary.spellings = more.len() as u64;
     tasks.append(&mut more)?;
-    let mut batch = Batch::new(alloc);
     for _ in 0..u64::MAX {
         if tasks.is_empty() {
             break;
         }
-        let made = make_round(
-            rt,
-            given,
-            tasks.as_slice(),
-            contents,
-            &mut batch,
-            &mut making.notes,
-        )?;
+        let made = make_round(rt, given, tasks.as_slice(), contents, &mut making.notes)?;
         tasks = new_tasks(alloc, made.as_slice(), &mut known)?;
         making.summary.spellings = making.summary.spellings.saturating_add(tasks.len() as u64);
         making.keep(made)?;
@@ -234,85 +220,152 @@ fn make_all<R: Threads + Sync, C: Contents>(
     Ok(())
 }
 
+/// A batch whose pages are to be made, and room for the next.
+#[derive(Drop)]
+struct Batches {
+    full: Batch,
+    spare: Batch,
+}
+
 /// Makes the page of each task, batch by batch, in the order of URLs.
 fn make_round<R: Threads + Sync, C: Contents>(
     rt: &R,
     given: Given<'_>,
     tasks: &[Task],
-    contents: &mut C,
-    batch: &mut Batch,
+    contents: &C,
     notes: &mut Vec<Note>,
 ) -> Result<Vec<Made>, SiteError> {
     let alloc = *notes.allocator();
     let mut all: Vec<Made> = Vec::new(alloc);
+    let mut batches = Batches {
+        full: next_batch(given, tasks, contents, Batch::new(alloc))?,
+        spare: Batch::new(alloc),
+    };
     let mut rest = tasks;
     for _ in 0..tasks.len() {
-        batch.clear();
-        let count = contents.read(given, rest, batch, notes)?;
-        let (front, behind) = rest.split_at(count.max(1).min(rest.len()));
-        for made in make_in_threads(rt, alloc, given, front, batch)? {
-            all.push(made)?;
-        }
+        notes.append(&mut batches.full.take_unread())?;
+        let (front, behind) = rest.split_at(batches.full.count().max(1).min(rest.len()));
+        let (mut made, next) = make_batch(rt, alloc, given, (front, behind), contents, batches)?;
+        all.append(&mut made)?;
         if behind.is_empty() {
             break;
         }
+        batches = next;
         rest = behind;
     }
     all.sort_by(|a: &Made, b: &Made| a.url.as_str().cmp(b.url.as_str()))?;
     Ok(all)
 }
 
-/// The pages of tasks: of n threads, thread k makes the page of each n-th task, from the k-th on.
+/// Makes the pages of a batch, whose tasks come first, by threads; meanwhile the files of the tasks behind these are read.
+fn make_batch<R: Threads + Sync, C: Contents>(
+    rt: &R,
+    alloc: Global,
+    given: Given<'_>,
+    tasks: (&[Task], &[Task]),
+    contents: &C,
+    batches: Batches,
+) -> Result<(Vec<Made>, Batches), SiteError> {
+    let Batches { full, spare } = batches;
+    let (front, behind) = tasks;
+    let (made, next) = thread::join(
+        rt,
+        || make_in_threads(rt, alloc, given, front, &full),
+        move || next_batch(given, behind, contents, spare),
+    );
+    let made = made?;
+    let next = next?;
+    Ok((
+        made,
+        Batches {
+            full: next,
+            spare: full,
+        },
+    ))
+}
+
+/// The files of the first of these tasks, in the room of a batch that is done with.
+fn next_batch<C: Contents>(
+    given: Given<'_>,
+    tasks: &[Task],
+    contents: &C,
+    done: Batch,
+) -> Result<Batch, AllocError> {
+    let mut batch = done;
+    batch.clear();
+    contents.read(given, tasks, &mut batch)?;
+    Ok(batch)
+}
+
+/// The pages of tasks by threads.
 fn make_in_threads<R: Threads + Sync>(
     rt: &R,
     alloc: Global,
     given: Given<'_>,
     tasks: &[Task],
     batch: &Batch,
-) -> Result<Vec<Made>, SiteError> {
-    let threads = given.rules.threads.max(1);
+) -> Result<Vec<Made>, AllocError> {
+    let next = AtomicUsize::new(0);
     let parts = thread::map_indices(
         rt,
         alloc,
-        threads,
-        &|rest: usize| { every(alloc, given, tasks, batch, rest, threads) },
+        given.rules.threads.max(1),
+        &|_: usize| { taken(alloc, given, tasks, batch, &next) },
     )?;
     let mut all = Vec::new(alloc);
     for part in parts {
-        for made in part? {
-            all.push(made)?;
-        }
+        let mut part = part?;
+        all.append(&mut part)?;
     }
     Ok(all)
 }
 
 impl Making {
+    /// Nothing yet but what was told before.
+    fn new(alloc: Global, told: Vec<Note>) -> Making {
+        Making {
+            pages: Vec::new(alloc),
+            summary: Summary::default(),
+            notes: told,
+            anchors: Vec::new(alloc),
+            places: Vec::new(alloc),
+        }
+    }
+
     /// Keeps pages that are made.
     fn keep(&mut self, made: Vec<Made>) -> Result<(), SiteError> {
         for one in made {
-            let Made {
-                url,
-                page,
-                counts,
-                anchors,
-                indices,
-                notes,
-                ..
-            } = one;
-            if !indices.is_empty() {
-                let url = url.clone()?;
-                self.places.push(LinkPlaces { url, indices })?;
-            }
-            if let Some(anchors) = anchors {
-                self.anchors.push(PageAnchors { url, anchors })?;
-            }
-            for note in notes {
-                self.notes.push(note)?;
-            }
-            if let Some(page) = page {
-                self.summary.add(&page, counts);
-                self.pages.push(page)?;
-            }
+            self.keep_page(one)?;
+        }
+        Ok(())
+    }
+
+    fn keep_page(&mut self, made: Made) -> Result<(), SiteError> {
+        let Made {
+            url,
+            page,
+            counts,
+            anchors,
+            indices,
+            mut notes,
+            ..
+        } = made;
+        self.notes.append(&mut notes)?;
+        if let Some(page) = page {
+            self.summary.add(&page, counts);
+            self.pages.push(page)?;
+        }
+        self.keep_places(&url, indices)?;
+        if let Some(anchors) = anchors {
+            self.anchors.push(PageAnchors { url, anchors })?;
+        }
+        Ok(())
+    }
+
+    fn keep_places(&mut self, url: &CanonUrl, indices: Vec<usize>) -> Result<(), SiteError> {
+        if !indices.is_empty() {
+            let url = url.clone()?;
+            self.places.push(LinkPlaces { url, indices })?;
         }
         Ok(())
     }
