@@ -273,8 +273,11 @@ class Reckoning:
                 places.setdefault(ends.get(lead.url, lead.url), set()).add(lead.place)
         for url in sorted(url for url, answer in self.answers.items() if answer is None):
             if not self.is_ignored(self.told(url)):
-                pages = linked.get(url, ())
-                yield from self.broken_rows(self.told(url), "page", len(pages), places.get(url, ()), names.get(last_of(url)))
+                pages, stand = linked.get(url, ()), places.get(url, set())
+                same, file = names.get(last_of(url), (None, None))
+                yield from self.broken_rows(
+                    self.told(url), "page", len(pages), stand, None if file in {place.file for place in stand} else same
+                )
 
     def broken_rows(
         self, target: str, missing: str, pages: int, places: "Set[Place] | Tuple[()]", same_name: Optional[str]
@@ -312,11 +315,11 @@ class Reckoning:
         document = self.site.document(answer.name) if isinstance(answer, Found) else None
         return document is None or is_there(fragment, document.ids)
 
-    def names(self) -> Dict[str, str]:
-        """The pages whose file name no other page of the site has, by that name."""
-        pages = [url for url, _ in self.site.pages() if last_of(url)]
-        counts = Counter(map(last_of, pages))
-        return {last_of(url): url for url in pages if counts[last_of(url)] == 1}
+    def names(self) -> Dict[str, Tuple[str, str]]:
+        """The pages whose file name no other page of the site has, by that name, and their files."""
+        pages = [(url, name.decode()) for url, name in self.site.pages() if last_of(url)]
+        counts = Counter(last_of(url) for url, _ in pages)
+        return {last_of(url): (url, name) for url, name in pages if counts[last_of(url)] == 1}
 
     def unreached(self) -> Iterator[str]:
         """The files of which no page was reached, each by its first page."""

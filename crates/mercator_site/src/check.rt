@@ -17,7 +17,7 @@ use crawl_keys::{CanonUrl, Filter, KeyError, canonical};
 use crawl_limits::PENDING_LIMIT;
 use crawl_web::PageResult;
 use mercator::{CrawlSettings, Crawled, Fault, Mode, crawl_saved_web};
-use saved_site::{Rules, SiteFiles, SiteNames, Web, site_web};
+use saved_site::{Rules, SiteFiles, SiteNames, Web, files_web};
 use site_check::{Asked, Bodies, check_site};
 use std::alloc::Global;
 use std::mem::forget;
@@ -74,8 +74,8 @@ pub fn report_of_files<R: Threads + Wait + Sync>(
         rules,
         seeds: settings.seeds,
     };
-    let web = site_web(rt, alloc, input, files.bodies)?;
     let pages = SiteFiles::new(alloc, input)?;
+    let web = files_web(rt, alloc, &pages, settings.seeds, files.bodies)?;
     let mut bodies = InMemory { alloc, files };
     report_of_site(rt, alloc, &web, &pages, &mut bodies, settings)
 }

@@ -10,7 +10,7 @@ use crate::check::{CheckReport, CheckSettings, report_of_site};
 use crate::fault::SiteFault;
 use crate::writing::tell_notes;
 use saved_site::{
-    FolderNames, Rules, SiteFiles, SiteNames, Web, folder_names, folder_web, folder_web_of,
+    FolderNames, Rules, SiteFiles, SiteNames, Web, folder_files_web, folder_names, folder_web,
 };
 use site_check::read_ignores;
 use std::alloc::{AllocError, Global};
@@ -102,9 +102,9 @@ fn report_of_names<R: Files + Threads + Wait + Sync, E: Write>(
     ensures { IfOk result (λ report. (front : List ℕ) × (entries : List (List ℕ)) × IsSiteCheck (asks_of asked.now front entries) report.is_broken report.text.items) }
 {
     let folder = asked.site.folder.as_str();
-    let web = folder_web_of(rt, alloc, folder, input, Vec::new(alloc))?;
-    tell_notes(alloc, err, web.notes.as_slice())?;
     let files = SiteFiles::new(alloc, input)?;
+    let web = folder_files_web(rt, alloc, folder, &files, input.seeds, Vec::new(alloc))?;
+    tell_notes(alloc, err, web.notes.as_slice())?;
     let mut bodies = OnDisk { rt, alloc, folder };
     let settings = settings_of(asked, files.top(), known);
     let report = report_of_site(rt, alloc, &web, &files, &mut bodies, settings)?;

@@ -6,13 +6,13 @@ ghost use Rattle.site_check.specs.Told.{rows_in, way_of};
 
 use crate::anchors::{LackedParts, Pages, anchor_rows, lacking, part_texts};
 use crate::ignored::unused;
-use crate::leads::{Lead, Links, leads, targets};
+use crate::leads::{Lead, Links, targets};
 use crate::linked::{Linked, linked_results};
 use crate::located::{PlaceOf, add_places, none_located};
 use crate::names::name_all;
 use crate::rows::{broken_rows, redirect_rows};
 use crate::shown::shown;
-use crate::threads::{lacked_by, locate_by};
+use crate::threads::{lacked_by, leads_by, locate_by};
 use crate::unreached::unreached;
 use crate::worst::{place_count, worst};
 use check_report::{Broken, FileCount, Findings, Kind, Redirect, Totals};
@@ -134,7 +134,7 @@ fn site_of<'p, 'f>(
 #[derive(Drop)]
 struct Sought {
     lacking: LackedParts,
-    /// Those to pages that are not there and to such parts, page by page.
+    /// Those to pages that are not there and to such parts, page by page, in the order of a page's text.
     leads: Vec<Lead>,
 }
 
@@ -150,10 +150,11 @@ fn sought_by<'p, R: Threads + Sync>(
         places: asked.places,
     };
     let targets = targets(alloc, asked.front, asked.ignores, linked)?;
-    let mut leads = leads(alloc, links, &targets)?;
-    let lacked = lacked_by(rt, alloc, site.pages, site.files.threads().max(1))?;
+    let threads = site.files.threads().max(1);
+    let mut leads = leads_by(rt, alloc, links, &targets, threads)?;
+    let lacked = lacked_by(rt, alloc, site.pages, threads)?;
     let lacking = lacking(alloc, lacked, linked.len(), &mut leads)?;
-    leads.sort_by(|a: &Lead, b: &Lead| a.source.cmp(&b.source))?;
+    leads.sort_by(|a: &Lead, b: &Lead| (a.source, a.index).cmp(&(b.source, b.index)))?;
     Ok(Sought { lacking, leads })
 }
 

@@ -64,18 +64,22 @@ pub(crate) struct Links<'a> {
     pub(crate) places: &'a [LinkPlaces],
 }
 
-/// The links to targets, result by result.
-pub(crate) fn leads<'a>(
+/// The links to targets, of each result whose number leaves this rest by `of`, result by result.
+pub(crate) fn every_lead<'a>(
     alloc: Global,
     links: Links<'a>,
     targets: &TargetNumbers<'a>,
+    rest: usize,
+    of: usize,
 ) -> Result<Vec<Lead>, NoMemory> {
     let mut all = Vec::new(alloc);
     if targets.is_empty() {
         return Ok(all);
     }
     for (source, one) in links.results.iter().enumerate() {
-        push_leads(links, source, one, targets, &mut all)?;
+        if source.checked_rem(of) == Some(rest) {
+            push_leads(links, source, one, targets, &mut all)?;
+        }
     }
     Ok(all)
 }

@@ -3,7 +3,7 @@ use crate::check::{Bodies, Site};
 use crate::leads::Lead;
 use check_report::Place;
 use crawl_web::NoMemory;
-use saved_site::text_places;
+use saved_site::{TextPlace, text_places};
 use std::alloc::Global;
 use std::mem;
 
@@ -145,21 +145,27 @@ fn push_places(
     page: &ReadPage<'_, '_>,
     all: &mut Vec<PlaceOf>,
 ) -> Result<(), NoMemory> {
-    let mut indices = Vec::new(alloc);
-    for lead in page.leads {
-        indices.push(lead.index)?;
-    }
+    let indices = indices_of(alloc, page.leads)?;
     let places = text_places(alloc, page.body.as_slice(), indices.as_slice())?;
     for (lead, place) in page.leads.iter().zip(places.iter()) {
-        let place = Place {
-            file: String::from_str(alloc, page.name)?,
-            line: place.line,
-            column: place.column,
-        };
+        let place = place_in(alloc, page.name, *place)?;
         let number = lead.number;
         all.push(PlaceOf { number, place })?;
     }
     Ok(())
+}
+
+fn indices_of(alloc: Global, leads: &[Lead]) -> Result<Vec<usize>, NoMemory> {
+    leads.iter().map(|lead| lead.index).collect(alloc)
+}
+
+/// A place in the file with this name.
+fn place_in(alloc: Global, name: &str, place: TextPlace) -> Result<Place, NoMemory> {
+    Ok(Place {
+        file: String::from_str(alloc, name)?,
+        line: place.line,
+        column: place.column,
+    })
 }
 
 /// Adds these places to what is found, in order.

@@ -1,12 +1,29 @@
 //! Pages gone through by threads: of n, the k-th takes each page whose number leaves k.
 use crate::anchors::{Lacked, Pages, every_lacked};
 use crate::check::{Bodies, Site};
-use crate::leads::Lead;
+use crate::leads::{Lead, Links, TargetNumbers, every_lead};
 use crate::located::{PlaceOf, ReadPage, every_place, read_some};
 use crawl_web::NoMemory;
 use std::alloc::Global;
 use std::thread;
 use std::thread::Threads;
+
+/// The links to targets, by so many threads.
+pub(crate) fn leads_by<'a, R: Threads + Sync>(
+    rt: &R,
+    alloc: Global,
+    links: Links<'a>,
+    targets: &TargetNumbers<'a>,
+    count: usize,
+) -> Result<Vec<Lead>, NoMemory> {
+    let parts = thread::map_indices(
+        rt,
+        alloc,
+        count,
+        &|rest: usize| { every_lead(alloc, links, targets, rest, count) },
+    )?;
+    joined(alloc, parts)
+}
 
 /// The parts that documents lack and results link to, by so many threads.
 pub(crate) fn lacked_by<R: Threads + Sync>(

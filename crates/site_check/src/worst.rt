@@ -9,6 +9,13 @@ const TOLD: usize = 10;
 
 /// The files with most broken links, most first, at most ten.
 pub(crate) fn worst(alloc: Global, broken: &[Broken]) -> Result<Vec<FileCount>, NoMemory> {
+    let counts = counts_of(alloc, broken)?;
+    let most = most_first(alloc, &counts)?;
+    told(alloc, most.as_slice())
+}
+
+/// How many broken links stand in each file.
+fn counts_of(alloc: Global, broken: &[Broken]) -> Result<BTreeMap<&str, u64>, NoMemory> {
     let mut counts: BTreeMap<&str, u64> = BTreeMap::new(alloc);
     for one in broken {
         for place in &one.places {
@@ -16,16 +23,31 @@ pub(crate) fn worst(alloc: Global, broken: &[Broken]) -> Result<Vec<FileCount>, 
             *count = count.saturating_add(1);
         }
     }
-    let mut all: Vec<(&str, u64)> = Vec::new(alloc);
-    for (file, count) in &counts {
+    Ok(counts)
+}
+
+/// The files with the greatest counts, greatest first, and in order where counts are equal.
+fn most_first<'a>(
+    alloc: Global,
+    counts: &BTreeMap<&'a str, u64>,
+) -> Result<Vec<(&'a str, u64)>, NoMemory> {
+    let mut all: Vec<(&'a str, u64)> = Vec::new(alloc);
+    for (file, count) in counts {
         all.push((*file, *count))?;
     }
     all.sort_by(|a: &(&str, u64), b: &(&str, u64)| b.1.cmp(&a.1))?;
     all.truncate(TOLD);
+    Ok(all)
+}
+
+fn told(alloc: Global, counts: &[(&str, u64)]) -> Result<Vec<FileCount>, NoMemory> {
     let mut told = Vec::new(alloc);
-    for (file, links) in all {
+    for (file, links) in counts {
         let file = String::from_str(alloc, file)?;
-        told.push(FileCount { file, links })?;
+        told.push(FileCount {
+            file,
+            links: *links,
+        })?;
     }
     Ok(told)
 }
