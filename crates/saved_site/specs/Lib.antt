@@ -1,3 +1,4 @@
+pub mod Files
 pub mod Meaning
 pub mod Pages
 pub mod Places

@@ -1,10 +1,12 @@
 //! Which file a page of a site is made of.
-ghost use Rattle.std.specs.Prelude.{◌≡◌, string_bytes};
+ghost use Rattle.std.specs.Prelude.{◌≡◌, length, slice_get, string_bytes};
+ghost use Rattle.std.specs.Option.{option_map};
+ghost use Rattle.saved_site.specs.Files.{name_at, page_file, page_of, pages_of};
 
 use crate::error::SiteError;
 use crate::make::Given;
 use crate::notes::Note;
-use crate::site::{Rules, Site, Source};
+use crate::site::{Entry, Rules, Site, Source};
 use crate::spellings::plain_of;
 use crate::web::SiteNames;
 use std::alloc::{AllocError, Global};
@@ -66,16 +68,19 @@ impl<'a> SiteFiles<'a> {
     }
 
     /// How many pages the site has, other spellings not counted.
-    pub fn page_count(&self) -> usize {
+    pub fn page_count(&self) -> usize
+        ensures { result ≡ length (pages_of self.now) }
+    {
         self.site.entries.len()
     }
 
     /// The URL of the page with this number, and the index of its file among the names, if it has one.
-    pub fn page(&self, number: usize) -> Option<(&str, Option<usize>)> {
-        let entry = self.site.entries.get(number)?;
-        match &entry.source {
-            Source::File(index) => Some((entry.url.as_str(), Some(*index))),
-            Source::Moved(_) => Some((entry.url.as_str(), None)),
+    pub fn page(&self, number: usize) -> Option<(&str, Option<usize>)>
+        ensures { option_map (λ page. page_file page.0.now page.1) result ≡ slice_get (pages_of self.now) number }
+    {
+        match self.site.entries.get(number) {
+            Some(entry) => Some(page_of(entry)),
+            None => None,
         }
     }
 
@@ -85,7 +90,9 @@ impl<'a> SiteFiles<'a> {
     }
 
     /// The file with this index among the names.
-    pub fn name(&self, index: usize) -> Option<&'a str> {
+    pub fn name(&self, index: usize) -> Option<&'a str>
+        ensures { option_map (λ name. name.now) result ≡ name_at self.now index }
+    {
         let names = self.names;
         match names.get(index) {
             Some(name) => Some(name.as_str()),
@@ -122,5 +129,14 @@ impl<'a> SiteFiles<'a> {
     /// By how many threads its pages are made.
     pub fn threads(&self) -> usize {
         self.rules.threads
+    }
+}
+
+fn page_of(entry: &Entry) -> (&str, Option<usize>)
+    ensures { page_file result.0.now result.1 ≡ page_of entry.now }
+{
+    match &entry.source {
+        Source::File(index) => (entry.url.as_str(), Some(*index)),
+        Source::Moved(_) => (entry.url.as_str(), None),
     }
 }
