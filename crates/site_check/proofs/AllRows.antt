@@ -1,5 +1,5 @@
 -- The rows of the results that found no page are those of all results.
-use Rattle.std.proofs.Common.{◌≡◌, ◌∙◌, ℕ, Bool, true, false, not, List, [], ◌∷◌, ◌++◌, map, filter, refl, sym, ap, cond, inl, inr}
+use Rattle.std.proofs.Common.{◌≡◌, ◌∙◌, ℕ, Bool, true, false, not, List, [], ◌∷◌, ◌++◌, map, filter, refl, sym, ap, inl, inr}
 use Rattle.std.proofs.lemmas.Bool.{cases_Bool}
 use Rattle.std.specs.List.{flat_map}
 use Rattle.crawl_web.proofs.ReportOrder.{filter-kept, filter-dropped}
@@ -7,7 +7,9 @@ use Rattle.crawl_web.specs.declared.page.Page.{Page}
 use Rattle.crawl_web.specs.declared.page.Page.TheVariants.{Found, Moved, Missing}
 use Rattle.crawl_web.specs.declared.page.PageResult.{PageResult}
 use Rattle.crawl_web.specs.ReportText.{is_found}
-use Rattle.site_check.specs.Broken.{Linked, Row, Way, is_unfound, linked, rows_at, rows_with, broken_of, ways_at, ways_with, redirects_of}
+use Rattle.site_check.specs.Broken.{Linked, is_unfound, linked, linked_at, result_at, rows_at, rows_with, broken_of, ways_at, ways_with, redirects_of}
+use Rattle.site_check.specs.Ignored.{missing_texts, text_at}
+use Rattle.site_check.specs.declared.linked.Linked as code
 
 -- what fails the test gives nothing
 abbrev GivesNothing : {X Y : Type 0} → (X → Bool) → (X → List Y) → Type 0
@@ -52,3 +54,24 @@ rows_of_all front entries results =
 pub ways_of_all : (front : List ℕ) (results : List PageResult) → flat_map (ways_with front) (map (linked results) (filter is_unfound results)) ≡ redirects_of front results
 ways_of_all front results =
     flat_linked is_unfound (ways_with front) (linked results) (λ r is. no_way front r.url (linked results r).pages r.page (found_page r.page is)) results
+
+-- ---- the texts of the pages that are not there
+
+no_text : (front url : List ℕ) (page : Page) → is_found page ≡ true → text_at front (record { url = url; page = page }) ≡ []
+no_text front url (Found links skipped) found = refl
+no_text front url (Moved to) found = absurd (cc)
+no_text front url Missing found = absurd (cc)
+
+results_at : (all : List code.Linked) → map result_at all ≡ map (λ (l : Linked). l.result) (map linked_at all)
+results_at [] = refl
+results_at (l ∷ all) = ap (λ rs. l.result.now ∷ rs) (results_at all)
+
+results_back : (results rs : List PageResult) → map (λ (l : Linked). l.result) (map (linked results) rs) ≡ rs
+results_back results [] = refl
+results_back results (r ∷ rs) = ap (λ l. r ∷ l) (results_back results rs)
+
+pub texts_of_all : (front : List ℕ) (results : List PageResult) (all : List code.Linked) → map linked_at all ≡ map (linked results) (filter is_unfound results) →
+    missing_texts front results ≡ flat_map (text_at front) (map result_at all)
+texts_of_all front results all is =
+    sym (flat_filter is_unfound (text_at front) (λ r not. no_text front r.url r.page (found_page r.page not)) results)
+    ∙ ap (flat_map (text_at front)) (sym (results_at all ∙ ap (map (λ (l : Linked). l.result)) is ∙ results_back results (filter is_unfound results)))

@@ -1,9 +1,13 @@
 -- A text that begins with another.
-use Rattle.std.proofs.Common.{◌≡◌, ◌∙◌, ℕ, Bool, true, false, List, ◌++◌, length, take, drop, cond, refl, sym, ap, subst, inl, inr}
+use Rattle.std.proofs.Common.{◌≡◌, ◌∙◌, ℕ, Bool, true, ◌||◌, List, [], ◌∷◌, ◌++◌, length, take, drop, cond, refl, sym, ap, inl, inr}
 use Rattle.std.proofs.Math.Seq.{take-append_seam}
 use Rattle.std.proofs.lemmas.Bool.{cases_Bool, cond-true, cond-false}
 use Rattle.std.proofs.lemmas.List.{take-append-drop}
+use Rattle.std.proofs.lemmas.List.Folds.{list_any-append}
 use Rattle.std.proofs.lemmas.Slice.Eq.{bytes_eq-Decides}
+use Rattle.std.specs.Borrow.{Bor}
+use Rattle.std.specs.List.{list_any}
+use Rattle.crawl_sources.specs.Tallies.{pointed}
 use Rattle.site_check.specs.Broken.{begins}
 
 begins_with : (front url rest : List ℕ) → url ≡ front ++ rest → begins front url ≡ true
@@ -23,3 +27,11 @@ no_front front url lacks =
           (sym (take-append-drop (length front) url) ∙ ap (λ t. t ++ drop (length front) url) ((bytes_eq-Decides (take (length front) url) front).0 with)))
       | inr without ↦ sym (cond-false _ _ _ without)
     ]
+
+-- what references point to passes where they do
+any_pointed : {X : Type 0} (p : X → Bool) (xs : List (Bor X)) → list_any p (pointed xs) ≡ list_any (λ x. p x.now) xs
+any_pointed p [] = refl
+any_pointed p (x ∷ xs) = ap (λ b. p x.now || b) (any_pointed p xs)
+
+pub any_both : {X : Type 0} (p : X → Bool) (xs ys : List (Bor X)) → list_any p (pointed xs ++ pointed ys) ≡ (list_any (λ x. p x.now) xs || list_any (λ x. p x.now) ys)
+any_both p xs ys = list_any-append p (pointed xs) (pointed ys) ∙ (λ i. any_pointed p xs i || any_pointed p ys i)

@@ -1,3 +1,5 @@
-pub mod Counting
 pub mod AllRows
+pub mod Counting
 pub mod Fronts
+pub mod LeadsFound
+pub mod Namesakes

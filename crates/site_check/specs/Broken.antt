@@ -1,12 +1,12 @@
 -- What a check tells of the results of a crawl: the pages that are not there, and those that moved, with how many pages link to them.
-use Rattle.std.specs.Prelude.{◌==◌, ℕ, Bool, true, false, not, ◌&&◌, if◌then◌else◌, List, [], ◌∷◌, length, take, drop, map, filter, codes, Option, Some, None, Vec, String, string_bytes}
+use Rattle.std.specs.Prelude.{◌==◌, ℕ, Bool, not, if◌then◌else◌, List, [], ◌∷◌, length, take, drop, codes, Option}
 use Rattle.std.specs.List.{list_any, flat_map}
 use Rattle.std.specs.Option.{option_map}
 use Rattle.std.specs.Str.{bytes_eq}
 use Rattle.crawl_sources.specs.Sources.{sources_of}
 use Rattle.crawl_web.specs.ReportText.{is_found}
 use Rattle.crawl_web.specs.declared.page.Page.{Page}
-use Rattle.crawl_web.specs.declared.page.Page.TheVariants.{Found, Moved, Missing}
+use Rattle.crawl_web.specs.declared.page.Page.TheVariants.{Moved, Missing}
 use Rattle.crawl_web.specs.declared.page.PageResult.{PageResult}
 use Rattle.site_check.specs.declared.linked.Linked as code
 
@@ -25,6 +25,9 @@ linked results r = record { result = r; pages = length (sources_of results r.url
 
 abbrev pub linked_at : code.Linked → Linked
 linked_at l = record { result = l.result.now; pages = l.pages }
+
+abbrev pub result_at : code.Linked → PageResult
+result_at l = l.result.now
 
 -- ---- how a URL is told
 

@@ -1,3 +1,7 @@
 pub mod Broken
+pub mod Ignored
+pub mod Leads
+pub mod Names
+pub mod Parts
 pub mod Tallies
 pub mod Told

@@ -1,12 +1,16 @@
 //! Links to parts of pages that are there, where the page has no such part.
-ghost use Rattle.std.specs.Prelude.{◌≡◌, [], IfOk, OnOk};
+ghost use Rattle.std.specs.Prelude.{◌≡◌, ◌∷◌, ◌++◌, ℕ, List, [], IfOk, OnOk, map, string_bytes};
+ghost use Rattle.saved_site.specs.declared.files.SiteFiles.{SiteFiles};
+ghost use Rattle.site_check.specs.Ignored.{not_ignored, parts_in};
+ghost use Rattle.site_check.specs.Names.{AreNamed};
+ghost use Rattle.site_check.specs.Parts.{part_text};
 ghost use Rattle.site_check.specs.Told.{rows_in};
 
 use crate::ignored::is_ignored;
 use crate::leads::Lead;
-use crate::located::Located;
+use crate::located::take_places;
 use crate::shown::shown;
-use check_report::{Broken, Kind};
+use check_report::{Broken, Kind, Place};
 use crawl_web::{NoMemory, Page, PageResult};
 use page_anchors::is_indicated;
 use saved_site::{AnchorLink, Anchors, PageAnchors};
@@ -182,18 +186,32 @@ fn count_part(lacking: &mut LackedParts, part: Part, source: usize) -> Result<us
     Ok(known.number)
 }
 
-/// The texts of the parts that pages lack, in order.
-pub(crate) fn part_texts(
+/// A part that a page lacks, as it is told.
+#[derive(Drop)]
+pub(crate) struct ToldPart {
+    pub(crate) text: String,
+    /// How many pages link to it.
+    pages: u64,
+    /// Its number among all parts.
+    number: usize,
+}
+
+/// The parts that pages lack, in order.
+pub(crate) fn told_parts(
     alloc: Global,
     front: &str,
     pages: Pages<'_>,
     lacking: &LackedParts,
-) -> Result<Vec<String>, NoMemory> {
-    let mut texts = Vec::new(alloc);
-    for part in lacking.keys() {
-        texts.push(part_text(alloc, front, pages, part)?)?;
+) -> Result<Vec<ToldPart>, NoMemory> {
+    let mut parts = Vec::new(alloc);
+    for (part, count) in lacking {
+        parts.push(ToldPart {
+            text: part_text(alloc, front, pages, part)?,
+            pages: count.pages,
+            number: count.number,
+        })?;
     }
-    Ok(texts)
+    Ok(parts)
 }
 
 /// The text of a part: its page, `#`, and the fragment.
@@ -214,42 +232,45 @@ fn part_text(
     Ok(text)
 }
 
-/// The rows of the parts with these texts, in order, but those that are known; behind so many pages, `found` has what was found
-/// of each.
-pub(crate) fn anchor_rows(
+/// The rows of parts, in order, but those that are known; `found` has where links to each stand, behind those to so many pages.
+pub(crate) fn part_rows(
     alloc: Global,
     ignores: &[String],
-    texts: &[String],
-    lacking: &LackedParts,
-    found: &mut [Located],
+    parts: &[ToldPart],
+    pages: usize,
+    found: &mut [Vec<Place>],
 ) -> Result<Vec<Broken>, NoMemory>
-    ensures { IfOk result (λ all. rows_in all.items ≡ []) }
+    ensures rows { IfOk result (λ all. rows_in all.items ≡ []) }
+    ensures names { IfOk result (λ all. (front : List ℕ) (files : SiteFiles) → AreNamed front files all.items) }
+    ensures parts { IfOk result (λ all. parts_in all.items ≡ not_ignored (map string_bytes ignores.now) (map part_text parts.now)) }
 {
-    let pages = found.len().saturating_sub(lacking.len());
     let mut all = Vec::new(alloc);
-    for (text, count) in texts.iter().zip(lacking.values()) {
-        if !is_ignored(ignores, text.as_str()) {
-            let located = Located::take(alloc, found, pages.saturating_add(count.number));
-            push_part(text, count.pages, located, &mut all)?;
-        }
+    for part in parts {
+        let places = take_places(alloc, found, pages.saturating_add(part.number));
+        push_part(ignores, part, places, &mut all)?;
     }
     Ok(all)
 }
 
+/// A row of a part, unless that is known.
 fn push_part(
-    text: &String,
-    pages: u64,
-    located: Located,
+    ignores: &[String],
+    part: &ToldPart,
+    places: Vec<Place>,
     all: &mut Vec<Broken>,
 ) -> Result<(), NoMemory>
-    ensures { OnOk result (rows_in all.new.items ≡ rows_in all.old.items) }
+    ensures rows { OnOk result (rows_in all.new.items ≡ rows_in all.old.items) }
+    ensures names { OnOk result ((front : List ℕ) (files : SiteFiles) → AreNamed front files all.old.items → AreNamed front files all.new.items) }
+    ensures parts { OnOk result (parts_in all.new.items ≡ parts_in all.old.items ++ not_ignored (map string_bytes ignores.now) (part_text part.now ∷ [])) }
 {
-    let Located { places, .. } = located;
-    let target = text.clone()?;
+    if is_ignored(ignores, part.text.as_str()) {
+        return Ok(());
+    }
+    let target = part.text.clone()?;
     all.push(Broken {
         target,
         kind: Kind::NoAnchor,
-        pages,
+        pages: part.pages,
         places,
         same_name: None,
     })?;

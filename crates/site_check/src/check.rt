@@ -1,15 +1,22 @@
 //! A check of the results of a crawl of a folder's saved web.
-ghost use Rattle.std.specs.Prelude.{◌≡◌, ◌==◌, [], IfOk, map, not, string_bytes, length};
+ghost use Rattle.std.specs.Prelude.{◌≡◌, ◌==◌, ◌++◌, ℕ, List, [], IfOk, OnOk, map, not, string_bytes, length};
 ghost use Rattle.std.specs.List.{flat_map};
-ghost use Rattle.site_check.specs.Broken.{broken_of, linked_at, redirects_of, rows_with, ways_with};
+ghost use Rattle.crawl_sources.specs.Tallies.{pointed};
+ghost use Rattle.crawl_web.specs.declared.page.PageResult.{PageResult};
+ghost use Rattle.saved_site.specs.declared.files.SiteFiles.{SiteFiles};
+ghost use Rattle.site_check.specs.Broken.{broken_of, linked_at, redirects_of, result_at, rows_with, ways_with};
+ghost use Rattle.site_check.specs.Ignored.{AreUnused, missing_texts, not_ignored, parts_in, text_at, unused};
+ghost use Rattle.site_check.specs.Leads.{indices_in, leads_from, number_in, targets_of};
+ghost use Rattle.site_check.specs.Names.{AreNamed};
+ghost use Rattle.site_check.specs.Parts.{part_text};
 ghost use Rattle.site_check.specs.Told.{rows_in, way_of};
 
-use crate::anchors::{LackedParts, Pages, anchor_rows, lacking, part_texts};
+use crate::anchors::{LackedParts, Pages, ToldPart, lacking, part_rows, told_parts};
 use crate::ignored::unused;
-use crate::leads::{Lead, Links, targets};
-use crate::linked::{Linked, linked_results};
-use crate::located::{PlaceOf, add_places, none_located};
-use crate::names::name_all;
+use crate::leads::{Lead, Maps, link_indices, targets};
+use crate::linked::{Linked, is_missing, linked_results};
+use crate::located::{PlaceOf, by_number};
+use crate::names::{Named, names_of};
 use crate::rows::{broken_rows, redirect_rows};
 use crate::shown::shown;
 use crate::threads::{lacked_by, leads_by, locate_by};
@@ -61,6 +68,7 @@ impl Checked {
     pub fn findings<'a>(&'a self, base: &'a str) -> Findings<'a>
         ensures broken { result.broken.now ≡ self.now.broken.items }
         ensures redirects { result.redirects.now ≡ self.now.redirects.items }
+        ensures unused_ignores { result.unused_ignores.now ≡ self.now.unused_ignores.items }
     {
         Findings {
             base,
@@ -99,6 +107,10 @@ pub fn check_site<'f, R: Threads + Sync, B: Bodies>(
     ensures broken { IfOk result (λ checked. rows_in checked.broken.items ≡ broken_of asked.entry.front.now (map string_bytes asked.entry.ignores.now) results.now) }
     // Those of redirects are the moved results that are linked to.
     ensures redirects { IfOk result (λ checked. map way_of checked.redirects.items ≡ redirects_of asked.entry.front.now results.now) }
+    // Beside a page that is not there stands the only page with its file name, unless a link to it stands in that one's file.
+    ensures names { IfOk result (λ checked. AreNamed asked.entry.front.now files.now checked.broken.items) }
+    // The entries that are told stand for no page that is not there, and for no part that a page lacks.
+    ensures ignores { IfOk result (λ checked. AreUnused asked.entry.front.now (map string_bytes asked.entry.ignores.now) results.now (parts_in checked.broken.items) (map string_bytes checked.unused_ignores.items)) }
 {
     let site = site_of(results, files, asked);
     let linked = linked_results(alloc, results)?;
@@ -120,7 +132,9 @@ fn site_of<'p, 'f>(
     results: &'p [PageResult],
     files: &'f SiteFiles<'f>,
     asked: Asked<'p>,
-) -> Site<'p, 'f> {
+) -> Site<'p, 'f>
+    ensures { result.files.now ≡ files.now }
+{
     Site {
         pages: Pages {
             results,
@@ -145,17 +159,32 @@ fn sought_by<'p, R: Threads + Sync>(
     site: Site<'p, '_>,
     linked: &[Linked<'p>],
 ) -> Result<Sought, NoMemory> {
-    let links = Links {
-        results: site.pages.results,
-        places: asked.places,
-    };
-    let targets = targets(alloc, asked.front, asked.ignores, linked)?;
     let threads = site.files.threads().max(1);
-    let mut leads = leads_by(rt, alloc, links, &targets, threads)?;
+    let mut leads = page_leads(rt, alloc, asked, site, linked)?;
     let lacked = lacked_by(rt, alloc, site.pages, threads)?;
     let lacking = lacking(alloc, lacked, linked.len(), &mut leads)?;
     leads.sort_by(|a: &Lead, b: &Lead| (a.source, a.index).cmp(&(b.source, b.index)))?;
     Ok(Sought { lacking, leads })
+}
+
+/// The links of the results' pages that lead to pages that are not there and not known to be so, also by a page that moved there.
+fn page_leads<'p, R: Threads + Sync>(
+    rt: &R,
+    alloc: Global,
+    asked: Asked<'p>,
+    site: Site<'p, '_>,
+    linked: &[Linked<'p>],
+) -> Result<Vec<Lead>, NoMemory>
+    ensures { IfOk result (λ all. all.items ≡ leads_from (number_in (targets_of asked.entry.front.now (map string_bytes asked.entry.ignores.now) (map result_at linked.now))) (indices_in asked.entry.places.now) 0 site.entry.pages.results.now) }
+{
+    let numbers = targets(alloc, asked.front, asked.ignores, linked)?;
+    let indices = link_indices(alloc, asked.places)?;
+    let maps = Maps {
+        numbers: &numbers,
+        indices: &indices,
+    };
+    let all = leads_by(rt, alloc, maps, site.pages.results, site.files.threads())?;
+    Ok(all)
 }
 
 /// What a check tells where the links that were sought stand at these places.
@@ -169,16 +198,15 @@ fn told(
 ) -> Result<Checked, NoMemory>
     ensures broken { IfOk result (λ checked. rows_in checked.broken.items ≡ flat_map (rows_with asked.entry.front.now (map string_bytes asked.entry.ignores.now)) (map linked_at linked.now)) }
     ensures redirects { IfOk result (λ checked. map way_of checked.redirects.items ≡ flat_map (ways_with asked.entry.front.now) (map linked_at linked.now)) }
+    ensures names { IfOk result (λ checked. AreNamed asked.entry.front.now site.entry.files.now checked.broken.items) }
+    ensures ignores { IfOk result (λ checked. (results : List PageResult) → missing_texts asked.entry.front.now results ≡ flat_map (text_at asked.entry.front.now) (map result_at linked.now) → AreUnused asked.entry.front.now (map string_bytes asked.entry.ignores.now) results (parts_in checked.broken.items) (map string_bytes checked.unused_ignores.items)) }
 {
     let results = site.pages.results;
-    let (broken, texts) = broken_all(alloc, asked, site, linked, &sought.lacking, places)?;
+    let parts = told_parts(alloc, asked.front, site.pages, &sought.lacking)?;
+    let broken = broken_all(alloc, asked, site, linked, parts.as_slice(), places)?;
     let redirects = redirect_rows(alloc, asked.front, linked)?;
-    let unused_ignores = unused_entries(alloc, asked, linked, texts.as_slice())?;
-    let unreached = if asked.unreached {
-        unreached(alloc, asked.front, results, site.files)?
-    } else {
-        Vec::new(alloc)
-    };
+    let unused_ignores = unused_entries(alloc, asked, linked, parts.as_slice())?;
+    let unreached = unreached_asked(alloc, asked, site)?;
     let totals = totals_of(results, broken.as_slice(), redirects.as_slice());
     let worst = worst(alloc, broken.as_slice())?;
     Ok(Checked {
@@ -191,31 +219,50 @@ fn told(
     })
 }
 
-/// The rows of the pages that are not there and of the parts that pages lack, with where links to them stand; and the texts of
-/// all such parts.
+fn unreached_asked(
+    alloc: Global,
+    asked: Asked<'_>,
+    site: Site<'_, '_>,
+) -> Result<Vec<String>, NoMemory> {
+    if asked.unreached {
+        unreached(alloc, asked.front, site.pages.results, site.files)
+    } else {
+        Ok(Vec::new(alloc))
+    }
+}
+
+/// The rows of the pages that are not there and of these parts, with where links to them stand.
 fn broken_all(
     alloc: Global,
     asked: Asked<'_>,
     site: Site<'_, '_>,
     linked: &[Linked<'_>],
-    lacking: &LackedParts,
+    parts: &[ToldPart],
     places: Vec<PlaceOf>,
-) -> Result<(Vec<Broken>, Vec<String>), NoMemory>
-    ensures { IfOk result (λ r. rows_in r.0.items ≡ flat_map (rows_with asked.entry.front.now (map string_bytes asked.entry.ignores.now)) (map linked_at linked.now)) }
+) -> Result<Vec<Broken>, NoMemory>
+    ensures rows { IfOk result (λ all. rows_in all.items ≡ flat_map (rows_with asked.entry.front.now (map string_bytes asked.entry.ignores.now)) (map linked_at linked.now)) }
+    ensures names { IfOk result (λ all. AreNamed asked.entry.front.now site.entry.files.now all.items) }
+    ensures parts { IfOk result (λ all. parts_in all.items ≡ not_ignored (map string_bytes asked.entry.ignores.now) (map part_text parts.now)) }
 {
-    let mut found = none_located(alloc, linked.len(), lacking.len())?;
-    add_places(places, found.as_mut_slice())?;
-    name_all(alloc, asked.front, linked, site.files, found.as_mut_slice())?;
-    let texts = part_texts(alloc, asked.front, site.pages, lacking)?;
-    let rows = broken_rows(alloc, asked, linked, found.as_mut_slice())?;
-    let parts = anchor_rows(alloc, asked.ignores, texts.as_slice(), lacking, &mut found)?;
-    Ok((with_parts(rows, parts)?, texts))
+    let pages = linked.len();
+    let mut found = by_number(alloc, places, pages.saturating_add(parts.len()))?;
+    let names = names_of(alloc, site.files)?;
+    let named = Named {
+        files: site.files,
+        names: &names,
+    };
+    let rows = broken_rows(alloc, asked, named, linked, found.as_mut_slice())?;
+    let parts = part_rows(alloc, asked.ignores, parts, pages, found.as_mut_slice())?;
+    let all = with_parts(rows, parts)?;
+    Ok(all)
 }
 
 /// The rows of pages, and then those of parts.
 fn with_parts(rows: Vec<Broken>, parts: Vec<Broken>) -> Result<Vec<Broken>, NoMemory>
     requires { rows_in parts.items ≡ [] }
-    ensures { IfOk result (λ all. rows_in all.items ≡ rows_in rows.items) }
+    ensures rows { IfOk result (λ all. rows_in all.items ≡ rows_in rows.items) }
+    ensures names { IfOk result (λ all. (front : List ℕ) (files : SiteFiles) → AreNamed front files rows.items → AreNamed front files parts.items → AreNamed front files all.items) }
+    ensures parts { IfOk result (λ all. parts_in all.items ≡ parts_in rows.items ++ parts_in parts.items) }
 {
     let mut all = rows;
     let mut parts = parts;
@@ -228,18 +275,41 @@ fn unused_entries(
     alloc: Global,
     asked: Asked<'_>,
     linked: &[Linked<'_>],
-    parts: &[String],
-) -> Result<Vec<String>, NoMemory> {
+    parts: &[ToldPart],
+) -> Result<Vec<String>, NoMemory>
+    ensures { IfOk result (λ all. map string_bytes all.items ≡ unused (map string_bytes asked.entry.ignores.now) (map part_text parts.now ++ flat_map (text_at asked.entry.front.now) (map result_at linked.now))) }
+{
+    let told = texts_of(alloc, parts)?;
+    let pages = missing_texts(alloc, asked.front, linked)?;
+    let all = unused(alloc, asked.ignores, told.as_slice(), pages.as_slice())?;
+    Ok(all)
+}
+
+fn texts_of(alloc: Global, parts: &[ToldPart]) -> Result<Vec<&str>, NoMemory>
+    ensures { IfOk result (λ texts. pointed texts.items ≡ map part_text parts.now) }
+{
     let mut texts = Vec::new(alloc);
     for part in parts {
-        texts.push(part.as_str())?;
+        texts.push(part.text.as_str())?;
     }
+    Ok(texts)
+}
+
+/// The pages that are not there, as they are told.
+fn missing_texts<'a>(
+    alloc: Global,
+    front: &str,
+    linked: &[Linked<'a>],
+) -> Result<Vec<&'a str>, NoMemory>
+    ensures { IfOk result (λ texts. pointed texts.items ≡ flat_map (text_at front.now) (map result_at linked.now)) }
+{
+    let mut texts = Vec::new(alloc);
     for one in linked {
-        if one.result.page == Page::Missing {
-            texts.push(shown(asked.front, one.result.url.as_str()))?;
+        if is_missing(one.result) {
+            texts.push(shown(front, one.result.url.as_str()))?;
         }
     }
-    unused(alloc, asked.ignores, texts.as_slice())
+    Ok(texts)
 }
 
 fn totals_of(results: &[PageResult], broken: &[Broken], redirects: &[Redirect]) -> Totals {

@@ -1,6 +1,9 @@
 //! What is known to be broken.
-ghost use Rattle.std.specs.Prelude.{◌≡◌, ◌∷◌, [], MatchOption, map, string_bytes};
-ghost use Rattle.site_check.specs.Broken.{is_ignored};
+ghost use Rattle.std.specs.Prelude.{◌≡◌, ◌∷◌, ◌++◌, [], IfOk, MatchOption, map, string_bytes};
+ghost use Rattle.std.specs.List.{list_any};
+ghost use Rattle.crawl_sources.specs.Tallies.{pointed};
+ghost use Rattle.site_check.specs.Broken.{begins, is_ignored};
+ghost use Rattle.site_check.specs.Ignored.{unused};
 
 use crate::shown::begins;
 use crawl_web::NoMemory;
@@ -46,22 +49,37 @@ fn parts(entries: &[String]) -> Option<(&String, &[String])>
     }
 }
 
-/// The entries that stand for none of the texts.
+/// The entries that stand for none of these parts and none of these pages.
 pub(crate) fn unused(
     alloc: Global,
     entries: &[String],
-    texts: &[&str],
-) -> Result<Vec<String>, NoMemory> {
+    parts: &[&str],
+    pages: &[&str],
+) -> Result<Vec<String>, NoMemory>
+    ensures { IfOk result (λ all. map string_bytes all.items ≡ unused (map string_bytes entries.now) (pointed parts.now ++ pointed pages.now)) }
+{
     let mut all = Vec::new(alloc);
     for entry in entries {
-        if !is_used(entry.as_str(), texts) {
+        if !is_used(entry.as_str(), parts, pages) {
             all.push(entry.clone()?)?;
         }
     }
     Ok(all)
 }
 
-fn is_used(entry: &str, texts: &[&str]) -> bool {
+fn is_used(entry: &str, parts: &[&str], pages: &[&str]) -> bool
+    ensures { result ≡ list_any (begins entry.now) (pointed parts.now ++ pointed pages.now) }
+{
+    if begins_any(entry, parts) {
+        return true;
+    }
+    begins_any(entry, pages)
+}
+
+/// Whether one of the texts begins with the entry.
+fn begins_any(entry: &str, texts: &[&str]) -> bool
+    ensures { result ≡ list_any (λ text. begins entry.now text.now) texts.now }
+{
     for text in texts {
         if begins(entry, text) {
             return true;

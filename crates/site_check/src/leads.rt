@@ -1,6 +1,12 @@
 //! Links that lead to what is told: to a page that is not there, or to a part that a page lacks.
+ghost use Rattle.std.specs.Prelude.{◌≡◌, ◌∷◌, ◌++◌, ◌+◌, ◌<◌, ◌^◌, ℕ, List, [], IfOk, MatchOption, OnOk, fold, length, map, string_bytes};
+ghost use Rattle.std.specs.List.{flat_map};
+ghost use Rattle.std.specs.Option.{option_copied};
+ghost use Rattle.site_check.specs.Broken.{result_at};
+ghost use Rattle.site_check.specs.Leads.{HasNoLink, indices_at, indices_in, lead_to, leads_at, leads_from, leads_of, is_told, missing_from, moved_number, moved_target, number_at, number_in, number_with, own_number, target_at, targets_of, to_number};
+
 use crate::ignored::is_ignored;
-use crate::linked::Linked;
+use crate::linked::{Linked, is_missing};
 use crate::shown::shown;
 use crawl_keys::CanonUrl;
 use crawl_web::{NoMemory, Page, PageResult};
@@ -20,6 +26,13 @@ pub(crate) struct Lead {
     pub(crate) number: usize,
 }
 
+/// A URL that leads to a page that is not there, and that page's number.
+#[derive(Clone, Copy)]
+pub(crate) struct Target<'a> {
+    url: &'a CanonUrl,
+    number: usize,
+}
+
 /// Which URLs lead to a page that is not there, by that page's number.
 pub(crate) type TargetNumbers<'a> = BTreeMap<HashedText<'a>, usize>;
 
@@ -29,96 +42,245 @@ pub(crate) fn targets<'a>(
     front: &str,
     ignores: &[String],
     linked: &[Linked<'a>],
-) -> Result<TargetNumbers<'a>, NoMemory> {
-    let mut targets = BTreeMap::new(alloc);
-    for (index, one) in linked.iter().enumerate() {
-        let url = &one.result.url;
-        if one.result.page == Page::Missing && !is_ignored(ignores, shown(front, url.as_str())) {
-            targets.insert(url.hashed(), index)?;
-        }
-    }
-    for one in linked {
-        if let Some(index) = moved_to(&targets, one.result) {
-            targets.insert(one.result.url.hashed(), index)?;
-        }
-    }
-    Ok(targets)
+) -> Result<TargetNumbers<'a>, NoMemory>
+    ensures { IfOk result (λ numbers. (url : List ℕ) → number_at numbers url ≡ number_in (targets_of front.now (map string_bytes ignores.now) (map result_at linked.now)) url) }
+{
+    let missing = missing_targets(alloc, front, ignores, linked)?;
+    let mut numbers = BTreeMap::new(alloc);
+    insert_all(&mut numbers, missing.as_slice())?;
+    let moved = moved_targets(alloc, &numbers, linked)?;
+    insert_all(&mut numbers, moved.as_slice())?;
+    Ok(numbers)
 }
 
-/// The number of the page that is not there and that this one moved to.
-fn moved_to<'a>(targets: &TargetNumbers<'a>, one: &'a PageResult) -> Option<usize> {
-    match &one.page {
-        Page::Moved { to: Some(url) } => number_of(targets, url),
-        _ => None,
-    }
-}
-
-fn number_of<'a>(targets: &TargetNumbers<'a>, url: &'a CanonUrl) -> Option<usize> {
-    targets.get(&url.hashed()).copied()
-}
-
-/// The results of a crawl, and where the links of the site's documents stand, both ascending by URL.
-#[derive(Clone, Copy)]
-pub(crate) struct Links<'a> {
-    pub(crate) results: &'a [PageResult],
-    pub(crate) places: &'a [LinkPlaces],
-}
-
-/// The links to targets, of each result whose number leaves this rest by `of`, result by result.
-pub(crate) fn every_lead<'a>(
+/// The pages that are not there and not known to be so.
+fn missing_targets<'a>(
     alloc: Global,
-    links: Links<'a>,
-    targets: &TargetNumbers<'a>,
-    rest: usize,
-    of: usize,
-) -> Result<Vec<Lead>, NoMemory> {
+    front: &str,
+    ignores: &[String],
+    linked: &[Linked<'a>],
+) -> Result<Vec<Target<'a>>, NoMemory>
+    ensures { IfOk result (λ all. map target_at all.items ≡ missing_from front.now (map string_bytes ignores.now) 0 (map result_at linked.now)) }
+{
     let mut all = Vec::new(alloc);
-    if targets.is_empty() {
-        return Ok(all);
-    }
-    for (source, one) in links.results.iter().enumerate() {
-        if source.checked_rem(of) == Some(rest) {
-            push_leads(links, source, one, targets, &mut all)?;
-        }
+    for (number, one) in linked.iter().enumerate() {
+        let own = own_number(front, ignores, number, one.result);
+        push_target(&one.result.url, own, &mut all)?;
     }
     Ok(all)
 }
 
-/// Appends a result's links to targets.
-fn push_leads<'a>(
-    links: Links<'a>,
+/// The number, where the page is not there and that is not known.
+fn own_number(front: &str, ignores: &[String], number: usize, one: &PageResult) -> Option<usize>
+    ensures { result ≡ own_number front.now (map string_bytes ignores.now) number one.now }
+{
+    if is_told(front, ignores, one) {
+        Some(number)
+    } else {
+        None
+    }
+}
+
+fn is_told(front: &str, ignores: &[String], one: &PageResult) -> bool
+    ensures { result ≡ is_told front.now (map string_bytes ignores.now) one.now }
+{
+    is_missing(one) && !is_ignored(ignores, shown(front, one.url.as_str()))
+}
+
+fn push_target<'a>(
+    url: &'a CanonUrl,
+    number: Option<usize>,
+    all: &mut Vec<Target<'a>>,
+) -> Result<(), NoMemory>
+    ensures { OnOk result (map target_at all.new.items ≡ map target_at all.old.items ++ to_number url.now number) }
+{
+    match number {
+        Some(number) => {
+            all.push(Target { url, number })?;
+            Ok(())
+        }
+        None => Ok(()),
+    }
+}
+
+fn insert_all<'a>(numbers: &mut TargetNumbers<'a>, targets: &[Target<'a>]) -> Result<(), NoMemory>
+    ensures { OnOk result ((url : List ℕ) → number_at numbers.new url ≡ fold (number_with url) (number_at numbers.old url) (map target_at targets.now)) }
+{
+    for target in targets {
+        numbers.insert(target.url.hashed(), target.number)?;
+    }
+    Ok(())
+}
+
+/// The pages that moved to one of these.
+fn moved_targets<'a>(
+    alloc: Global,
+    numbers: &TargetNumbers<'a>,
+    linked: &[Linked<'a>],
+) -> Result<Vec<Target<'a>>, NoMemory>
+    ensures { IfOk result (λ all. map target_at all.items ≡ flat_map (moved_target (number_at numbers.now)) (map result_at linked.now)) }
+{
+    let mut all = Vec::new(alloc);
+    for one in linked {
+        push_target(&one.result.url, moved_to(numbers, one.result), &mut all)?;
+    }
+    Ok(all)
+}
+
+/// The number of the page that is not there and that this one moved to.
+fn moved_to<'a>(numbers: &TargetNumbers<'a>, one: &'a PageResult) -> Option<usize>
+    ensures { result ≡ moved_number (number_at numbers.now) one.now.page }
+{
+    match &one.page {
+        Page::Moved { to } => match to {
+            Some(url) => number_of(numbers, url),
+            None => None,
+        },
+        Page::Found { .. } => None,
+        Page::Missing => None,
+    }
+}
+
+fn number_of<'a>(numbers: &TargetNumbers<'a>, url: &'a CanonUrl) -> Option<usize>
+    ensures { result ≡ number_at numbers.now url.now }
+{
+    numbers.get(&url.hashed()).copied()
+}
+
+/// Where the links of documents stand, by their URLs.
+pub(crate) type LinkIndices<'a> = BTreeMap<HashedText<'a>, &'a [usize]>;
+
+pub(crate) fn link_indices(
+    alloc: Global,
+    places: &[LinkPlaces],
+) -> Result<LinkIndices<'_>, NoMemory>
+    ensures { IfOk result (λ indices. (url : List ℕ) → indices_at indices url ≡ indices_in places.now url) }
+{
+    let mut indices = BTreeMap::new(alloc);
+    for one in places {
+        indices.insert(one.url.hashed(), one.indices.as_slice())?;
+    }
+    Ok(indices)
+}
+
+/// What links of results are looked for in.
+#[derive(Clone, Copy)]
+pub(crate) struct Maps<'a, 'p> {
+    pub(crate) numbers: &'a TargetNumbers<'p>,
+    pub(crate) indices: &'a LinkIndices<'p>,
+}
+
+/// The links of results, the first of which has this number, that lead to targets.
+pub(crate) fn leads_from<'p>(
+    alloc: Global,
+    maps: Maps<'_, 'p>,
+    start: usize,
+    results: &'p [PageResult],
+) -> Result<Vec<Lead>, NoMemory>
+    ensures { start + length results.now < 2 ^ 64 → IfOk result (λ all. all.items ≡ leads_from (number_at maps.entry.numbers.now) (indices_at maps.entry.indices.now) start results.now) }
+{
+    let mut all = Vec::new(alloc);
+    for (place, one) in results.iter().enumerate() {
+        push_page(maps, start.saturating_add(place), one, &mut all)?;
+    }
+    Ok(all)
+}
+
+/// Appends the links of a result that lead to targets.
+fn push_page<'p>(
+    maps: Maps<'_, 'p>,
     source: usize,
-    one: &'a PageResult,
-    targets: &TargetNumbers<'a>,
+    one: &'p PageResult,
     all: &mut Vec<Lead>,
-) -> Result<(), NoMemory> {
-    let Page::Found { links: urls, .. } = &one.page else {
-        return Ok(());
-    };
-    for (url, index) in urls.as_slice().iter().zip(links.indices_of(one).iter()) {
-        if let Some(number) = number_of(targets, url) {
-            let index = *index;
+) -> Result<(), NoMemory>
+    ensures { OnOk result (all.new.items ≡ all.old.items ++ leads_of (number_at maps.entry.numbers.now) (indices_at maps.entry.indices.now) source one.now.url one.now.page) }
+{
+    match &one.page {
+        Page::Found { links, .. } => {
+            let indices = indices_of(maps.indices, &one.url);
+            push_leads(maps.numbers, source, links.as_slice(), indices, all)
+        }
+        Page::Moved { .. } => Ok(()),
+        Page::Missing => Ok(()),
+    }
+}
+
+fn indices_of<'p>(indices: &LinkIndices<'p>, url: &'p CanonUrl) -> &'p [usize]
+    ensures { result.now ≡ indices_at indices.now url.now }
+{
+    match indices.get(&url.hashed()) {
+        Some(own) => *own,
+        None => &[],
+    }
+}
+
+/// Appends those of these links, which stand at these indices, that lead to targets.
+fn push_leads<'p>(
+    numbers: &TargetNumbers<'p>,
+    source: usize,
+    urls: &'p [CanonUrl],
+    indices: &[usize],
+    all: &mut Vec<Lead>,
+) -> Result<(), NoMemory>
+    ensures { OnOk result (all.new.items ≡ all.old.items ++ leads_at (number_at numbers.now) source urls.now indices.now) }
+{
+    let mut urls = urls;
+    let mut indices = indices;
+    'links: loop {
+        match first_link(urls, indices) {
+            Some(first) => {
+                push_lead(source, first.index, number_of(numbers, first.url), all)?;
+                urls = first.more;
+                indices = first.behind;
+            }
+            None => return Ok(()),
+        }
+    }
+}
+
+fn push_lead(
+    source: usize,
+    index: usize,
+    number: Option<usize>,
+    all: &mut Vec<Lead>,
+) -> Result<(), NoMemory>
+    ensures { OnOk result (all.new.items ≡ all.old.items ++ lead_to source index number) }
+{
+    match number {
+        Some(number) => {
             all.push(Lead {
                 source,
                 index,
                 number,
             })?;
+            Ok(())
         }
+        None => Ok(()),
     }
-    Ok(())
 }
 
-impl<'a> Links<'a> {
-    /// Where the links of a result's page stand; none where it has no document.
-    fn indices_of(&self, one: &PageResult) -> &'a [usize] {
-        let places = self.places;
-        let Ok(number) = places.binary_search_by(|page| page.url.as_str().cmp(one.url.as_str()))
-        else {
-            return &[];
-        };
-        match places.get(number) {
-            Some(page) => page.indices.as_slice(),
-            None => &[],
-        }
+/// The first of some links, and those behind it.
+#[derive(Clone, Copy)]
+struct First<'p, 'i> {
+    url: &'p CanonUrl,
+    more: &'p [CanonUrl],
+    index: usize,
+    behind: &'i [usize],
+}
+
+fn first_link<'p, 'i>(urls: &'p [CanonUrl], indices: &'i [usize]) -> Option<First<'p, 'i>>
+    ensures { MatchOption result (HasNoLink urls.now indices.now) (λ first. (urls.now ≡ first.url.now ∷ first.more.now) × (indices.now ≡ first.index ∷ first.behind.now)) }
+{
+    match urls.split_first() {
+        Some((url, more)) => match indices.split_first() {
+            Some((index, behind)) => Some(First {
+                url,
+                more,
+                index: *index,
+                behind,
+            }),
+            None => None,
+        },
+        None => None,
     }
 }

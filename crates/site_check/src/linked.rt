@@ -3,6 +3,7 @@ ghost use Rattle.std.specs.Prelude.{◌≡◌, ℕ, Bool, List, [], IfOk, IsSome
 ghost use Rattle.std.specs.List.{list_any};
 ghost use Rattle.std.specs.Option.{option_map};
 ghost use Rattle.std.specs.Str.{bytes_eq};
+ghost use Rattle.crawl_web.specs.ReportText.{is_missing};
 ghost use Rattle.crawl_web.specs.declared.page.PageResult.{PageResult};
 ghost use Rattle.crawl_sources.specs.Tallies.{pointed, counted, IsTally};
 ghost use Rattle.site_check.specs.Broken.{is_unfound, linked, linked_at};
@@ -49,6 +50,17 @@ fn is_unfound(one: &PageResult) -> bool
     match one.page {
         Page::Found { .. } => false,
         Page::Moved { .. } => true,
+        Page::Missing => true,
+    }
+}
+
+/// Whether there is no page at the result's URL.
+pub(crate) fn is_missing(one: &PageResult) -> bool
+    ensures { result ≡ is_missing one.now.page }
+{
+    match one.page {
+        Page::Found { .. } => false,
+        Page::Moved { .. } => false,
         Page::Missing => true,
     }
 }

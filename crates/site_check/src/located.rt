@@ -10,42 +10,26 @@ use std::mem;
 /// About how many bytes of pages are read before they are looked at.
 const READ_LENGTH: usize = 1 << 25;
 
-/// What is found of a page that is not there.
-#[derive(Drop)]
-pub(crate) struct Located {
-    pub(crate) places: Vec<Place>,
-    pub(crate) same_name: Option<String>,
-}
-
-impl Located {
-    /// Nothing found.
-    pub(crate) fn none(alloc: Global) -> Located {
-        Located {
-            places: Vec::new(alloc),
-            same_name: None,
-        }
-    }
-
-    /// Takes what is found of the page with this number.
-    pub(crate) fn take(alloc: Global, found: &mut [Located], index: usize) -> Located {
-        match found.get_mut(index) {
-            Some(located) => mem::replace(located, Located::none(alloc)),
-            None => Located::none(alloc),
-        }
+/// Takes the places of what has this number.
+pub(crate) fn take_places(alloc: Global, found: &mut [Vec<Place>], number: usize) -> Vec<Place> {
+    match found.get_mut(number) {
+        Some(places) => mem::replace(places, Vec::new(alloc)),
+        None => Vec::new(alloc),
     }
 }
 
-/// Nothing found, for each of so many pages and parts.
-pub(crate) fn none_located(
+/// These places by the numbers of what the links there lead to, each in order. There are so many numbers.
+pub(crate) fn by_number(
     alloc: Global,
-    pages: usize,
-    parts: usize,
-) -> Result<Vec<Located>, NoMemory> {
-    let mut all = Vec::new(alloc);
-    for _ in 0..pages.saturating_add(parts) {
-        all.push(Located::none(alloc))?;
+    places: Vec<PlaceOf>,
+    count: usize,
+) -> Result<Vec<Vec<Place>>, NoMemory> {
+    let mut found = Vec::new(alloc);
+    for _ in 0..count {
+        found.push(Vec::new(alloc))?;
     }
-    Ok(all)
+    add_places(places, found.as_mut_slice())?;
+    Ok(found)
 }
 
 /// A page that was read again, and its links that lead to what is told.
@@ -169,15 +153,15 @@ fn place_in(alloc: Global, name: &str, place: TextPlace) -> Result<Place, NoMemo
 }
 
 /// Adds these places to what is found, in order.
-pub(crate) fn add_places(places: Vec<PlaceOf>, found: &mut [Located]) -> Result<(), NoMemory> {
+fn add_places(places: Vec<PlaceOf>, found: &mut [Vec<Place>]) -> Result<(), NoMemory> {
     for one in places {
         let PlaceOf { number, place } = one;
-        if let Some(located) = found.get_mut(number) {
-            located.places.push(place)?;
+        if let Some(own) = found.get_mut(number) {
+            own.push(place)?;
         }
     }
-    for located in found.iter_mut() {
-        in_order(&mut located.places)?;
+    for own in found.iter_mut() {
+        in_order(own)?;
     }
     Ok(())
 }

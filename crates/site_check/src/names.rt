@@ -1,111 +1,246 @@
 //! Pages with the file name of one that is not there.
-use crate::linked::Linked;
-use crate::located::Located;
+ghost use Rattle.std.specs.Prelude.{◌≡◌, ◌∷◌, [], ℕ, List, None, Some, filter, if◌then◌else◌, IfOk, MatchOption, OnOk, slice_get, string_bytes, unwrap_or};
+ghost use Rattle.std.specs.Option.{option_copied, option_map};
+ghost use Rattle.std.specs.Str.{bytes_eq};
+ghost use Rattle.saved_site.specs.Files.{PageFile, page_file, pages_of};
+ghost use Rattle.site_check.specs.Names.{AreNames, behind_slashes, has_name, is_slash, known_at, known_with, last_part, named_at, only_told, page_told, path_of, same_name, stands_in};
+
 use crate::shown::shown;
 use check_report::Place;
-use crawl_web::{NoMemory, Page};
+use crawl_web::NoMemory;
 use saved_site::SiteFiles;
 use std::alloc::Global;
 use std::collections::BTreeMap;
 
-/// How many pages of the site have a file name, and the last of them with its file.
+/// Which pages of a site have a file name.
 #[derive(Clone, Copy)]
-struct Same<'a> {
-    count: usize,
+pub(crate) enum Namesakes {
+    /// The page with this number.
+    One(usize),
+    Several,
+}
+
+/// The pages that are made of files, by their file names.
+type Names<'a> = BTreeMap<&'a [u8], Namesakes>;
+
+/// The files of a site, and its pages by their file names.
+#[derive(Clone, Copy)]
+pub(crate) struct Named<'a, 'f> {
+    pub(crate) files: &'a SiteFiles<'f>,
+    pub(crate) names: &'a Names<'f>,
+}
+
+/// The pages of a site by their file names.
+pub(crate) fn names_of<'a>(alloc: Global, files: &'a SiteFiles<'_>) -> Result<Names<'a>, NoMemory>
+    ensures { IfOk result (λ names. AreNames files.now names) }
+{
+    let mut names = BTreeMap::new(alloc);
+    for number in 0..files.page_count() {
+        add_page(&mut names, files, number)?;
+    }
+    Ok(names)
+}
+
+fn add_page<'a>(
+    names: &mut Names<'a>,
+    files: &'a SiteFiles<'_>,
+    number: usize,
+) -> Result<(), NoMemory>
+    ensures { OnOk result ((name : List ℕ) → named_at names.new name ≡ known_at name (slice_get (pages_of files.now) number) number (named_at names.old name)) }
+{
+    match files.page(number) {
+        Some((url, file)) => {
+            add_file(names, url, file, number)?;
+            Ok(())
+        }
+        None => Ok(()),
+    }
+}
+
+/// Adds a page at a URL, where it is made of a file.
+fn add_file<'a>(
+    names: &mut Names<'a>,
     url: &'a str,
-    file: &'a str,
-}
-
-impl Same<'_> {
-    fn none() -> Same<'static> {
-        Same {
-            count: 0,
-            url: "",
-            file: "",
+    file: Option<usize>,
+    number: usize,
+) -> Result<(), NoMemory>
+    ensures { OnOk result ((name : List ℕ) → named_at names.new name ≡ known_at name (Some (page_file url.now file)) number (named_at names.old name)) }
+{
+    match file {
+        Some(_) => {
+            add_name(names, last_part(url), number)?;
+            Ok(())
         }
-    }
-
-    /// What is told beside links that stand at these places: the only page of its name, where none of them is in its file.
-    fn hint(
-        &self,
-        alloc: Global,
-        front: &str,
-        places: &[Place],
-    ) -> Result<Option<String>, NoMemory> {
-        if self.count != 1 || places.iter().any(|place| place.file.as_str() == self.file) {
-            return Ok(None);
-        }
-        let text = String::from_str(alloc, shown(front, self.url))?;
-        Ok(Some(text))
+        None => Ok(()),
     }
 }
 
-/// Pages of the site by their file names.
-type Names<'a> = BTreeMap<&'a str, Same<'a>>;
-
-/// Adds the page of the site that has the same file name, where there is just one and no link stands in it.
-pub(crate) fn name_all(
-    alloc: Global,
-    front: &str,
-    linked: &[Linked<'_>],
-    files: &SiteFiles<'_>,
-    found: &mut [Located],
-) -> Result<(), NoMemory> {
-    let named = named_files(alloc, linked, files)?;
-    for (one, located) in linked.iter().zip(found.iter_mut()) {
-        if let Some(same) = named.get(file_name(one.result.url.as_str())) {
-            located.same_name = same.hint(alloc, front, located.places.as_slice())?;
-        }
-    }
+fn add_name<'a>(names: &mut Names<'a>, name: &'a [u8], number: usize) -> Result<(), NoMemory>
+    ensures { OnOk result ((other : List ℕ) → named_at names.new other ≡ (if bytes_eq name.now other then Some (known_with (named_at names.old other) number) else named_at names.old other)) }
+{
+    let known = known_with(names.get(&name), number);
+    names.insert(name, known)?;
     Ok(())
 }
 
-/// The file names of the pages that are not there, and which pages of the site have them.
-fn named_files<'a>(
+fn known_with(known: Option<&Namesakes>, number: usize) -> Namesakes
+    ensures { result ≡ known_with (option_copied known.entry) number }
+{
+    match known {
+        None => Namesakes::One(number),
+        Some(_) => Namesakes::Several,
+    }
+}
+
+/// What is told beside a target whose links stand at these places: the only page of the site with its file name, unless such a
+/// link stands in its file.
+pub(crate) fn same_name<'n>(
     alloc: Global,
-    linked: &[Linked<'a>],
-    files: &'a SiteFiles<'_>,
-) -> Result<Names<'a>, NoMemory> {
-    let mut named = names_of(alloc, linked)?;
-    if !named.is_empty() {
-        count_pages(files, &mut named);
+    front: &str,
+    named: Named<'_, 'n>,
+    target: &'n str,
+    places: &[Place],
+) -> Result<Option<String>, NoMemory>
+    requires { AreNames named.files.now named.names.now }
+    ensures { IfOk result (λ told. option_map string_bytes told ≡ same_name front.now named.entry.files.now target.now places.now) }
+{
+    let name = last_part(target);
+    if name.is_empty() {
+        return Ok(None);
     }
-    Ok(named)
+    let told = only_told(alloc, front, named, name, places)?;
+    Ok(told)
 }
 
-/// The file names of the pages that are not there.
-fn names_of<'a>(alloc: Global, linked: &[Linked<'a>]) -> Result<Names<'a>, NoMemory> {
-    let mut named = BTreeMap::new(alloc);
-    for one in linked {
-        let name = file_name(one.result.url.as_str());
-        if one.result.page == Page::Missing && !name.is_empty() {
-            named.insert(name, Same::none())?;
+/// The only page with this name, unless one of the places is in its file.
+fn only_told<'n>(
+    alloc: Global,
+    front: &str,
+    named: Named<'_, 'n>,
+    name: &'n [u8],
+    places: &[Place],
+) -> Result<Option<String>, NoMemory>
+    requires { AreNames named.files.now named.names.now }
+    ensures { IfOk result (λ told. option_map string_bytes told ≡ only_told front.now named.entry.files.now places.now (filter (has_name name.now) (pages_of named.entry.files.now))) }
+{
+    match named.names.get(&name) {
+        Some(Namesakes::One(number)) => {
+            let told = page_told(alloc, front, named.files, *number, places)?;
+            Ok(told)
+        }
+        Some(Namesakes::Several) => Ok(None),
+        None => Ok(None),
+    }
+}
+
+/// The page with this number, unless one of the places is in its file.
+fn page_told(
+    alloc: Global,
+    front: &str,
+    files: &SiteFiles<'_>,
+    number: usize,
+    places: &[Place],
+) -> Result<Option<String>, NoMemory>
+    ensures { (page : PageFile) → slice_get (pages_of files.now) number ≡ Some page → IfOk result (λ told. option_map string_bytes told ≡ only_told front.now files.now places.now (page ∷ [])) }
+{
+    match files.page(number) {
+        Some((url, file)) => {
+            let told = file_told(alloc, front, files, url, file, places)?;
+            Ok(told)
+        }
+        None => Ok(None),
+    }
+}
+
+/// The page at a URL that is made of a file, unless one of the places is in that.
+fn file_told(
+    alloc: Global,
+    front: &str,
+    files: &SiteFiles<'_>,
+    url: &str,
+    file: Option<usize>,
+    places: &[Place],
+) -> Result<Option<String>, NoMemory>
+    ensures { IfOk result (λ told. option_map string_bytes told ≡ page_told front.now files.now places.now url.now file) }
+{
+    match file {
+        Some(index) => {
+            let told = unless_within(alloc, shown(front, url), files.name(index), places)?;
+            Ok(told)
+        }
+        None => Ok(None),
+    }
+}
+
+/// The text, unless one of the places is in the file.
+fn unless_within(
+    alloc: Global,
+    text: &str,
+    file: Option<&str>,
+    places: &[Place],
+) -> Result<Option<String>, NoMemory>
+    ensures { IfOk result (λ told. option_map string_bytes told ≡ (if stands_in (unwrap_or (option_map (λ name. name.now) file.entry) []) places.now then None else Some text.now)) }
+{
+    if stands_in(file.unwrap_or(""), places) {
+        return Ok(None);
+    }
+    let told = String::from_str(alloc, text)?;
+    Ok(Some(told))
+}
+
+/// Whether one of the places is in the file.
+fn stands_in(file: &str, places: &[Place]) -> bool
+    ensures { result ≡ stands_in file.now places.now }
+{
+    for place in places {
+        if place.file.as_str() == file {
+            return true;
         }
     }
-    Ok(named)
+    false
 }
 
-/// Counts the pages of the site that have these names.
-fn count_pages<'a>(files: &'a SiteFiles<'_>, named: &mut Names<'a>) {
-    for number in 0..files.page_count() {
-        if let Some((url, Some(file))) = files.page(number)
-            && let Some(same) = named.get_mut(file_name(url))
-        {
-            same.count = same.count.saturating_add(1);
-            same.url = url;
-            same.file = files.name(file).unwrap_or("");
-        }
-    }
+/// The file name that a URL ends with.
+fn last_part(url: &str) -> &[u8]
+    ensures { result.now ≡ last_part url.now }
+{
+    behind_slashes(path_of(url).as_bytes())
 }
 
-/// The last part of a URL's path.
-fn file_name(url: &str) -> &str {
-    let path = match url.split_once('?') {
+fn path_of(url: &str) -> &str
+    ensures { result.now ≡ path_of url.now }
+{
+    match url.split_once('?') {
         Some((path, _)) => path,
         None => url,
-    };
-    match path.rsplit_once('/') {
-        Some((_, name)) => name,
-        None => path,
+    }
+}
+
+/// What is behind the last slash, or all.
+fn behind_slashes(path: &[u8]) -> &[u8]
+    ensures { result.now ≡ behind_slashes path.now }
+{
+    let mut name = path;
+    let mut rest = path;
+    'bytes: while let Some((byte, more)) = split_byte(rest) {
+        name = name_on(byte, more, name);
+        rest = more;
+    }
+    name
+}
+
+/// What is behind a byte that is a slash, or the name so far.
+fn name_on<'a>(byte: u8, more: &'a [u8], name: &'a [u8]) -> &'a [u8]
+    ensures { result.now ≡ (if is_slash byte then more.now else name.now) }
+{
+    if byte == b'/' { more } else { name }
+}
+
+fn split_byte(bytes: &[u8]) -> Option<(u8, &[u8])>
+    ensures { MatchOption result (bytes.now ≡ []) (λ x. bytes.now ≡ x.0 ∷ x.1.now) }
+{
+    match bytes.split_first() {
+        Some((first, more)) => Some((*first, more)),
+        None => None,
     }
 }

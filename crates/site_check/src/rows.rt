@@ -3,48 +3,59 @@ ghost use Rattle.std.specs.Prelude.{◌≡◌, ◌++◌, ◌∷◌, [], OnOk, If
 ghost use Rattle.std.specs.List.{flat_map};
 ghost use Rattle.std.specs.Option.{option_map};
 ghost use Rattle.site_check.specs.Broken.{linked_at, row_for, rows_with, shown, ways_with};
+ghost use Rattle.site_check.specs.Ignored.{parts_in};
+ghost use Rattle.site_check.specs.Names.{AreNamed, AreNames};
 ghost use Rattle.site_check.specs.Told.{rows_in, way_of};
 
 use crate::check::Asked;
 use crate::ignored::is_ignored;
 use crate::linked::Linked;
-use crate::located::Located;
+use crate::located::take_places;
+use crate::names::{Named, same_name};
 use crate::shown::shown;
-use check_report::{Broken, Kind, Redirect};
+use check_report::{Broken, Kind, Place, Redirect};
 use crawl_keys::CanonUrl;
 use crawl_web::{NoMemory, Page};
 use std::alloc::Global;
 
-/// The rows of the pages that are not there, in order, with what was found of each.
-pub(crate) fn broken_rows(
+/// The rows of the pages that are not there, in order, with where links to each stand.
+pub(crate) fn broken_rows<'n>(
     alloc: Global,
     asked: Asked<'_>,
-    linked: &[Linked<'_>],
-    found: &mut [Located],
+    named: Named<'_, 'n>,
+    linked: &[Linked<'n>],
+    found: &mut [Vec<Place>],
 ) -> Result<Vec<Broken>, NoMemory>
-    ensures { IfOk result (λ all. rows_in all.items ≡ flat_map (rows_with asked.entry.front.now (map string_bytes asked.entry.ignores.now)) (map linked_at linked.now)) }
+    requires { AreNames named.files.now named.names.now }
+    ensures rows { IfOk result (λ all. rows_in all.items ≡ flat_map (rows_with asked.entry.front.now (map string_bytes asked.entry.ignores.now)) (map linked_at linked.now)) }
+    ensures names { IfOk result (λ all. AreNamed asked.entry.front.now named.entry.files.now all.items) }
+    ensures parts { IfOk result (λ all. parts_in all.items ≡ []) }
 {
     let mut all = Vec::new(alloc);
     for (index, one) in linked.iter().enumerate() {
-        let located = Located::take(alloc, found, index);
-        push_row(alloc, asked, one, located, &mut all)?;
+        let places = take_places(alloc, found, index);
+        push_row(alloc, asked, named, one, places, &mut all)?;
     }
     Ok(all)
 }
 
-fn push_row(
+fn push_row<'n>(
     alloc: Global,
     asked: Asked<'_>,
-    one: &Linked<'_>,
-    located: Located,
+    named: Named<'_, 'n>,
+    one: &Linked<'n>,
+    places: Vec<Place>,
     all: &mut Vec<Broken>,
 ) -> Result<(), NoMemory>
-    ensures { OnOk result (rows_in all.new.items ≡ rows_in all.old.items ++ rows_with asked.entry.front.now (map string_bytes asked.entry.ignores.now) (linked_at one.now)) }
+    requires { AreNames named.files.now named.names.now }
+    ensures rows { OnOk result (rows_in all.new.items ≡ rows_in all.old.items ++ rows_with asked.entry.front.now (map string_bytes asked.entry.ignores.now) (linked_at one.now)) }
+    ensures names { OnOk result (AreNamed asked.entry.front.now named.entry.files.now all.old.items → AreNamed asked.entry.front.now named.entry.files.now all.new.items) }
+    ensures parts { OnOk result (parts_in all.new.items ≡ parts_in all.old.items) }
 {
     match one.result.page {
         Page::Missing => {
             let text = shown(asked.front, one.result.url.as_str());
-            push_missing(alloc, asked, (text, one.pages), located, all)
+            push_missing(alloc, asked, named, (text, one.pages), places, all)
         }
         Page::Moved { .. } => Ok(()),
         Page::Found { .. } => Ok(()),
@@ -52,27 +63,31 @@ fn push_row(
 }
 
 /// A row of a page that is told so and that so many pages link to, unless that is known.
-fn push_missing(
+fn push_missing<'n>(
     alloc: Global,
     asked: Asked<'_>,
-    told: (&str, u64),
-    located: Located,
+    named: Named<'_, 'n>,
+    told: (&'n str, u64),
+    places: Vec<Place>,
     all: &mut Vec<Broken>,
 ) -> Result<(), NoMemory>
-    ensures { OnOk result (rows_in all.new.items ≡ rows_in all.old.items ++ row_for (map string_bytes asked.entry.ignores.now) told.entry.0.now told.entry.1) }
+    requires { AreNames named.files.now named.names.now }
+    ensures rows { OnOk result (rows_in all.new.items ≡ rows_in all.old.items ++ row_for (map string_bytes asked.entry.ignores.now) told.entry.0.now told.entry.1) }
+    ensures names { OnOk result (AreNamed asked.entry.front.now named.entry.files.now all.old.items → AreNamed asked.entry.front.now named.entry.files.now all.new.items) }
+    ensures parts { OnOk result (parts_in all.new.items ≡ parts_in all.old.items) }
 {
     let (text, pages) = told;
     if is_ignored(asked.ignores, text) {
         return Ok(());
     }
-    let Located { places, same_name } = located;
+    let name = same_name(alloc, asked.front, named, text, places.as_slice())?;
     let target = String::from_str(alloc, text)?;
     all.push(Broken {
         target,
         kind: Kind::NoPage,
         pages,
         places,
-        same_name,
+        same_name: name,
     })?;
     Ok(())
 }

@@ -1,28 +1,103 @@
-//! Pages gone through by threads: of n, the k-th takes each page whose number leaves k.
+//! Pages gone through by threads. Of n, the k-th takes each page whose number leaves k, where it does not take a part.
+ghost use Rattle.std.specs.Prelude.{◌≡◌, ◌++◌, ◌+◌, ◌<◌, ◌^◌, IfOk, length};
+ghost use Rattle.site_check.specs.Leads.{indices_at, leads_from, number_at};
+
 use crate::anchors::{Lacked, Pages, every_lacked};
 use crate::check::{Bodies, Site};
-use crate::leads::{Lead, Links, TargetNumbers, every_lead};
+use crate::leads::{Lead, Maps, leads_from};
 use crate::located::{PlaceOf, ReadPage, every_place, read_some};
-use crawl_web::NoMemory;
+use crawl_web::{NoMemory, PageResult};
 use std::alloc::Global;
 use std::thread;
-use std::thread::Threads;
+use std::thread::{Threads, join};
 
-/// The links to targets, by so many threads.
-pub(crate) fn leads_by<'a, R: Threads + Sync>(
+/// How often results are halved, so that as many threads look at a part as two to this power.
+const HALVINGS: u32 = 2;
+
+/// Some of the results, the first of which has this number, and what their links are looked for in.
+#[derive(Clone, Copy)]
+struct Part<'a, 'p> {
+    maps: Maps<'a, 'p>,
+    start: usize,
+    results: &'p [PageResult],
+}
+
+impl<'a, 'p> Part<'a, 'p> {
+    /// Half of the results each, about.
+    fn halves(self) -> (Part<'a, 'p>, Part<'a, 'p>)
+        ensures maps { (result.0.maps ≡ self.entry.maps) × (result.1.maps ≡ self.entry.maps) }
+        ensures results { self.entry.results.now ≡ result.0.results.now ++ result.1.results.now }
+        ensures front { result.0.start ≡ self.entry.start }
+        ensures back { self.entry.start + length self.entry.results.now < 2 ^ 64 → result.1.start ≡ self.entry.start + length result.0.results.now }
+    {
+        let maps = self.maps;
+        let start = self.start;
+        let half = self.results.len() / 2;
+        let (front, back) = self.results.split_at(half);
+        (
+            Part {
+                maps,
+                start,
+                results: front,
+            },
+            Part {
+                maps,
+                start: start.saturating_add(half),
+                results: back,
+            },
+        )
+    }
+}
+
+/// The links of results that lead to targets, by four threads where there may be so many.
+pub(crate) fn leads_by<'p, R: Threads + Sync>(
     rt: &R,
     alloc: Global,
-    links: Links<'a>,
-    targets: &TargetNumbers<'a>,
+    maps: Maps<'_, 'p>,
+    results: &'p [PageResult],
     count: usize,
-) -> Result<Vec<Lead>, NoMemory> {
-    let parts = thread::map_indices(
-        rt,
-        alloc,
-        count,
-        &|rest: usize| { every_lead(alloc, links, targets, rest, count) },
-    )?;
-    joined(alloc, parts)
+) -> Result<Vec<Lead>, NoMemory>
+    ensures { IfOk result (λ all. all.items ≡ leads_from (number_at maps.entry.numbers.now) (indices_at maps.entry.indices.now) 0 results.now) }
+{
+    let is_empty = maps.numbers.is_empty();
+    if is_empty {
+        return Ok(Vec::new(alloc));
+    }
+    let halvings = if count < 4 { 0 } else { HALVINGS };
+    let part = Part {
+        maps,
+        start: 0,
+        results,
+    };
+    let all = leads_of_part(rt, alloc, halvings, part)?;
+    Ok(all)
+}
+
+/// Those of a part, by a thread for each half of it, as often as it is halved. Where none can be started this one looks at both.
+fn leads_of_part<R: Threads + Sync>(
+    rt: &R,
+    alloc: Global,
+    halvings: u32,
+    part: Part<'_, '_>,
+) -> Result<Vec<Lead>, NoMemory>
+    ensures { part.entry.start + length part.entry.results.now < 2 ^ 64 → IfOk result (λ all. all.items ≡ leads_from (number_at part.entry.maps.numbers.now) (indices_at part.entry.maps.indices.now) part.entry.start part.entry.results.now) }
+{
+    if halvings == 0 {
+        return leads_from(alloc, part.maps, part.start, part.results);
+    }
+    let fewer = halvings - 1;
+    let (front, back) = part.halves();
+    let of_front = move || -> Result<Vec<Lead>, NoMemory>
+        ensures { front.entry.start + length front.entry.results.now < 2 ^ 64 → IfOk result (λ all. all.items ≡ leads_from (number_at front.entry.maps.numbers.now) (indices_at front.entry.maps.indices.now) front.entry.start front.entry.results.now) }
+    { leads_of_part(rt, alloc, fewer, front) };
+    let of_back = move || -> Result<Vec<Lead>, NoMemory>
+        ensures { back.entry.start + length back.entry.results.now < 2 ^ 64 → IfOk result (λ all. all.items ≡ leads_from (number_at back.entry.maps.numbers.now) (indices_at back.entry.maps.indices.now) back.entry.start back.entry.results.now) }
+    { leads_of_part(rt, alloc, fewer, back) };
+    let (first, second) = join(rt, of_front, of_back);
+    let mut first = first?;
+    let mut second = second?;
+    first.append(&mut second)?;
+    Ok(first)
 }
 
 /// The parts that documents lack and results link to, by so many threads.

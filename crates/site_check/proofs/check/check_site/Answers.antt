@@ -1,7 +1,9 @@
-use Rattle.std.proofs.Common.{map, string_bytes, ap, ◌∙◌}
+use Rattle.std.proofs.Common.{map, string_bytes, ap, subst, ◌∙◌}
 use Rattle.std.specs.List.{flat_map}
+use Rattle.saved_site.specs.declared.files.SiteFiles.{SiteFiles}
 use Rattle.site_check.specs.Broken.{linked_at, rows_with, ways_with}
-use Rattle.site_check.proofs.AllRows.{rows_of_all, ways_of_all}
+use Rattle.site_check.specs.Names.{AreNamed}
+use Rattle.site_check.proofs.AllRows.{rows_of_all, texts_of_all, ways_of_all}
 use Rattle.site_check.proofs.check.check_site.Goals as goal
 
 pub returns-clause-broken : goal.returns-clause-broken
@@ -18,3 +20,13 @@ returns-clause-redirects g c =
     c.in_ok-checked.ensures.redirects
     ∙ ap (λ ls. flat_map (ways_with front) ls) (ap (map linked_at) c.as_slice-all.ensures.value ∙ c.in_ok-linked.ensures)
     ∙ ways_of_all front c.args.results.now
+
+pub returns-clause-names : goal.returns-clause-names
+returns-clause-names g c =
+    let P : SiteFiles → Type 0 = λ files. AreNamed c.args.asked.front.now files c.in_ok-checked.checked.broken.items in
+    subst P c.site_of-site.ensures c.in_ok-checked.ensures.names
+
+pub returns-clause-ignores : goal.returns-clause-ignores
+returns-clause-ignores g c =
+    c.in_ok-checked.ensures.ignores c.args.results.now
+    (texts_of_all c.args.asked.front.now c.args.results.now c.as_slice-all.result.now (ap (map linked_at) c.as_slice-all.ensures.value ∙ c.in_ok-linked.ensures))

@@ -3,7 +3,7 @@ use Rattle.std.specs.Option.{option_map}
 use Rattle.std.specs.Str.{bytes_eq}
 use Rattle.crawl_sources.specs.Tallies.{counted}
 use Rattle.site_check.specs.Tallies.{count_of}
-use Rattle.site_check.proofs.Counting.{count_put, none_kept}
+use Rattle.site_check.proofs.Counting.{count_put}
 use Rattle.site_check.proofs.linked.count_link.Goals as goal
 
 pub returns-in-Some : goal.returns-in-Some

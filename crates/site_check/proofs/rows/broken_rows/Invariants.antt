@@ -1,8 +1,14 @@
-use Rattle.std.proofs.Common.{◌≡◌, take, map, string_bytes}
+use Rattle.std.proofs.Common.{◌≡◌, [], take, map, string_bytes}
 use Rattle.std.specs.List.{flat_map}
 use Rattle.site_check.specs.Broken.{linked_at, rows_with}
+use Rattle.site_check.specs.Ignored.{parts_in}
+use Rattle.site_check.specs.Names.{AreNamed}
 use Rattle.site_check.specs.Told.{rows_in}
 use Rattle.site_check.proofs.rows.broken_rows.Given as goal
 
 abbrev pub invariant-loop-index : goal.invariant-loop-index
-invariant-loop-index l = rows_in l.all.items ≡ flat_map (rows_with l.asked.front.now (map string_bytes l.asked.ignores.now)) (map linked_at (take l.index l.linked))
+invariant-loop-index l = record {
+  rows : rows_in l.all.items ≡ flat_map (rows_with l.asked.front.now (map string_bytes l.asked.ignores.now)) (map linked_at (take l.index l.linked));
+  names : AreNamed l.asked.front.now l.named.files.now l.all.items;
+  parts : parts_in l.all.items ≡ [];
+}

@@ -1,0 +1,139 @@
+-- What is known of the pages that have a file name.
+use Rattle.std.proofs.Common.{◌≡◌, ◌∙◌, ℕ, zero, suc, ◌+◌, ◌<◌, arith, Bool, true, false, ◌||◌, cond, List, [], ◌∷◌, ◌++◌, filter, take, get_or, length, slice_get, Option, Some, None, refl, sym, ap, subst, inl, inr}
+use Rattle.std.proofs.lemmas.Bool.{cases_Bool, cond-true, cond-false}
+use Rattle.std.proofs.lemmas.List.Elements.{filter_more}
+use Rattle.std.proofs.lemmas.Option.{get_or_from_slice_get}
+use Rattle.std.proofs.lemmas.Map.Text.{btree_map_updates_str}
+use Rattle.std.specs.Borrow.{Bor}
+use Rattle.std.specs.BTreeMap as tree
+use Rattle.std.specs.Cmp.Lexicographic.{slice_cmp}
+use Rattle.std.specs.List.{list_any}
+use Rattle.std.specs.Ordering.{nat_cmp}
+use Rattle.std.specs.Str.{bytes_eq}
+use Rattle.check_report.specs.declared.value.Place.{Place}
+use Rattle.saved_site.specs.Files.{PageFile}
+use Rattle.saved_site.specs.declared.files.SiteFiles.{SiteFiles}
+use Rattle.site_check.specs.Names.{is_slash, behind_slashes, has_name, Names, named_at, IsKnown, known_with, known_at, only_told}
+use Rattle.site_check.specs.declared.names.Namesakes.{Namesakes}
+use Rattle.site_check.specs.declared.names.Namesakes.TheVariants.{One, Several}
+
+-- ---- the last part of a path
+
+-- a text without slashes is all behind the last
+no_slash : (bs : List ℕ) → list_any is_slash bs ≡ false → behind_slashes bs ≡ bs
+no_slash [] none = refl
+no_slash (b ∷ bs) none = cond-false (list_any is_slash (b ∷ bs)) _ _ none
+
+-- the name so far, or what is behind a slash of the rest
+abbrev pub name_on : List ℕ → List ℕ → List ℕ
+name_on name rest = cond (list_any is_slash rest) (behind_slashes rest) name
+
+pub name_first : (path : List ℕ) → name_on path path ≡ behind_slashes path
+name_first path =
+    elim (cases_Bool (list_any is_slash path)) [
+      | inl has ↦ cond-true (list_any is_slash path) _ _ has
+      | inr lacks ↦ cond-false (list_any is_slash path) _ _ lacks ∙ sym (no_slash path lacks)
+    ]
+
+slash_on : (name : List ℕ) (b : ℕ) (more : List ℕ) → is_slash b ≡ true → name_on more more ≡ name_on name (b ∷ more)
+slash_on name b more is =
+    let any : list_any is_slash (b ∷ more) ≡ true = ap (λ x. x || list_any is_slash more) is in
+    name_first more ∙ sym (cond-true (list_any is_slash (b ∷ more)) (behind_slashes more) (b ∷ more) any)
+    ∙ sym (cond-true (list_any is_slash (b ∷ more)) (behind_slashes (b ∷ more)) name any)
+
+byte_on : (name : List ℕ) (b : ℕ) (more : List ℕ) → is_slash b ≡ false → name_on name more ≡ name_on name (b ∷ more)
+byte_on name b more not =
+    let same : list_any is_slash (b ∷ more) ≡ list_any is_slash more = ap (λ x. x || list_any is_slash more) not in
+    elim (cases_Bool (list_any is_slash more)) [
+      | inl has ↦
+          cond-true (list_any is_slash more) _ _ has ∙ sym (cond-true (list_any is_slash (b ∷ more)) (behind_slashes more) (b ∷ more) (same ∙ has))
+          ∙ sym (cond-true (list_any is_slash (b ∷ more)) (behind_slashes (b ∷ more)) name (same ∙ has))
+      | inr lacks ↦ cond-false (list_any is_slash more) _ _ lacks ∙ sym (cond-false (list_any is_slash (b ∷ more)) _ _ (same ∙ lacks))
+    ]
+
+-- one byte more
+pub name_more : (name : List ℕ) (b : ℕ) (more next : List ℕ) → next ≡ cond (is_slash b) more name → name_on next more ≡ name_on name (b ∷ more)
+name_more name b more next e =
+    elim (cases_Bool (is_slash b)) [
+      | inl is ↦ ap (λ n. name_on n more) (e ∙ cond-true (is_slash b) _ _ is) ∙ slash_on name b more is
+      | inr not ↦ ap (λ n. name_on n more) (e ∙ cond-false (is_slash b) _ _ not) ∙ byte_on name b more not
+    ]
+
+-- ---- pages by their names
+
+pub name_put : (old new : Names) (name : Bor (List ℕ)) (w : Option Namesakes) → tree.Updates (λ x y. slice_cmp nat_cmp x.now y.now) old new name w → (other : List ℕ) →
+    named_at new other ≡ cond (bytes_eq name.now other) w (named_at old other)
+name_put old new name w updates other = btree_map_updates_str name.now old new w updates other
+
+-- what was known of the name itself
+pub known_put : (b : Bool) (own other : Option Namesakes) (number : ℕ) → (b ≡ true → own ≡ other) → cond b (Some (known_with own number)) other ≡ cond b (Some (known_with other number)) other
+known_put true own other number same = ap (λ o. Some (known_with o number)) (same refl)
+known_put false own other number same = refl
+
+-- one page more has the name
+known_more : (pages found : List PageFile) (page : PageFile) (number : ℕ) (known : Option Namesakes) → slice_get pages number ≡ Some page → IsKnown pages found known →
+    IsKnown pages (found ++ page ∷ []) (Some (known_with known number))
+known_more pages [] page number None at is = at
+known_more pages [] page number (Some known) at is = absurd is
+known_more pages (first ∷ []) page number None at is = absurd is
+known_more pages (first ∷ []) page number (Some (One other)) at is = tt
+known_more pages (first ∷ []) page number (Some Several) at is = absurd is
+known_more pages (first ∷ second ∷ more) page number None at is = absurd is
+known_more pages (first ∷ second ∷ more) page number (Some (One other)) at is = absurd is
+known_more pages (first ∷ second ∷ more) page number (Some Several) at is = tt
+
+-- whether it has it or not
+known_on : (b : Bool) (pages found : List PageFile) (page : PageFile) (number : ℕ) (known : Option Namesakes) → slice_get pages number ≡ Some page → IsKnown pages found known →
+    IsKnown pages (found ++ cond b (page ∷ []) []) (cond b (Some (known_with known number)) known)
+known_on true pages found page number known at is = known_more pages found page number known at is
+known_on false pages found page number known at is = subst (λ l. IsKnown pages l known) (sym (append_nil found)) is
+  where
+    append_nil : (xs : List PageFile) → xs ++ [] ≡ xs
+    append_nil [] = refl
+    append_nil (x ∷ xs) = ap (λ l. x ∷ l) (append_nil xs)
+
+some_at : (pages : List PageFile) (n : ℕ) → n < length pages → (page : PageFile) × (slice_get pages n ≡ Some page)
+some_at [] n within = absurd (omega (arith, within))
+some_at (page ∷ pages) zero within = (page, refl)
+some_at (page ∷ pages) (suc n) within = some_at pages n (omega (arith, within))
+
+-- the pages are gone through, one more
+pub names_more : (pages : List PageFile) (n : ℕ) (name : List ℕ) (old new : Option Namesakes) → n < length pages → IsKnown pages (filter (has_name name) (take n pages)) old →
+    new ≡ known_at name (slice_get pages n) n old → IsKnown pages (filter (has_name name) (take (n + 1) pages)) new
+names_more pages n name old new within is e =
+    let (page, at) = some_at pages n within in
+    let front : List PageFile = filter (has_name name) (take n pages) in
+    let own : get_or pages n page ≡ page = get_or_from_slice_get pages n page page at in
+    let found : filter (has_name name) (take (n + 1) pages) ≡ front ++ cond (has_name name page) (page ∷ []) [] =
+    filter_more (has_name name) pages n page within ∙ ap (λ p. front ++ cond (has_name name p) (p ∷ []) []) own in
+    let known : new ≡ cond (has_name name page) (Some (known_with old n)) old = e ∙ ap (λ o. known_at name o n old) at in
+    subst (λ l. IsKnown pages l new) (sym found)
+    (subst (λ o. IsKnown pages (front ++ cond (has_name name page) (page ∷ []) []) o) (sym known) (known_on (has_name name page) pages front page n old at is))
+
+-- ---- what is told of a name
+
+-- just one page has it
+pub one_known : (pages found : List PageFile) (known : Option Namesakes) (number : ℕ) → known ≡ Some (One number) → IsKnown pages found known →
+    (page : PageFile) × (found ≡ page ∷ []) × (slice_get pages number ≡ Some page)
+one_known pages found None number e is = absurd (cc)
+one_known pages found (Some Several) number e is = absurd (cc)
+one_known pages [] (Some (One n)) number e is = absurd is
+one_known pages (page ∷ []) (Some (One n)) number e is = let same : n ≡ number = cc in (page, refl, ap (slice_get pages) (sym same) ∙ is)
+one_known pages (page ∷ other ∷ more) (Some (One n)) number e is = absurd is
+
+-- several have it
+pub several_known : (front : List ℕ) (files : SiteFiles) (places : List Place) (pages found : List PageFile) (known : Option Namesakes) → known ≡ Some Several → IsKnown pages found known →
+    None ≡ only_told front files places found
+several_known front files places pages found None e is = absurd (cc)
+several_known front files places pages found (Some (One n)) e is = absurd (cc)
+several_known front files places pages [] (Some Several) e is = refl
+several_known front files places pages (page ∷ []) (Some Several) e is = absurd is
+several_known front files places pages (page ∷ other ∷ more) (Some Several) e is = refl
+
+-- none has it
+pub none_known : (front : List ℕ) (files : SiteFiles) (places : List Place) (pages found : List PageFile) (known : Option Namesakes) → known ≡ None → IsKnown pages found known →
+    None ≡ only_told front files places found
+none_known front files places pages [] known e is = refl
+none_known front files places pages (page ∷ []) None e is = absurd is
+none_known front files places pages (page ∷ []) (Some known) e is = absurd (cc)
+none_known front files places pages (page ∷ other ∷ more) known e is = refl

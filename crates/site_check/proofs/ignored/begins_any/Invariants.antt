@@ -1,0 +1,7 @@
+use Rattle.std.proofs.Common.{◌≡◌, false, take}
+use Rattle.std.specs.List.{list_any}
+use Rattle.site_check.specs.Broken.{begins}
+use Rattle.site_check.proofs.ignored.begins_any.Given as goal
+
+abbrev pub invariant-loop-text : goal.invariant-loop-text
+invariant-loop-text l = list_any (λ text. begins l.entry text.now) (take l.text-index l.texts) ≡ false

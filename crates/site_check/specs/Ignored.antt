@@ -1,0 +1,42 @@
+-- Which entries of what is known to be broken stand for nothing.
+use Rattle.std.specs.Prelude.{◌≡◌, ℕ, not, List, [], ◌∷◌, ◌++◌, filter, if◌then◌else◌, string_bytes}
+use Rattle.std.specs.List.{list_any, flat_map}
+use Rattle.check_report.specs.declared.value.Broken.{Broken}
+use Rattle.check_report.specs.declared.value.Kind.{Kind}
+use Rattle.check_report.specs.declared.value.Kind.TheVariants.{NoPage, NoAnchor}
+use Rattle.crawl_web.specs.ReportText.{is_missing}
+use Rattle.crawl_web.specs.declared.page.PageResult.{PageResult}
+use Rattle.site_check.specs.Broken.{begins, is_ignored, shown}
+
+-- the entries that none of the texts begins with
+abbrev pub unused : List (List ℕ) → List (List ℕ) → List (List ℕ)
+unused entries texts = filter (λ entry. not (list_any (begins entry) texts)) entries
+
+-- the pages that are not there, as they are told
+abbrev pub text_at : List ℕ → PageResult → List (List ℕ)
+text_at front r = if is_missing r.page then shown front r.url ∷ [] else []
+
+abbrev pub missing_texts : List ℕ → List PageResult → List (List ℕ)
+missing_texts front results = flat_map (text_at front) results
+
+-- the texts of the parts that rows tell
+abbrev pub if_part : Kind → List ℕ → List (List ℕ)
+if_part NoPage text = []
+if_part NoAnchor text = text ∷ []
+
+abbrev pub part_in : Broken → List (List ℕ)
+part_in b = if_part b.kind (string_bytes b.target)
+
+abbrev pub parts_in : List Broken → List (List ℕ)
+parts_in all = flat_map part_in all
+
+-- the texts that no entry stands for
+abbrev pub not_ignored : List (List ℕ) → List (List ℕ) → List (List ℕ)
+not_ignored entries texts = filter (λ text. not (is_ignored entries text)) texts
+
+-- of all parts that pages lack those are told that no entry stands for; the entries stand for none of them, and for no page that is
+-- not there
+pub record AreUnused (front : List ℕ) (entries : List (List ℕ)) (results : List PageResult) (told : List (List ℕ)) (all : List (List ℕ)) : Type 0 where
+  pub parts : List (List ℕ)
+  pub told_parts : told ≡ not_ignored entries parts
+  pub exact : all ≡ unused entries (parts ++ missing_texts front results)
