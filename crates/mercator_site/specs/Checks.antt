@@ -1,5 +1,5 @@
 -- What a check of a folder's links tells.
-use Rattle.std.specs.Prelude.{◌≡◌, ◌==◌, ℕ, Bool, true, false, not, List, [], ◌∷◌, length, map, Ok, Option, Some, None, ⊤}
+use Rattle.std.specs.Prelude.{◌≡◌, ◌==◌, ℕ, Bool, true, false, not, List, [], ◌∷◌, length, map, string_bytes, Ok, Option, Some, None, ⊤}
 use Rattle.std.specs.Option.{option_map}
 use Rattle.check_report.specs.Printing.{printed_text, printed_json, printed_annotations, printed_page}
 use Rattle.check_report.specs.declared.value.Findings.{Findings}
@@ -14,6 +14,9 @@ use Rattle.mercator_site.specs.declared.asked.CheckForm.{CheckForm}
 use Rattle.mercator_site.specs.declared.asked.CheckForm.TheVariants as form
 use Rattle.saved_site.specs.Meaning.{IsSiteWeb}
 use Rattle.site_check.specs.Broken.{broken_of, redirects_of}
+use Rattle.saved_site.specs.declared.files.SiteFiles.{SiteFiles}
+use Rattle.site_check.specs.Ignored.{AreUnused, parts_in}
+use Rattle.site_check.specs.Names.{AreNamed}
 use Rattle.site_check.specs.Told.{rows_in, way_of}
 
 -- the findings in a form, and what is told beside them
@@ -53,14 +56,19 @@ AreOthersAsked false top pages None = ⊤
 abbrev pub other_rows : Told → Option (List Row)
 other_rows told = option_map (λ urls. map row_of urls.now) told.external
 
--- the text tells the missing and the moved pages of such a crawl, each with how many pages link to it; it tells that something is
--- broken where there is such a row
+-- the text tells the missing and the moved pages of such a crawl, each with how many pages link to it, and the entries that stand
+-- for nothing; it tells that something is broken where there is such a row
 pub record IsCheck (top web : List ℕ) (asks : Asks) (broken : Bool) (text : List ℕ) : Type 0 where
   pub pages : List PageResult
   pub crawled : IsTopCrawl top web asks.seeds pages
   pub found : Findings
   pub rows : rows_in found.broken.now ≡ broken_of asks.front asks.entries pages
   pub ways : map way_of found.redirects.now ≡ redirects_of asks.front pages
+  -- the names that stand beside them are those of pages of a site with this top
+  pub site : SiteFiles
+  pub site_top : string_bytes site.site.top ≡ top
+  pub names : AreNamed asks.front site found.broken.now
+  pub unused : AreUnused asks.front asks.entries pages (parts_in found.broken.now) (map string_bytes found.unused_ignores.now)
   pub is_broken : broken ≡ not (length found.broken.now == 0)
   pub told : Told
   pub unreached : told.unreached ≡ asks.unreached

@@ -2,6 +2,8 @@ use Rattle.std.proofs.Common.{ℕ, List, map, Option, Vec, Global, refl, sym, ap
 use Rattle.std.specs.Option.{option_map}
 use Rattle.check_report.specs.declared.value.External.{External}
 use Rattle.crawl_web.specs.declared.page.PageResult.{PageResult}
+use Rattle.site_check.specs.Ignored.{AreUnused, parts_in}
+use Rattle.site_check.specs.Names.{AreNamed}
 use Rattle.site_check.specs.Told.{rows_in, way_of}
 use Rattle.mercator_site.specs.Checks.{AreOthersAsked, IsTopCrawl}
 use Rattle.mercator_site.specs.External.{Row, row_of}
@@ -22,12 +24,23 @@ returns g c =
     let d = subst D c.top-2.ensures c.in_ok-others.ensures in
     let E : List PageResult → Type 0 = λ ps. AreOthersAsked external top ps others in
     let F : Option (List Row) → Type 0 = λ rows. AreOthersAsked external top c.pages-2.result.now rows in
+    let front = c.args.settings.front.now in
+    let entries = map string_bytes c.args.settings.ignores.now in
+    let pages = c.pages-2.result.now in
+    let told = c.findings-findings.result in
+    let checked = c.in_ok-checked.checked in
     record {
       pages = c.pages-2.result.now;
       crawled = subst C (sym c.pages-2.ensures) b;
       found = c.findings-findings.result;
       rows = ap rows_in c.findings-findings.ensures.broken ∙ c.in_ok-checked.ensures.broken;
       ways = ap (map way_of) c.findings-findings.ensures.redirects ∙ c.in_ok-checked.ensures.redirects;
+      site = c.args.files.now;
+      site_top = refl;
+      names = subst (λ bs. AreNamed front c.args.files.now bs) (sym c.findings-findings.ensures.broken) c.in_ok-checked.ensures.names;
+      unused =
+          subst (λ us. AreUnused front entries pages (parts_in told.broken.now) (map string_bytes us)) (sym c.findings-findings.ensures.unused_ignores)
+          (subst (λ bs. AreUnused front entries pages (parts_in bs) (map string_bytes checked.unused_ignores.items)) (sym c.findings-findings.ensures.broken) c.in_ok-checked.ensures.ignores);
       is_broken = c.is_broken.ensures ∙ ap (λ bs. not (length bs == 0)) (sym c.findings-findings.ensures.broken);
       told = record { unreached = c.args.settings.unreached; external = c.slice_of.result };
       unreached = refl;
