@@ -1,305 +1,361 @@
 #!/usr/bin/env python3
 """The definitions that contracts reach, and what each says, as a page on standard output.
 
-  docs/definitions.py            prints the page: a reading list for each theorem of THEOREMS, and a table of each crate's definitions
-  docs/definitions.py --check    status 1 where a public contract reaches a definition that has no row
+  docs/definitions.py            prints the page: a reading list for each theorem of THEOREMS,
+                                 and a table of each crate's definitions
+  docs/definitions.py --check    status 1 where a public contract reaches a definition that has no
+                                 row, or a theorem names a call that is not there
 
-A row has the words of the comment that stands above a definition in `specs/`; a definition without one stands with the one
-above it. The script reads `specs/` and `src/` as text: a definition reaches the names that its text has and its file imports
-or defines.
+A row has the words of the comment that stands above a definition in `specs/`; a definition without
+one stands with the one above it. The script reads `specs/` and `src/` as text: a definition reaches
+the names that its text has and its file imports or defines.
 """
-import os, re, sys
 
-ROOT = os.path.dirname(os.path.dirname(os.path.abspath(__file__)))
+from __future__ import annotations
 
-# title, and the public functions whose contracts it is: crate, file of src/, function
-THEOREMS = [
-    ("The reply lines of a replay", [("crawl_replay", "replay.rt", "replay_text")]),
-    ("The machine and its laws", [("crawl_core", "runs.rt", "run"), ("crawl_core", "laws.rt", None)]),
-    ("The report of a crawl", [("mercator", "commands/web_crawl.rt", "report_of_saved_web"), ("mercator", "crawling.rt", "crawl")]),
-    ("An account of the frontier for threads", [("crawl_frontier", "frontier.rt", None), ("crawl_frontier", "seeder.rt", None), ("crawl_frontier", "sender.rt", None), ("crawl_frontier", "worker.rt", None), ("crawl_frontier", "busy_worker.rt", None), ("crawl_frontier", "finish.rt", None), ("crawl_frontier", "account.rt", None), ("crawl_frontier", "laws.rt", None)]),
-    ("Every interleaving of the frontier's steps", [("crawl_tie", "laws.rt", None)]),
-    ("The certificate of a run", [("crawl_certificate", "certificate.rt", "certify"), ("crawl_certificate", "laws.rt", None)]),
-    ("The gate, for threads", [("crawl_gate", "gate.rt", None), ("crawl_gate", "gate/load.rt", None), ("crawl_gate", "gate/enter.rt", None), ("crawl_gate", "gate/leave.rt", None), ("crawl_gate", "gate/close.rt", None), ("crawl_gate", "laws.rt", None)]),
-]
+import re
+import sys
+from pathlib import Path
+from typing import Iterable, Iterator, NamedTuple, Optional
 
-# names of the kit that every page of mathematics has
-PLAIN = set("◌≡◌ ◌≢◌ ◌+◌ ◌-◌ ◌*◌ ◌/◌ ◌%◌ ◌^◌ ◌<◌ ◌≤◌ ◌⊎◌ ◌↔◌ ◌∷◌ ◌++◌ ◌&&◌ ◌||◌ ◌==◌ ◌∧◌ [] ℕ zero suc Bool true false not List Option Some None Result Ok Err Type "
-            "if◌then◌else◌ length map Unit tt".split())
+ROOT = Path(__file__).resolve().parent.parent
 
 
-class Definition:
-    def __init__(self, crate, path, name, text, kind):
-        self.crate, self.path, self.name, self.text, self.kind = crate, path, name, text, kind
-        self.lines = sum(1 for line in text.splitlines() if line.strip() and not line.strip().startswith("--"))
+class Calls(NamedTuple):
+    """Public functions of a file of a crate's `src/`: those with these names, or all."""
 
-    @property
-    def key(self):
-        return (self.path, self.name)
+    crate: str
+    file: str
+    names: tuple[str, ...] = ()
 
 
-def read(path):
-    with open(path, encoding="utf-8") as f:
-        return f.read()
+THEOREMS = (
+    ("The frontier as a machine", (Calls("crawl_core", "runs.rt", ("run",)), Calls("crawl_core", "laws.rt"))),
+    ("The gate", (
+        Calls("crawl_gate", "gate.rt"), Calls("crawl_gate", "gate/load.rt"), Calls("crawl_gate", "gate/enter.rt"),
+        Calls("crawl_gate", "gate/leave.rt"), Calls("crawl_gate", "gate/close.rt"), Calls("crawl_gate", "laws.rt"),
+    )),
+    ("The frontier for threads", (
+        Calls("crawl_frontier", "frontier.rt"), Calls("crawl_frontier", "seeder.rt"),
+        Calls("crawl_frontier", "sender.rt"), Calls("crawl_frontier", "worker.rt"),
+        Calls("crawl_frontier", "busy_worker.rt"), Calls("crawl_frontier", "finish.rt"),
+        Calls("crawl_frontier", "account.rt"), Calls("crawl_frontier", "laws.rt"),
+    )),
+    ("Threads and machine", (Calls("crawl_tie", "laws.rt"),)),
+    ("The certificate", (
+        Calls("crawl_certificate", "certificate.rt", ("certify",)), Calls("crawl_certificate", "laws.rt"),
+    )),
+    ("A crawl, from bytes to the report", (
+        Calls("mercator", "commands/web_crawl.rt", ("report_of_saved_web",)),
+        Calls("mercator", "crawling.rt", ("crawl",)),
+    )),
+    ("A check, from files to the report", (
+        Calls("mercator_site", "check.rt", ("report_of_files",)),
+        Calls("mercator_site", "program.rt", ("run_site_plan",)),
+    )),
+    ("A replay, from bytes to bytes", (
+        Calls("crawl_replay", "replay.rt", ("replay_text",)), Calls("crawl_replay", "laws.rt"),
+    )),
+    ("A session, from requests to answers", (
+        Calls("crawl_session", "serving.rt", ("serve",)), Calls("crawl_session", "session.rt", ("answer",)),
+        Calls("crawl_session", "laws.rt"),
+    )),
+    ("An HTML document", (
+        Calls("html_links", "document.rt", ("tags",)), Calls("html_links", "reader.rt", ("read_links", "read_page")),
+        Calls("html_links", "style.rt", ("style_links",)),
+    )),
+    ("The program", (
+        Calls("mercator", "commands.rt", ("run_words", "run_plan")), Calls("mercator", "commands/words.rt", ("plan",)),
+    )),
+)
+
+# Names of the kit that every page of mathematics has.
+PLAIN = frozenset(
+    "◌≡◌ ◌≢◌ ◌+◌ ◌-◌ ◌*◌ ◌/◌ ◌%◌ ◌^◌ ◌<◌ ◌≤◌ ◌⊎◌ ◌↔◌ ◌∷◌ ◌++◌ ◌&&◌ ◌||◌ ◌==◌ ◌∧◌ [] ℕ zero suc Bool"
+    " true false not List Option Some None Result Ok Err Type if◌then◌else◌ length map Unit tt".split()
+)
+DEFINITION = re.compile(r"(?:(abbrev|unfoldable)(?: pub)?|pub (record|data)|(record|data)) ([^\s:(]+)")
+ROW = re.compile(r"(?:(?:abbrev|unfoldable) pub|pub (?:record|data)|unfoldable|abbrev) ([^\s:(]+)")
+WORD = re.compile(
+    r"(?<![\w.'-])([A-Za-z_ℕ][\w'ℕ-]*(?:\.[A-Za-z_][\w'-]*)?)|([^\w\s(){},;.λ→×\"'\[\]]+)|(\[\])"
+)
+PUBLIC = re.compile(r"^\s*pub (?:const )?fn (\w+)", re.M)
+HEAD_END = re.compile(r"\n\s*\{\}?\s*\n|\n\s*\{\n")
 
 
-def imports_of(text, ghost):
-    """From the names of a file's imports to (module, name), and from module names to modules."""
-    names, modules = {}, {}
-    lead = r"ghost use " if ghost else r"use "
-    for m in re.finditer(r"^\s*" + lead + r"([\w.«»]+?)(?:\.\{([^}]*)\})?(?: as (\S+?))?;?\s*$", text, re.M):
-        module, items, alias = m.group(1), m.group(2), m.group(3)
-        if items is None:
-            modules[alias or module.split(".")[-1]] = module
-            continue
-        for item in items.split(","):
-            item = item.strip()
-            if item:
-                own, _, other = item.partition(" as ")
-                names[(other or own).strip()] = (module, own.strip())
-    return names, modules
+class Definition(NamedTuple):
+    path: str
+    name: str
+    text: str
+
+    def lines(self) -> int:
+        """How many lines it has, without comments."""
+        kept = (line.strip() for line in self.text.splitlines())
+        return sum(1 for line in kept if line and not line.startswith("--"))
 
 
-def words(text):
-    """The identifiers of a text, qualified ones too, without the fields that stand behind a dot."""
-    text = re.sub(r"--.*", "", text)
-    text = re.sub(r"//.*", "", text)
-    found = set()
-    for m in re.finditer(r"(?<![\w.'-])([A-Za-z_ℕ][\w'ℕ-]*(?:\.[A-Za-z_][\w'-]*)?)|([^\w\s(){},;.λ→×\"'\[\]]+)|(\[\])", text):
-        token = m.group(0)
-        found.add(token)
-        if "." in token:
-            found.add(token.split(".")[0])
+class Name(NamedTuple):
+    """A name of the kit, and its module."""
+
+    module: str
+    name: str
+
+
+class Imports(NamedTuple):
+    """What a file imports: names, and whole modules by their last part."""
+
+    names: dict[str, Name]
+    modules: dict[str, str]
+
+
+class Reached(NamedTuple):
+    ours: set[Definition]
+    kits: set[Name]
+
+    def add(self, more: Reached) -> None:
+        self.ours.update(more.ours)
+        self.kits.update(more.kits)
+
+
+class SpecFile(NamedTuple):
+    imports: Imports
+    own: dict[str, Definition]
+
+
+def read(path: str) -> str:
+    return (ROOT / path).read_text("utf-8")
+
+
+def imports_of(text: str, is_ghost: bool) -> Imports:
+    lead = "ghost use " if is_ghost else "use "
+    found = Imports({}, {})
+    pattern = r"^\s*" + lead + r"([\w.«»]+?)(?:\.\{([^}]*)\})?(?: as (\S+?))?;?\s*$"
+    for module, items, alias in re.findall(pattern, text, re.M):
+        if not items:
+            found.modules[alias or module.split(".")[-1]] = module
+        for item in filter(None, (item.strip() for item in items.split(","))):
+            own, _, other = item.partition(" as ")
+            found.names[(other or own).strip()] = Name(module, own.strip())
     return found
 
 
-def definitions_in(crate, path):
-    """The definitions of a file of specs/."""
-    text = read(os.path.join(ROOT, path))
-    found, start, name, kind = [], None, None, None
-    lines = text.splitlines()
+def words(text: str) -> set[str]:
+    """The identifiers of a text, qualified ones too, without the fields that stand behind a dot."""
+    text = re.sub(r"(--|//).*", "", text)
+    found: set[str] = set()
+    for match in WORD.finditer(text):
+        found.add(match[0])
+        if "." in match[0]:
+            found.add(match[0].split(".")[0])
+    return found
 
-    def close(end):
-        if name:
-            found.append(Definition(crate, path, name, "\n".join(lines[start:end]), kind))
 
-    for k, line in enumerate(lines):
-        m = re.match(r"(?:(abbrev|unfoldable)(?: pub)?|pub (record|data)|(record|data)) ([^\s:(]+)", line)
-        if m:
-            close(k)
-            start, name, kind = k, m.group(4), m.group(1) or m.group(2) or m.group(3)
+def definitions_in(path: str, text: str) -> dict[str, Definition]:
+    """The definitions of a file of `specs/`."""
+    found: dict[str, list[str]] = {}
+    name = None
+    for line in text.splitlines():
+        match = DEFINITION.match(line)
+        if match:
+            name = match[4]
+            found[name] = []
         elif re.match(r"(--|use )", line):
-            close(k)
             name = None
-    close(len(lines))
-    return text, found
+        if name:
+            found[name].append(line)
+    return {name: Definition(path, name, "\n".join(lines)) for name, lines in found.items()}
 
 
 class Crates:
-    def __init__(self):
-        self.defs, self.files = {}, {}
-        for crate in sorted(os.listdir(os.path.join(ROOT, "crates"))):
-            top = os.path.join("crates", crate, "specs")
-            if not os.path.isdir(os.path.join(ROOT, top)):
-                continue
-            for folder, _, names in os.walk(os.path.join(ROOT, top)):
-                for name in sorted(names):
-                    if name.endswith(".antt") and name != "Lib.antt":
-                        path = os.path.relpath(os.path.join(folder, name), ROOT)
-                        text, found = definitions_in(crate, path)
-                        self.files[path] = (imports_of(text, False), {d.name: d for d in found})
-                        for d in found:
-                            self.defs[d.key] = d
+    """The definitions of all crates, by their files."""
 
-    def home(self, module):
-        """The file of specs/ that a module is, if it is one of ours."""
-        m = re.match(r"Rattle\.(\w+)\.specs\.(?!declared)([\w.]+)$", module)
-        if not m:
+    def __init__(self) -> None:
+        self.files: dict[str, SpecFile] = {}
+        for file in sorted(ROOT.glob("crates/*/specs/**/*.antt")):
+            if file.name != "Lib.antt":
+                path = file.relative_to(ROOT).as_posix()
+                text = read(path)
+                self.files[path] = SpecFile(imports_of(text, False), definitions_in(path, text))
+
+    def home(self, module: str) -> Optional[str]:
+        """The file of `specs/` that a module is, if it is one of ours."""
+        match = re.match(r"Rattle\.(\w+)\.specs\.(?!declared)([\w.]+)$", module)
+        if not match:
             return None
-        path = os.path.join("crates", m.group(1), "specs", *m.group(2).split(".")) + ".antt"
+        path = f"crates/{match[1]}/specs/{match[2].replace('.', '/')}.antt"
         return path if path in self.files else None
 
-    def reached(self, text, names, modules, own):
+    def reached(self, text: str, imports: Imports, own: dict[str, Definition]) -> Reached:
         """What a text names: definitions of ours, and names of the kit."""
-        ours, kits = set(), set()
+        found = Reached(set(), set())
         used = words(text)
         for word in used:
             plain, _, rest = word.partition(".")
             if plain in own:
-                ours.add(own[plain])
-            if word in names or plain in names:
-                module, name = names.get(word, names.get(plain))
-                self.resolve(module, name, ours, kits)
-            if rest and plain in modules:
-                self.resolve(modules[plain], rest, ours, kits)
-        for name, (module, own_name) in names.items():
-            if name.startswith("◌") and name.strip("◌") in used:
-                self.resolve(module, own_name, ours, kits)
-        return ours, kits
+                found.ours.add(own[plain])
+            name = imports.names.get(word, imports.names.get(plain))
+            if name:
+                self.resolve(name, found)
+            if rest and plain in imports.modules:
+                self.resolve(Name(imports.modules[plain], rest), found)
+        for name_here, name in imports.names.items():
+            if name_here.startswith("◌") and name_here.strip("◌") in used:
+                self.resolve(name, found)
+        return found
 
-    def resolve(self, module, name, ours, kits):
-        path = self.home(module)
-        if path is None and re.match(r"Rattle\.\w+\.specs\.", module):
-            # a record's or a data's constructors stand in a module of its name
-            path = self.home(".".join(module.split(".")[:-1]))
-            if path is not None:
-                name = module.split(".")[-1]
+    def resolve(self, name: Name, found: Reached) -> None:
+        path, own = self.home(name.module), name.name
+        if path is None and re.match(r"Rattle\.\w+\.specs\.", name.module):
+            # The constructors of a record or of data stand in a module of its name.
+            above, _, last = name.module.rpartition(".")
+            path = self.home(above)
+            own = own if path is None else last
         if path is not None:
-            found = self.files[path][1].get(name)
-            if found is not None:
-                ours.add(found)
-        elif ".declared." in module:
-            pass
-        elif name not in PLAIN:
-            kits.add((module, name))
+            definition = self.files[path].own.get(own)
+            if definition is not None:
+                found.ours.add(definition)
+        elif ".declared." not in name.module and own not in PLAIN:
+            found.kits.add(name)
 
-    def closure(self, ours, kits):
-        todo, seen, kits = list(ours), set(), set(kits)
-        while todo:
-            d = todo.pop()
-            if d.key in seen:
+    def closure(self, found: Reached) -> Reached:
+        """All that is reached from there."""
+        rest, all_of = list(found.ours), Reached(set(), set(found.kits))
+        while rest:
+            definition = rest.pop()
+            if definition in all_of.ours:
                 continue
-            seen.add(d.key)
-            (names, modules), own = self.files[d.path]
-            more, kit = self.reached(d.text, names, modules, {k: v for k, v in own.items() if k != d.name})
-            kits |= kit
-            todo += [x for x in more if x.key not in seen]
-        return seen, kits
+            all_of.ours.add(definition)
+            file = self.files[definition.path]
+            others = {name: other for name, other in file.own.items() if name != definition.name}
+            more = self.reached(definition.text, file.imports, others)
+            all_of.kits.update(more.kits)
+            rest += more.ours - all_of.ours
+        return all_of
 
 
-def clauses_of(text, function):
-    """The clauses of one public function of a file, or of all of them."""
-    found = []
-    for m in re.finditer(r"^\s*pub (?:const )?fn (\w+)", text, re.M):
-        if function is None or m.group(1) == function:
-            end = re.search(r"\n\s*\{\}?\s*\n|\n\s*\{\n", text[m.start():] + "\n{\n")
-            found.append(text[m.start():m.start() + end.start()])
-    return "\n".join(re.sub(r"///.*", "", part) for part in found)
+def clauses_of(text: str, names: tuple[str, ...] = ()) -> str:
+    """The clauses of the public functions of a file with these names, or of all of them."""
+    heads = []
+    for match in PUBLIC.finditer(text):
+        if not names or match[1] in names:
+            head = text[match.start():]
+            end = HEAD_END.search(head + "\n{\n")
+            heads.append(head[:end.start()] if end else head)
+    return "\n".join(re.sub(r"///.*", "", head) for head in heads)
 
 
-def public_clauses(text):
-    ghosts = "\n".join(m.group(0) for m in re.finditer(r"^\s*ghost (?!use)\w+[ :=].*$", text, re.M))
-    return clauses_of(text, None) + "\n" + ghosts
+def not_there() -> Iterator[str]:
+    """Calls that a theorem names, and that are not there."""
+    for title, theorem in THEOREMS:
+        for crate, file, names in theorem:
+            path = f"crates/{crate}/src/{file}"
+            public = PUBLIC.findall(read(path)) if (ROOT / path).is_file() else []
+            if not public or not set(names) <= set(public):
+                yield f"{title}: no such call in {path}: {', '.join(names) or 'any'}"
 
 
-def contract(crates, crate, name, function):
-    path = os.path.join(ROOT, "crates", crate, "src", name)
-    text = read(path)
-    names, modules = imports_of(text, True)
-    return crates.reached(clauses_of(text, function), names, modules, {})
+def contract(crates: Crates, calls: Calls) -> Reached:
+    text = read(f"crates/{calls.crate}/src/{calls.file}")
+    return crates.reached(clauses_of(text, calls.names), imports_of(text, True), {})
 
 
-def lists(crates):
-    out = []
-    for title, functions in THEOREMS:
-        ours, kits = set(), set()
-        for crate, name, function in functions:
-            if not os.path.exists(os.path.join(ROOT, "crates", crate, "src", name)):
-                print("no such file: %s %s" % (crate, name), file=sys.stderr)
-                continue
-            more, kit = contract(crates, crate, name, function)
-            ours |= more
-            kits |= kit
-        seen, kits = crates.closure(ours, kits)
-        by_file = {}
-        for key in seen:
-            by_file.setdefault(key[0], []).append(crates.defs[key])
-        calls = ", ".join("`%s`" % (f or "%s/%s" % (c, n)) for c, n, f in functions)
-        out.append("### %s\n\nThe contracts of %s.\n" % (title, calls))
-        out.append("| File | Lines | Definitions |\n|---|---|---|")
-        total = 0
-        for path in sorted(by_file):
-            order = list(crates.files[path][1])
-            found = sorted(by_file[path], key=lambda d: order.index(d.name))
-            lines = sum(d.lines for d in found)
-            total += lines
-            out.append("| `%s` | %d | %s |" % (path.replace("crates/", ""), lines, ", ".join("`%s`" % d.name for d in found)))
-        out.append("| **in all** | **%d** | %d definitions |\n" % (total, len(seen)))
-        words_of_kit = sorted({n for _, n in kits if not n.startswith("◌")}, key=str.lower)
-        out.append("The kit's: %s.\n" % ", ".join("`%s`" % n for n in words_of_kit))
-    return "\n".join(out)
+def reading_list(crates: Crates, title: str, theorem: Iterable[Calls]) -> Iterator[str]:
+    found = Reached(set(), set())
+    named = []
+    for calls in theorem:
+        found.add(contract(crates, calls))
+        named += [f"`{name}`" for name in calls.names or (f"{calls.crate}/{calls.file}",)]
+    found = crates.closure(found)
+    yield f"### {title}\n\nThe contracts of {', '.join(named)}.\n"
+    yield "| File | Lines | Definitions |\n|---|---|---|"
+    for path in sorted({definition.path for definition in found.ours}):
+        here = [definition for definition in crates.files[path].own.values() if definition in found.ours]
+        lines = sum(definition.lines() for definition in here)
+        yield f"| `{path.replace('crates/', '')}` | {lines} | {', '.join(f'`{it.name}`' for it in here)} |"
+    lines = sum(definition.lines() for definition in found.ours)
+    yield f"| **in all** | **{lines}** | {len(found.ours)} definitions |\n"
+    kits = sorted({it.name for it in found.kits if not it.name.startswith("◌")}, key=str.lower)
+    yield f"The kit's: {', '.join(f'`{name}`' for name in kits)}.\n"
 
 
-def comment_above(lines, start):
+def comment_above(lines: list[str], start: int) -> str:
     """The comment that stands directly above a line, as one sentence."""
-    found = []
+    found: list[str] = []
     for line in reversed(lines[:start]):
-        m = re.match(r"-- ?(.*)", line)
-        if not m or re.match(r"(----|##)", m.group(1)):
+        match = re.match(r"-- ?(.*)", line)
+        if not match or re.match(r"(----|##)", match[1]):
             break
-        found.append(m.group(1).strip())
+        found.append(match[1].strip())
     return " ".join(reversed(found))
 
 
-def table_of(crates, crate):
-    """A table of a crate's definitions: file by file, each with the comment above it."""
-    out = []
-    for path in sorted(p for p in crates.files if p.split("/")[1] == crate):
-        lines = read(os.path.join(ROOT, path)).splitlines()
-        head = []
-        for line in lines:
-            if not line.startswith("--"):
-                break
-            head.append(line.lstrip("- ").strip())
-        out.append("**`%s`**: %s\n" % (path.replace("crates/%s/" % crate, ""), " ".join(head)))
-        rows = []
-        for k, line in enumerate(lines):
-            m = re.match(r"(?:(?:abbrev|unfoldable) pub|pub (?:record|data)|unfoldable|abbrev) ([^\s:(]+)", line)
-            if m:
-                said = comment_above(lines, k)
-                if said or not rows:
-                    rows.append(([m.group(1)], said))
-                else:
-                    rows[-1][0].append(m.group(1))
-        if rows:
-            out.append("| Definition | In plain words |\n|---|---|")
-            out += ["| %s | %s |" % (", ".join("`%s`" % n for n in names), said.replace("|", "\\|")) for names, said in rows]
-            out.append("")
-    return "\n".join(out)
+def table_of(path: str) -> Iterator[str]:
+    """A table of a file's definitions, each with the comment above it."""
+    lines = read(path).splitlines()
+    count = next((number for number, line in enumerate(lines) if not line.startswith("--")), len(lines))
+    head = " ".join(line.lstrip("- ").strip() for line in lines[:count])
+    yield f"**`{'/'.join(path.split('/')[2:])}`**: {head}\n"
+    rows: list[tuple[list[str], str]] = []
+    for number, line in enumerate(lines):
+        match = ROW.match(line)
+        if match:
+            said = comment_above(lines, number)
+            if said or not rows:
+                rows.append(([match[1]], said))
+            else:
+                rows[-1][0].append(match[1])
+    if rows:
+        yield "| Definition | In plain words |\n|---|---|"
+        for names, said in rows:
+            said = said.replace("|", "\\|")
+            yield f"| {', '.join(f'`{name}`' for name in names)} | {said} |"
+        yield ""
 
 
-def reached_by_contracts(crates):
+def reached_by_contracts(crates: Crates) -> set[Definition]:
     """Every definition that a public contract or a ghost member reaches."""
-    ours = set()
-    for crate in sorted(os.listdir(os.path.join(ROOT, "crates"))):
-        for folder, _, names in os.walk(os.path.join(ROOT, "crates", crate, "src")):
-            for name in names:
-                if name.endswith(".rt") and "tests" not in os.path.join(folder, name):
-                    text = read(os.path.join(folder, name))
-                    imported, modules = imports_of(text, True)
-                    more, _ = crates.reached(public_clauses(text), imported, modules, {})
-                    ours |= more
-    return crates.closure(ours, set())[0]
+    found = Reached(set(), set())
+    for file in sorted(ROOT.glob("crates/*/src/**/*.rt")):
+        if "tests" not in str(file.relative_to(ROOT)):
+            text = file.read_text("utf-8")
+            ghosts = re.findall(r"^\s*ghost (?!use)\w+[ :=].*$", text, re.M)
+            clauses = "\n".join([clauses_of(text), *ghosts])
+            found.ours.update(crates.reached(clauses, imports_of(text, True), {}).ours)
+    return crates.closure(found).ours
 
 
-def page_of(crates):
+def page_of(crates: Crates) -> str:
     """The whole page."""
-    parts = ["# Definitions", "## Reading lists", lists(crates)]
+    lists = [line for title, theorem in THEOREMS for line in reading_list(crates, title, theorem)]
+    parts = ["# Definitions", "## Reading lists", "\n".join(lists)]
     for crate in sorted({path.split("/")[1] for path in crates.files}):
-        parts += ["## `%s`" % crate, table_of(crates, crate)]
+        files = sorted(path for path in crates.files if path.split("/")[1] == crate)
+        parts += [f"## `{crate}`", "\n".join(line for path in files for line in table_of(path))]
     return "\n\n".join(part.strip() for part in parts) + "\n"
 
 
-def without_row(crates, page):
+def without_row(crates: Crates) -> list[str]:
     """What public contracts reach and the page's tables do not have."""
-    rows = set()
-    for line in page.splitlines():
+    rows: set[str] = set()
+    for line in page_of(crates).splitlines():
         if line.startswith("| `"):
-            rows |= set(re.findall(r"`([^`]+)`", line.split(" | ")[0]))
-    return sorted("no row for %s: %s" % (path, name) for path, name in reached_by_contracts(crates) if name not in rows)
+            rows.update(re.findall(r"`([^`]+)`", line.split(" | ")[0]))
+    reached = reached_by_contracts(crates)
+    return sorted(f"no row for {it.path}: {it.name}" for it in reached if it.name not in rows)
 
 
-def main():
-    crates = Crates()
-    page = page_of(crates)
-    if sys.argv[1:] != ["--check"]:
-        print(page, end="")
-        return
-    wrong = without_row(crates, page)
-    for line in wrong:
-        print(line)
-    print("%d definitions without a row" % len(wrong))
+def main() -> None:
+    wrong = list(not_there())
+    if not wrong:
+        crates = Crates()
+        if sys.argv[1:] != ["--check"]:
+            print(page_of(crates), end="")
+            return
+        wrong = without_row(crates)
+    print(*wrong, sep="\n", end="\n" if wrong else "")
+    print(f"{len(wrong)} faults")
     sys.exit(1 if wrong else 0)
 
 
-main()
+if __name__ == "__main__":
+    main()
