@@ -95,10 +95,10 @@ class Series:
             print(f"{self.name}, {what}: {fault}")
 
     def end(self) -> int:
-        """Tells the counts; how many failed."""
+        """Tells the counts; how many failed. Where none passed, one has."""
         left = f", {self.left} left out" if self.left else ""
         print(f"{self.name}: {self.passed} passed, {self.failed} failed{left}")
-        return self.failed
+        return self.failed or not self.passed
 
 
 def told(rows: List[Row]) -> List[str]:
@@ -249,7 +249,8 @@ def main() -> int:
         shipped = str(loading.ROOT / "examples/site")
         folders = given.folders or [folder for folder in drawing.SITE.DOCUMENTS if os.path.isdir(folder)]
         failed += compare_folders(call, [shipped, *folders]) + compare_forms(call, shipped)
-        failed += compare_drawn(call, given.drawn, given.seed) + compare_changed(call, given.changed, given.seed)
+        failed += compare_drawn(call, given.drawn, given.seed) if given.drawn else 0
+        failed += compare_changed(call, given.changed, given.seed) if given.changed else 0
         failed += compare_large(call, given.large) if given.large else 0
     if given.tags:
         failed += compare_tags(given.tags, given.seed)

@@ -1,6 +1,6 @@
 #!/bin/bash
-# Runs the built program on files, pipes, a closed output and a full device, outside the gate: what the system itself gives and
-# takes, no test of `run_words` sees. It builds the program first, unless it is there.
+# Runs the built program on files, pipes, a closed output and a full device: what the system itself gives and takes, no test of
+# `run_words` sees. It builds the program first, unless it is there.
 #
 # Usage: tests/command-line.sh
 set -uo pipefail

@@ -162,7 +162,8 @@ crawls() {
 # converts a folder, and crawls the saved web without the links that the search leaves out: NAME FOLDER SEED
 searched() {
     python3 tools/site_to_web.py "$2" "$3" > "$made/web" 2> "$made/left"
-    echo "$1: $(python3 "$made/search.py" "$made/web" "$3" "$made/plain" "$made/search")"
+    echo -n "$1: "
+    python3 "$made/search.py" "$made/web" "$3" "$made/plain" "$made/search"
     crawls "$1, searched" "$made/plain" "$3" "$made/search.report" "$made/search.sources"
 }
 
@@ -171,7 +172,9 @@ crawls "the shipped site" "$made/site.web" http://site.test/ examples/site.repor
 searched "the shipped site" examples/site http://site.test/
 
 found=
-for folder in ${DOCUMENTATION:-/usr/share/doc/python3*/html}; do
+folders=(/usr/share/doc/python3*/html)
+if [ -n "${DOCUMENTATION:-}" ]; then folders=("$DOCUMENTATION"); fi
+for folder in "${folders[@]}"; do
     if [ -f "$folder/library/index.html" ]; then found=$folder; fi
 done
 if [ -n "$found" ]; then

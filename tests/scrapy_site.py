@@ -1,5 +1,5 @@
 #!/usr/bin/python3
-"""Crawls sites by Scrapy with the scheduler `clients/python/mercator_scrapy.py`, outside the gate.
+"""Crawls sites by Scrapy with the scheduler `clients/python/mercator_scrapy.py`.
 
     scrapy_site.py [--program PROGRAM] [--keep]
 

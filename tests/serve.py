@@ -1,14 +1,14 @@
 #!/usr/bin/env python3
-"""Tries `mercator serve`, its Python client and the crawlers over it, outside the gate.
+"""Tries `mercator serve`, its Python client and the crawlers over it.
 
 Usage: serve.py [--program FILE] [--part NAME].. [--lines N] [--requests N] [--longest BYTES]
                 [--kills N] [--seed S]
 
-PROGRAM is --program, else what MERCATOR of the environment names, else `mercator` of PATH, else the
-built program. A part that wants `--log` or the requests `link` and `again` is skipped, and said to
-be, where the program has them not; so is a full disk where the user may mount none. Drawn sessions
-are compared with a reckoning of these tests, over that of drawn.py for URLs and the machine.
-SECONDS of the environment is the time limit of each wait. At last it prints `N passed, M failed`.
+PROGRAM is --program, else what MERCATOR of the environment names, else the built program. A part
+that wants `--log` or the requests `link` and `again` is skipped, and said to be, where the program
+has them not; so is a full disk where the user may mount none. Drawn sessions are compared with a
+reckoning of these tests, over that of drawn.py for URLs and the machine. SECONDS of the environment
+is the time limit of each wait. At last it prints `N passed, M failed`.
 
 The parts stand in `serving/`, and `serving/fake.py` is a frontier in Python. As --program it has to
 pass too, but for the part memory, whose bound is the program's.

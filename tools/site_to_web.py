@@ -27,7 +27,7 @@ output; what was left out, and why, goes to standard error.
                                           it; BASE is the URL of its top
   site_to_web.py --warc FILE.. > WEB      WARC files, gzipped or not
 
-Then `mercator_cli crawl - URL < WEB` tells which of its links are broken."""
+Then `mercator crawl --sources - URL < WEB` tells which of its links are broken."""
 
 RULES = """\
 exit status:

@@ -163,7 +163,7 @@ class Trial:
 
 
 def program_of(word: Optional[str]) -> str:
-    named = word or os.environ.get("MERCATOR") or shutil.which("mercator") or str(ROOT / "crates/mercator_cli/out/mercator_cli")
+    named = word or os.environ.get("MERCATOR") or str(ROOT / "crates/mercator_cli/out/mercator_cli")
     found = shutil.which(named)
     if found is None:
         sys.exit(f"serve.py: {named} is no program")
