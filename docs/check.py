@@ -1,9 +1,9 @@
 #!/usr/bin/env python3
 """Checks the repository's documents, and prints what is wrong with them.
 
-- A link leads to a file that is there.
-- A path in backticks names a file or folder, from the document's folder, its crate or the root. What a
-  build makes, below a crate's `out`, need not be there.
+- A link leads to a file that is there, and to a heading of it where it has a fragment.
+- A path in backticks names a file or folder, from the document's folder, its crate, `crates/` or the
+  root. What a build makes, below a crate's `out`, need not be there.
 - A name in backticks stands in some file that is no document.
 - Code below a line that begins with "From `PATH`" stands in that file, function by function.
 - No sentence has more than LONGEST words, where code in backticks counts as one.
@@ -38,12 +38,15 @@ DIARY = re.compile(r"\b(today|tonight|yesterday|until then|this morning|20\d\d-\
 QUOTED = re.compile(r"^From `([^`]+)`.*\n\n```rust\n(.*?)^```$", re.M | re.S)
 ITEM = re.compile(r"\s*(?:[-*#]+|\d+\.)\s+")
 SENTENCE_END = re.compile(r"[.:?!](?:\*\*|\))?\s")
-LINK = re.compile(r"\]\(([^)#\s]+)[^)]*\)")
+LINK = re.compile(r"\]\(([^)#\s]*)(?:#([^)\s]*))?\)")
+HEADING = re.compile(r"^#+ (.*)$", re.M)
 TICKED = re.compile(r"`([^`]+)`")
 PATH = re.compile(r"(?:[\w.-]+/)+[\w.-]*")
 NAME = re.compile(r"(?:[A-Za-z_]\w*(?:::|\.))*([A-Za-z_]\w{4,})(?:\(.*\)|!)?")
 # What stands for any name, and what decisions and proofs say of things that were not taken.
 STANDS_FOR = {"NAME_tests"}
+OURS = {"crates", "docs", "tests", "tools", "bench", "examples", "clients", "src", "specs", "proofs"}
+OURS |= {crate.name for crate in (ROOT / "crates").iterdir()}
 # Paths of the kit's documents.
 OF_THE_KIT = ("docs/NOT_COVERED.md", "docs/REFUSED.md")
 UNCHECKED_NAMES = ("docs/DECISIONS.md", "docs/PROOFS.md")
@@ -125,17 +128,26 @@ def faults_of_quotations(document: Path, text: str) -> Iterator[tuple[int, str]]
 
 def is_there(document: Path, path: str) -> bool:
     path = re.sub(r"(?<=/)out/.*", "", path)
-    places = [document.parent, ROOT, *(ROOT / "crates").iterdir(), ROOT / "docs", ROOT / "tests"]
+    places = [document.parent, ROOT, ROOT / "crates", *(ROOT / "crates").iterdir(), ROOT / "docs", ROOT / "tests"]
     return any((place / path).exists() for place in places)
 
 
+def headings_of(document: Path) -> set[str]:
+    """The fragments of a document's headings."""
+    titles = HEADING.findall(document.read_text("utf-8"))
+    return {re.sub(r"[^\w -]", "", title.lower()).strip().replace(" ", "-") for title in titles}
+
+
 def faults_of_line(document: Path, name: str, line: str, words: set[str]) -> Iterator[str]:
-    for link in LINK.findall(line):
-        if "://" not in link and not (document.parent / link).exists():
+    for link, part in LINK.findall(line):
+        target = document.parent / link if link else document
+        if "://" not in link and not target.exists():
             yield f"a link to {link}, which is not there"
+        elif part and "://" not in link and part not in headings_of(target):
+            yield f"a link to the heading {part} of {target.name}, which is not there"
     for ticked in TICKED.findall(line):
         if PATH.fullmatch(ticked) and "NAME" not in ticked and ticked not in OF_THE_KIT and not is_there(document, ticked):
-            if ticked.split("/")[0] in ("crates", "docs", "tests", "tools", "bench", "examples", "src", "specs", "proofs"):
+            if ticked.split("/")[0] in OURS:
                 yield f"`{ticked}` is not there"
         called = NAME.fullmatch(ticked.strip())
         if called and name not in UNCHECKED_NAMES and called[1] not in words | STANDS_FOR:
