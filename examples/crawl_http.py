@@ -56,6 +56,7 @@ class Links(HTMLParser):
     def __init__(self, url: str, text: str) -> None:
         super().__init__()
         self.base = url
+        self.has_base = False
         self.texts: List[str] = []
         try:
             self.feed(text)
@@ -67,8 +68,8 @@ class Links(HTMLParser):
         for name, value in attrs:
             if value is not None and (tag, name) in LINKS:
                 self.texts.append(value)
-            elif value is not None and (tag, name) == ("base", "href"):
-                self.base = joined(self.base, value)
+            elif value is not None and (tag, name) == ("base", "href") and not self.has_base:
+                self.base, self.has_base = joined(self.base, value), True
 
 
 def joined(base: str, text: str) -> str:

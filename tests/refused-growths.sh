@@ -1,9 +1,9 @@
 #!/bin/bash
 # Runs each command of the built program with its first, second, .. growth of memory refused, one a run, until a run asks for
-# none more; and a crawl of 2,000 pages with growths farther on. A run must end with status 0 and the whole bytes of a run
+# none more; and a crawl of 2,000 pages with growths farther on. A run must end with the status and the whole bytes of a run
 # without a refusal, or with status 1, 2 or 3, nothing on standard output, and on standard error a line that the formats or
-# `clap` give, or nothing, where the line was lost to the refusal. It must neither hang, crash, nor write anything else. It prints
-# how many growths each command asks for, and fails where a run ended otherwise.
+# `clap` give, or nothing, where the line was lost to the refusal. A session may have answered its first lines. It must neither
+# hang, crash, nor write anything else. It prints how many growths each command asks for, and fails where a run ended otherwise.
 #
 # With `tests` it does the same with each test of each crate whose tests were built (`rt test` in its folder leaves them in
 # `out/`), with growths more and more apart: a test must pass, or be stopped by an error or an assertion of its own, and neither
@@ -64,6 +64,9 @@ LIBRARY
 "${CC:-cc}" -O1 -shared -fPIC -o "$scratch/refuse.so" "$scratch/refuse.c"
 
 python3 bench/make_web.py 2000 > "$scratch/pages.web"
+printf '%s\n' 'offer http://a.test/' 'link http://a.test/ b' 'offer HTTP://A.test:80/#x' endseeds 'next 0' 'again 0' 'done 0' \
+    'next 0' 'done 0' 'next 0' x > "$scratch/requests"
+echo 'downloads.html' > "$scratch/known"
 
 cat > "$scratch/run.py" <<'RUN'
 import glob
@@ -98,12 +101,22 @@ COMMANDS = [
     (["replay", f"{DATA}/two_urls.script"], None),
     (["replay", "-"], f"{DATA}/two_urls.script"),
     (["key", "http://A.test:80/x/../y#f", "--workers", "2"], None),
+    (["check", f"{DATA}/site"], None),
+    (["check", "--workers", "2", "--ignore", f"{SCRATCH}/known", "--unreached", "--external", f"{DATA}/site"], None),
+    (["check", "--json", "--seed", "news/", f"{DATA}/site", "http://site.test/"], None),
+    (["check", "--html", f"{DATA}/site"], None),
+    (["check", "--annotations", "--no-anchors", "--exact", f"{DATA}/site"], None),
+    (["site", f"{DATA}/site", "http://site.test/"], None),
+    (["serve", "--workers", "1"], f"{SCRATCH}/requests"),
+    (["serve", "--workers", "1", "--within", "a.test", "--part", "0/2"], f"{SCRATCH}/requests"),
     (["--help"], None),
     (["crawl", "--help"], None),
     (["help", "replay"], None),
     # a fault of each kind
     (["crawl", "--within", "*", RING, "http://a.test/"], None),
     (["crawl", "no/such.web", "http://a.test/"], None),
+    (["check", "no/such/folder"], None),
+    (["site", f"{DATA}/site", "ftp://site.test/"], None),
     (["crawl", "--seeds", "no/such.seeds", RING], None),
     (["crawl", f"{DATA}/two_urls.script", "http://a.test/"], None),
     (["crawl", "--seeds", RING, RING], None),
@@ -120,7 +133,8 @@ COMMANDS = [
 
 FAULT = re.compile(
     rb"mercator: (out of memory|cannot read [^\n]*|cannot write|bad suffix|(seed \d+|URL): [a-z A-Z]+"
-    rb"|(saved web|script|seeds): (line \d+: )?[a-zA-Z -]+8?|incomplete: [a-z0-9 ]+)\n"
+    rb"|(saved web|script|seeds): (line \d+: )?[a-zA-Z -]+8?|incomplete(: [a-z0-9 ]+)?"
+    rb"|BASE: [a-zA-Z ]+)\n"
 )
 
 
@@ -148,7 +162,8 @@ def wrong(words, given, growth, whole):
         return None, met
     if not met:
         return f"status {status} and another answer, though nothing was refused: {out[:200]!r} {told[:200]!r}", met
-    if status in (1, 2, 3) and not out and is_told(status, told):
+    is_begun = words[:1] == ["serve"] and whole[1].startswith(out) and (not out or out.endswith(b"\n"))
+    if status in (1, 2, 3) and (not out or is_begun) and is_told(status, told):
         return None, met
     return f"status {status}: {out[:200]!r} {told[:200]!r}", met
 
@@ -203,7 +218,12 @@ def test_fails(program, name):
 
 def tests():
     failed = 0
-    for program in sorted(glob.glob("crates/*/out/*_tests")):
+    built = sorted(glob.glob("crates/*/out/*_tests"))
+    for crate in glob.glob("crates/*_tests"):
+        if not any(program.startswith(f"{crate}/") for program in built):
+            failed += 1
+            print(f"{crate}: no tests are built: `rt test` in it builds them")
+    for program in built:
         listed = subprocess.run([program, "--list"], capture_output=True, text=True, check=True).stdout
         names = [line.removesuffix(": test") for line in listed.splitlines() if line.endswith(": test")]
         with ThreadPoolExecutor(AT_ONCE) as pool:

@@ -12,7 +12,7 @@ Scrapy's own scheduler and with this one, which have to ask for the same URLs. W
 - never are two requests of one host out at a time;
 - the spider ends by itself, and the frontier has closed.
 
-PROGRAM is the environment's MERCATOR, or `mercator` in PATH, where it is not given. The script
+PROGRAM is the environment's MERCATOR, or the built program, where it is not given. The script
 wants Scrapy; Debian's package `python3-scrapy` is for /usr/bin/python3. `--keep` leaves the logs of
 the crawls. The last line is `N passed, M failed`.
 """
@@ -51,6 +51,7 @@ from twisted.internet.defer import succeed
 ROOT = Path(__file__).resolve().parent.parent
 CLIENTS = str(ROOT / "clients" / "python")
 SITE = ROOT / "examples" / "site"
+BUILT = str(ROOT / "crates/mercator_cli/out/mercator_cli")
 OWN = "scrapy.core.scheduler.Scheduler"
 MERCATOR = "mercator_scrapy.MercatorScheduler"
 HOSTS = 7
@@ -626,7 +627,6 @@ class Tests:
         self.check("lost frontier: told", stats.get("finish_reason") == "mercator_ended", stats)
         self.check("lost frontier: not closed", "mercator/closed" not in stats, stats)
 
-
     def missing_program(self) -> None:
         site = Site((address_of(0), "/"))
         settings = {"MERCATOR_PROGRAM": "/no/such/program"}
@@ -645,9 +645,9 @@ def main() -> int:
     if asked.crawl:
         crawl(json.loads(Path(asked.crawl).read_text(encoding="utf-8")))
         return 0
-    program = asked.program or os.environ.get("MERCATOR") or shutil.which("mercator")
+    program = shutil.which(asked.program or os.environ.get("MERCATOR") or BUILT)
     if program is None:
-        parser.error("no program: give --program, MERCATOR or mercator in PATH")
+        parser.error("no program: give --program or MERCATOR, or build it")
     kept = Path(tempfile.mkdtemp(prefix="scrapy_site."))
     tests = Tests(str(Path(program).resolve()), kept)
     for test in (tests.shipped_site, tests.drawn_sites, tests.odd_requests, tests.small_frontier,
