@@ -49,7 +49,8 @@ def answers(blocks: Sequence[list[str]]) -> list[list[str]]:
     text = "\n\n".join("\n".join(block) for block in blocks) + "\n"
     ran = subprocess.run([*CALLS, "calls"], input=text, capture_output=True, text=True, timeout=2 * SECONDS)
     told = [block.splitlines() for block in ran.stdout.split("\n\n")][: len(blocks)]
-    expect(ran.returncode == 0 and len(told) == len(blocks), f"{len(told)} of {len(blocks)} blocks answered, status {ran.returncode}")
+    is_whole = ran.returncode == 0 and len(told) == len(blocks)
+    expect(is_whole, f"{len(told)} of {len(blocks)} blocks answered, status {ran.returncode}")
     return told
 
 
