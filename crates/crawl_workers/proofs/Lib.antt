@@ -1,4 +1,5 @@
 pub mod Lossless
+pub mod Outcomes
 pub mod Running
 pub mod Slots
 pub mod Tallies

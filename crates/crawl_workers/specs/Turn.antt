@@ -1,14 +1,17 @@
 -- What one turn of a worker does.
-use Rattle.std.specs.Prelude.{◌≡◌, ℕ, ◌+◌, ◌-◌, ◌^◌, ◌<◌, ◌≤◌, min, Bool, List, [], ◌∷◌, ◌++◌, length, Some}
+use Rattle.std.specs.Prelude.{◌≡◌, ◌⊎◌, ℕ, ◌+◌, ◌-◌, ◌^◌, ◌<◌, ◌≤◌, min, Bool, List, [], ◌∷◌, ◌++◌, length, Some}
+use Rattle.std.specs.List.{flat_map}
 use Rattle.crawl_web.specs.declared.page.Page.{Page}
 use Rattle.crawl_web.specs.Pages.{links_of}
 use Rattle.crawl_frontier.specs.declared.book.Logged.{Logged}
 use Rattle.crawl_frontier.specs.Parts.{WorkerId, BusyId, worker}
+use Rattle.crawl_workers.specs.declared.losses.Loss.TheVariants as loss
 use Rattle.crawl_workers.specs.declared.output.WorkerOutput.{WorkerOutput}
 use Rattle.crawl_workers.specs.declared.turn.Step.{Step}
 use Rattle.crawl_workers.specs.declared.turn.Step.TheVariants.{Worked, Waits, Closes}
 use Rattle.crawl_workers.specs.Logs.{AllLogged, Grows}
-use Rattle.crawl_workers.specs.Losses.{all_losses}
+use Rattle.crawl_workers.specs.Losses.{all_losses, with_loss}
+use Rattle.crawl_workers.specs.Outcomes.{Answer, AllAnswered, Outcome, GoesOn, losses_by, losses_at, found_at, with_losses, IsTold}
 use Rattle.crawl_workers.specs.Recent.{Knows}
 use Rattle.crawl_workers.specs.Ran.{AtLeast, most_lost_at, Ran, IsTally}
 
@@ -18,11 +21,11 @@ worker_in (Worked w) = w
 worker_in (Waits w) = w
 worker_in (Closes w) = w
 
--- so far as in `Ran`, with this output; the log has a line of each URL that it remembers; and the losses are told by why
+-- so far as in `Ran`, with this output; the log has a line of each URL that it remembers; and the losses are told by why, exactly
 abbrev pub Goes : ℕ → (List ℕ → Bool) → (List ℕ → Page) → WorkerId → WorkerId → WorkerOutput → Type 0
 Goes workers allowed meaning start now output =
     Ran workers allowed meaning start now output.results.items output.lost × Knows workers now.book.log output.recent
-    × IsTally start now output.results.items output.lost output.losses
+    × IsTally start now output.results.items output.lost output.losses × IsTold workers allowed meaning start now output.results.items output.losses
 
 -- what was lost is the sum by why, or no more can be counted
 abbrev pub IsSum : WorkerOutput → Type 0
@@ -36,6 +39,25 @@ pub record CountsLinks (count : ℕ) (old new : WorkerOutput) : Type 0 where
   pub failed : new.losses.failed ≡ old.losses.failed
   pub unkept : new.losses.unkept ≡ old.losses.unkept
   pub all : IsSum old → IsSum new
+
+-- what became of these links, and exactly what was lost by it
+pub record TellsLinks (workers : ℕ) (allowed : List ℕ → Bool) (urls : List (List ℕ)) (b b' : BusyId) (old new : WorkerOutput) : Type 0 where
+  pub answers : List Answer
+  pub each : AllAnswered workers allowed b b' urls answers
+  pub losses : new.losses ≡ with_losses (flat_map losses_by answers) old.losses
+
+-- what became of the URL that was taken, and exactly what was lost by it
+pub record TellsUrl (workers : ℕ) (allowed : List ℕ → Bool) (meaning : List ℕ → Page) (b b' : BusyId) (old new : WorkerOutput) : Type 0 where
+  pub outcome : Outcome
+  pub links : GoesOn workers allowed b b' (links_of (meaning b.message.entry.url)) outcome
+  pub results : new.results.items ≡ old.results.items ++ found_at meaning b.message.entry.url outcome
+  pub losses : new.losses ≡ with_losses (losses_at outcome) old.losses
+
+-- the page is one result more, or there was no room for it
+abbrev pub HasRoomOrNot : List ℕ → Page → WorkerOutput → WorkerOutput → Type 0
+HasRoomOrNot url page old new =
+    ((new.results.items ≡ old.results.items ++ record { url = url; page = page } ∷ []) × (new.losses ≡ old.losses))
+    ⊎ ((new.results.items ≡ old.results.items) × (new.losses ≡ with_loss loss.Unkept old.losses))
 
 -- one URL more has a result, or is lost as a URL
 pub record Tallies (old new : WorkerOutput) : Type 0 where

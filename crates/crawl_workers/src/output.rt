@@ -3,8 +3,7 @@ ghost use Rattle.std.specs.Prelude.{◌≡◌, ◌⊎◌, ◌+◌, ◌-◌, ◌^
 ghost use Rattle.crawl_frontier.specs.declared.book.Logged.{Logged};
 ghost use Rattle.crawl_workers.specs.Recent.{Knows};
 ghost use Rattle.crawl_workers.specs.Losses.{no_losses, with_loss};
-ghost use Rattle.crawl_workers.specs.declared.losses.Loss.TheVariants as loss;
-ghost use Rattle.crawl_workers.specs.Turn.{Keeps, Loses, Tallies};
+ghost use Rattle.crawl_workers.specs.Turn.{HasRoomOrNot, Keeps, Loses, Tallies};
 
 use crate::losses::{Loss, Losses};
 use crate::recent::RecentUrls;
@@ -54,7 +53,7 @@ impl WorkerOutput {
         ensures kept { Keeps url.now page self.old self.new ⊎ Loses 1 self.old self.new }
         ensures recent { self.new.recent ≡ self.old.recent }
         // Its URL was fetched.
-        ensures why { (self.new.losses ≡ self.old.losses) ⊎ (self.new.losses ≡ with_loss loss.Unkept self.old.losses) }
+        ensures why { HasRoomOrNot url.now page self.old self.new }
         ensures tally { Tallies self.old self.new }
     {
         let Ok(url) = url.copy() else {

@@ -1,12 +1,12 @@
 //! One turn of a worker: it takes a URL, fetches it, offers its links, and is done.
-ghost use Rattle.std.specs.Prelude.{◌≡◌, ◌⊎◌, ◌≤◌, true, false, None, count_by, if◌then◌else◌};
+ghost use Rattle.std.specs.Prelude.{◌≡◌, ◌⊎◌, ◌≤◌, true, false, [], ◌∷◌, None, count_by, if◌then◌else◌};
 ghost use Rattle.crawl_keys.specs.HostFilter.{allows};
 ghost use Rattle.crawl_frontier.specs.Parts.{WorkerId};
 ghost use Rattle.crawl_web.specs.Pages.{links_of};
 ghost use Rattle.crawl_workers.specs.Logs.{AllLogged, HasLine};
 ghost use Rattle.crawl_workers.specs.Recent.{Knows};
 ghost use Rattle.crawl_workers.specs.Ran.{most_lost_at};
-ghost use Rattle.crawl_workers.specs.Turn.{CountsLinks, Finds, Goes, Loses, SameBusy, Tallies, worker_in};
+ghost use Rattle.crawl_workers.specs.Turn.{CountsLinks, Finds, Goes, Loses, SameBusy, Tallies, TellsLinks, TellsUrl, worker_in};
 
 use crate::losses::{Loss, loss_of};
 use crate::output::WorkerOutput;
@@ -43,6 +43,7 @@ fn is_refused<K: Name, R: Wait>(
     ensures line { Knows K.workers busy.old.worker.book.log output.old.recent → result ≡ false → allows K.filter url.old ≡ true → HasLine K.workers busy.new.worker.book.log url.old }
     ensures recent { Knows K.workers busy.old.worker.book.log output.old.recent → Knows K.workers busy.new.worker.book.log output.new.recent }
     ensures counts { CountsLinks (if result then 1 else 0) output.old output.new }
+    ensures told { Knows K.workers busy.old.worker.book.log output.old.recent → TellsLinks K.workers (allows K.filter) (url.old ∷ []) busy.old busy.new output.old output.new }
 {
     if output.recent.has(url) {
         return false;
@@ -75,6 +76,7 @@ fn offer_links<K: Name, R: Wait>(
     ensures lines { Knows K.workers busy.old.worker.book.log output.old.recent → result ≡ 0 → AllLogged K.workers (allows K.filter) busy.new.worker.book.log links.old }
     ensures recent { Knows K.workers busy.old.worker.book.log output.old.recent → Knows K.workers busy.new.worker.book.log output.new.recent }
     ensures counts { CountsLinks result output.old output.new }
+    ensures told { Knows K.workers busy.old.worker.book.log output.old.recent → TellsLinks K.workers (allows K.filter) links.old busy.old busy.new output.old output.new }
 {
     let mut refused = 0;
     for index in 0..links.len() {
@@ -100,6 +102,7 @@ fn offer_page<K: Name, R: Wait>(
     ensures lines { Knows K.workers busy.old.worker.book.log output.old.recent → result.1 ≡ 0 → AllLogged K.workers (allows K.filter) busy.new.worker.book.log (links_of page) }
     ensures recent { Knows K.workers busy.old.worker.book.log output.old.recent → Knows K.workers busy.new.worker.book.log output.new.recent }
     ensures counts { CountsLinks result.1 output.old output.new }
+    ensures told { Knows K.workers busy.old.worker.book.log output.old.recent → TellsLinks K.workers (allows K.filter) (links_of page) busy.old busy.new output.old output.new }
 {
     match page {
         Page::Found { links, skipped } => {
@@ -133,6 +136,7 @@ fn work<K: Name, F: SessionFetch, R: Wait>(
     ensures tally { Tallies output.old output.new }
     ensures finds { Knows K.workers busy.old.worker.book.log output.old.recent → Finds K.workers (allows K.filter) (F.meaning fetcher.now) busy.old.message.entry.url busy.new.worker.book.log output.old output.new ⊎ Loses (most_lost_at (allows K.filter) (links_of (F.meaning fetcher.now busy.old.message.entry.url)) None) output.old output.new }
     ensures recent { Knows K.workers busy.old.worker.book.log output.old.recent → Knows K.workers busy.new.worker.book.log output.new.recent }
+    ensures told { Knows K.workers busy.old.worker.book.log output.old.recent → TellsUrl K.workers (allows K.filter) (F.meaning fetcher.now) busy.old busy.new output.old output.new }
 {
     let Ok(page) = fetcher.fetch_in(alloc, session, busy.url()) else {
         output.lose(Loss::Failed);

@@ -20,7 +20,7 @@ const NO_PAGES: &str = "savedweb 1";
 
 const TWO_LINKS: &str = "savedweb 1\npage http://a.test/\nlink 1\nlink 2\n";
 
-const THREE_LINKS: &str = "savedweb 1\npage http://a.test/\nlink 1\nlink 2\nlink 3\n";
+pub const THREE_LINKS: &str = "savedweb 1\npage http://a.test/\nlink 1\nlink 2\nlink 3\n";
 
 const OTHER_HOST: &str = "savedweb 1\npage http://a.test/\nlink http://b.test/\nlink 1\n";
 

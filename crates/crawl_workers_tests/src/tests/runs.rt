@@ -4,7 +4,7 @@ ghost use Rattle.std.specs.Prelude.{◌≡◌};
 use crawl_frontier::{ClosedWorker, Frontier, Name, Seeder, Sender, Setup, Worker};
 use crawl_keys::{Filter, canonical};
 use crawl_web::{Fetch, PageResult};
-use crawl_workers::{WorkerEnd, run_threads, run_turns, run_worker};
+use crawl_workers::{Losses, WorkerEnd, run_threads, run_turns, run_worker};
 use std::alloc::Global;
 use std::marker::Brand;
 use std::sync::Wait;
@@ -32,6 +32,15 @@ pub struct Run<'a> {
     pub urls: &'a [&'a str],
 }
 
+pub const NOTHING_LOST: Losses = Losses {
+    failed: 0,
+    unkept: 0,
+    full: 0,
+    too_far: 0,
+    crossed: 0,
+    no_memory: 0,
+};
+
 // What all workers lost, how many results they have, and how many of these stand at their places in the run's URLs.
 pub type Found = (u64, usize, usize);
 
@@ -43,6 +52,27 @@ impl Run<'_> {
         alloc: Global,
         fetcher: &F,
     ) -> Option<Found> {
+        let (found, _) = self.ended(rt, alloc, fetcher)?;
+        Some(found)
+    }
+
+    // What all workers lost, by why, where the ends come by place and have an account.
+    pub fn losses<F: Fetch + Sync, R: Threads + Wait + Sync>(
+        self,
+        rt: &R,
+        alloc: Global,
+        fetcher: &F,
+    ) -> Option<Losses> {
+        let (_, losses) = self.ended(rt, alloc, fetcher)?;
+        Some(losses)
+    }
+
+    fn ended<F: Fetch + Sync, R: Threads + Wait + Sync>(
+        self,
+        rt: &R,
+        alloc: Global,
+        fetcher: &F,
+    ) -> Option<(Found, Losses)> {
         let filter = Filter::new(alloc, self.suffixes).ok()?;
         let setup = Setup::new(alloc, self.workers, self.max_pending).ok()?;
         found_by::<Brand, F, R>(rt, alloc, setup, &filter, self, fetcher)
@@ -56,7 +86,7 @@ fn found_by<K: Name + Send + Sync, F: Fetch + Sync, R: Threads + Wait + Sync>(
     filter: &Filter,
     run: Run<'_>,
     fetcher: &F,
-) -> Option<Found>
+) -> Option<(Found, Losses)>
     requires gate { setup.gate ≡ K.gate }
     requires workers { setup.workers ≡ K.workers }
     requires queues { setup.queues ≡ K.queues }
@@ -65,9 +95,10 @@ fn found_by<K: Name + Send + Sync, F: Fetch + Sync, R: Threads + Wait + Sync>(
     let (frontier, workers, seeder) = Frontier::<K>::new(alloc, setup, filter).ok()?;
     let sender = seeded(rt, alloc, &frontier, seeder, run.seeds);
     let ends = run_by(rt, alloc, &frontier, workers, run.how, fetcher);
-    let found = found_in(&ends, run);
+    let found = found_in(&ends, run)?;
+    let losses = losses_in(&ends);
     if finishes(rt, alloc, frontier, sender, ends) {
-        found
+        Some((found, losses))
     } else {
         None
     }
@@ -165,6 +196,28 @@ fn found_in<K: Name>(ends: &[WorkerEnd<K>], run: Run<'_>) -> Option<Found> {
         results = results.saturating_add(end.results.len());
     }
     Some((lost, results, listed))
+}
+
+// What all of them lost.
+fn losses_in<K: Name>(ends: &[WorkerEnd<K>]) -> Losses {
+    let mut all = NOTHING_LOST;
+    for end in ends {
+        let Losses {
+            failed,
+            unkept,
+            full,
+            too_far,
+            crossed,
+            no_memory,
+        } = end.losses;
+        all.failed = all.failed.saturating_add(failed);
+        all.unkept = all.unkept.saturating_add(unkept);
+        all.full = all.full.saturating_add(full);
+        all.too_far = all.too_far.saturating_add(too_far);
+        all.crossed = all.crossed.saturating_add(crossed);
+        all.no_memory = all.no_memory.saturating_add(no_memory);
+    }
+    all
 }
 
 // Whether the frontier has an account, by threads where there was more than one worker.

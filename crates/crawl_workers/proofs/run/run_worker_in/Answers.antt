@@ -1,4 +1,5 @@
 use Rattle.crawl_keys.specs.HostFilter.{allows}
+use Rattle.crawl_workers.proofs.Outcomes.{told_nothing}
 use Rattle.crawl_workers.proofs.Running.{ran_nothing}
 use Rattle.crawl_workers.proofs.Tallies.{tally_none}
 use Rattle.crawl_workers.proofs.run.run_worker_in.Goals as goal
@@ -11,6 +12,7 @@ loop-init g c =
         rw (new.nothing.0, new.nothing.1) (ran_nothing g.K.Name.workers (allows g.K.Name.filter) (g.F.SessionFetch.meaning c.args.fetcher.now) c.args.worker),
         new.recent g.K.Name.workers _,
         rw (new.nothing.0, new.nothing.1, new.losses) (tally_none c.args.worker),
+        rw (new.nothing.0, new.losses) (told_nothing g.K.Name.workers (allows g.K.Name.filter) (g.F.SessionFetch.meaning c.args.fetcher.now) c.args.worker),
       ),
     )
 

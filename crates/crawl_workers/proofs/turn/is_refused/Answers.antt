@@ -1,5 +1,7 @@
-use Rattle.std.proofs.Common.{refl, sym, subst}
+use Rattle.std.proofs.Common.{Ok, Err, refl, sym, subst}
+use Rattle.crawl_keys.specs.HostFilter.{allows}
 use Rattle.crawl_workers.specs.Logs.{HasLine}
+use Rattle.crawl_workers.proofs.Outcomes.{told_known, told_offer, lost_as, lost_none}
 use Rattle.crawl_workers.proofs.Running.{offer_grows, offer_line, knows_on}
 use Rattle.crawl_workers.proofs.Tallies.{counts_one, counts_none, link_of}
 use Rattle.crawl_workers.proofs.turn.is_refused.Goals as goal
@@ -28,3 +30,24 @@ returns-in-Err-Filtered-clause-counts g c = counts_none _ _ refl refl refl
 pub returns-in-Err-clause-counts : goal.returns-in-Err-clause-counts
 returns-in-Err-clause-counts g c =
     counts_one c.loss_of.result _ _ (link_of c.in-Err.refused c.loss_of.result c.loss_of.ensures) c.lose.ensures.same c.lose.ensures.lost c.lose.ensures.losses
+
+pub returns-then-has-clause-told : goal.returns-then-has-clause-told
+returns-then-has-clause-told g c = λ known.
+    told_known g.K.Name.workers (allows g.K.Name.filter) _ _ _ (c.has.ensures.line g.K.Name.workers _ known c.if-has.true)
+
+pub returns-in-Ok-clause-told : goal.returns-in-Ok-clause-told
+returns-in-Ok-clause-told g c = λ _.
+    let is = c.in-Ok.ensures in
+    told_offer g.K.Name.workers (allows g.K.Name.filter) _ _ c.has.new.url c.args.url.now (Ok c.in-Ok.field-0) _ _ c.has.ensures.url is.books is.words is.filtered is.entry is.same refl
+
+pub returns-in-Err-Filtered-clause-told : goal.returns-in-Err-Filtered-clause-told
+returns-in-Err-Filtered-clause-told g c = λ _.
+    let is = c.in-Err-Filtered.ensures in
+    told_offer g.K.Name.workers (allows g.K.Name.filter) _ _ c.has.new.url c.args.url.now (Err c.in-Err-Filtered.field-0) _ _ c.has.ensures.url is.books is.words is.filtered is.entry is.same
+    (lost_none c.in-Err-Filtered.field-0 c.args.output.now.losses c.in-Err-Filtered.field-0-is)
+
+pub returns-in-Err-clause-told : goal.returns-in-Err-clause-told
+returns-in-Err-clause-told g c = λ _.
+    let is = c.in-Err.ensures in
+    told_offer g.K.Name.workers (allows g.K.Name.filter) _ _ c.has.new.url c.args.url.now (Err c.in-Err.refused) _ _ c.has.ensures.url is.books is.words is.filtered is.entry is.same
+    (lost_as c.in-Err.refused c.loss_of.result c.args.output.now c.lose.new.self c.loss_of.ensures c.lose.ensures.losses)

@@ -1,14 +1,30 @@
-use Rattle.std.proofs.Common.{◌≡◌, ◌+◌, true, false, arith, take, sym, subst, ◌∙◌, slice_index_or}
+use Rattle.std.proofs.Common.{◌≡◌, ℕ, ◌+◌, true, false, List, [], ◌∷◌, IsTrue, refl, arith, take, sym, subst, ◌∙◌, slice_index_or}
 use Rattle.std.specs.Bool.{if◌then◌else◌}
 use Rattle.std.proofs.lemmas.List.{take_more}
+use Rattle.std.proofs.lemmas.List.Elements.{All-nil}
 use Rattle.std.proofs.lemmas.List.Sums.{count_by_more_yes}
 use Rattle.crawl_keys.specs.HostFilter.{allows}
 use Rattle.crawl_workers.specs.Logs.{HasLine}
-use Rattle.crawl_workers.specs.Turn.{CountsLinks}
-use Rattle.crawl_workers.proofs.Running.{busy_on, all_logged_more, unchanged_at, is_allowed, count_more}
-use Rattle.crawl_workers.proofs.Tallies.{counts_on}
+use Rattle.crawl_workers.specs.Turn.{CountsLinks, TellsLinks}
+use Rattle.crawl_workers.proofs.Outcomes.{told_no_link, told_on}
+use Rattle.crawl_workers.proofs.Running.{grows_same, busy_on, all_logged_more, unchanged_at, is_allowed, count_more}
+use Rattle.crawl_workers.proofs.Tallies.{counts_none, counts_on}
 use Rattle.crawl_workers.proofs.turn.offer_links.Goals.{then-is_refused, else-is_refused}
 use Rattle.crawl_workers.proofs.turn.offer_links.Goals as goal
+
+pub loop-index-init : goal.loop-index-init
+loop-index-init g c = (
+  omega arith,
+  record { entry = refl; worker = refl; grows = grows_same _ _ refl },
+  λ known. (
+    λ _. All-nil (λ (url : List ℕ). IsTrue (allows g.K.Name.filter url) → HasLine g.K.Name.workers c.args.busy.now.worker.book.log url),
+    known,
+    told_no_link g.K.Name.workers (allows g.K.Name.filter) c.args.busy.now c.args.output.now,
+  ),
+  refl,
+  omega arith,
+  counts_none _ _ refl refl refl,
+)
 
 pub loop-index-preserved : goal.loop-index-preserved
 loop-index-preserved g c =
@@ -33,6 +49,9 @@ loop-index-preserved g c =
                   (subst (λ ls. allows g.K.Name.filter (slice_index_or ls i x) ≡ true → HasLine g.K.Name.workers log (slice_index_or ls i x)) inv.3 (c.is_refused.ensures.line before.1 w.if-is_refused.false)))
             ],
             c.is_refused.ensures.recent before.1,
+            rw (take_more links i x c.loop-index-test.true)
+                (told_on g.K.Name.workers (allows g.K.Name.filter) (take i links) (slice_index_or links i x ∷ []) _ _ _ _ _ _ before.2
+                (subst (λ (ls : List (List ℕ)). TellsLinks g.K.Name.workers (allows g.K.Name.filter) (slice_index_or ls i x ∷ []) c.loop-index.busy c.is_refused.new.busy c.loop-index.output c.is_refused.new.output) inv.3 (c.is_refused.ensures.told before.1))),
           ),
       unchanged_at c.loop-index.links i x c.is_refused.new.url c.is_refused.ensures.url ∙ inv.3,
       elim c.if-is_refused.branch [
