@@ -1,5 +1,5 @@
 -- From the ends of a run's workers to what the run left: its workers, its results, and what it lost.
-use Rattle.std.proofs.Common.{◌≡◌, ◌⊎◌, inl, inr, ℕ, ◌+◌, ◌-◌, ◌^◌, ◌<◌, ◌≤◌, min, Bool, true, false, true≢false, List, [], ◌∷◌, ◌++◌, map, refl, sym, ap, subst, ◌∙◌, arith, Option, Some, None, Result, Ok, Err, IfOk}
+use Rattle.std.proofs.Common.{◌≡◌, ◌⊎◌, inl, inr, ℕ, ◌+◌, ◌-◌, ◌^◌, ◌<◌, ◌≤◌, min, Bool, true, false, true≢false, List, [], ◌∷◌, ◌++◌, map, refl, sym, ap, subst, ◌∙◌, arith, Option, Some, Result, Ok, Err, IfOk}
 use Rattle.std.proofs.lemmas.Bool.{cases_lt}
 use Rattle.std.proofs.lemmas.List.{append_assoc, take_all}
 use Rattle.std.proofs.lemmas.List.Elements.{All-nil, All-cons, All-head, All-tail}
@@ -28,7 +28,7 @@ use Rattle.crawl_workers.specs.Ran.{Ran}
 use Rattle.crawl_workers.specs.Runs.{AllRan}
 use Rattle.crawl_workers.specs.declared.losses.Losses.{Losses}
 use Rattle.crawl_workers.specs.declared.worker_end.WorkerEnd.{WorkerEnd}
-use Rattle.mercator.specs.Crawls.{IsUncertified, of_cert}
+use Rattle.mercator.specs.Crawls.{IsUncertified, losses_at, of_cert}
 use Rattle.mercator.specs.Losses.{IsLost, both_losses, losses_with, sum, with_refusal}
 use Rattle.mercator.specs.LosslessRuns.{IsWithoutLoss, Share, all_closed, all_found}
 use Rattle.mercator.specs.declared.crawling.gather.Ran as left
@@ -168,10 +168,10 @@ cause_lost allowed seeds entries results cause losses lacks first = tt
 
 -- so the culprit of a run in which nothing was lost tells nothing that is missing
 pub culprit_lost : (allowed : List ℕ → Bool) (seeds : List (List ℕ)) (entries : List Entry) (results : List PageResult) (culprit : Culprit) (losses : Losses) → LacksNothing allowed seeds entries results losses
-    → IsCulprit (first_fault allowed seeds entries results) (is_at_fault allowed seeds entries results) culprit ⊎ (culprit ≡ no_memory) → IsLost (of_cert culprit.cause) losses
+    → IsCulprit (first_fault allowed seeds entries results) (is_at_fault allowed seeds entries results) culprit ⊎ (culprit ≡ no_memory) → IsLost (of_cert culprit.cause) (losses_at culprit.url losses)
 culprit_lost allowed seeds entries results culprit losses lacks told = elim told [
-  | inl found ↦ cause_lost allowed seeds entries results culprit.cause losses lacks found.cause
-  | inr memory ↦ subst (λ (c : Culprit). IsLost (of_cert c.cause) losses) (sym memory) tt
+  | inl found ↦ subst (λ (url : Option (List ℕ)). IsLost (of_cert culprit.cause) (losses_at url losses)) (sym found.named) (cause_lost allowed seeds entries results culprit.cause losses lacks found.cause)
+  | inr memory ↦ subst (λ (c : Culprit). IsLost (of_cert c.cause) (losses_at c.url losses)) (sym memory) tt
 ]
 
 -- an error without a certificate tells nothing that is missing

@@ -1,5 +1,7 @@
 pub mod CrawlTexts
 pub mod EndedRuns
+pub mod JudgedRuns
+pub mod LostUrls
 pub mod PlanTexts
 pub mod PlainTexts
 pub mod RunResults

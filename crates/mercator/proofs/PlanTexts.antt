@@ -15,9 +15,11 @@ use Rattle.mercator.specs.Crawls.{AreCounts}
 use Rattle.crawl_keys.specs.HostFilter.{allows, filter_of, is_good}
 use Rattle.mercator.specs.Plans.{is_bad_suffix, is_input, known_bytes, known_seeds, lists_input, suffixes_of}
 use Rattle.mercator.specs.Ending.{EndsByText}
+use Rattle.crawl_workers.specs.Losses.{no_losses}
+use Rattle.crawl_workers.specs.declared.losses.Losses.{Losses}
 use Rattle.mercator.specs.Limits.{most_input_bytes}
-use Rattle.mercator.specs.Told.{AreFiles, AskForOneReport, AskForOneText, Explains, ExplainsCrawl, FailsCrawl, Gains, IsTold, OfFile, OfFiles}
-use Rattle.mercator.specs.WebCrawl.{AreUnreached, IsBegun, IsCrawlText, IsFound, IsNamedAt, IsTextOf, IsUnbegun, printed_with}
+use Rattle.mercator.specs.Told.{AreFiles, AskForOneReport, AskForOneText, Counts, CountsCrawl, Explains, ExplainsCrawl, FailsCrawl, Gains, IsTold, OfFile, OfFiles}
+use Rattle.mercator.specs.WebCrawl.{AreUnreached, IsBegun, IsCountedAt, IsCrawlText, IsFound, IsNamedAt, IsTextOf, IsUnbegun, printed_with}
 use Rattle.mercator.specs.declared.commands.planned.CrawlOptions.{CrawlOptions}
 use Rattle.mercator.specs.declared.commands.tell.Inputs.{Inputs}
 use Rattle.mercator.specs.declared.commands.tell.WebFound.{WebFound}
@@ -227,6 +229,28 @@ pub explains_files : (within : Option (String Global)) (file : List ℕ) (listed
     → IfErr result (λ failure. IsNamedAt inputs.bytes.items inputs.list.items texts inputs.filter failure.fault failure.culprit) → IfErr result (λ failure. ExplainsCrawl within file listed texts input failure.fault failure.culprit)
 explains_files within file listed texts input inputs (Ok found) is are at = tt
 explains_files within file listed texts input inputs (Err failure) is are at = explained within file listed texts input inputs.bytes.items inputs.list.items inputs.filter failure.fault failure.culprit is are at
+
+-- with what was lost, where it names one
+counted : (workers : ℕ) (within : Option (String Global)) (file : List ℕ) (listed : Option (String Global)) (texts : List (List ℕ)) (input : Option (List ℕ)) (bytes list : List ℕ) (filter : List (List ℕ)) (fault : Fault) (culprit : Option (List ℕ)) (losses : Losses) → filter ≡ suffixes_of within
+    → AreFiles file listed input bytes list → IsCountedAt workers bytes list texts filter fault culprit losses → CountsCrawl workers within file listed texts input fault culprit losses
+counted workers within file listed texts input bytes list filter fault None losses is are at = at
+counted workers within file listed texts input bytes list filter fault (Some url) losses is are at =
+    of_files file listed input bytes list (λ bytes list. IsCountedAt workers bytes list texts (suffixes_of within) fault (Some url) losses) are (subst (λ s. IsCountedAt workers bytes list texts s fault (Some url) losses) is at)
+
+pub counts_files : (workers : ℕ) (within : Option (String Global)) (file : List ℕ) (listed : Option (String Global)) (texts : List (List ℕ)) (input : Option (List ℕ)) (inputs : Inputs) (result : Result WebFound Failure) → inputs.filter ≡ suffixes_of within → AreFiles file listed input inputs.bytes.items inputs.list.items
+    → IfErr result (λ failure. IsCountedAt workers inputs.bytes.items inputs.list.items texts inputs.filter failure.fault failure.culprit failure.losses) → IfErr result (λ failure. CountsCrawl workers within file listed texts input failure.fault failure.culprit failure.losses)
+counts_files workers within file listed texts input inputs (Ok found) is are at = tt
+counts_files workers within file listed texts input inputs (Err failure) is are at =
+    counted workers within file listed texts input inputs.bytes.items inputs.list.items inputs.filter failure.fault failure.culprit failure.losses is are at
+
+-- nothing is lost where no URL is named
+none_counted : (plan : Plan) (input : Option (List ℕ)) (fault : Fault) → Counts plan input fault None no_losses
+none_counted (asks.Crawl workers max queues file seeds within options) input fault = refl
+none_counted plan input fault = refl
+
+pub ends_without_loss : (plan : Plan) (input : Option (List ℕ)) (how : Result (Unit {0}) Fault) → IfErr how (λ fault. Counts plan input fault None no_losses)
+ends_without_loss plan input (Ok done) = tt
+ends_without_loss plan input (Err fault) = none_counted plan input fault
 
 -- what is told whole is written without a URL
 pub written_at_none : (plan : Plan) (input : Option (List ℕ)) → Explains plan input wrong.CannotWrite None

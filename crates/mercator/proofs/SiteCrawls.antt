@@ -14,8 +14,9 @@ use Rattle.std.specs.Str.Lines.{lines}
 use Rattle.crawl_web.specs.WebFaults.{IsSound}
 use Rattle.mercator.specs.Crawls.{AreCounts, IsFaultAt, IsJudgedAt}
 use Rattle.crawl_workers.specs.declared.losses.Losses.{Losses}
+use Rattle.mercator.specs.JudgedRuns.{CountsLosses}
 use Rattle.mercator.specs.Losses.{IsLost}
-use Rattle.mercator.specs.WebCrawl.{AreAllSeeds, IsFound, IsLostAt, IsNamedAt, IsSiteCrawl, IsSiteFault, IsCrawlReport, IsUnread}
+use Rattle.mercator.specs.WebCrawl.{AreAllSeeds, IsFound, IsCountedAt, IsLostAt, IsNamedAt, IsSiteCrawl, IsSiteFault, IsCrawlReport, IsUnread}
 use Rattle.mercator.specs.Faults.{of_crawl}
 use Rattle.mercator.specs.declared.commands.fault.Fault.{Fault}
 use Rattle.mercator.specs.declared.commands.fault.Fault.TheVariants as wrong
@@ -102,3 +103,17 @@ pub lost_at : (error : CrawlError) (culprit : Option (List ℕ)) (losses : Losse
 lost_at error None losses is = tt
 lost_at crawl.NoMemory (Some url) losses is = tt
 lost_at error (Some url) losses is = is
+
+-- what a crawl of a saved web lost, as a command tells it
+pub counted_of : (workers : ℕ) (bytes listed : List ℕ) (texts suffixes : List (List ℕ)) (meaning : List ℕ → Page) (seeds : List (List ℕ)) (error : CrawlError) (culprit : Option (List ℕ)) (losses : Losses) → IsSound (lines bytes) → ((url : List ℕ) → meaning url ≡ page_of (lines bytes) url)
+    → AreAllSeeds listed texts seeds → CountsLosses workers (allows suffixes) meaning seeds error culprit losses → IsCountedAt workers bytes listed texts suffixes (of_crawl error) culprit losses
+counted_of workers bytes listed texts suffixes meaning seeds error None losses sound same named counted = counted
+counted_of workers bytes listed texts suffixes meaning seeds (crawl.Cert error) (Some url) losses sound same named counted =
+    let both : meaning ≡ page_of (lines bytes) = λ i url. same url i in
+    record {
+      sound = sound;
+      seeds = seeds;
+      named = named;
+      counted = subst (λ m. CountsLosses workers (allows suffixes) m seeds (crawl.Cert error) (Some url) losses) both counted;
+    }
+counted_of workers bytes listed texts suffixes meaning seeds error (Some url) losses sound same named counted = absurd counted

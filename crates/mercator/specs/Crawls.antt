@@ -21,6 +21,7 @@ use Rattle.crawl_web.specs.declared.page.PageResult.{PageResult}
 use Rattle.crawl_workers.specs.Losses.{no_losses}
 use Rattle.crawl_workers.specs.declared.error.RunError.{RunError}
 use Rattle.crawl_workers.specs.declared.error.RunError.TheVariants as run
+use Rattle.crawl_workers.specs.declared.losses.Losses.{Losses}
 use Rattle.crawl_workers.specs.declared.worker_end.WorkerEnd.{WorkerEnd}
 use Rattle.mercator.specs.declared.crawling.Mode.{Mode}
 use Rattle.mercator.specs.declared.crawling.Mode.TheVariants.{Threads}
@@ -107,6 +108,11 @@ IsJudgedAt meaning allowed seeds error (Some url) = ⊥
 -- told with no URL
 abbrev pub without_url : CrawlError → CrawlFailure
 without_url error = record { error = error; culprit = None; losses = no_losses }
+
+-- what is told as lost: nothing, where no URL is named
+abbrev pub losses_at : Option (List ℕ) → Losses → Losses
+losses_at None losses = no_losses
+losses_at (Some url) losses = losses
 
 -- a fault of a certificate that is told is such a one
 abbrev pub IsJudged : (List ℕ → Page) → (List ℕ → Bool) → List (List ℕ) → CrawlError → Type 0

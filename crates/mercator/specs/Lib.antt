@@ -4,6 +4,7 @@ pub mod Ending
 pub mod FaultText
 pub mod Faults
 pub mod Input
+pub mod JudgedRuns
 pub mod KeyLine
 pub mod Limits
 pub mod LogFile

@@ -1,9 +1,10 @@
 -- What a crawl lost: what its seeds and its workers did, together.
-use Rattle.std.specs.Prelude.{ℕ, ◌+◌, ◌-◌, ◌^◌, ◌≤◌, min, List, [], ◌∷◌}
+use Rattle.std.specs.Prelude.{ℕ, ◌+◌, ◌-◌, ◌^◌, ◌≤◌, min, List, [], ◌∷◌, Option, Some, None}
+use Rattle.std.specs.List.{sum_by}
 use Rattle.crawl_certificate.specs.declared.error.CertError.TheVariants as cert
 use Rattle.crawl_frontier.specs.declared.error.OfferError.{OfferError}
 use Rattle.crawl_frontier.specs.declared.error.OfferError.TheVariants as refused
-use Rattle.crawl_workers.specs.Losses.{all_losses, one_more}
+use Rattle.crawl_workers.specs.Losses.{all_losses, no_losses, one_more}
 use Rattle.crawl_workers.specs.declared.losses.Losses.{Losses}
 use Rattle.crawl_workers.specs.declared.worker_end.WorkerEnd.{WorkerEnd}
 use Rattle.mercator.specs.declared.crawling.error.CrawlError.{CrawlError}
@@ -36,6 +37,22 @@ both_losses a b = record {
 abbrev pub losses_with : {K : _} → Losses → List (WorkerEnd K) → Losses
 losses_with before [] = before
 losses_with before (e ∷ es) = losses_with (both_losses before e.losses) es
+
+-- what a seed loses whose offer was refused so, or was not refused
+abbrev pub lost_seed : Option OfferError → Losses
+lost_seed None = no_losses
+lost_seed (Some refusal) = with_refusal refusal no_losses
+
+-- all of these together: each count is the sum, up to the greatest
+abbrev pub together : List Losses → Losses
+together all = record {
+  failed = min (sum_by (λ (l : Losses). l.failed) all) (2 ^ 64 - 1);
+  unkept = min (sum_by (λ (l : Losses). l.unkept) all) (2 ^ 64 - 1);
+  full = min (sum_by (λ (l : Losses). l.full) all) (2 ^ 64 - 1);
+  too_far = min (sum_by (λ (l : Losses). l.too_far) all) (2 ^ 64 - 1);
+  crossed = min (sum_by (λ (l : Losses). l.crossed) all) (2 ^ 64 - 1);
+  no_memory = min (sum_by (λ (l : Losses). l.no_memory) all) (2 ^ 64 - 1);
+}
 
 -- what is missing was lost: a fault of a seed, a page or a link that is missing comes with a loss at least
 abbrev pub IsLost : CrawlError → Losses → Type 0

@@ -1,9 +1,10 @@
--- A run of all workers in which nothing is lost.
+-- A run of all workers, and one in which nothing is lost.
 use Rattle.std.specs.Prelude.{◌≡◌, ℕ, Bool, List, [], ◌∷◌, ◌++◌}
 use Rattle.crawl_frontier.specs.Parts.{WorkerId}
 use Rattle.crawl_web.specs.declared.page.Page.{Page}
 use Rattle.crawl_web.specs.declared.page.PageResult.{PageResult}
 use Rattle.crawl_workers.specs.Ran.{Ran}
+use Rattle.crawl_workers.specs.declared.losses.Losses.{Losses}
 use Rattle.crawl_workers.specs.declared.worker_end.WorkerEnd.{WorkerEnd}
 
 -- what one worker did: how it began, how it ended, and what it found
@@ -12,7 +13,7 @@ pub record Share : Type 0 where
   pub now : WorkerId
   pub found : List PageResult
 
--- the workers that ended so, and what all of them found, in their order
+-- the workers that ended so, what all of them found, and what each lost, in their order
 abbrev pub all_closed : {K : _} → List (WorkerEnd K) → List WorkerId
 all_closed [] = []
 all_closed (e ∷ es) = e.closed ∷ all_closed es
@@ -20,6 +21,10 @@ all_closed (e ∷ es) = e.closed ∷ all_closed es
 abbrev pub all_found : {K : _} → List (WorkerEnd K) → List PageResult
 all_found [] = []
 all_found (e ∷ es) = e.results.items ++ all_found es
+
+abbrev pub all_lost : {K : _} → List (WorkerEnd K) → List Losses
+all_lost [] = []
+all_lost (e ∷ es) = e.losses ∷ all_lost es
 
 -- it had taken nothing before, and lost nothing
 abbrev pub IsWithoutLoss : ℕ → (List ℕ → Bool) → (List ℕ → Page) → Share → Type 0

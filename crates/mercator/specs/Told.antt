@@ -17,8 +17,9 @@ use Rattle.crawl_session.specs.Settings.{Settings}
 use Rattle.crawl_session.specs.declared.part.Part.{Part}
 use Rattle.crawl_core.specs.State.{start}
 use Rattle.std.specs.Str.Lines.{lines}
+use Rattle.crawl_workers.specs.Losses.{no_losses}
 use Rattle.crawl_workers.specs.declared.losses.Losses.{Losses}
-use Rattle.mercator.specs.WebCrawl.{IsAtNone, IsBegun, IsCrawlText, IsLostAt, IsNamedAt, IsUnbegun}
+use Rattle.mercator.specs.WebCrawl.{IsAtNone, IsBegun, IsCountedAt, IsCrawlText, IsLostAt, IsNamedAt, IsUnbegun}
 use Rattle.mercator.specs.declared.commands.planned.CrawlOptions.{CrawlOptions}
 use Rattle.mercator.specs.declared.commands.planned.Plan.{Plan}
 use Rattle.mercator.specs.declared.commands.planned.SessionPlan.{SessionPlan}
@@ -108,6 +109,11 @@ abbrev pub ExplainsCrawl : Option (String Global) → List ℕ → Option (Strin
 ExplainsCrawl within file listed seeds input fault None = IsAtNone fault
 ExplainsCrawl within file listed seeds input fault (Some url) = OfFiles file listed input (λ bytes list. IsNamedAt bytes list seeds (suffixes_of within) fault (Some url))
 
+-- what a crawl of so many workers lost, where it fails at a URL, by the bytes of its files
+abbrev pub CountsCrawl : ℕ → Option (String Global) → List ℕ → Option (String Global) → List (List ℕ) → Option (List ℕ) → Fault → Option (List ℕ) → Losses → Type 0
+CountsCrawl workers within file listed seeds input fault None losses = losses ≡ no_losses
+CountsCrawl workers within file listed seeds input fault (Some url) losses = OfFiles file listed input (λ bytes list. IsCountedAt workers bytes list seeds (suffixes_of within) fault (Some url) losses)
+
 -- why a key is not told: the text has no canonical URL, by this refusal; or want of memory
 abbrev pub FailsKey : List ℕ → Fault → Type 0
 FailsKey url (wrong.Url refusal) = canonical url ≡ Err refusal
@@ -171,6 +177,12 @@ Explains (asks.Crawl workers max queues file seeds within options) input fault c
     ExplainsCrawl within (string_bytes file) options.listed (map string_bytes seeds.items) input fault culprit
 Explains plan input fault culprit = culprit ≡ None
 
+-- what the plan's command lost that ends by this fault; a crawl alone loses something
+abbrev pub Counts : Plan → Option (List ℕ) → Fault → Option (List ℕ) → Losses → Type 0
+Counts (asks.Crawl workers max queues file seeds within options) input fault culprit losses =
+    CountsCrawl workers within (string_bytes file) options.listed (map string_bytes seeds.items) input fault culprit losses
+Counts plan input fault culprit losses = losses ≡ no_losses
+
 -- a writer that held the old bytes gained the plan's text, where it says what it holds
 pub record Gains (plan : Plan) (input old new : Option (List ℕ)) : Type 0 where
   pub text : List ℕ
@@ -207,6 +219,7 @@ pub record EndsByFault (plan : Plan) (ended : ℕ) (input err_old err_new : Opti
   pub named : Explains plan input fault culprit
   pub losses : Losses
   pub lost : IsLostAt fault culprit losses
+  pub counted : Counts plan input fault culprit losses
   pub told : TellsFault plan err_old err_new (told_lines plan fault culprit losses)
   pub why : EndsBy plan input fault Unwritten
 

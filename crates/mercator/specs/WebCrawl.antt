@@ -22,7 +22,9 @@ use Rattle.crawl_certificate.specs.Certificate.{IsCrawl, result_urls}
 use Rattle.crawl_certificate.specs.declared.error.CertError.{CertError}
 use Rattle.crawl_keys.specs.HostFilter.{allows}
 use Rattle.mercator.specs.Crawls.{AreCounts, ComesIn, CrawlFails, IsFaultAt, NamesNone}
+use Rattle.crawl_workers.specs.Losses.{no_losses}
 use Rattle.crawl_workers.specs.declared.losses.Losses.{Losses}
+use Rattle.mercator.specs.JudgedRuns.{IsLossAt}
 use Rattle.mercator.specs.Losses.{IsLost}
 use Rattle.mercator.specs.declared.crawling.Crawled.{Crawled}
 use Rattle.mercator.specs.declared.crawling.Mode.{Mode}
@@ -100,6 +102,13 @@ pub record IsSiteFault (bytes listed : List ℕ) (texts suffixes : List (List �
   pub named : AreAllSeeds listed texts seeds
   pub fault : IsFaultAt (page_of (lines bytes)) (allows suffixes) seeds error url
 
+-- the bytes are a saved web, and a run of so many workers over it from the seeds lost so much and has this fault at this URL
+pub record IsSiteLoss (workers : ℕ) (bytes listed : List ℕ) (texts suffixes : List (List ℕ)) (error : CertError) (url : List ℕ) (losses : Losses) : Type 0 where
+  pub sound : IsSound (lines bytes)
+  pub seeds : List (List ℕ)
+  pub named : AreAllSeeds listed texts seeds
+  pub counted : IsLossAt workers (allows suffixes) (page_of (lines bytes)) seeds error url losses
+
 -- a fault that is told with no URL
 abbrev pub IsAtNone : Fault → Type 0
 IsAtNone (wrong.Crawl error) = NamesNone error
@@ -116,6 +125,12 @@ abbrev pub IsNamedAt : List ℕ → List ℕ → List (List ℕ) → List (List 
 IsNamedAt bytes listed texts suffixes fault None = IsAtNone fault
 IsNamedAt bytes listed texts suffixes (wrong.Crawl (crawl.Cert error)) (Some url) = IsSiteFault bytes listed texts suffixes error url
 IsNamedAt bytes listed texts suffixes fault (Some url) = ⊥
+
+-- a fault of the certificate is told with what its run lost, and another fault with no losses
+abbrev pub IsCountedAt : ℕ → List ℕ → List ℕ → List (List ℕ) → List (List ℕ) → Fault → Option (List ℕ) → Losses → Type 0
+IsCountedAt workers bytes listed texts suffixes fault None losses = losses ≡ no_losses
+IsCountedAt workers bytes listed texts suffixes (wrong.Crawl (crawl.Cert error)) (Some url) losses = IsSiteLoss workers bytes listed texts suffixes error url losses
+IsCountedAt workers bytes listed texts suffixes fault (Some url) losses = ⊥
 
 -- a fault of a crawl in this mode
 abbrev pub ComesOf : Mode → Fault → Type 0

@@ -7,7 +7,7 @@ ghost use Rattle.mercator.specs.Faults.{status_of_fault};
 ghost use Rattle.mercator.specs.Plans.{IsShown, IsWithinLimits, has_log, reads_input};
 ghost use Rattle.crawl_workers.specs.Losses.{no_losses};
 ghost use Rattle.mercator.specs.WebCrawl.{IsLostAt};
-ghost use Rattle.mercator.specs.Told.{CannotTell, EndsBy, EndsByFault, Explains, FailsWithoutPlan, Gains, IsDoneWithNote, MayLose, MayNote, TellsWords};
+ghost use Rattle.mercator.specs.Told.{CannotTell, Counts, EndsBy, EndsByFault, Explains, FailsWithoutPlan, Gains, IsDoneWithNote, MayLose, MayNote, TellsWords};
 ghost use Rattle.mercator.specs.declared.commands.planned.Plan.{Plan};
 ghost use Rattle.mercator.specs.declared.commands.words.PlanError.{PlanError};
 ghost use Rattle.mercator.specs.declared.commands.fault.Fault.TheVariants as wrong;
@@ -246,6 +246,7 @@ fn run<
     ensures fault { IfErr result.how (λ fault. EndsBy plan.now (I.remaining input.old) fault (out.new ≡ out.old)) }
     ensures named { IfErr result.how (λ fault. Explains plan.now (I.remaining input.old) fault result.culprit) }
     ensures lost { IfErr result.how (λ fault. IsLostAt fault result.culprit result.losses) }
+    ensures counted { IfErr result.how (λ fault. Counts plan.now (I.remaining input.old) fault result.culprit result.losses) }
     ensures refused { CannotTell plan.now (I.remaining input.old) → IfErr result.how (λ fault. status_of_fault fault ≡ 1) × IsErr result.how × (out.new ≡ out.old) }
     ensures incomplete { IfErr result.how (λ fault. status_of_fault fault ≡ 2 → MayLose plan.now (I.remaining input.old) × (out.new ≡ out.old)) }
     ensures unread { reads_input plan.now ≡ false → input.new ≡ input.old }

@@ -5,6 +5,7 @@ ghost use Rattle.crawl_frontier.specs.Limits.{IsWorkers};
 ghost use Rattle.crawl_gate.specs.GateError.{IsMaximum};
 ghost use Rattle.crawl_keys.specs.HostFilter.{allows};
 ghost use Rattle.mercator.specs.Crawls.{AreCounts, ComesIn, CrawlFails, IsJudged, IsJudgedAt};
+ghost use Rattle.mercator.specs.JudgedRuns.{CountsLosses};
 ghost use Rattle.mercator.specs.Losses.{IsLost};
 
 mod certified;
@@ -134,6 +135,8 @@ pub fn crawl_explained<F: SessionFetch + Sync, R: Threads + Wait + Sync>(
     ensures judged { IfErr result (λ failure. IsJudgedAt (F.meaning fetcher.now) (allows settings.now.filter.now) seeds.now failure.error failure.culprit) }
     // A seed, a page or a link that is missing was lost.
     ensures lost { IfErr result (λ failure. IsLost failure.error failure.losses) }
+    // Of each kind as much as seeds and workers lost together in a run that has this fault at this URL; with no URL, nothing.
+    ensures counted { IfErr result (λ failure. CountsLosses settings.now.workers (allows settings.now.filter.now) (F.meaning fetcher.now) seeds.now failure.error failure.culprit failure.losses) }
 {
     match Setup::new(alloc, settings.workers, settings.max_pending) {
         Ok(setup) => crawl_named::<Brand, F, R>(rt, alloc, setup, fetcher, settings, seeds),
@@ -160,6 +163,7 @@ pub fn crawl_watched<F: SessionFetch + Sync, V: Observe + Sync, R: Threads + Wai
     // A fault of the certificate is the first one of some entries and of results that have the fetcher's pages, and no lesser URL has it.
     ensures judged { IfErr result (λ failure. IsJudgedAt (F.meaning fetcher.now) (allows settings.now.filter.now) seeds.now failure.error failure.culprit) }
     ensures lost { IfErr result (λ failure. IsLost failure.error failure.losses) }
+    ensures counted { IfErr result (λ failure. CountsLosses settings.now.workers (allows settings.now.filter.now) (F.meaning fetcher.now) seeds.now failure.error failure.culprit failure.losses) }
 {
     let source = Watched::new(fetcher, observer);
     crawl_explained(rt, alloc, &source, settings, seeds)

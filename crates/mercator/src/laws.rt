@@ -1,5 +1,5 @@
 //! Laws over the definitions of the crates below, together. None does anything when it is called.
-ghost use Rattle.std.specs.Prelude.{◌≡◌, ℕ, List, map, Some, ◌<◌, Bool, false};
+ghost use Rattle.std.specs.Prelude.{◌≡◌, ℕ, ◌+◌, ◌-◌, ◌^◌, List, length, map, Some, ◌<◌, Bool, false};
 ghost use Rattle.std.specs.List.{All, Contains, flat_map};
 ghost use Rattle.crawl_certificate.specs.AccountEntries.{entries_in};
 ghost use Rattle.crawl_certificate.specs.CertFaults.{seed_missing, not_fetched, link_missing};
@@ -10,6 +10,8 @@ ghost use Rattle.crawl_frontier.specs.declared.entry.Entry.{Entry};
 ghost use Rattle.crawl_web.specs.declared.page.Page.{Page};
 ghost use Rattle.crawl_web.specs.declared.page.PageResult.{PageResult};
 ghost use Rattle.crawl_workers.specs.Logs.{AllLogged};
+ghost use Rattle.crawl_workers.specs.declared.losses.Losses.{Losses};
+ghost use Rattle.mercator.specs.JudgedRuns.{IsRun};
 ghost use Rattle.mercator.specs.LosslessRuns.{Share, IsWithoutLoss};
 ghost use Rattle.mercator.specs.Told.{AskForOneText, Gains};
 ghost use Rattle.mercator.specs.WebCrawl.{IsCrawlText, IsPlain, IsPlainText, IsSiteCrawl, IsCrawlReport};
@@ -56,3 +58,10 @@ pub fn nothing_lost_lacks_nothing()
 {
     crawl_certificate::laws::nothing_lost();
 }
+
+/// The run behind a crawl's fault, which `crawl_explained` speaks of, lost as many URLs as it has entries without a result: their
+/// fetch failed, or there was no room for the result. Where the count is at its end, more may be lost.
+pub fn urls_without_a_result_are_lost()
+    ensures { (workers : ℕ) (allowed : List ℕ → Bool) (meaning : List ℕ → Page) (seeds : List (List ℕ)) (entries : List Entry) (results : List PageResult) (losses : Losses)
+        → IsRun workers allowed meaning seeds entries results losses → losses.failed + losses.unkept < 2 ^ 64 - 1 → length entries ≡ length results + losses.failed + losses.unkept }
+{}

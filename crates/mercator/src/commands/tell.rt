@@ -7,8 +7,8 @@ ghost use Rattle.mercator.specs.KeyLine.{IsKeyLine};
 ghost use Rattle.mercator.specs.Limits.{most_input_bytes};
 ghost use Rattle.mercator.specs.Plans.{IsTelling, IsWithinLimits, is_input, is_bad_suffix, known_bytes, known_seeds, lists_input, reads_input, suffixes_of};
 ghost use Rattle.crawl_replay.specs.Replay.{IsReplay};
-ghost use Rattle.mercator.specs.Told.{AreFiles, Explains, ExplainsCrawl, IsTold, Fails, FailsReplay, FailsCrawl, FailsKey, OfFile, OfFiles};
-ghost use Rattle.mercator.specs.WebCrawl.{IsAtNone, IsBegun, IsFound, IsLostAt, IsNamedAt, IsTextOf, IsUnbegun};
+ghost use Rattle.mercator.specs.Told.{AreFiles, Counts, CountsCrawl, Explains, ExplainsCrawl, IsTold, Fails, FailsReplay, FailsCrawl, FailsKey, OfFile, OfFiles};
+ghost use Rattle.mercator.specs.WebCrawl.{IsAtNone, IsBegun, IsCountedAt, IsFound, IsLostAt, IsNamedAt, IsTextOf, IsUnbegun};
 ghost use Rattle.mercator.specs.declared.commands.fault.Fault.TheVariants as wrong;
 
 use crate::commands::crawl_text::crawl_text;
@@ -47,6 +47,7 @@ pub fn tell<R: Files + Threads + Wait + Sync, L, V: Observe + Sync, I: Read>(
     ensures fault { IfErr result (λ failure. Fails plan.now (I.remaining input.old) failure.fault) }
     ensures named { IfErr result (λ failure. Explains plan.now (I.remaining input.old) failure.fault failure.culprit) }
     ensures lost { IfErr result (λ failure. IsLostAt failure.fault failure.culprit failure.losses) }
+    ensures counted { IfErr result (λ failure. Counts plan.now (I.remaining input.old) failure.fault failure.culprit failure.losses) }
     ensures unread { reads_input plan.now ≡ false → input.new ≡ input.old }
 {
     match plan {
@@ -136,6 +137,7 @@ fn crawl_files<R: Files + Threads + Wait + Sync, L, V: Observe + Sync, I: Read>(
     ensures fault { IfErr result (λ failure. FailsCrawl asked.now.workers asked.now.max asked.now.within.now asked.now.file.now asked.now.listed.now (map string_bytes asked.now.seeds.now) (I.remaining input.old) failure.fault) }
     ensures named { IfErr result (λ failure. ExplainsCrawl asked.now.within.now asked.now.file.now asked.now.listed.now (map string_bytes asked.now.seeds.now) (I.remaining input.old) failure.fault failure.culprit) }
     ensures lost { IfErr result (λ failure. IsLostAt failure.fault failure.culprit failure.losses) }
+    ensures counted { IfErr result (λ failure. CountsCrawl asked.now.workers asked.now.within.now asked.now.file.now asked.now.listed.now (map string_bytes asked.now.seeds.now) (I.remaining input.old) failure.fault failure.culprit failure.losses) }
     ensures unfiltered { is_bad_suffix asked.now.within.now ≡ true → input.new ≡ input.old }
     ensures unread { (is_input asked.now.file.now || lists_input asked.now.listed.now) ≡ false → input.new ≡ input.old }
 {
@@ -181,6 +183,7 @@ fn crawl_inputs<R: Threads + Wait + Sync, L, V: Observe + Sync>(
     ensures fault { IfErr result (λ failure. IsUnbegun asked.now.workers asked.now.max inputs.bytes.items inputs.list.items (map string_bytes asked.now.seeds.now) failure.fault) }
     ensures named { IfErr result (λ failure. IsNamedAt inputs.bytes.items inputs.list.items (map string_bytes asked.now.seeds.now) inputs.filter failure.fault failure.culprit) }
     ensures lost { IfErr result (λ failure. IsLostAt failure.fault failure.culprit failure.losses) }
+    ensures counted { IfErr result (λ failure. IsCountedAt asked.now.workers inputs.bytes.items inputs.list.items (map string_bytes asked.now.seeds.now) inputs.filter failure.fault failure.culprit failure.losses) }
 {
     let Inputs {
         filter,

@@ -9,7 +9,7 @@ ghost use Rattle.crawl_web.specs.SavedWeb.{page_of};
 ghost use Rattle.crawl_web.specs.WebFaults.{IsSound, IsWebRefusal};
 ghost use Rattle.crawl_web.specs.declared.page.PageResult.{PageResult};
 ghost use Rattle.mercator.specs.Crawls.{AreCounts};
-ghost use Rattle.mercator.specs.WebCrawl.{AreAllSeeds, AreSeeds, ComesOf, IsBegun, IsFound, IsLostAt, IsSiteCrawl, IsCrawlReport, IsNamedAt, IsRefused, IsSeedFault, IsUnbegun, IsUnread};
+ghost use Rattle.mercator.specs.WebCrawl.{AreAllSeeds, AreSeeds, ComesOf, IsBegun, IsFound, IsLostAt, IsSiteCrawl, IsCountedAt, IsCrawlReport, IsNamedAt, IsRefused, IsSeedFault, IsUnbegun, IsUnread};
 
 use crate::commands::failure::Failure;
 use crate::commands::fault::Fault;
@@ -102,6 +102,7 @@ pub(in crate::commands) fn crawl_with_web<'a, R: Threads + Wait + Sync, L, V: Ob
     ensures refused { IfErr result (λ failure. IsUnbegun settings.now.workers settings.now.max_pending bytes.now listed.now (map string_bytes seeds.now) failure.fault) }
     ensures named { IfErr result (λ failure. IsNamedAt bytes.now listed.now (map string_bytes seeds.now) settings.now.filter.now failure.fault failure.culprit) }
     ensures lost { IfErr result (λ failure. IsLostAt failure.fault failure.culprit failure.losses) }
+    ensures counted { IfErr result (λ failure. IsCountedAt settings.now.workers bytes.now listed.now (map string_bytes seeds.now) settings.now.filter.now failure.fault failure.culprit failure.losses) }
 {
     let rt = platform.rt;
     let (web, urls) = read_site(rt, alloc, settings, bytes, listed, seeds)?;

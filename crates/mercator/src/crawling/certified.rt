@@ -8,6 +8,7 @@ ghost use Rattle.crawl_keys.specs.HostFilter.{allows};
 ghost use Rattle.crawl_web.specs.declared.page.Page.{Page};
 ghost use Rattle.mercator.specs.Crawls.{AreCounts, ComesIn, IsJudgedAt, IsOfRun};
 ghost use Rattle.crawl_workers.specs.Losses.{all_losses};
+ghost use Rattle.mercator.specs.JudgedRuns.{CountsLosses, IsRun};
 ghost use Rattle.mercator.specs.Losses.{IsLost};
 ghost use Rattle.mercator.specs.declared.crawling.Mode.{Mode};
 
@@ -34,6 +35,7 @@ pub fn crawled_of<R: Threads + Sync>(
     ensures mode { (mode : Mode) → IfErr result (λ failure. ComesIn mode failure.error) }
     ensures judged { (meaning : List ℕ → Page) → ArePages meaning ran.results.items → IfErr result (λ failure. IsJudgedAt meaning (allows settings.now.filter.now) seeds.now failure.error failure.culprit) }
     ensures lost { (all_losses ran.losses ≡ 0 → NothingLost (allows settings.now.filter.now) seeds.now (entries_of ran.account) ran.results.items) → IfErr result (λ failure. IsLost failure.error failure.losses) }
+    ensures counted { (workers : ℕ) (meaning : List ℕ → Page) → IsRun workers (allows settings.now.filter.now) meaning seeds.now (entries_of ran.account) ran.results.items ran.losses → IfErr result (λ failure. CountsLosses workers (allows settings.now.filter.now) meaning seeds.now failure.error failure.culprit failure.losses) }
 {
     let Ran {
         account,

@@ -1,6 +1,6 @@
 //! Why a crawl came to no certified result, and at which URL.
 ghost use Rattle.std.specs.Prelude.{◌≡◌, None};
-ghost use Rattle.mercator.specs.Crawls.{of_cert, without_url};
+ghost use Rattle.mercator.specs.Crawls.{losses_at, of_cert, without_url};
 ghost use Rattle.mercator.specs.declared.crawling.error.CrawlError.TheVariants as wrong;
 
 use crate::crawling::CrawlError;
@@ -17,7 +17,7 @@ pub struct CrawlFailure {
     pub error: CrawlError,
     /// Of a fault of the certificate, the least URL, byte by byte, that has it; else none.
     pub culprit: Option<CanonUrl>,
-    /// How much seeder and workers lost, by why, of a fault of the certificate.
+    /// How much seeder and workers lost, by why, of a fault of the certificate; else nothing.
     pub losses: Losses,
 }
 
@@ -36,12 +36,16 @@ impl From<CrawlError> for CrawlFailure {
 impl CrawlFailure {
     /// That of a run that lost so many, where its certificate names this culprit.
     pub(in crate::crawling) fn of_culprit(culprit: Culprit, losses: Losses) -> CrawlFailure
-        ensures { result ≡ record { error = of_cert culprit.cause; culprit = culprit.url; losses = losses } }
+        ensures { result ≡ record { error = of_cert culprit.cause; culprit = culprit.url; losses = losses_at culprit.url losses } }
     {
-        CrawlFailure {
-            error: CrawlError::from(culprit.cause),
-            culprit: culprit.url,
-            losses,
+        let error = CrawlError::from(culprit.cause);
+        match culprit.url {
+            Some(url) => CrawlFailure {
+                error,
+                culprit: Some(url),
+                losses,
+            },
+            None => CrawlFailure::from(error),
         }
     }
 }

@@ -1,20 +1,19 @@
 //! What a run left, put together.
-ghost use Rattle.std.specs.Prelude.{◌≡◌, ◌∷◌, [], ℕ, List, IfErr, IfOk, MatchResult};
+ghost use Rattle.std.specs.Prelude.{◌≡◌, ◌∷◌, [], ℕ, List, IfErr, IfOk};
 ghost use Rattle.crawl_certificate.specs.Certificate.{ArePages};
-ghost use Rattle.crawl_frontier.specs.Accounts.{Accounts, FinishFails};
+ghost use Rattle.crawl_frontier.specs.Accounts.{Accounts};
 ghost use Rattle.crawl_web.specs.declared.page.Page.{Page};
 ghost use Rattle.mercator.specs.Crawls.{AllPages, ComesIn, CountedBelow, IsUncertified};
 ghost use Rattle.mercator.specs.Losses.{losses_with};
 ghost use Rattle.mercator.specs.LosslessRuns.{all_closed, all_found};
 ghost use Rattle.mercator.specs.declared.crawling.Mode.{Mode};
 
+use crate::crawling::CrawlError;
 use crate::crawling::losses::both_losses;
-use crate::crawling::{CrawlError, Mode};
-use crawl_frontier::{Account, ClosedWorker, FinishError, Frontier, Name, Sender};
+use crawl_frontier::{Account, ClosedWorker, Frontier, Name, Sender};
 use crawl_web::PageResult;
 use crawl_workers::{Losses, WorkerEnd};
 use std::alloc::{AllocError, Global};
-use std::thread::Threads;
 
 /// What a run left: its account, the results of all workers, and what seeder and workers lost.
 #[derive(Drop)]
@@ -33,10 +32,8 @@ pub struct EndedRun<K: Name> {
 }
 
 /// What is left of a run of this frontier whose workers left this, and whose seeds this sender offered.
-pub fn ran_of<K: Name, R: Threads + Sync>(
-    rt: &R,
+pub fn ran_of<K: Name>(
     alloc: Global,
-    mode: Mode,
     frontier: Frontier<K>,
     left: EndedRun<K>,
     sender: Sender<K>,
@@ -55,30 +52,12 @@ pub fn ran_of<K: Name, R: Threads + Sync>(
     } = left;
     let mut senders = Vec::new(alloc);
     senders.push(sender)?;
-    let account = account_of(rt, mode, frontier, closed, senders)?;
+    let account = frontier.finish(closed, senders)?;
     Ok(Ran {
         account,
         results,
         losses,
     })
-}
-
-/// The account of the run. Where no worker had a thread, none is started here.
-fn account_of<K: Name, R: Threads + Sync>(
-    rt: &R,
-    mode: Mode,
-    frontier: Frontier<K>,
-    closed: Vec<ClosedWorker<K>>,
-    senders: Vec<Sender<K>>,
-) -> Result<Account, FinishError>
-    ensures { MatchResult result
-        (λ a. (a.workers ≡ K.workers) × Accounts K.workers closed.items senders.items a.queues)
-        (λ e. FinishFails K.workers closed.items senders.items e) }
-{
-    match mode {
-        Mode::Threads if closed.len() > 1 => frontier.finish_in_threads(rt, closed, senders),
-        _ => frontier.finish(closed, senders),
-    }
 }
 
 /// The closed workers, the results of all of them, and their losses beside those before. All come in the order of the ends: so

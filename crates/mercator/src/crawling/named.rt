@@ -1,5 +1,5 @@
 //! A crawl on a frontier that has a name.
-ghost use Rattle.std.specs.Prelude.{◌≡◌, ◌⊎◌, ◌≤◌, true, false, IfOk, IfErr, vec_len};
+ghost use Rattle.std.specs.Prelude.{◌≡◌, ◌⊎◌, ◌≤◌, true, false, ℕ, List, [], ◌∷◌, ◌++◌, IfOk, IfErr, vec_len};
 ghost use Rattle.crawl_certificate.specs.AccountEntries.{entries_of};
 ghost use Rattle.crawl_certificate.specs.Certificate.{ArePages, IsCrawl, NothingLost, result_urls};
 ghost use Rattle.crawl_keys.specs.HostFilter.{allows};
@@ -8,6 +8,7 @@ ghost use Rattle.crawl_workers.specs.Losses.{all_losses};
 ghost use Rattle.crawl_workers.specs.Runs.{AllRan};
 ghost use Rattle.crawl_workers.specs.declared.error.RunError.TheVariants as unrun;
 ghost use Rattle.mercator.specs.Crawls.{AreCounts, ComesIn, IsJudgedAt, IsOfRun, IsUncertified};
+ghost use Rattle.mercator.specs.JudgedRuns.{AreOffered, CountsLosses, IsRun};
 ghost use Rattle.mercator.specs.Losses.{IsLost};
 ghost use Rattle.mercator.specs.declared.crawling.Mode.TheVariants as modes;
 
@@ -42,6 +43,7 @@ pub fn crawl_named<K: Name + Send + Sync, F: SessionFetch + Sync, R: Threads + W
     ensures mode { IfErr result (λ failure. ComesIn settings.now.mode failure.error) }
     ensures judged { IfErr result (λ failure. IsJudgedAt (F.meaning fetcher.now) (allows settings.now.filter.now) seeds.now failure.error failure.culprit) }
     ensures lost { IfErr result (λ failure. IsLost failure.error failure.losses) }
+    ensures counted { IfErr result (λ failure. CountsLosses setup.workers (allows settings.now.filter.now) (F.meaning fetcher.now) seeds.now failure.error failure.culprit failure.losses) }
 {
     let ran = run_from::<K, F, R>(rt, alloc, setup, fetcher, settings, seeds)?;
     crawled_of(rt, alloc, settings, seeds, ran)
@@ -64,6 +66,7 @@ fn run_from<K: Name + Send + Sync, F: SessionFetch + Sync, R: Threads + Wait + S
     ensures workers { IfOk result (λ ran. ran.account.workers ≡ setup.workers) }
     // What was asked for is accepted and fetched, where seeder and workers lost nothing.
     ensures lost { IfOk result (λ ran. all_losses ran.losses ≡ 0 → NothingLost (allows settings.now.filter.now) seeds.now (entries_of ran.account) ran.results.items) }
+    ensures counted { IfOk result (λ ran. IsRun K.workers (allows K.filter) (F.meaning fetcher.now) seeds.now (entries_of ran.account) ran.results.items ran.losses) }
     ensures errors { IfErr result IsUncertified }
     ensures mode { IfErr result (ComesIn settings.now.mode) }
 {
@@ -73,7 +76,7 @@ fn run_from<K: Name + Send + Sync, F: SessionFetch + Sync, R: Threads + Wait + S
     let sender = seeder.end(&frontier);
     let ends = run(rt, alloc, &frontier, workers, fetcher, settings.mode)?;
     let left = gathered(alloc, ends, refused)?;
-    ran_of(rt, alloc, settings.mode, frontier, left, sender)
+    ran_of(alloc, frontier, left, sender)
 }
 
 /// Offers the seeds in order, and answers how many are lost, by why.
@@ -83,7 +86,8 @@ fn offer_seeds<K: Name, R: Wait>(
     seeder: &mut Seeder<K>,
     seeds: &[CanonUrl],
 ) -> Losses
-    ensures { all_losses result ≡ 0 → AllLogged K.workers (allows K.filter) seeder.new.book.log seeds.now }
+    ensures logged { all_losses result ≡ 0 → AllLogged K.workers (allows K.filter) seeder.new.book.log seeds.now }
+    ensures offered { AreOffered K.workers (allows K.filter) seeder.new.book.log seeds.now result }
 {
     let mut lost = no_losses();
     for seed in seeds {
@@ -103,6 +107,8 @@ fn offer_seed<K: Name, R: Wait>(
     ensures grows { Grows seeder.old.book seeder.new.book }
     ensures line { all_losses result ≡ 0 → (all_losses before ≡ 0) × (allows K.filter seed.now ≡ true → HasLine K.workers seeder.new.book.log seed.now) }
     ensures filtered { allows K.filter seed.now ≡ false → result ≡ before }
+    // Whatever seeds were offered before it, it is one more.
+    ensures offered { (seeds : List (List ℕ)) → AreOffered K.workers (allows K.filter) seeder.old.book.log seeds before → AreOffered K.workers (allows K.filter) seeder.new.book.log (seeds ++ seed.now ∷ []) result }
 {
     match seeder.offer(rt, frontier, seed) {
         Ok(_) => before,

@@ -1,5 +1,5 @@
 use Rattle.std.proofs.Common.{◌≡◌, refl}
-use Rattle.mercator.proofs.PlanTexts.{ends_at_none}
+use Rattle.mercator.proofs.PlanTexts.{ends_at_none, ends_without_loss}
 use Rattle.mercator.proofs.Serves.{ends_compacting, is_telling, notes_nothing}
 use Rattle.mercator.proofs.commands.run.Goals as goal
 
@@ -19,3 +19,6 @@ returns-in-Ok-clause-named g c =
 pub returns-in-Compact-clause-fault : goal.returns-in-Compact-clause-fault
 returns-in-Compact-clause-fault g c =
     rw c.at_none-in-Compact.ensures (ends_compacting c.args.plan.now c.in-Compact.log c.in-Compact.new c.compact_log.result (g.I.Read.remaining c.args.input.now) (c.args.out.now ≡ c.args.out.now) c.in-Compact.is c.compact_log.ensures.fault refl)
+
+pub returns-in-Ok-clause-counted : goal.returns-in-Ok-clause-counted
+returns-in-Ok-clause-counted g c = rw c.at_none-in-Ok.ensures (ends_without_loss c.args.plan.now (g.I.Read.remaining c.args.input.now) c.end.result)

@@ -1,9 +1,9 @@
-use Rattle.std.proofs.lemmas.Result.{err_from_is_err_and}
 use Rattle.crawl_certificate.proofs.Crawls.{whole_crawl}
 use Rattle.crawl_certificate.proofs.NothingLost.{nothing_lost}
 use Rattle.crawl_certificate.specs.AccountEntries.{entries_of}
 use Rattle.crawl_keys.specs.HostFilter.{allows}
 use Rattle.mercator.proofs.EndedRuns.{culprit_lost}
+use Rattle.mercator.proofs.JudgedRuns.{culprit_counted}
 use Rattle.mercator.proofs.RunResults.{cause_comes, cause_of_run, culprit_judged, urls_counted}
 use Rattle.mercator.proofs.crawling.certified.crawled_of.Goals as goal
 
@@ -27,3 +27,7 @@ returns-clause-judged g c = λ meaning found.
 pub returns-clause-lost : goal.returns-clause-lost
 returns-clause-lost g c = λ whole.
     rw c.of_culprit.ensures (culprit_lost (allows c.args.settings.now.filter.now) c.args.seeds.now (entries_of c.args.ran.account) _ c.in-Err.culprit c.args.ran.losses (λ none. nothing_lost (allows c.args.settings.now.filter.now) c.args.seeds.now (entries_of c.args.ran.account) _ (whole none)) c.in-Err.ensures.fault)
+
+pub returns-clause-counted : goal.returns-clause-counted
+returns-clause-counted g c = λ workers meaning run.
+    rw c.of_culprit.ensures (culprit_counted workers (allows c.args.settings.now.filter.now) meaning c.args.seeds.now (entries_of c.args.ran.account) _ c.args.ran.losses c.in-Err.culprit run c.in-Err.ensures.fault)

@@ -1,6 +1,8 @@
-use Rattle.std.proofs.Common.{sym, subst}
+use Rattle.std.proofs.Common.{refl, sym, subst}
 use Rattle.std.proofs.lemmas.Result.{err_from_is_err_and}
+use Rattle.crawl_certificate.specs.AccountEntries.{entries_of}
 use Rattle.crawl_keys.specs.HostFilter.{allows}
+use Rattle.mercator.specs.JudgedRuns.{IsRun}
 use Rattle.mercator.proofs.EndedRuns.{uncertified_lost}
 use Rattle.mercator.proofs.RunResults.{uncertified_judged}
 use Rattle.mercator.proofs.crawling.named.crawl_named.Goals as goal
@@ -34,3 +36,17 @@ returns-in_err-ran-clause-lost g c =
     let r = c.from_residual in
     let p = err_from_is_err_and r.result r.ensures.1 in
     rw (p.1, p.2) (uncertified_lost c.in_err-ran.field-0.0 _ c.in_err-ran.ensures.errors)
+
+pub returns-clause-counted : goal.returns-clause-counted
+returns-clause-counted g c =
+    let meaning = g.F.SessionFetch.meaning c.args.fetcher.now in
+    let ran = c.in_ok-ran.ran in
+    c.crawled_of.ensures.counted c.args.setup.workers meaning
+    (subst (λ workers. IsRun workers (allows c.args.settings.now.filter.now) meaning c.args.seeds.now (entries_of ran.account) ran.results.items ran.losses) (sym c.requires.workers)
+    (subst (λ filter. IsRun g.K.Name.workers (allows filter) meaning c.args.seeds.now (entries_of ran.account) ran.results.items ran.losses) (sym c.requires.filter) c.in_ok-ran.ensures.counted))
+
+pub returns-in_err-ran-clause-counted : goal.returns-in_err-ran-clause-counted
+returns-in_err-ran-clause-counted g c =
+    let r = c.from_residual in
+    let p = err_from_is_err_and r.result r.ensures.1 in
+    rw (p.1, p.2) refl

@@ -4,6 +4,7 @@ use Rattle.crawl_certificate.specs.Certificate.{NothingLost}
 use Rattle.crawl_keys.specs.HostFilter.{allows}
 use Rattle.crawl_workers.specs.Losses.{all_losses}
 use Rattle.mercator.proofs.EndedRuns.{found_of, nothing_lost_of}
+use Rattle.mercator.proofs.JudgedRuns.{run_of}
 use Rattle.mercator.proofs.RunResults.{all_pages}
 use Rattle.mercator.proofs.crawling.named.run_from.Goals as goal
 
@@ -22,5 +23,14 @@ returns-clause-lost g c =
     subst (λ filter. IfOk c.ran_of.result (λ ran. all_losses ran.losses ≡ 0 → NothingLost (allows filter) c.args.seeds.now (entries_of ran.account) ran.results.items)) (sym c.requires.filter)
     (nothing_lost_of c.ran_of.result g.K.Name.gate g.K.Name.workers (allows g.K.Name.filter) (g.F.SessionFetch.meaning c.args.fetcher.now) c.args.seeds.now made.workers.items c.in_ok-ends.ends.items c.end-sender.result c.offer_seeds-refused.result
     left.left.closed.items left.left.results.items left.left.losses
-    (subst (λ n. 0 < n) made.frontier.workers_are made.frontier.some.0) made.ensures.1 c.in_ok-ends.ensures.ran left.ensures.closed left.ensures.found left.ensures.losses (λ none. rw c.end-sender.ensures.same (c.offer_seeds-refused.ensures none))
+    (subst (λ n. 0 < n) made.frontier.workers_are made.frontier.some.0) made.ensures.1 c.in_ok-ends.ensures.ran left.ensures.closed left.ensures.found left.ensures.losses (λ none. rw c.end-sender.ensures.same (c.offer_seeds-refused.ensures.logged none))
     c.ran_of.ensures.workers c.ran_of.ensures.account c.ran_of.ensures.found c.ran_of.ensures.losses)
+
+pub returns-clause-counted : goal.returns-clause-counted
+returns-clause-counted g c =
+    let made = c.in_ok-frontier in
+    let left = c.in_ok-left in
+    run_of c.ran_of.result g.K.Name.gate g.K.Name.workers (allows g.K.Name.filter) (g.F.SessionFetch.meaning c.args.fetcher.now) c.args.seeds.now made.workers.items c.in_ok-ends.ends.items c.end-sender.result c.offer_seeds-refused.result
+    left.left.closed.items left.left.results.items left.left.losses
+    made.ensures.1 c.in_ok-ends.ensures.ran left.ensures.closed left.ensures.found left.ensures.losses (rw c.end-sender.ensures.same c.offer_seeds-refused.ensures.offered)
+    c.ran_of.ensures.workers c.ran_of.ensures.account c.ran_of.ensures.found c.ran_of.ensures.losses
