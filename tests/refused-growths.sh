@@ -66,7 +66,6 @@ LIBRARY
 python3 bench/make_web.py 2000 > "$scratch/pages.web"
 printf '%s\n' 'offer http://a.test/' 'link http://a.test/ b' 'offer HTTP://A.test:80/#x' endseeds 'next 0' 'again 0' 'done 0' \
     'next 0' 'done 0' 'next 0' x > "$scratch/requests"
-echo 'downloads.html' > "$scratch/known"
 
 cat > "$scratch/run.py" <<'RUN'
 import glob
@@ -101,12 +100,6 @@ COMMANDS = [
     (["replay", f"{DATA}/two_urls.script"], None),
     (["replay", "-"], f"{DATA}/two_urls.script"),
     (["key", "http://A.test:80/x/../y#f", "--workers", "2"], None),
-    (["check", f"{DATA}/site"], None),
-    (["check", "--workers", "2", "--ignore", f"{SCRATCH}/known", "--unreached", "--external", f"{DATA}/site"], None),
-    (["check", "--json", "--seed", "news/", f"{DATA}/site", "http://site.test/"], None),
-    (["check", "--html", f"{DATA}/site"], None),
-    (["check", "--annotations", "--no-anchors", "--exact", f"{DATA}/site"], None),
-    (["site", f"{DATA}/site", "http://site.test/"], None),
     (["serve", "--workers", "1"], f"{SCRATCH}/requests"),
     (["serve", "--workers", "1", "--within", "a.test", "--part", "0/2"], f"{SCRATCH}/requests"),
     (["--help"], None),
