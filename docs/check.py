@@ -152,8 +152,9 @@ def faults_of_line(document: Path, name: str, line: str, words: set[str]) -> Ite
         called = NAME.fullmatch(ticked.strip())
         if called and name not in UNCHECKED_NAMES and called[1] not in words | STANDS_FOR:
             yield f"`{ticked}` is the name of nothing"
-    if name not in HISTORY and DIARY.search(line):
-        yield f"a diary: {DIARY.search(line)[0]}"
+    diary = DIARY.search(line)
+    if name not in HISTORY and diary:
+        yield f"a diary: {diary[0]}"
 
 
 def faults(paths: list[Path]) -> Iterator[str]:

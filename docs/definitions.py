@@ -133,9 +133,10 @@ def imports_of(text: str, is_ghost: bool) -> Imports:
     for module, items, alias in re.findall(pattern, text, re.M):
         if not items:
             found.modules[alias or module.split(".")[-1]] = module
-        for item in filter(None, (item.strip() for item in items.split(","))):
-            own, _, other = item.partition(" as ")
-            found.names[(other or own).strip()] = Name(module, own.strip())
+        for item in items.split(","):
+            own, _, other = item.strip().partition(" as ")
+            if own:
+                found.names[(other or own).strip()] = Name(module, own.strip())
     return found
 
 

@@ -845,7 +845,8 @@ def seeds_files(draw: Random) -> list[Case]:
     good = joined(draw, drawn_good_seeds(draw))
     listed = changed(draw, good) if draw.random() < 0.5 else pieces(draw, b"", SEED_PIECES)
     web = b"savedweb 1\npage http://a.test/\nlink x\n"
-    crawl = Crawl(web, draw.choice(([], [], ["http://z.test/"])), listed, sources=True)
+    seeds: tuple[list[str], ...] = ([], [], ["http://z.test/"])
+    crawl = Crawl(web, draw.choice(seeds), listed, sources=True)
     return [crawl_case(crawl, draw.choice((1, 2, 4)))]
 
 

@@ -121,7 +121,8 @@ class Hand:
     """What a hand is known to do: `idle`, `busy`, `closed`, `seeds` or `sends`."""
 
     def __init__(self, kind: str, sender: int) -> None:
-        self.kind, self.sender, self.hops, self.numbers = kind, sender, 0, Counter()
+        self.kind, self.sender, self.hops = kind, sender, 0
+        self.numbers: Counter[int] = Counter()
 
 
 class Reckoning:
@@ -360,7 +361,7 @@ def joined(traces: list[list[Note]], order: dict[int, int], waited: dict[int, in
     held = next((place for place, trace in enumerate(traces) if trace and trace[-1].word == "done"), None)
     until = [len(trace) - (place == held) for place, trace in enumerate(traces)]
     at = [0] * len(traces)
-    accepted, idle = Counter({queues.get(0, 0): 1}), Counter()
+    accepted, idle = Counter({queues.get(0, 0): 1}), Counter[int]()
     steps: list[tuple[int, Note]] = []
 
     def may_come(place: int, note: Note) -> bool:
@@ -493,8 +494,8 @@ def main() -> None:
             judge(f"{row.name}, draw {number}", check_row, row, Random(f"{given.seed} {number} {row.name}"))
     for plan in PLANS:
         judge(plan.name, check_ends, plan)
-    for number, row in enumerate(LEAVING):
-        judge(f"leaving {number}", check_left, row)
+    for number, leaves in enumerate(LEAVING):
+        judge(f"leaving {number}", check_left, leaves)
     for _ in range(given.count):
         judge("steps of four threads", check_steps, 2_000, 4)
     print(f"{passed} passed, {failed} failed")

@@ -72,7 +72,7 @@ class Web:
     def report(self) -> bytes:
         pages = [page for page, is_found in enumerate(self.reached()) if is_found]
         lines = [(url(page), f"ok {3 if gone(page) else 2} 0 ") for page in pages]
-        missing = {gone(page) for page in pages if gone(page)}
+        missing = {text for text in map(gone, pages) if text}
         lines += [(text, "missing ") for text in missing]
         lines.sort()
         total = f"total {len(lines)} ok {len(pages)} missing {len(missing)}\n"

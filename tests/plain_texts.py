@@ -107,10 +107,10 @@ def ask(lines: List[str]) -> List[str]:
 
 
 def main() -> None:
-    words = argparse.ArgumentParser(description=__doc__, formatter_class=argparse.RawDescriptionHelpFormatter)
-    words.add_argument("--count", type=int, default=100000)
-    words.add_argument("--seed", type=int, default=1)
-    words = words.parse_args()
+    parser = argparse.ArgumentParser(description=__doc__, formatter_class=argparse.RawDescriptionHelpFormatter)
+    parser.add_argument("--count", type=int, default=100000)
+    parser.add_argument("--seed", type=int, default=1)
+    words = parser.parse_args()
     draw = random.Random(words.seed)
     texts, lines = [], []
     for _ in range(words.count // 2):

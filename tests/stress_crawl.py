@@ -8,11 +8,14 @@ Each web is crawled with 1, 2, 3, 8, 64 and 512 workers. The report that every r
 is a search of this script through the graph that the web was drawn from, in the format of docs/FORMATS.md. All is drawn
 from a fixed seed. It ends with status 1 at the first run that ends otherwise, and says which.
 """
+from __future__ import annotations
+
 import os
 import random
 import subprocess
 import sys
 import time
+from typing import Iterator
 
 ROOT = os.path.dirname(os.path.dirname(os.path.abspath(__file__)))
 PROGRAM = os.path.join(ROOT, "crates", "mercator_cli", "out", "mercator_cli")
@@ -27,7 +30,7 @@ FOUND, MOVED, MISSING = range(3)
 class Web:
     """A graph of pages, the seeds of its crawl, and its bytes as a saved web."""
 
-    def __init__(self, drawn):
+    def __init__(self, drawn: random.Random) -> None:
         hosts = drawn.choice((1, 2, 5, 40, 300))
         count = drawn.choice((1, 3, 20, 200, 1_500))
         self.urls = [f"http://h{drawn.randrange(hosts)}.test/{page}" for page in range(count)]
@@ -38,7 +41,7 @@ class Web:
         self.seeds = [drawn.randrange(count) for _ in range(drawn.choice((1, 2, 7)))]
         self.bytes = "".join(self.lines(drawn)).encode()
 
-    def drawn_links(self, drawn, page):
+    def drawn_links(self, drawn: random.Random, page: int) -> list[int]:
         """The pages that a page links to: near ones, which make chains, far ones, itself, and repeats."""
         if self.kinds[page] == MISSING:
             return []
@@ -49,7 +52,7 @@ class Web:
         links = near + far + ([page] if drawn.random() < 0.1 else [])
         return links + links[:1] if drawn.random() < 0.2 else links
 
-    def spelled(self, drawn, page, target):
+    def spelled(self, drawn: random.Random, page: int, target: int) -> str:
         """A link's text: the whole URL, one that wants to be made canonical, one by host, or one by path."""
         scheme, rest = self.urls[target].split("//")
         host, path = rest.split("/")
@@ -58,7 +61,7 @@ class Web:
             spellings.append(f"/{path}")
         return drawn.choice(spellings)
 
-    def lines(self, drawn):
+    def lines(self, drawn: random.Random) -> Iterator[str]:
         yield "savedweb 2\n"
         order = [page for page, kind in enumerate(self.kinds) if kind != MISSING]
         drawn.shuffle(order)
@@ -70,7 +73,7 @@ class Web:
             for number in range(self.skipped[page]):
                 yield f"link {('mailto:x@a.test', 'ftp://a.test/', 'http://[')[number % 3]}\n"
 
-    def report(self):
+    def report(self) -> bytes:
         """The report of what can be reached from the seeds: a search through the graph."""
         reached, waiting = set(self.seeds), list(self.seeds)
         while waiting:
@@ -84,20 +87,20 @@ class Web:
         total = f"total {len(reached)} ok {kinds.count(FOUND)} missing {kinds.count(MISSING)}{moved}\n"
         return ("".join(lines) + total).encode()
 
-    def line(self, page):
+    def line(self, page: int) -> str:
         url = self.urls[page]
         if self.kinds[page] == FOUND:
             return f"ok {len(self.links[page]) + self.skipped[page]} {self.skipped[page]} {url}\n"
         return f"{'moved' if self.kinds[page] == MOVED else 'missing'} {url}\n"
 
-    def crawled(self, program, workers):
+    def crawled(self, program: str, workers: int) -> tuple[int, bytes]:
         """Status and output of a crawl by the program."""
         command = [program, "crawl", "--workers", str(workers), "-"] + [self.urls[page] for page in self.seeds]
         done = subprocess.run(command, input=self.bytes, stdout=subprocess.PIPE, timeout=TIME_LIMIT, check=False)
         return done.returncode, done.stdout
 
 
-def main():
+def main() -> None:
     words = sys.argv[1:]
     if words[:1] in (["-h"], ["--help"]):
         print(__doc__)
