@@ -3,7 +3,7 @@
 
 Each call has its signature, its first words, whether it may wait (a bound `Wait` or `Threads`), whether it may run out of
 memory (its errors have `NoMemory`, or it answers an `AllocError`), its errors in the order of their checks, and its clauses.
-The script reads `src/` as text.
+Where an error is a struct, its errors are those of the field that has them. The script reads `src/` as text.
 """
 
 from __future__ import annotations
@@ -17,7 +17,8 @@ ROOT = Path(__file__).resolve().parent.parent
 CALL = re.compile(r"( *)pub (?:const )?fn (\w+)(.*)")
 OWNER = re.compile(r"^impl(?:<[^{]*?>)? (?:(?:[\w:]+(?:<[^{]*?>)? for )?)(\w+)", re.M)
 ENUM = re.compile(r"pub enum (\w+Error|\w*Fault|NoMemory)\b[^{]*\{(.*?)^\}", re.M | re.S)
-CLAUSE = re.compile(r"\b(ensures|requires) ?(\w*) ?\{(.*)\}")
+ERROR_FIELD = re.compile(r"pub struct (\w+)\b[^{;]*\{[^}]*?pub \w+: (\w+),", re.S)
+CLAUSE = re.compile(r"^\s*(ensures|requires) ?(\w*) ?\{", re.M)
 
 
 class Call(NamedTuple):
@@ -34,6 +35,11 @@ def errors_in(crates: list[Path]) -> dict[str, list[str]]:
         for path in sorted(crate.glob("src/**/*.rt")):
             for name, body in ENUM.findall(path.read_text("utf-8")):
                 found[name] = re.findall(r"^    ([A-Z]\w*)", body, re.M)
+    for crate in crates:
+        for path in sorted(crate.glob("src/**/*.rt")):
+            for name, error in ERROR_FIELD.findall(path.read_text("utf-8")):
+                if error in found:
+                    found[name] = found[error]
     return found
 
 
@@ -62,6 +68,16 @@ def head_of(lines: list[str], start: int) -> list[str]:
     return lines[start:end] + ([last] if last else [])
 
 
+def clauses_of(text: str) -> Iterator[tuple[str, str, str]]:
+    """The kind, the label and the text of each clause, up to the brace that ends it."""
+    for match in CLAUSE.finditer(text):
+        depth, end = 1, match.end()
+        while depth and end < len(text):
+            depth += {"{": 1, "}": -1}.get(text[end], 0)
+            end += 1
+        yield match[1], match[2], re.sub(r"\s+", " ", text[match.end():end - 1]).strip()
+
+
 def calls_of(text: str) -> Iterator[Call]:
     lines = text.splitlines()
     for start, line in enumerate(lines):
@@ -70,13 +86,13 @@ def calls_of(text: str) -> Iterator[Call]:
             continue
         owners = OWNER.findall("\n".join(lines[:start])) if found[1] else []
         head = head_of(lines, start)
-        split = next((k for k, it in enumerate(head) if CLAUSE.search(it)), len(head))
+        split = next((k for k, it in enumerate(head) if CLAUSE.match(it) or it.strip().startswith("//")), len(head))
         signature = re.sub(r"\s+", " ", " ".join(head[:split])).partition(found[2])[2].strip()
         yield Call(
             f"{owners[-1]}::{found[2]}" if owners else found[2],
             re.sub(r",? \)", ")", signature.replace("( ", "(")),
             re.split(r"(?<=\.) ", doc_above(lines, start))[0],
-            [(kind, label, clause.strip()) for kind, label, clause in CLAUSE.findall("\n".join(head[split:]))],
+            list(clauses_of("\n".join(head[split:]))),
         )
 
 
