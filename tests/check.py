@@ -19,7 +19,7 @@ import tempfile
 from collections import Counter
 from pathlib import Path
 from random import Random
-from typing import List, Optional, Tuple
+from typing import Dict, List, Optional, Tuple
 
 import drawn
 from checking import drawing, forms, loading
@@ -208,13 +208,13 @@ def compare_forms(call: str, folder: str) -> int:
 def compare_tags(count: int, seed: int) -> int:
     """Compares the tags of drawn documents with those of html5lib."""
     links = loading.script("html_links", "tests/html_links.py")
-    from html5lib import _tokenizer  # type: ignore[import-untyped]
-    from html5lib.constants import tokenTypes  # type: ignore[import-untyped]
+    from html5lib import _tokenizer
+    from html5lib.constants import tokenTypes
 
     states = {"title": "rcdata", "textarea": "rcdata", "script": "scriptData", "plaintext": "plaintext"}
     states.update({name: "rawtext" for name in ("style", "xmp", "iframe", "noembed", "noframes")})
 
-    def theirs(text: str) -> List[Tuple[str, dict]]:
+    def theirs(text: str) -> List[Tuple[str, Dict[str, str]]]:
         tokens = _tokenizer.HTMLTokenizer(text)
         found = []
         for token in tokens:

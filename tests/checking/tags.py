@@ -79,7 +79,7 @@ def decoded(value: str) -> str:
 
 def attributes_from(text: str, at: int) -> Tuple[Tuple[Attribute, ...], int]:
     """The attributes of a tag from behind its name, and where the tag ends: behind the text where it is cut off."""
-    found = []
+    found: list[Attribute] = []
     cut = len(text) + 1
     while True:
         at = BETWEEN.match(text, at).end()  # type: ignore[union-attr]
