@@ -3,6 +3,7 @@ mod crawls;
 mod failing;
 mod faults;
 mod inputs;
+mod losses;
 mod rows;
 mod runs;
 mod sources;
