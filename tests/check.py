@@ -226,7 +226,7 @@ def compare_tags(count: int, seed: int) -> int:
 
     series, draw = Series("tags of documents"), Random(seed)
     for number in range(count):
-        text = links.drawn_document(draw, number % 2)
+        text = links.drawn_document(draw, number % 2 == 1)
         ours = [(tag.name, {one.name: one.value for one in reversed(tag.attributes)}) for tag in start_tags(text)]
         series.add(repr(text), None if ours == theirs(text) else f"reckoned {ours}, wanted {theirs(text)}")
     return series.end()

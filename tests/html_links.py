@@ -18,6 +18,7 @@ import shutil
 import subprocess
 import sys
 import tempfile
+from typing import Any, Optional
 
 from html5lib import _tokenizer
 from html5lib.constants import tokenTypes
@@ -91,9 +92,10 @@ fn main(rt: HostRuntime) -> io::Result<()> {
 REFRESH = re.compile(r"[\t\n\f\r ]*[0-9.]+(?=[;,\t\n\f\r ])[\t\n\f\r ]*[;,]?[\t\n\f\r ]*(.*)", re.DOTALL)
 
 
-def load_tool():
+def load_tool() -> Any:
     """The converter as a module."""
     spec = importlib.util.spec_from_file_location("site_to_web", TOP / "tools/site_to_web.py")
+    assert spec is not None and spec.loader is not None
     tool = importlib.util.module_from_spec(spec)
     spec.loader.exec_module(tool)
     return tool
@@ -102,10 +104,13 @@ def load_tool():
 TOOL = load_tool()
 
 
-class Reader(TOOL.LinkReader):
+class Reader(TOOL.LinkReader):  # type: ignore[misc, name-defined]
     """The converter's reader over html5lib's tokens."""
 
-    def read(self, text):
+    links: list[str]
+    in_style: Optional[str]
+
+    def read(self, text: str) -> list[str]:
         """The links of a document."""
         tokens = _tokenizer.HTMLTokenizer(text)
         self.in_style = None
@@ -113,18 +118,19 @@ class Reader(TOOL.LinkReader):
             if token["type"] == tokenTypes["StartTag"]:
                 self.read_tag(token["name"], dict(reversed(token["data"].items())), tokens)
             elif token["type"] == tokenTypes["EndTag"]:
-                self.in_style = self.flush(self.in_style)
+                self.flush(self.in_style)
+                self.in_style = None
             elif token["type"] in (tokenTypes["Characters"], tokenTypes["SpaceCharacters"]) and self.in_style is not None:
                 self.in_style += token["data"]
         self.flush(self.in_style)
         return self.links
 
-    def flush(self, style):
+    def flush(self, style: Optional[str]) -> None:
         """Gives the links of a style element."""
         if style:
             self.links += TOOL.links_of_style(style)
 
-    def read_refresh(self, found):
+    def read_refresh(self, found: dict[str, str]) -> None:
         """The target of a refresh, by the Standard's steps."""
         if found.get("http-equiv", "").lower() != "refresh":
             return
@@ -135,7 +141,7 @@ class Reader(TOOL.LinkReader):
                 target = target[1:].split(target[0])[0]
             self.links += [target] if target else []
 
-    def read_tag(self, tag, found, tokens):
+    def read_tag(self, tag: str, found: dict[str, str], tokens: Any) -> None:
         """What a start tag names, and the state behind it."""
         if "style" in found:
             self.links += TOOL.links_of_style(found["style"])
@@ -154,7 +160,7 @@ class Reader(TOOL.LinkReader):
         self.in_style = "" if tag == "style" else None
 
 
-def drawn_tag(draw):
+def drawn_tag(draw: random.Random) -> str:
     """A start tag, sometimes broken."""
     is_text = draw.random() < 0.08
     name = draw.choice(TEXT_TAGS if is_text else TAGS)
@@ -173,7 +179,7 @@ def drawn_tag(draw):
     return text
 
 
-def drawn_document(draw, wild):
+def drawn_document(draw: random.Random, wild: bool) -> str:
     """A document; a wild one has broken markup in every place."""
     parts = []
     for _ in range(draw.randint(1, 40 if wild else 12)):
@@ -182,14 +188,14 @@ def drawn_document(draw, wild):
     return "".join(parts).replace("\r", "")
 
 
-def named_values():
+def named_values() -> list[tuple[str, str]]:
     """Values with each name of Python's table and some that are none, and the texts that they stand for."""
     table = html.entities.html5
     rows = []
     for name in table:
         for behind in ("", "=", "1", ";", "-"):
             value = name + behind
-            run = re.match("[0-9A-Za-z]*", value)[0]
+            run = re.split("[^0-9A-Za-z]", value, maxsplit=1)[0]
             rest = value[len(run):]
             if run + ";" in table and rest.startswith(";"):
                 rows.append(("&" + value, table[run + ";"] + rest[1:]))
@@ -202,7 +208,7 @@ def named_values():
     return [row for row in rows if not row[0].startswith(("&;", "&#"))]
 
 
-def crate_links(documents):
+def crate_links(documents: list[str]) -> list[str]:
     """The links that the crate gives."""
     with tempfile.TemporaryDirectory() as folder:
         top = pathlib.Path(folder)
@@ -219,12 +225,12 @@ def crate_links(documents):
         return run.stdout.decode(errors="replace").split(BETWEEN)
 
 
-def main():
+def main() -> int:
     """Draws, compares and tells the shortest differences."""
     words = sys.argv[1:]
     count, seed = int(words[0]) if words else 2000, int(words[1]) if len(words) > 1 else 1
     draw = random.Random(seed)
-    documents = [drawn_document(draw, number % 2) for number in range(count)]
+    documents = [drawn_document(draw, number % 2 == 1) for number in range(count)]
     rows = named_values()
     given = crate_links(documents + [f'<a href="{value}">' for value, _ in rows])
     wants = ["".join(link + BEHIND for link in Reader(True).read(document)) for document in documents]

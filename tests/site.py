@@ -97,6 +97,8 @@ class Reckoning:
         class Reader(self.links.Reader):  # type: ignore
             """Feeds a document to html5lib's tokenizer."""
 
+            base: str | None
+
             def feed(self, data: str) -> None:
                 self.read(data)
 
@@ -231,7 +233,7 @@ def compare_drawn(call: str, count: int, seed: int) -> int:
             folder = os.path.join(above, "site")
             os.mkdir(folder)
             draw_folder(draw, reckoning.links, pathlib.Path(folder))
-            words = draw.choice([[], [], ["--exact"], ["--queries"], ["--queries", "--exact"]])
+            words: list[str] = draw.choice([[], [], ["--exact"], ["--queries"], ["--queries", "--exact"]])
             given, wanted = web_of(call, folder, words), reckoning.web(folder, words)
             if given != wanted:
                 failed += 1

@@ -1,11 +1,12 @@
 #!/usr/bin/env python3
-"""Tests of tools/site_to_web.py, by the standard library alone. Run by hand: python3 tests/site_to_web.py
+"""Tests of tools/site_to_web.py, by the standard library alone.
 
 Expected lines are written by hand from the rules that the tool's help states, and from a server of the standard library
 for the shipped site. Each web that a test gets is held against the format's rules first, by a check of this file's own.
 """
 
-import collections
+from __future__ import annotations
+
 import contextlib
 import functools
 import gzip
@@ -20,6 +21,7 @@ import tempfile
 import threading
 import unittest
 import zlib
+from typing import Callable, Iterator, NamedTuple, Optional, Sequence, Union
 from unittest import mock
 from urllib.parse import urljoin, urlsplit
 
@@ -28,20 +30,29 @@ TOOL = os.path.join(ROOT, "tools", "site_to_web.py")
 SITE = os.path.join(ROOT, "examples", "site")
 LINE_LIMIT = 4096
 
-Done = collections.namedtuple("Done", "status out told")
+Content = Union[str, bytes]
+
+
+class Done(NamedTuple):
+    """A run's status, its output and what it told."""
+
+    status: int
+    out: bytes
+    told: str
 
 
 # ---------------------------------------------------------------- the format's rules
 
 
-def checked_lines(web):
+def checked_lines(web: bytes) -> list[str]:
     """The lines of a saved web, version 2; an AssertionError where it breaks a rule of the format."""
     assert web.endswith(b"\n") and b"\r\n" not in web, "line ends"
-    lines = web[:-1].split(b"\n")
-    assert all(len(line) <= LINE_LIMIT for line in lines), "a line is too long"
-    lines = [line.decode("utf-8") for line in lines]
+    raw = web[:-1].split(b"\n")
+    assert all(len(line) <= LINE_LIMIT for line in raw), "a line is too long"
+    lines = [line.decode("utf-8") for line in raw]
     assert lines[0] == "savedweb 2", "header"
-    pages, words = [], None
+    pages: list[str] = []
+    words: Optional[list[str]] = None
     for line in lines[1:]:
         word, space, text = line.partition(" ")
         assert space and word in ("page", "link", "moved"), f"no line of the format: {line}"
@@ -59,9 +70,10 @@ def checked_lines(web):
     return lines
 
 
-def pages_of(lines):
+def pages_of(lines: list[str]) -> dict[str, list[str]]:
     """The lines below each page, by its URL."""
-    pages = {}
+    pages: dict[str, list[str]] = {}
+    below: list[str] = []
     for line in lines[1:]:
         if line.startswith("page "):
             below = pages[line[len("page ") :]] = []
@@ -71,7 +83,7 @@ def pages_of(lines):
 
 
 class TheCheckItself(unittest.TestCase):
-    def test_breaks_of_each_rule_are_seen(self):
+    def test_breaks_of_each_rule_are_seen(self) -> None:
         page = b"page http://a.test/\n"
         for name, web in {
             "no header": page,
@@ -96,7 +108,7 @@ class TheCheckItself(unittest.TestCase):
 # ---------------------------------------------------------------- running the tool
 
 
-def run(*words):
+def run(*words: str) -> Done:
     """The tool's status, output and what it told."""
     done = subprocess.run([sys.executable, TOOL, *words], capture_output=True, check=False)
     return Done(done.returncode, done.stdout, done.stderr.decode())
@@ -107,37 +119,37 @@ class Converting(unittest.TestCase):
 
     maxDiff = None
 
-    def setUp(self):
+    def setUp(self) -> None:
         scratch = tempfile.TemporaryDirectory()
         self.addCleanup(scratch.cleanup)
         self.folder = os.path.join(scratch.name, "site")
         os.mkdir(self.folder)
         self.told = ""
 
-    def put(self, name, content=""):
+    def put(self, name: Content, content: Content = "") -> None:
         """Writes a file below the folder; its name may be bytes."""
         path = os.path.join(os.fsencode(self.folder), os.fsencode(name))
         os.makedirs(os.path.dirname(path), exist_ok=True)
         with open(path, "wb") as file:
             file.write(content if isinstance(content, bytes) else content.encode())
 
-    def web(self, *words):
+    def web(self, *words: str) -> list[str]:
         """The checked lines that the tool writes for these words."""
         done = run(*words)
         self.told = done.told
         self.assertEqual(done.status, 0, done.told)
         return checked_lines(done.out)
 
-    def converted(self, *options, base="http://a.test/"):
+    def converted(self, *options: str, base: str = "http://a.test/") -> dict[str, list[str]]:
         """The pages of the folder: the lines below each."""
         return pages_of(self.web(*options, self.folder, base))
 
-    def links(self, document, *options):
+    def links(self, document: Content, *options: str) -> list[str]:
         """The lines of one document at http://a.test/dir/page.html."""
         self.put("dir/page.html", document)
         return self.converted(*options)["http://a.test/dir/page.html"]
 
-    def assertFault(self, status, *words, says):
+    def assertFault(self, status: int, *words: str, says: str) -> None:
         """The tool ends with this status, writes nothing, and says so."""
         done = run(*words)
         self.assertEqual((done.status, done.out), (status, b""), done.told)
@@ -214,23 +226,23 @@ SHIPPED = {
 class QuietServer(http.server.SimpleHTTPRequestHandler):
     """The standard library's server of a folder, which lists no folder and tells nothing."""
 
-    def list_directory(self, path):
+    def list_directory(self, path: Union[str, os.PathLike[str]]) -> None:
         self.send_error(404)
 
-    def log_message(self, *words):
+    def log_message(self, format: str, *words: object) -> None:
         pass
 
 
 @contextlib.contextmanager
-def served(folder):
+def served(folder: str) -> Iterator[Callable[[str], tuple[int, Optional[str]]]]:
     """A call that answers the status and the Location that a server of the folder gives for a path."""
     handler = functools.partial(QuietServer, directory=folder)
     server = http.server.ThreadingHTTPServer(("127.0.0.1", 0), handler)
     thread = threading.Thread(target=server.serve_forever)
     thread.start()
 
-    def ask(path):
-        connection = http.client.HTTPConnection(*server.server_address, timeout=10)
+    def ask(path: str) -> tuple[int, Optional[str]]:
+        connection = http.client.HTTPConnection("127.0.0.1", server.server_port, timeout=10)
         connection.request("GET", path)
         answer = connection.getresponse()
         connection.close()
@@ -245,22 +257,22 @@ def served(folder):
 
 
 class TheShippedSite(Converting):
-    def test_its_lines_are_those_of_the_rules(self):
+    def test_its_lines_are_those_of_the_rules(self) -> None:
         lines = self.web(SITE, "http://site.test/")
         self.assertEqual(pages_of(lines), {"http://site.test" + path: below for path, below in SHIPPED.items()})
         links = sum(line.startswith("link ") for line in lines)
         self.assertIn(f"{len(SHIPPED)} pages, 5 of them moved; {links} links; ", self.told)
 
-    def test_its_stored_web_is_what_the_tool_writes(self):
+    def test_its_stored_web_is_what_the_tool_writes(self) -> None:
         with open(os.path.join(ROOT, "examples", "site.web"), "rb") as stored:
             self.assertEqual(run(SITE, "http://site.test/").out, stored.read())
 
-    def test_a_server_answers_as_the_web_says(self):
+    def test_a_server_answers_as_the_web_says(self) -> None:
         """Each page, and each target of a link on the site, is asked of a server of the same folder."""
         pages = pages_of(self.web(SITE, "http://site.test/"))
         asked = set(pages)
-        for url, below in pages.items():
-            targets = (urljoin(url, line.partition(" ")[2]).partition("#")[0] for line in below)
+        for url, lines in pages.items():
+            targets = (urljoin(url, line.partition(" ")[2]).partition("#")[0] for line in lines)
             asked.update(target for target in targets if target.startswith("http://site.test/"))
         self.assertLess(len(pages), len(asked))
         with served(SITE) as ask:
@@ -271,7 +283,7 @@ class TheShippedSite(Converting):
                 expected = 404 if below is None else 301 if below[:1] == [f"moved {path}/"] else 200
                 with self.subTest(url):
                     self.assertEqual(status, expected)
-                    if status == 301:
+                    if status == 301 and below:
                         self.assertEqual(urljoin(url, location), urljoin(url, below[0].removeprefix("moved ")))
 
 
@@ -279,7 +291,7 @@ class TheShippedSite(Converting):
 
 
 class Folders(Converting):
-    def test_names_are_percent_encoded_by_the_path_set(self):
+    def test_names_are_percent_encoded_by_the_path_set(self) -> None:
         names = {
             "plain-._~.txt": "plain-._~.txt",
             "two words.txt": "two%20words.txt",
@@ -297,7 +309,7 @@ class Folders(Converting):
             self.put(name)
         self.assertEqual(self.converted(), {f"http://a.test/{path}": [] for path in sorted(names.values())})
 
-    def test_names_that_are_no_utf8_are_written_by_their_bytes_and_told(self):
+    def test_names_that_are_no_utf8_are_written_by_their_bytes_and_told(self) -> None:
         try:
             self.put(b"caf\xe9.html", '<html><a href="caf%E9.html"><a href="caf%e9.html">')
         except OSError:
@@ -308,7 +320,7 @@ class Folders(Converting):
         )
         self.assertIn("name is not UTF-8, its bytes are percent-encoded: http://a.test/caf%E9.html\n", self.told)
 
-    def test_the_base_is_made_canonical(self):
+    def test_the_base_is_made_canonical(self) -> None:
         self.put("x.txt")
         for base, page in {
             "http://A.test:80": "http://a.test/x.txt",
@@ -323,7 +335,7 @@ class Folders(Converting):
             with self.subTest(base):
                 self.assertEqual(self.converted(base=base), {page: []})
 
-    def test_bases_that_it_cannot_write_are_bad_words(self):
+    def test_bases_that_it_cannot_write_are_bad_words(self) -> None:
         self.put("x.txt")
         for base in (
             "a.test",
@@ -342,7 +354,7 @@ class Folders(Converting):
             with self.subTest(base):
                 self.assertFault(3, self.folder, base, says="no http or https URL with a plain host")
 
-    def test_a_folder_is_moved_to_its_index_with_the_query_that_it_was_asked_with(self):
+    def test_a_folder_is_moved_to_its_index_with_the_query_that_it_was_asked_with(self) -> None:
         self.put("index.html", '<html><a href="dir?x=1"><a href="dir?x=1"><a href="d%69r">')
         self.put("dir/index.html", '<html><a href="?y">')
         self.put("empty/name.txt")
@@ -365,16 +377,16 @@ class Folders(Converting):
             },
         )
 
-    def test_a_redirect_never_names_a_host(self):
+    def test_a_redirect_never_names_a_host(self) -> None:
         self.put("dir/x.txt")
         pages = self.converted(base="http://a.test//docs/")
         self.assertEqual(pages["http://a.test//docs/dir"], ["moved http://a.test//docs/dir/"])
 
-    def test_exact_leaves_other_spellings_out(self):
+    def test_exact_leaves_other_spellings_out(self) -> None:
         self.put("index.html", '<html><a href="?x"><a href="%69ndex.html">')
         self.assertEqual(list(self.converted("--exact")), ["http://a.test/", "http://a.test/index.html"])
 
-    def test_pages_below_another_spelling_are_other_spellings(self):
+    def test_pages_below_another_spelling_are_other_spellings(self) -> None:
         self.put("index.html", '<html><a href="%64ir/a.html">')
         self.put("dir/a.html", '<html><a href="b.html">')
         self.put("dir/b.html", '<html><a href="/dir/a.html">')
@@ -382,18 +394,18 @@ class Folders(Converting):
         self.assertEqual(spelled, ["http://a.test/%64ir/a.html", "http://a.test/%64ir/b.html"])
         self.assertIn("pages that are other spellings of a page: 2\n", self.told)
 
-    def test_an_escaped_slash_and_other_hosts_are_no_other_spelling(self):
+    def test_an_escaped_slash_and_other_hosts_are_no_other_spelling(self) -> None:
         self.put("dir/x.html", '<html><a href="/dir%2Fx.html"><a href="http://b.test/dir/x.html?q">')
         self.assertEqual(list(self.converted()), ["http://a.test/dir", "http://a.test/dir/x.html"])
 
-    def test_another_index_file(self):
+    def test_another_index_file(self) -> None:
         self.put("home.htm", '<html><a href="x">')
         self.assertEqual(
             self.converted("--index", "home.htm"),
             {"http://a.test/": ["link x"], "http://a.test/home.htm": ["link x"]},
         )
 
-    def test_queries_of_names(self):
+    def test_queries_of_names(self) -> None:
         self.put("list.html?page=2", '<html><a href="list.html?page=3"><a href="list.html?p%61ge=2">')
         self.put("list.html?p%61ge=2", "<html>")
         below = ["link list.html?page=3", "link list.html?p%61ge=2"]
@@ -408,7 +420,7 @@ class Folders(Converting):
         told = "file left out, another has its URL: list.html?page=2, http://a.test/list.html?page=2\n"
         self.assertIn(told, self.told)
 
-    def test_queries_of_index_files(self):
+    def test_queries_of_index_files(self) -> None:
         self.put("dir/index.html?page=2", '<html><a href="x">')
         self.assertEqual(
             self.converted("--queries"),
@@ -420,7 +432,7 @@ class Folders(Converting):
         )
         self.assertEqual(list(self.converted()), ["http://a.test/dir", "http://a.test/dir/index.html%3Fpage=2"])
 
-    def test_images_alone_are_pages_without_links(self):
+    def test_images_alone_are_pages_without_links(self) -> None:
         for name in ("a.png", "b.jpg", "c.svg"):
             self.put("images/" + name, b'\x89<html><a href="x">')
         self.assertEqual(
@@ -434,7 +446,7 @@ class Folders(Converting):
         )
         self.assertIn("4 pages, 1 of them moved; 0 links;", self.told)
 
-    def test_html_is_known_by_suffix_or_first_bytes(self):
+    def test_html_is_known_by_suffix_or_first_bytes(self) -> None:
         document = '<!-- c --> <!DOCTYPE html><a href="x">'
         for name, found in {
             "a.html": 1,
@@ -453,7 +465,7 @@ class Folders(Converting):
         self.put("words", "no document")
         self.assertEqual(self.converted()["http://a.test/words"], [])
 
-    def test_symbolic_links_are_followed_but_not_back_up(self):
+    def test_symbolic_links_are_followed_but_not_back_up(self) -> None:
         self.put("dir/x.txt")
         os.symlink("dir", os.path.join(self.folder, "other"))
         os.symlink("..", os.path.join(self.folder, "dir", "up"))
@@ -468,7 +480,7 @@ class Folders(Converting):
         self.assertIn("folder not entered, it leads back up: dir/up\n", self.told)
         self.assertIn("left out, neither a file nor a folder: gone\n", self.told)
 
-    def test_a_page_whose_line_is_too_long_is_left_out_and_told(self):
+    def test_a_page_whose_line_is_too_long_is_left_out_and_told(self) -> None:
         deep = "/".join(["\u00fc" * 100] * 7)
         self.put(deep + "/x.txt")
         self.put("y.txt")
@@ -478,7 +490,7 @@ class Folders(Converting):
         self.assertEqual(self.told.count("page left out, its URL is too long: http://a.test/%C3%BC"), 2)
         self.assertIn("page left out, its URL is too long: 2\n", self.told)
 
-    def test_faults_write_nothing(self):
+    def test_faults_write_nothing(self) -> None:
         self.assertFault(1, self.folder, "http://a.test/", says="no files in")
         os.mkdir(os.path.join(self.folder, "empty"))
         self.assertFault(1, self.folder, "http://a.test/", says="no files in")
@@ -488,7 +500,7 @@ class Folders(Converting):
         self.assertFault(3, self.folder, "http://a.test/", "--warc", "x", says="give FOLDER and BASE")
         self.assertFault(3, "--unheard", says="unrecognized arguments: --unheard")
 
-    def test_help_is_no_fault(self):
+    def test_help_is_no_fault(self) -> None:
         done = run("--help")
         self.assertEqual((done.status, done.told), (0, ""))
         for words in ("usage: site_to_web.py", "exit status:", "--warc FILE", "4,096 bytes"):
@@ -499,8 +511,8 @@ class Folders(Converting):
 
 
 class Documents(Converting):
-    def test_what_is_a_link(self):
-        for document, expected in {
+    def test_what_is_a_link(self) -> None:
+        documents: dict[str, list[str]] = {
             '<a href="x">': ["x"],
             "<a href='x'>": ["x"],
             "<A HREF=x>": ["x"],
@@ -539,23 +551,24 @@ class Documents(Converting):
             '<script>"<a href=x>"</script><a href="y">': ["y"],
             '<a href="?a=1&amp;b=2&copy=3&#38;c&lt;">': ["?a=1&b=2&copy=3&c<"],
             '<div style="background: url(x)"><style>@import "y";</style>': [],
-        }.items():
+        }
+        for document, expected in documents.items():
             with self.subTest(document):
                 self.assertEqual(self.links(document), [f"link {text}" for text in expected])
 
-    def test_styles_are_read_where_they_are_asked_for(self):
+    def test_styles_are_read_where_they_are_asked_for(self) -> None:
         document = '<div style="background: url(x)"><style>@import "y"; /* url(n) */</style><a href="z">'
         self.assertEqual(self.links(document, "--styles"), ["link x", "link y", "link z"])
         self.put("s.css", '@import "t.css"; a { background: url( "u v.png" ) }')
         self.assertEqual(self.converted("--styles")["http://a.test/s.css"], ["link t.css", "link u v.png"])
         self.assertEqual(self.converted()["http://a.test/s.css"], [])
 
-    def test_once_keeps_the_first_of_equal_texts(self):
+    def test_once_keeps_the_first_of_equal_texts(self) -> None:
         document = '<a href="x"><a href="y"><a href="x"><a href="x#f">'
         self.assertEqual(self.links(document), ["link x", "link y", "link x", "link x#f"])
         self.assertEqual(self.links(document, "--once"), ["link x", "link y", "link x#f"])
 
-    def test_line_breaks_tabs_and_edges_are_taken_out(self):
+    def test_line_breaks_tabs_and_edges_are_taken_out(self) -> None:
         for document, expected in {
             '<a href="a\nb">': ["ab"],
             '<a href="a\r\nb\tc">': ["abc"],
@@ -572,7 +585,7 @@ class Documents(Converting):
         self.links('<a href="a\nb"><a href="\na\n"><a href="c\nd">')
         self.assertIn("links over several lines, put into one: 2\n", self.told)
 
-    def test_lines_are_at_most_4096_bytes(self):
+    def test_lines_are_at_most_4096_bytes(self) -> None:
         room = LINE_LIMIT - len("link ")
         letters = "\u00fc" * (room // 2)
         for name, text, expected in (
@@ -587,12 +600,12 @@ class Documents(Converting):
             ("of the web", "http://b.test/" + "x" * 9000, None),
         ):
             with self.subTest(name):
-                expected = [] if expected is None else [f"link {expected}"]
-                self.assertEqual(self.links(f'<meta charset="utf-8"><a href="{text}">'), expected)
+                lines = [] if expected is None else [f"link {expected}"]
+                self.assertEqual(self.links(f'<meta charset="utf-8"><a href="{text}">'), lines)
                 told = "link left out, it is too long: http://a.test/dir/page.html"
-                self.assertEqual(told in self.told, not expected)
+                self.assertEqual(told in self.told, not lines)
 
-    def test_a_base_resolves_what_is_below_it(self):
+    def test_a_base_resolves_what_is_below_it(self) -> None:
         for document, expected in {
             '<base href="/top/"><a href="x"><a href="../y#f"><a href="#f"><a href="//b.test">': [
                 "http://a.test/top/x",
@@ -625,7 +638,7 @@ class Documents(Converting):
             with self.subTest(document):
                 self.assertEqual(self.links(document), [f"link {text}" for text in expected])
 
-    def test_encodings(self):
+    def test_encodings(self) -> None:
         for name, document, expected in (
             ("utf-8", '<meta charset="utf-8"><a href="\u00fc?\u00fc">'.encode(), "\u00fc?\u00fc"),
             ("none said", '<a href="\u00fc?\u00fc">'.encode(), "\u00fc?\u00fc"),
@@ -644,7 +657,7 @@ class Documents(Converting):
             with self.subTest(name):
                 self.assertEqual(self.links(document), [f"link {expected}"])
 
-    def test_what_is_told_has_no_control_characters(self):
+    def test_what_is_told_has_no_control_characters(self) -> None:
         self.links(f'<a href="a\x1b[2J{"x" * 9000}">')
         self.assertIn("page.html links to a\\x1b[2Jxxx", self.told)
         self.assertNotIn("\x1b", self.told)
@@ -654,20 +667,20 @@ class Documents(Converting):
 # ---------------------------------------------------------------- web archives
 
 
-def record(kind, url, block, *headers):
+def record(kind: str, url: str, block: bytes, *headers: str) -> bytes:
     """A record of a WARC."""
     lines = ["WARC/1.0", f"WARC-Type: {kind}", f"WARC-Target-URI: {url}", *headers, f"Content-Length: {len(block)}"]
     return "\r\n".join(lines).encode() + b"\r\n\r\n" + block + b"\r\n\r\n"
 
 
-def answer(status, body=b"", *headers, kind="text/html"):
+def answer(status: int, body: Content = b"", *headers: str, kind: str = "text/html") -> bytes:
     """An HTTP answer."""
     body = body if isinstance(body, bytes) else body.encode()
     lines = [f"HTTP/1.1 {status} Words", f"Content-Type: {kind}", *headers]
     return "\r\n".join(lines).encode() + b"\r\n\r\n" + body
 
 
-def chunked(body):
+def chunked(body: bytes) -> bytes:
     """A body in chunks of seven bytes."""
     parts = [body[place : place + 7] for place in range(0, len(body), 7)]
     return b"".join(b"%x\r\n%s\r\n" % (len(part), part) for part in [*parts, b""])
@@ -676,12 +689,12 @@ def chunked(body):
 class WithArchives(Converting):
     """A test that makes web archives."""
 
-    def archive(self, *records, packed=False):
+    def archive(self, *records: bytes, packed: bool = False) -> str:
         """The name of a WARC of these records; where it is packed, each record is packed by itself."""
         self.put("site.warc", b"".join(map(gzip.compress, records) if packed else records))
         return os.path.join(self.folder, "site.warc")
 
-    def read(self, *records, options=()):
+    def read(self, *records: bytes, options: Sequence[str] = ()) -> dict[str, list[str]]:
         """The pages of a WARC of these records, which are the same where it is packed."""
         plain = self.web(*options, "--warc", self.archive(*records))
         self.assertEqual(self.web(*options, "--warc", self.archive(*records, packed=True)), plain)
@@ -689,7 +702,7 @@ class WithArchives(Converting):
 
 
 class Archives(WithArchives):
-    def test_pages_redirects_and_missing_ones(self):
+    def test_pages_redirects_and_missing_ones(self) -> None:
         pages = self.read(
             record("warcinfo", "", b"software: none"),
             record("request", "http://b.test/", b"GET / HTTP/1.1\r\n\r\n"),
@@ -717,8 +730,8 @@ class Archives(WithArchives):
         self.assertNotIn("status none", self.told)
         self.assertIn("records of URLs that are neither http nor https: 2\n", self.told)
 
-    def test_each_status(self):
-        statuses = {
+    def test_each_status(self) -> None:
+        statuses: dict[int, Optional[list[str]]] = {
             **dict.fromkeys((200, 203, 299), ["link x"]),
             **dict.fromkeys((301, 302, 303, 307, 308), ["moved there"]),
             **dict.fromkeys((100, 199, 300, 304, 305, 400, 401, 410, 500, 503), None),
@@ -733,12 +746,12 @@ class Archives(WithArchives):
             with self.subTest(status):
                 self.assertEqual(pages.get(f"http://a.test/{status}"), expected)
 
-    def test_a_redirect_without_a_target_is_no_page(self):
+    def test_a_redirect_without_a_target_is_no_page(self) -> None:
         pages = self.read(record("response", "http://a.test/", answer(301)))
         self.assertEqual(pages, {})
         self.assertIn("answers that are no page, status 301: 1\n", self.told)
 
-    def test_targets_of_redirects(self):
+    def test_targets_of_redirects(self) -> None:
         room = LINE_LIMIT - len("moved ")
         for name, target, expected in (
             ("another scheme", "mailto:m", ["moved mailto:m"]),
@@ -754,7 +767,7 @@ class Archives(WithArchives):
                 self.assertEqual(pages, {"http://a.test/": expected})
                 self.assertEqual("redirect left without its target" in self.told, not expected)
 
-    def test_of_two_pages_with_one_url_the_first_counts(self):
+    def test_of_two_pages_with_one_url_the_first_counts(self) -> None:
         pages = self.read(
             record("response", "http://a.test", answer(404)),
             record("response", "http://a.test/", answer(200, '<a href="first">')),
@@ -764,7 +777,7 @@ class Archives(WithArchives):
         self.assertEqual(pages, {"http://a.test/": ["link first"]})
         self.assertIn("page left out, one with its URL came before: 2\n", self.told)
 
-    def test_pages_that_are_visited_again(self):
+    def test_pages_that_are_visited_again(self) -> None:
         digest = "WARC-Payload-Digest: sha1:A"
         pages = self.read(
             record("response", "http://a.test/1", answer(200, '<a href="x">'), digest),
@@ -781,7 +794,7 @@ class Archives(WithArchives):
         self.assertEqual(pages, {**below, **{f"http://a.test/{name}": lines for name, lines in others.items()}})
         self.assertIn("links not read, the record that is visited again is not there: http://a.test/7\n", self.told)
 
-    def test_codings(self):
+    def test_codings(self) -> None:
         body = b'<!DOCTYPE html><a href="x">'
         raw = zlib.compressobj(wbits=-15)
         for name, headers, coded in (
@@ -801,7 +814,7 @@ class Archives(WithArchives):
         self.assertEqual(pages, {"http://a.test/": []})
         self.assertIn("links not read, the body's coding is not known: http://a.test/\n", self.told)
 
-    def test_the_servers_word_on_kind_and_encoding(self):
+    def test_the_servers_word_on_kind_and_encoding(self) -> None:
         document = b'<a href="\xf6?\xf6">'
         for kind, expected in {
             "text/html": ["link \u00f6?%F6"],
@@ -815,7 +828,7 @@ class Archives(WithArchives):
                 pages = self.read(record("response", "http://a.test/", answer(200, document, kind=kind)))
                 self.assertEqual(pages, {"http://a.test/": expected})
 
-    def test_hosts_that_are_not_plain_are_left_out_and_told(self):
+    def test_hosts_that_are_not_plain_are_left_out_and_told(self) -> None:
         hosts = ("\u00fc.test", "me@a.test", "[::1]", "a.test:65536", "1.2", "0x7f.1", "a..test", "a b", "xn--a")
         pages = self.read(
             *(record("response", f"http://{host}/", answer(200)) for host in hosts),
@@ -824,13 +837,13 @@ class Archives(WithArchives):
         self.assertEqual(pages, {"http://xn--tda.test:8080/": []})
         self.assertIn(f"page left out, its host is not plain: {len(hosts)}\n", self.told)
 
-    def test_pages_come_in_order_of_url_whatever_the_order_of_records(self):
+    def test_pages_come_in_order_of_url_whatever_the_order_of_records(self) -> None:
         records = [record("response", f"http://{host}.test/", answer(200, f'<a href="{host}">')) for host in "cab"]
         self.assertEqual(
             self.web("--warc", self.archive(*records)), self.web("--warc", self.archive(*reversed(records)))
         )
 
-    def test_faults_write_nothing(self):
+    def test_faults_write_nothing(self) -> None:
         good = record("response", "http://a.test/", answer(200, '<a href="x">' * 100))
         self.assertFault(1, "--warc", self.archive(good, good[:-200]), says="a WARC record is cut off")
         self.assertFault(1, "--warc", self.archive(b"<html>"), says="no WARC record where one should begin")
@@ -842,19 +855,21 @@ class Archives(WithArchives):
         self.assertFault(1, "--warc", os.path.join(self.folder, "cut.gz"), says="cut.gz: ")
         self.assertFault(1, "--warc", os.path.join(self.folder, "none"), says="No such file")
 
-    def test_an_empty_archive_is_a_web_without_pages(self):
+    def test_an_empty_archive_is_a_web_without_pages(self) -> None:
         self.assertEqual(self.web("--warc", self.archive(b"")), ["savedweb 2"])
 
 
 class Limits(WithArchives):
     """Tests with lower limits than the true ones, which take much memory."""
 
-    def run_with(self, limit, number, *words):
+    def run_with(self, limit: str, number: int, *words: str) -> Done:
         """The tool's status, output and what it told, with another number for a limit."""
         spec = importlib.util.spec_from_file_location("site_to_web_tool", TOOL)
+        assert spec is not None and spec.loader is not None
         tool = importlib.util.module_from_spec(spec)
         spec.loader.exec_module(tool)
-        out, told, status = io.TextIOWrapper(io.BytesIO()), io.StringIO(), 0
+        written, told, status = io.BytesIO(), io.StringIO(), 0
+        out = io.TextIOWrapper(written)
         with contextlib.ExitStack() as patches:
             patches.enter_context(mock.patch.object(tool, limit, number))
             patches.enter_context(mock.patch.object(sys, "stdout", out))
@@ -863,10 +878,10 @@ class Limits(WithArchives):
             try:
                 tool.main()
             except SystemExit as ended:
-                status = ended.code
-        return Done(status, out.buffer.getvalue(), told.getvalue())
+                status = int(ended.code or 0)
+        return Done(status, written.getvalue(), told.getvalue())
 
-    def test_a_web_that_no_crawl_takes_is_a_fault(self):
+    def test_a_web_that_no_crawl_takes_is_a_fault(self) -> None:
         words = SITE, "http://site.test/"
         whole = run(*words).out
         self.assertEqual(self.run_with("INPUT_LIMIT", len(whole), *words)[:2], (0, whole))
@@ -874,13 +889,14 @@ class Limits(WithArchives):
         self.assertEqual(done[:2], (1, b""))
         self.assertIn("which no crawl takes", done.told)
 
-    def test_large_records_are_read_in_their_first_bytes(self):
+    def test_large_records_are_read_in_their_first_bytes(self) -> None:
         document = '<a href="x">' + " " * 1000 + '<a href="y">'
         packed = gzip.compress(document.encode())
-        for name, body, headers, told in (
+        cases: tuple[tuple[str, Content, list[str], str], ...] = (
             ("record", document, [], "record read in its first bytes alone"),
             ("document", packed, ["Content-Encoding: gzip"], "links read in its first bytes alone"),
-        ):
+        )
+        for name, body, headers, told in cases:
             block = answer(200, body, *headers)
             path = self.archive(record("response", "http://a.test/", block), record("resource", "http://b.test/", b""))
             done = self.run_with("DOCUMENT_LIMIT", 500, "--warc", path)

@@ -6,6 +6,8 @@ prints, say which these are. The web is made in a temporary file and written to 
 pages in ascending byte order of URL: one site gives the same bytes each time, and no list of all links is kept.
 """
 
+from __future__ import annotations
+
 import argparse
 import gzip
 import html
@@ -17,6 +19,8 @@ import re
 import sys
 import tempfile
 import zlib
+from io import BufferedIOBase
+from typing import BinaryIO, Callable, Iterable, Iterator, NoReturn, Optional
 from urllib.parse import quote, unquote_to_bytes
 
 DESCRIPTION = """\
@@ -124,28 +128,28 @@ class Fault(Exception):
 # ---------------------------------------------------------------- URLs
 
 
-def cleaned(text):
+def cleaned(text: str) -> str:
     """What a URL parser reads of a text: no edges, no tabs, no line breaks."""
     return re.sub("[\t\n\r]", "", text.strip(EDGE))
 
 
-def encoded(text, safe):
+def encoded(text: str, safe: str) -> str:
     """The text's UTF-8, percent-encoded but for letters, digits, -._~ and what is safe."""
     return quote(text.encode("utf-8", "replace"), safe=safe)
 
 
-def scheme_of(text):
+def scheme_of(text: str) -> Optional[str]:
     """The scheme that a text begins with, in small letters, or None."""
     found = re.match("[A-Za-z][A-Za-z0-9+.-]*:", text)
     return found[0][:-1].lower() if found else None
 
 
-def is_web(scheme):
+def is_web(scheme: Optional[str]) -> bool:
     """Whether a link with this scheme, or with none, may lead to a page."""
     return scheme is None or scheme in PORTS
 
 
-def is_known_label(label):
+def is_known_label(label: str) -> bool:
     """Whether a label has letters of ASCII alone, or ones that Python reads and writes again."""
     try:
         return label[:4] != "xn--" or (
@@ -155,7 +159,7 @@ def is_known_label(label):
         return False
 
 
-def canonical_name(host):
+def canonical_name(host: str) -> Optional[str]:
     """A host name in canonical form, or None where that takes more than this script knows."""
     host = unquote_to_bytes(host).decode("latin-1").lower()
     labels = host.removesuffix(".").split(".")
@@ -168,41 +172,41 @@ def canonical_name(host):
     return ".".join(labels) if plain and len(labels) == 4 else None
 
 
-def canonical_host(authority, scheme):
+def canonical_host(authority: str, scheme: str) -> Optional[str]:
     """The authority in canonical form, without the scheme's own port; None where that is not known."""
     name, colon, port = authority.rpartition(":")
     if not colon:
         name, port = authority, ""
-    name = canonical_name(name)
+    host = canonical_name(name)
     number = port.lstrip("0") or port[:1]
-    if name is None or not re.fullmatch("[0-9]{0,5}", number):
+    if host is None or not re.fullmatch("[0-9]{0,5}", number):
         return None
     if number == "" or int(number) == PORTS[scheme]:
-        return name
-    return f"{name}:{number}" if int(number) <= GREATEST_PORT else None
+        return host
+    return f"{host}:{number}" if int(number) <= GREATEST_PORT else None
 
 
 class Url:
     """An http or https URL without its fragment. Where `host` is None, only `text` may be used."""
 
-    def __init__(self, scheme, authority, path, query):
+    def __init__(self, scheme: str, authority: str, path: str, query: Optional[str]) -> None:
         self.scheme, self.authority, self.path, self.query = scheme, authority, path, query
         self.host = canonical_host(authority, scheme)
 
-    def site(self):
+    def site(self) -> str:
         """The text up to the path."""
         return f"{self.scheme}://{self.host or self.authority}"
 
-    def tail(self):
+    def tail(self) -> str:
         """The question mark and the query, where there is one."""
         return "" if self.query is None else "?" + self.query
 
-    def text(self):
+    def text(self) -> str:
         """The whole text, canonical where the host is known."""
         return self.site() + self.path + self.tail()
 
 
-def parse(text, base=None):
+def parse(text: str, base: Optional[Url] = None) -> Optional[Url]:
     """The Url that a text means against a base Url; None where it is no http or https URL.
 
     The URL Standard's rules for these two schemes; the fragment is dropped.
@@ -222,22 +226,28 @@ def parse(text, base=None):
     return parse_path(text, base)
 
 
-def parse_after_slashes(scheme, text):
+def url_of(text: str) -> Url:
+    """The Url of a text that is one."""
+    url = parse(text)
+    assert url is not None
+    return url
+
+
+def parse_after_slashes(scheme: str, text: str) -> Optional[Url]:
     """The Url of what follows the scheme and its slashes."""
-    authority = re.match(r"[^/\\?]*", text)[0]
+    authority = re.split(r"[/\\?]", text, maxsplit=1)[0]
     path, mark, query = text[len(authority) :].partition("?")
     if not authority:
         return None
     return Url(scheme, authority, canonical_path(path), encoded(query, IN_QUERY) if mark else None)
 
 
-def parse_path(text, base):
+def parse_path(text: str, base: Url) -> Url:
     """The Url of a text without scheme and host: a path from the top, one from the base's folder, or none."""
-    path, mark, query = text.partition("?")
+    path, mark, tail = text.partition("?")
+    query = None if path else base.query
     if mark:
-        query = encoded(query, IN_QUERY)
-    else:
-        query = None if path else base.query
+        query = encoded(tail, IN_QUERY)
     if not path:
         path = base.path
     elif path[0] in "/\\":
@@ -247,10 +257,10 @@ def parse_path(text, base):
     return Url(base.scheme, base.authority, path, query)
 
 
-def canonical_path(path):
+def canonical_path(path: str) -> str:
     """A path that begins with a slash or is empty: dots resolved, percent-encoded."""
     parts = re.split(r"[/\\]", path)[1:] or [""]
-    kept = []
+    kept: list[str] = []
     for place, part in enumerate(parts, 1):
         dots = re.sub("(?i)%2e", ".", part)
         if dots == "..":
@@ -262,7 +272,7 @@ def canonical_path(path):
     return "/" + "/".join(kept)
 
 
-def respelled(path):
+def respelled(path: str) -> str:
     """A canonical path with its escapes written as those of a file's page are."""
     return "/".join(quote(unquote_to_bytes(part), safe=IN_NAME) for part in path.split("/"))
 
@@ -279,7 +289,8 @@ DECLARED = re.compile(rb"(?i)<meta[^>]*charset\s*=\s*[\"']?\s*([A-Za-z0-9_.:-]+)
 REFERENCE = re.compile("&(#[0-9]+;?|#[xX][0-9a-fA-F]+;?|[A-Za-z][A-Za-z0-9]*(?:;|(?![A-Za-z0-9=])))")
 LONG_REFERENCE = re.compile("&#([0-9]{8,})(;?)")
 # Python's own pattern of references between tags fails at `&#` without a digit, and takes all that follows as text
-html.parser.charref = re.compile("&#.", re.S)
+html.parser.charref = re.compile("&#.", re.S)  # type: ignore[attr-defined]
+TAG_NAME = re.compile(r"<[^\s/>]*")
 CANDIDATE = re.compile(r"[^ \t\n\f\r]*")
 BETWEEN_CANDIDATES = re.compile(r"[ \t\n\f\r,]*")
 DESCRIPTORS = re.compile(r"(?:\([^)]*\)?|[^,(])*")
@@ -291,10 +302,16 @@ STYLE_URL = re.compile(
 )
 
 
-def decoded(value):
+def end_of(pattern: re.Pattern[str], text: str, place: int = 0) -> int:
+    """Where the match of a pattern ends that matches at the place."""
+    found = pattern.match(text, place)
+    return found.end() if found else place
+
+
+def decoded(value: str) -> str:
     """An attribute's value with its character references read: `&copy=1` and `&copy1` are none there."""
 
-    def one(found):
+    def one(found: re.Match[str]) -> str:
         if found[1][0] == "#":
             return html.unescape(found[0])
         return html.entities.html5.get(found[1], found[0])
@@ -302,40 +319,40 @@ def decoded(value):
     return REFERENCE.sub(one, value) if "&" in value else value
 
 
-def attributes(tag):
+def attributes(tag: str) -> dict[str, str]:
     """The attributes of a start tag's text, the first of each name."""
-    found = {}
-    name_end = re.match(r"<[^\s/>]*", tag).end()
-    for name, value in ATTRIBUTE.findall(tag[name_end:].removesuffix(">")):
+    found: dict[str, str] = {}
+    for name, value in ATTRIBUTE.findall(tag[end_of(TAG_NAME, tag):].removesuffix(">")):
         if value[:1] in ("'", '"'):
             value = value[1:-1]
         found.setdefault(name.lower(), decoded(value))
     return found
 
 
-def without_long_references(text):
+def without_long_references(text: str) -> str:
     """The text with no reference of more than seven digits. Python may fail at long ones, which are no character."""
 
-    def one(found):
+    def one(found: re.Match[str]) -> str:
         digits = found[1].lstrip("0")
         return "\ufffd" if len(digits) > 7 else f"&#{digits or 0}{found[2]}"
 
     return LONG_REFERENCE.sub(one, text)
 
 
-def candidates(text):
+def candidates(text: str) -> list[str]:
     """The URLs of a srcset: each ends at a space, or at a comma where it ends in one."""
-    found, place = [], 0
-    while (place := BETWEEN_CANDIDATES.match(text, place).end()) < len(text):
-        candidate = CANDIDATE.match(text, place)
-        place = candidate.end()
-        found.append(candidate[0].rstrip(","))
-        if found[-1] == candidate[0]:
-            place = DESCRIPTORS.match(text, place).end()
+    found: list[str] = []
+    place = 0
+    while (begin := end_of(BETWEEN_CANDIDATES, text, place)) < len(text):
+        place = end_of(CANDIDATE, text, begin)
+        candidate = text[begin:place]
+        found.append(candidate.rstrip(","))
+        if found[-1] == candidate:
+            place = end_of(DESCRIPTORS, text, place)
     return found
 
 
-def links_of_style(text):
+def links_of_style(text: str) -> list[str]:
     """The texts of url() and @import in a style sheet."""
     text = re.sub(r"/\*.*?(?:\*/|\Z)", "", text, flags=re.S)
     return ["".join(found) for found in STYLE_URL.findall(text)]
@@ -344,27 +361,28 @@ def links_of_style(text):
 class LinkReader(html.parser.HTMLParser):
     """Collects the link texts of a document in its order, and the text of its base."""
 
-    def __init__(self, styles):
+    def __init__(self, styles: bool) -> None:
         super().__init__(convert_charrefs=False)
-        self.links, self.base = [], None
+        self.links: list[str] = []
+        self.base: Optional[str] = None
         self.styles, self.in_style = styles, False
 
-    def parse_comment(self, begin, report=True):
+    def parse_comment(self, begin: int, report: int = True) -> int:
         """Where the comment at a place ends, by HTML's rules; Python's own differ between its versions."""
-        return COMMENT.match(self.rawdata, begin).end()
+        return end_of(COMMENT, self.rawdata, begin)
 
-    def parse_marked_section(self, begin, report=True):
+    def parse_marked_section(self, begin: int, report: int = True) -> int:
         """Where `<![..` ends: HTML has no such sections, so at the next `>`. Python's own may fail here."""
         return self.parse_bogus_comment(begin)
 
-    def handle_endtag(self, tag):
+    def handle_endtag(self, tag: str) -> None:
         self.in_style = False
 
-    def handle_data(self, data):
+    def handle_data(self, data: str) -> None:
         if self.in_style:
             self.links += links_of_style(data)
 
-    def handle_starttag(self, tag, attrs):
+    def handle_starttag(self, tag: str, attrs: list[tuple[str, Optional[str]]]) -> None:
         if self.styles:
             self.in_style = tag == "style"
             for name, value in attrs:
@@ -372,7 +390,7 @@ class LinkReader(html.parser.HTMLParser):
                     self.links += links_of_style(value)
         if tag not in LINKS and tag not in ("base", "meta"):
             return
-        found = attributes(self.get_starttag_text())
+        found = attributes(self.get_starttag_text() or "")
         if tag == "base":
             if self.base is None:
                 self.base = found.get("href")
@@ -381,13 +399,13 @@ class LinkReader(html.parser.HTMLParser):
         elif tag != "link" or not HOST_HINTS & set(found.get("rel", "").lower().split()):
             self.read_links(LINKS[tag], found)
 
-    def read_refresh(self, found):
+    def read_refresh(self, found: dict[str, str]) -> None:
         """The target of a `meta` that sends on to another page."""
         if found.get("http-equiv", "").lower() == "refresh":
             refresh = REFRESH.match(found.get("content", ""))
             self.links += [part for part in refresh.groups() if part] if refresh else []
 
-    def read_links(self, names, found):
+    def read_links(self, names: tuple[str, ...], found: dict[str, str]) -> None:
         """The texts of the attributes with these names."""
         for name in names:
             if name in found and name.endswith("srcset"):
@@ -396,7 +414,7 @@ class LinkReader(html.parser.HTMLParser):
                 self.links.append(found[name])
 
 
-def charset_names(body, charset):
+def charset_names(body: bytes, charset: Optional[str]) -> Iterator[str]:
     """The names of the encodings that a document may have, as its server and its head say."""
     declared = DECLARED.search(body[:START_LENGTH])
     for name in (charset, declared and declared[1].decode()):
@@ -406,7 +424,7 @@ def charset_names(body, charset):
         yield "utf-8" if name.startswith("utf-16") or name == "utf8" else name
 
 
-def text_of(body, charset):
+def text_of(body: bytes, charset: Optional[str]) -> tuple[str, str]:
     """A document's text and encoding: by its first bytes, the server's word, its head, UTF-8, Windows' own."""
     for mark, name in BYTE_ORDER_MARKS:
         if body.startswith(mark):
@@ -423,7 +441,7 @@ def text_of(body, charset):
         return body.decode("cp1252", "replace"), "cp1252"
 
 
-def with_query_in(text, charset):
+def with_query_in(text: str, charset: str) -> str:
     """The link with the letters of its query percent-encoded in the page's encoding."""
     front, hash_mark, fragment = text.partition("#")
     path, mark, query = front.partition("?")
@@ -433,7 +451,7 @@ def with_query_in(text, charset):
     return path + mark + query + hash_mark + fragment
 
 
-def with_base(links, given, url):
+def with_base(links: list[str], given: str, url: Url) -> list[str]:
     """The links of a page at a Url whose base is given, so that they mean the same without it."""
     given = cleaned(given)
     base = parse(given, url)
@@ -447,14 +465,14 @@ def with_base(links, given, url):
     return [link if scheme_of(link) else f"{scheme}:{link}" for link in links]
 
 
-def is_document(kind, body):
+def is_document(kind: Optional[str], body: bytes) -> bool:
     """Whether a body of this kind, or of none, is HTML."""
-    return kind in HTML_KINDS or (not kind and HTML_START.match(body[:START_LENGTH]))
+    return kind in HTML_KINDS or (not kind and HTML_START.match(body[:START_LENGTH]) is not None)
 
 
-def links_of(body, url, kind, web, charset=None):
+def links_of(body: bytes, url: Url, kind: Optional[str], web: Web, charset: Optional[str] = None) -> list[str]:
     """The link texts of a document at a Url; none where it is neither HTML nor a style sheet that is asked for."""
-    base = None
+    base: Optional[str] = None
     if kind == STYLE_KIND and web.styles:
         text, charset = text_of(body, charset)
         given = links_of_style(text)
@@ -474,7 +492,7 @@ def links_of(body, url, kind, web, charset=None):
 # ---------------------------------------------------------------- the saved web
 
 
-def line_of(word, text):
+def line_of(word: str, text: str) -> Optional[bytes]:
     """The line of a word and a text with its line break, or None where it is too long."""
     line = f"{word} {text}\n".encode("utf-8", "replace")
     return line if len(line) <= LINE_LIMIT + 1 else None
@@ -483,20 +501,21 @@ def line_of(word, text):
 class Web:
     """A saved web that is made in a temporary file, page by page, and counts what was left out."""
 
-    def __init__(self, options):
+    def __init__(self, options: argparse.Namespace) -> None:
         self.once, self.styles, self.quiet = options.once, options.styles, options.quiet
         self.file = tempfile.TemporaryFile()
-        self.pages = {}  # by URL: where in the file its lines begin, where the lines below its own do, and their end
+        # By URL: where in the file its lines begin, where the lines below its own do, and their end
+        self.pages: dict[str, tuple[int, int, int]] = {}
         self.size = 0
         self.links = self.moves = 0
-        self.counts = {}
+        self.counts: dict[str, int] = {}
 
-    def count(self, what, number=1):
+    def count(self, what: str, number: int = 1) -> None:
         """Counts something that the summary tells."""
         if number:
             self.counts[what] = self.counts.get(what, 0) + number
 
-    def tell(self, what, where):
+    def tell(self, what: str, where: str) -> None:
         """Names something that is not written as it was found, and counts it."""
         self.count(what)
         if not self.quiet:
@@ -504,23 +523,23 @@ class Web:
             where = where[:200].encode("unicode_escape").decode()
             print(f"site_to_web: {what}: {where}", file=sys.stderr)
 
-    def page(self, url, links):
+    def page(self, url: str, links: Iterable[str]) -> bool:
         """Adds a page with its links. Whether it was added."""
         links = dict.fromkeys(links) if self.once else links
         return self.add(url, lambda: (self.link(text, url) for text in links))
 
-    def moved(self, url, target):
+    def moved(self, url: str, target: str) -> bool:
         """Adds a page that a server sends on to a target. Whether it was added."""
         added = self.add(url, lambda: [self.move(target, url)])
         self.moves += added
         return added
 
-    def again(self, url, earlier):
+    def again(self, url: str, earlier: str) -> bool:
         """Adds a page with the lines below an earlier page's own. Whether it was added."""
         _, begin, end = self.pages[earlier]
         return self.add(url, lambda: self.lines(begin, end).splitlines(True))
 
-    def add(self, url, lines):
+    def add(self, url: str, lines: Callable[[], Iterable[Optional[bytes]]]) -> bool:
         """Adds a page and the lines that a call gives, those that are None left out. Whether it was added."""
         if url in self.pages:
             self.tell("page left out, one with its URL came before", url)
@@ -540,7 +559,7 @@ class Web:
             raise Fault(f"the web is more than {INPUT_LIMIT} bytes, which no crawl takes; --once makes it smaller")
         return True
 
-    def link(self, text, url):
+    def link(self, text: str, url: str) -> Optional[bytes]:
         """The line of a link; where that is too long, a shorter one that the reader takes for the same, or None."""
         line = line_of("link", text)
         if line is None:
@@ -554,26 +573,26 @@ class Web:
             self.tell("link left out, it is too long", f"{url} links to {text}")
         return line
 
-    def move(self, target, url):
+    def move(self, target: str, url: str) -> Optional[bytes]:
         """The line of a redirect; None where it is too long, which leaves the page without a link."""
         line = line_of("moved", target) or line_of("moved", target.partition("#")[0])
         if line is None:
             self.tell("redirect left without its target, which is too long", f"{url} to {target}")
         return line
 
-    def lines(self, begin, end):
+    def lines(self, begin: int, end: int) -> bytes:
         """The bytes of the file between two places."""
         self.file.seek(begin)
         return self.file.read(end - begin)
 
-    def write(self, out):
+    def write(self, out: BinaryIO) -> None:
         """Writes the whole web, its pages in ascending byte order of URL."""
         out.write(HEADER)
         for _, (begin, _, end) in sorted(self.pages.items()):
             out.write(self.lines(begin, end))
         out.flush()
 
-    def summary(self):
+    def summary(self) -> None:
         """What was written, and how often what was counted came."""
         size = len(HEADER) + self.size
         words = [f"{len(self.pages)} pages, {self.moves} of them moved; {self.links} links; {size} bytes"]
@@ -585,12 +604,13 @@ class Web:
 # ---------------------------------------------------------------- folders
 
 
-def entries_below(folder, web):
+def entries_below(folder: bytes, web: Web) -> list[bytes]:
     """The files below a folder and the folders (whose names end in a slash), as names below it, sorted.
 
     Symbolic links are followed, but not back up.
     """
-    found, waiting = [], [(b"", (os.path.realpath(folder),))]
+    found: list[bytes] = []
+    waiting: list[tuple[bytes, tuple[bytes, ...]]] = [(b"", (os.path.realpath(folder),))]
     while waiting:
         place, above = waiting.pop()
         for name in sorted(os.listdir(os.path.join(folder, place))):
@@ -609,19 +629,19 @@ def entries_below(folder, web):
     return sorted(found)
 
 
-def kind_of(name):
+def kind_of(name: bytes) -> tuple[Optional[str], bool]:
     """The kind that a file's suffix says, or None; and whether the suffix says that it is packed."""
     suffix = os.path.splitext(os.path.basename(os.fsdecode(name)))[1]
     kind, packing = KINDS.guess_type("name" + suffix)
     return kind, packing is not None
 
 
-def is_utf8(name):
+def is_utf8(name: bytes) -> bool:
     """Whether a file's name is UTF-8."""
     return name.decode("utf-8", "ignore").encode() == name
 
 
-def split_name(name, queries):
+def split_name(name: bytes, queries: bool) -> tuple[bytes, bytes, bytes]:
     """The path, the question mark and the query of a file's name; all of it is path where names have no queries."""
     return name.partition(b"?") if queries else (name, b"", b"")
 
@@ -629,10 +649,12 @@ def split_name(name, queries):
 class Folder:
     """The pages of a folder: `files` has the file of a page's URL, `moves` where a folder's URL is sent on to."""
 
-    def __init__(self, folder, base, options, web):
+    def __init__(self, folder: str, base: Url, options: argparse.Namespace, web: Web) -> None:
         self.folder, self.base, self.web = os.fsencode(folder), base, web
         self.queries, self.exact = options.queries, options.exact
-        self.files, self.moves, self.known = {}, {}, set()
+        self.files: dict[str, bytes] = {}
+        self.moves: dict[str, str] = {}
+        self.known: set[str] = set()
         index = os.fsencode(options.index)
         for name in entries_below(self.folder, web):
             if not is_utf8(name):
@@ -647,20 +669,20 @@ class Folder:
         if not self.files:
             raise Fault(f"no files in {folder}")
 
-    def url(self, name, queries=False):
+    def url(self, name: bytes, queries: bool = False) -> str:
         """The URL of a name below the folder, in which a question mark may begin the query."""
         path, mark, query = split_name(name, queries)
         url = self.base.text() + quote(path, safe=IN_NAME + "/")
         return url + "?" + quote(unquote_to_bytes(query), safe=IN_QUERY) if mark else url
 
-    def keep(self, url, name):
+    def keep(self, url: str, name: bytes) -> None:
         """Makes a file the page of a URL, unless another is."""
         if url in self.files:
             self.web.tell("file left out, another has its URL", f"{os.fsdecode(name)}, {url}")
         else:
             self.files[url] = name
 
-    def links(self, name, url):
+    def links(self, name: bytes, url: Url) -> list[str]:
         """The links of a file at a Url."""
         kind, packed = kind_of(split_name(name, self.queries)[0])
         if packed or (kind and kind != STYLE_KIND and kind not in HTML_KINDS):
@@ -671,7 +693,7 @@ class Folder:
                 body += file.read()
             return links_of(body, url, kind, self.web)
 
-    def spelled_otherwise(self, link, url):
+    def spelled_otherwise(self, link: str, url: Url) -> Optional[tuple[str, str]]:
         """The canonical URL of a link and that of the page which a server takes it for, where these differ."""
         target = parse(link, url)
         if target is None:
@@ -682,13 +704,13 @@ class Folder:
             plain += "?" + quote(unquote_to_bytes(target.query), safe=IN_QUERY)
         return None if text in self.known or not self.is_page(plain) else (text, plain)
 
-    def is_page(self, url):
+    def is_page(self, url: str) -> bool:
         """Whether a file or a folder has this URL."""
         return url in self.files or url in self.moves
 
-    def write_page(self, text, plain):
+    def write_page(self, text: str, plain: str) -> list[str]:
         """Adds the page of a URL that a server takes for the plain one, and answers its links."""
-        url = parse(text)
+        url = url_of(text)
         if plain in self.files:
             links = self.links(self.files[plain], url)
             self.web.page(text, links)
@@ -700,9 +722,10 @@ class Folder:
         self.web.moved(text, target)
         return [target]
 
-    def other_spellings(self, links, text, plain):
+    def other_spellings(self, links: list[str], text: str, plain: str) -> dict[str, str]:
         """The URLs by which a page's links spell pages in another way, each with the page's own URL."""
-        found, url = {}, parse(text)
+        found: dict[str, str] = {}
+        url = url_of(text)
         for link in dict.fromkeys(links):
             # Only these links can: ones with escapes or a query, and those of a page that is such a spelling itself
             if "?" in link or "%" in link or text != plain:
@@ -711,12 +734,12 @@ class Folder:
                     found[other[0]] = other[1]
         return found
 
-    def write(self):
+    def write(self) -> None:
         """Adds all pages, and then those that are other spellings of them, until no page links to a new one."""
         pages = {url: url for url in (*self.files, *self.moves)}
         self.known = set(pages)
         while pages:
-            found = {}
+            found: dict[str, str] = {}
             for text, plain in sorted(pages.items()):
                 links = self.write_page(text, plain)
                 if not self.exact:
@@ -729,11 +752,11 @@ class Folder:
 # ---------------------------------------------------------------- web archives
 
 
-def headers_of(lines):
+def headers_of(lines: list[bytes]) -> dict[str, str]:
     """Names and values, the first of each name; a line that begins with a space goes on with the last one."""
-    found, last = {}, None
-    for line in lines:
-        line = line.decode("utf-8", "replace")
+    found: dict[str, str] = {}
+    last: Optional[str] = None
+    for line in (line.decode("utf-8", "replace") for line in lines):
         if line[:1] in (" ", "\t"):
             if last:
                 found[last] += " " + line.strip()
@@ -745,7 +768,7 @@ def headers_of(lines):
     return found
 
 
-def record_headers(file):
+def record_headers(file: BufferedIOBase) -> Optional[dict[str, str]]:
     """The headers of the next record of a WARC, or None at its end."""
     while line := file.readline(1 << 16):
         if line.strip():
@@ -763,7 +786,7 @@ def record_headers(file):
     return headers
 
 
-def records(file):
+def records(file: BufferedIOBase) -> Iterator[tuple[dict[str, str], bytes]]:
     """The headers and block of each record of a WARC that may be a page; of a large block its first bytes."""
     while headers := record_headers(file):
         length = int(headers["content-length"])
@@ -780,22 +803,23 @@ def records(file):
             yield headers, block
 
 
-def dechunked(body):
+def dechunked(body: bytes) -> bytes:
     """The body of a chunked message; as it stands where it is not chunked."""
-    out, place = [], 0
+    out: list[bytes] = []
+    place = 0
     while True:
         end = body.find(b"\r\n", place)
-        size = re.match(rb"\s*([0-9A-Fa-f]+)", body[place:end]) if end >= 0 else None
-        if not size:
+        digits = re.match(rb"\s*([0-9A-Fa-f]+)", body[place:end]) if end >= 0 else None
+        if not digits:
             return b"".join(out) if out else body
-        size = int(size[1], 16)
+        size = int(digits[1], 16)
         if size == 0:
             return b"".join(out)
         out.append(body[end + 2 : end + 2 + size])
         place = end + 2 + size + 2
 
 
-def unpacked(body, coding):
+def unpacked(body: bytes, coding: str) -> Optional[bytes]:
     """The body without its content coding; None where that is not known or fails."""
     for name in reversed([part.strip().lower() for part in coding.split(",")]):
         if name in ("", "identity"):
@@ -817,22 +841,22 @@ def unpacked(body, coding):
 class Answer:
     """An HTTP answer: its status (None where it is none), headers and body."""
 
-    def __init__(self, block):
+    def __init__(self, block: bytes) -> None:
         head, _, self.body = block.partition(b"\r\n\r\n")
         first, *lines = head.split(b"\r\n")
         status = re.match(rb"HTTP/[0-9.]+ ([0-9]{3})", first)
         self.status = int(status[1]) if status else None
         self.headers = headers_of(lines)
 
-    def target(self):
+    def target(self) -> Optional[str]:
         """Where a redirect leads to; None where the answer is no redirect."""
         return self.headers.get("location") if self.status in (301, 302, 303, 307, 308) else None
 
-    def is_page(self):
+    def is_page(self) -> bool:
         """Whether the status is that of a page."""
         return self.status is not None and 200 <= self.status < 300
 
-    def content(self):
+    def content(self) -> Optional[bytes]:
         """The body without its transfer and content coding; None where that coding is not known."""
         chunked = "chunked" in self.headers.get("transfer-encoding", "").lower()
         body = dechunked(self.body) if chunked else self.body
@@ -842,11 +866,11 @@ class Answer:
 class Archive:
     """Adds the pages of WARC files to a web."""
 
-    def __init__(self, web):
+    def __init__(self, web: Web) -> None:
         self.web = web
-        self.by_digest = {}  # the URL of the first page with a digest
+        self.by_digest: dict[str, str] = {}  # the URL of the first page with a digest
 
-    def read(self, path):
+    def read(self, path: str) -> None:
         """Adds the pages of one file."""
         with open(path, "rb") as plain:
             packed = plain.read(2) == b"\x1f\x8b"
@@ -857,7 +881,7 @@ class Archive:
         except (Fault, EOFError, gzip.BadGzipFile, zlib.error) as fault:
             raise Fault(f"{path}: {fault}") from None
 
-    def record(self, headers, block):
+    def record(self, headers: dict[str, str], block: bytes) -> None:
         """Adds the page of one record, where it is one."""
         target = headers.get("warc-target-uri", "").strip("<>")
         url = parse(target)
@@ -876,17 +900,18 @@ class Archive:
         else:
             self.answer(Answer(block), url, digest)
 
-    def answer(self, answer, url, digest):
+    def answer(self, answer: Answer, url: Url, digest: Optional[str]) -> None:
         """Adds the page of a URL's HTTP answer, where it is one."""
-        if answer.target() is not None:
-            self.web.moved(url.text(), cleaned(answer.target()))
+        target = answer.target()
+        if target is not None:
+            self.web.moved(url.text(), cleaned(target))
         elif answer.is_page():
             self.document(answer.content(), url, answer.headers.get("content-type", ""), digest)
         else:
             status = "none" if answer.status is None else answer.status
             self.web.count(f"answers that are no page, status {status}")
 
-    def revisit(self, answer, url, digest):
+    def revisit(self, answer: Answer, url: Url, digest: Optional[str]) -> None:
         """Adds the page of a URL whose content is that of an earlier record, which may not be there."""
         if not answer.is_page() and answer.status not in (None, 304):
             self.answer(answer, url, digest)
@@ -896,7 +921,7 @@ class Archive:
             self.web.tell("links not read, the record that is visited again is not there", url.text())
             self.web.page(url.text(), [])
 
-    def document(self, body, url, kind, digest):
+    def document(self, body: Optional[bytes], url: Url, kind: str, digest: Optional[str]) -> None:
         """Adds a page with the links of its body."""
         charset = re.search(r"(?i)charset\s*=\s*[\"']?([^\s\"';]+)", kind)
         kind = kind.partition(";")[0].strip().lower()
@@ -904,7 +929,7 @@ class Archive:
             self.web.tell("links not read, the body's coding is not known", url.text())
             links = []
         else:
-            links = links_of(body, url, kind, self.web, charset and charset[1])
+            links = links_of(body, url, kind, self.web, charset[1] if charset else None)
             if len(body) >= DOCUMENT_LIMIT and is_document(kind, body):
                 self.web.tell("links read in its first bytes alone, it is too large", url.text())
         if self.web.page(url.text(), links) and digest:
@@ -917,12 +942,12 @@ class Archive:
 class CommandLine(argparse.ArgumentParser):
     """A reader of words that ends with the program's own status where they are bad."""
 
-    def error(self, message):
+    def error(self, message: str) -> NoReturn:
         self.print_usage(sys.stderr)
         self.exit(BAD_WORDS, f"site_to_web: {message}\n")
 
 
-def command_line():
+def command_line() -> CommandLine:
     """The reader of this script's words."""
     words = CommandLine(
         usage="site_to_web.py [OPTION..] FOLDER BASE > WEB\n       site_to_web.py [OPTION..] --warc FILE.. > WEB",
@@ -942,7 +967,7 @@ def command_line():
     return words
 
 
-def base_of(text, words):
+def base_of(text: str, words: argparse.ArgumentParser) -> Url:
     """The Url of a folder's top; where the text is none, the command line is bad."""
     base = parse(text)
     if base is None or base.host is None or base.query is not None:
@@ -951,7 +976,7 @@ def base_of(text, words):
     return base
 
 
-def run(words):
+def run(words: argparse.ArgumentParser) -> None:
     """Reads the site and writes its web."""
     options = words.parse_args()
     if bool(options.warc) == bool(options.folder) or bool(options.folder) != bool(options.base):
@@ -970,7 +995,7 @@ def run(words):
     web.summary()
 
 
-def main():
+def main() -> None:
     """Runs the command; a fault is told and ends it with status 1."""
     try:
         run(command_line())
