@@ -129,7 +129,7 @@ make_package() {
 }
 
 here=$(cd "$(dirname "$0")" && pwd)
-program= deb=
+program='' deb=''
 while [[ ${1:-} == --* ]]; do
     case $1 in
     --program) [ -x "${2:-}" ] || usage; program=$(realpath "$2"); shift 2 ;;

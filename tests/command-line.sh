@@ -4,7 +4,7 @@
 #
 # Usage: tests/command-line.sh
 set -uo pipefail
-cd "$(dirname "$0")/.."
+cd "$(dirname "$0")/.." || exit 1
 program=$PWD/crates/mercator_cli/out/mercator_cli
 data=$PWD/examples
 scratch=$(mktemp -d)

@@ -29,7 +29,7 @@ counts() {
 
 # part COMMAND WORD..: runs a part and adds up its counts. One that ends badly, or counts nothing, has a failure at least.
 part() {
-    local status passed= failed=
+    local status passed='' failed=''
     "$@" < /dev/null 2>&1 | tee "$told"
     status=${PIPESTATUS[0]}
     read -r passed failed < <(counts)
