@@ -24,7 +24,7 @@ use Rattle.crawl_workers.specs.declared.output.WorkerOutput.{WorkerOutput}
 use Rattle.crawl_workers.specs.declared.worker_end.WorkerEnd.{WorkerEnd}
 use Rattle.crawl_workers.specs.declared.recent.RecentUrls.{RecentUrls}
 use Rattle.crawl_workers.specs.Logs.{line_of, HasLine, AllLogged, Grows}
-use Rattle.crawl_workers.specs.Recent.{Knows}
+use Rattle.crawl_workers.specs.Recent.{Knows, url_in}
 use Rattle.crawl_workers.specs.Ran.{Fate, result_at, results_of, taken_in, most_lost_at, most_lost, Ran}
 use Rattle.crawl_workers.specs.Turn.{CountsLinks, Finds, Loses, SameBusy}
 use Rattle.crawl_workers.specs.Runs.{RanTo, AllRan}
@@ -87,7 +87,7 @@ slot_on workers b b' None grows has = tt
 -- what is remembered stays known
 pub knows_on : (workers : ℕ) (b b' : BookId) (recent : RecentUrls) → Grows b b' → Knows workers b.log recent → Knows workers b'.log recent
 knows_on workers b b' recent grows all =
-    All-weaker (λ slot. IfSome slot (HasLine workers b.log)) (λ slot. IfSome slot (HasLine workers b'.log)) (λ slot has. slot_on workers b b' slot grows has) recent.slots.items all
+    All-weaker (λ slot. IfSome (url_in slot) (HasLine workers b.log)) (λ slot. IfSome (url_in slot) (HasLine workers b'.log)) (λ slot has. slot_on workers b b' (url_in slot) grows has) recent.slots.items all
 
 -- a list with the same element written once more
 pub unchanged_at : {X : Type 0} (xs : List X) (i : ℕ) (x y : X) → y ≡ slice_index_or xs i x → slice_set xs i y ≡ xs

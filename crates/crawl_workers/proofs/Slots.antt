@@ -2,12 +2,14 @@
 use Rattle.std.proofs.Common.{◌≡◌, ◌<◌, ℕ, List, length, Option, Some, IfSome, sym, subst, slice_set, slice_index_or}
 use Rattle.std.proofs.lemmas.List.Elements.{All-set}
 use Rattle.crawl_frontier.specs.declared.book.Logged.{Logged}
+use Rattle.crawl_workers.specs.declared.recent.Slot.{Slot}
 use Rattle.crawl_workers.specs.Logs.{HasLine}
-use Rattle.crawl_workers.specs.Recent.{AllKnown}
+use Rattle.crawl_workers.specs.Recent.{AllKnown, url_in}
 
 -- a URL with a line comes into a slot, and what was there into another
-pub moved_on : (workers : ℕ) (log : List Logged) (slots : List (Option (List ℕ))) (i j : ℕ) (first second d : Option (List ℕ)) (url : List ℕ) → AllKnown workers log slots → HasLine workers log url
-    → first ≡ Some url → second ≡ slice_index_or slots i d → i < length slots → AllKnown workers log (slice_set (slice_set slots i first) j second)
+pub moved_on : (workers : ℕ) (log : List Logged) (slots : List Slot) (i j : ℕ) (first second d : Slot) (url : List ℕ) → AllKnown workers log slots → HasLine workers log url
+    → url_in first ≡ Some url → second ≡ slice_index_or slots i d → i < length slots → AllKnown workers log (slice_set (slice_set slots i first) j second)
 moved_on workers log slots i j first second d url known line is was less =
-    let P : Option (List ℕ) → Type 0 = λ slot. IfSome slot (HasLine workers log) in
-    All-set P (slice_set slots i first) j second (subst P (sym was) (known i d less)) (All-set P slots i first (subst P (sym is) line) known)
+    let P : Slot → Type 0 = λ slot. IfSome (url_in slot) (HasLine workers log) in
+    let now : P first = subst (λ (o : Option (List ℕ)). IfSome o (HasLine workers log)) (sym is) line in
+    All-set P (slice_set slots i first) j second (subst P (sym was) (known i d less)) (All-set P slots i first now known)
