@@ -334,6 +334,7 @@ def crawl(shared: Shared, server: Server, draw: random.Random, wanted: Iterable[
     """Runs all parts to the end. Some are killed, and Redis is, at drawn moments of the crawl."""
     parts = {part: forked(shared, part) for part in range(shared.crawl.parts)}
     stopped = losses = 0
+    is_told_again = False
     whole = sum(len(url) + 3 for url in wanted)
     what = ["part"] * shared.faults.kills + ["redis"] * shared.faults.losses
     moments = sorted((draw.random() * whole, word) for word in what)
@@ -365,11 +366,20 @@ def crawl(shared: Shared, server: Server, draw: random.Random, wanted: Iterable[
                         parts[part] = forked(shared, part)
             else:
                 time.sleep(0.001 if moments else 0.005)
+            if losses and not parts and not is_told_again and not is_complete(shared, server):
+                # Redis was lost while the last ones ended, so none of them has told the new one.
+                is_told_again = True
+                parts = {part: forked(shared, part) for part in range(shared.crawl.parts)}
     finally:
         for process in parts.values():  # some are left only where something failed
             os.kill(process, signal.SIGKILL)
             os.waitpid(process, 0)
     return Stopped(stopped, losses)
+
+
+def is_complete(shared: Shared, server: Server) -> bool:
+    """Whether Redis says that the crawl is complete."""
+    return bool(server.client.exists(f"{{{shared.crawl.name}}}:complete"))
 
 
 def so_far(folder: Path) -> int:
@@ -419,7 +429,7 @@ def check(shared: Shared, server: Server, wanted: Dict[str, bool], stopped: Stop
     wrong = [place for places in hosts.values() for place in places
              if place[1] // shared.crawl.workers != place[0]]
     expect(not wrong, f"queues of other parts: {wrong[:3]}")
-    expect(server.client.exists(f"{{{shared.crawl.name}}}:complete") == 1, "`complete` is not set")
+    expect(is_complete(shared, server), "`complete` is not set")
     return again
 
 
