@@ -17,3 +17,4 @@ pub mod Together
 pub mod EightBytes
 pub mod SortedParts
 pub mod Means
+pub mod Walks

@@ -12,7 +12,7 @@ use Rattle.crawl_web.specs.Pages.{links_of}
 use Rattle.crawl_certificate.proofs.Lists.{any_from, text_itself}
 use Rattle.crawl_certificate.proofs.Certified.{from_map}
 
-accepted_in : (entries : List Entry) (url : List ℕ) → Contains (entry_urls entries) url → is_accepted entries url ≡ true
+pub accepted_in : (entries : List Entry) (url : List ℕ) → Contains (entry_urls entries) url → is_accepted entries url ≡ true
 accepted_in entries url has =
     let e = from_map (λ (x : Entry). x.url) entries url has in
     subst (λ u. is_accepted entries u ≡ true) e.2 (any_from _ entries e.0 e.1 (text_itself e.0.url))

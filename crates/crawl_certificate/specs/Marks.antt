@@ -1,5 +1,5 @@
 -- What a pass over results finds, and two such passes put together.
-use Rattle.std.specs.Prelude.{◌≡◌, ℕ, Bool, ◌&&◌, ◌||◌, List, [], ◌∷◌, map, Option, None}
+use Rattle.std.specs.Prelude.{◌≡◌, ℕ, Bool, ◌&&◌, ◌||◌, List, [], ◌∷◌, map, slice_get, Option, None, Some, true}
 use Rattle.std.specs.List.{list_any}
 use Rattle.std.specs.Str.{bytes_eq}
 use Rattle.crawl_frontier.specs.declared.entry.Entry.{Entry}
@@ -16,6 +16,10 @@ pub record AreMarks (allowed : List ℕ → Bool) (entries : List Entry) (result
   pub missing : IsLeast (λ url. is_a_link results url && is_lost allowed entries url) (url_of marks.told.missing)
   pub stray : IsLeast (is_a_stray entries results) (url_of marks.told.stray)
   pub twice : url_of marks.told.stray ≡ None → IsLeast (is_twice results) (url_of marks.told.twice)
+
+-- each entry that is marked passes the test
+abbrev pub MarksOnly : (Entry → Bool) → List Entry → List Bool → Type 0
+MarksOnly test entries marks = (k : ℕ) (e : Entry) → slice_get entries k ≡ Some e → slice_get marks k ≡ Some true → test e ≡ true
 
 -- entry by entry, whether it is marked in one of the two
 abbrev pub in_one : List Bool → List Bool → List Bool

@@ -3,10 +3,10 @@ ghost use Rattle.std.specs.Prelude.{◌≡◌, List, length, vec_len, IfOk, OnOk
 ghost use Rattle.std.specs.List.{All};
 ghost use Rattle.std.specs.List.Sorted.{IsPermutation};
 ghost use Rattle.crawl_keys.specs.HostFilter.{allows};
-ghost use Rattle.crawl_certificate.specs.AccountEntries.{entries_of};
+ghost use Rattle.crawl_certificate.specs.AccountEntries.{entries_of, DifferByUrl};
 ghost use Rattle.crawl_certificate.specs.ResultPages.{page_in};
 ghost use Rattle.crawl_certificate.specs.Reachable.{WalkOf};
-ghost use Rattle.crawl_certificate.specs.Certificate.{Tells, IsAscending, AreReachable, CountsOf, entry_urls, result_urls};
+ghost use Rattle.crawl_certificate.specs.Certificate.{Tells, IsAscending, AreReachable, CountsOf, NothingLost, entry_urls, result_urls};
 ghost use Rattle.crawl_web.specs.declared.page.PageResult.{PageResult};
 ghost use Rattle.crawl_certificate.specs.Marks.{AreMarks};
 ghost use Rattle.crawl_certificate.specs.CertFaults.{first_fault};
@@ -22,6 +22,7 @@ use crate::marks::{Marks, Told, marks_of};
 use crate::missing::{least_missing, least_unmarked};
 use crate::sorting::{in_order, in_order_by_threads};
 use crate::threads::marks_in_threads;
+use crate::walk::is_faultless;
 use crawl_frontier::Account;
 use crawl_keys::{CanonUrl, Filter};
 use crawl_web::PageResult;
@@ -143,6 +144,69 @@ pub fn certify_in_threads<R: Threads + Sync>(
     Ok(CrawlResult { pages })
 }
 
+/// As [`certify_moved`], of a run that lost nothing. Then most of what is left to look for is seen without a search for any
+/// link, where results come in the order of an account's entries.
+///
+/// # Errors
+/// Those of [`certify_moved`], of which the first three never come.
+pub fn certify_lossless(
+    alloc: Global,
+    filter: &Filter,
+    seeds: &[CanonUrl],
+    account: &Account,
+    results: Vec<PageResult>,
+) -> Result<CrawlResult, Culprit>
+    requires lost { NothingLost (allows filter.now) seeds.now (entries_of account.now) results.items }
+    // Ok exactly where no fault holds, else the first that holds and the least URL that has it, unless a growth was refused.
+    ensures fault { NamesCulprit (allows filter.now) seeds.now (entries_of account.now) results.items result }
+    // The pages are the given results in ascending order of URL, one for each entry of each subqueue.
+    ensures same { IfOk result (λ pages. IsPermutation results.items pages) }
+    ensures ascends { IfOk result (λ pages. IsAscending (result_urls pages)) }
+    ensures one_each { IfOk result (λ pages. IsPermutation (entry_urls (entries_of account.now)) (result_urls pages)) }
+    ensures counts { IfOk result (λ pages. CountsOf account.now (result_urls pages)) }
+    // Their URLs are exactly those that can be reached over the results' own pages.
+    ensures reached { IfOk result (λ pages. AreReachable (page_in results.items) (allows filter.now) seeds.now (result_urls pages)) }
+    // A walk leads to each entry's URL in as many hops as the entry has.
+    ensures hops { OnOk result (All (λ e. WalkOf (page_in results.items) (allows filter.now) seeds.now e.hops e.url) (entries_of account.now)) }
+{
+    let accepted = Accepted::of(alloc, account)?;
+    find_fault_unlost(alloc, filter, seeds, &accepted, &results)?;
+    let pages = in_order(alloc, results)?;
+    Ok(CrawlResult { pages })
+}
+
+/// As [`certify_lossless`], where as many threads as there are processors sort the pages. Links are looked up, by four threads,
+/// only where that is needed.
+///
+/// # Errors
+/// Those of [`certify_lossless`]. A thread that cannot be started is none: its part is done by the thread that wanted it.
+pub fn certify_lossless_in_threads<R: Threads + Sync>(
+    rt: &R,
+    alloc: Global,
+    filter: &Filter,
+    seeds: &[CanonUrl],
+    account: &Account,
+    results: Vec<PageResult>,
+) -> Result<CrawlResult, Culprit>
+    requires lost { NothingLost (allows filter.now) seeds.now (entries_of account.now) results.items }
+    // Ok exactly where no fault holds, else the first that holds and the least URL that has it, unless a growth was refused.
+    ensures fault { NamesCulprit (allows filter.now) seeds.now (entries_of account.now) results.items result }
+    // The pages are the given results in ascending order of URL, one for each entry of each subqueue.
+    ensures same { IfOk result (λ pages. IsPermutation results.items pages) }
+    ensures ascends { IfOk result (λ pages. IsAscending (result_urls pages)) }
+    ensures one_each { IfOk result (λ pages. IsPermutation (entry_urls (entries_of account.now)) (result_urls pages)) }
+    ensures counts { IfOk result (λ pages. CountsOf account.now (result_urls pages)) }
+    // Their URLs are exactly those that can be reached over the results' own pages.
+    ensures reached { IfOk result (λ pages. AreReachable (page_in results.items) (allows filter.now) seeds.now (result_urls pages)) }
+    // A walk leads to each entry's URL in as many hops as the entry has.
+    ensures hops { OnOk result (All (λ e. WalkOf (page_in results.items) (allows filter.now) seeds.now e.hops e.url) (entries_of account.now)) }
+{
+    let accepted = Accepted::of(alloc, account)?;
+    find_fault_unlost_in_threads(rt, alloc, filter, seeds, &accepted, &results)?;
+    let pages = in_order_by_threads(rt, alloc, results)?;
+    Ok(CrawlResult { pages })
+}
+
 /// Ok where no fault holds.
 fn find_fault<'a>(
     alloc: Global,
@@ -170,6 +234,43 @@ fn find_fault_in_threads<'a, R: Threads + Sync>(
 {
     let marks = marks_in_threads(rt, alloc, filter, accepted, results)?;
     fault_by_marks(alloc, filter, seeds, accepted, marks)
+}
+
+/// As [`find_fault`], of a run that lost nothing.
+fn find_fault_unlost<'a>(
+    alloc: Global,
+    filter: &Filter,
+    seeds: &'a [CanonUrl],
+    accepted: &Accepted<'a>,
+    results: &[PageResult],
+) -> Result<(), Culprit>
+    requires lost { NothingLost (allows filter.now) seeds.now accepted.now results.now }
+    requires apart { DifferByUrl accepted.now }
+    ensures { NamesCulprit (allows filter.now) seeds.now accepted.now results.now result }
+{
+    if is_faultless(alloc, filter, seeds, accepted, results)? {
+        return Ok(());
+    }
+    find_fault(alloc, filter, seeds, accepted, results)
+}
+
+/// As [`find_fault_unlost`], by threads where links have to be looked up.
+fn find_fault_unlost_in_threads<'a, R: Threads + Sync>(
+    rt: &R,
+    alloc: Global,
+    filter: &Filter,
+    seeds: &'a [CanonUrl],
+    accepted: &Accepted<'a>,
+    results: &[PageResult],
+) -> Result<(), Culprit>
+    requires lost { NothingLost (allows filter.now) seeds.now accepted.now results.now }
+    requires apart { DifferByUrl accepted.now }
+    ensures { NamesCulprit (allows filter.now) seeds.now accepted.now results.now result }
+{
+    if is_faultless(alloc, filter, seeds, accepted, results)? {
+        return Ok(());
+    }
+    find_fault_in_threads(rt, alloc, filter, seeds, accepted, results)
 }
 
 /// Ok where no fault holds, by what a pass over the results found.

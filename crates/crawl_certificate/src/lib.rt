@@ -5,6 +5,7 @@
 #![tactic(auto)]
 
 mod certificate;
+mod chains;
 mod culprit;
 mod error;
 mod founded;
@@ -16,7 +17,11 @@ mod marks;
 mod missing;
 mod sorting;
 mod threads;
+mod walk;
 
-pub use certificate::{CrawlResult, certify, certify_in_threads, certify_moved};
+pub use certificate::{
+    CrawlResult, certify, certify_in_threads, certify_lossless, certify_lossless_in_threads,
+    certify_moved,
+};
 pub use culprit::Culprit;
 pub use error::CertError;

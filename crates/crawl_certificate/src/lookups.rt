@@ -57,6 +57,11 @@ impl<'a> Accepted<'a> {
         })
     }
 
+    /// The account.
+    pub fn account(&self) -> &'a Account {
+        self.account
+    }
+
     /// All entries.
     pub fn entries(&self) -> &[&'a Entry]
         ensures entries { pointed result.now ≡ self.now }
@@ -101,6 +106,17 @@ impl<'a> Accepted<'a> {
             return Some(guess);
         }
         self.find(url)
+    }
+
+    /// The entry at the index, if it has the URL.
+    pub fn with_url(&self, index: usize, url: &CanonUrl) -> Option<&Entry>
+        ensures { IfSome result (λ entry. (slice_get self.now index ≡ Some entry.now) × (entry.now.url ≡ url.now)) }
+    {
+        if self.is_at(index, url) {
+            Some(self.entry(index))
+        } else {
+            None
+        }
     }
 
     /// Whether the entry at the index has the URL.

@@ -76,7 +76,8 @@ pub fn marks_of<'r, 'e>(
     })
 }
 
-fn no_marks(alloc: Global, accepted: &Accepted<'_>) -> Result<Vec<bool>, AllocError>
+/// No mark of any entry.
+pub fn no_marks(alloc: Global, accepted: &Accepted<'_>) -> Result<Vec<bool>, AllocError>
     ensures { IfOk result (λ marks. marks.items ≡ map (λ _. false) accepted.now) }
 {
     let marks = vec![in alloc; false; accepted.entries().len()]?;
@@ -204,7 +205,7 @@ fn mark<'a>(
 }
 
 /// Whether the entry has one hop more than so many.
-fn is_next(hops: u32, entry: &Entry) -> bool
+pub fn is_next(hops: u32, entry: &Entry) -> bool
     ensures { result ≡ (entry.now.hops == hops + 1) }
 {
     u64::from(entry.hops) == u64::from(hops) + 1

@@ -1,0 +1,11 @@
+use Rattle.std.proofs.Common.{◌≡◌, ◌==◌, Bool, true, ◌&&◌, take, if◌then◌else◌}
+use Rattle.std.specs.List.{All}
+use Rattle.crawl_frontier.specs.declared.entry.Entry.{Entry}
+use Rattle.crawl_keys.specs.HostFilter.{allows}
+use Rattle.crawl_certificate.specs.Lookups.{is_in, pointed}
+use Rattle.crawl_certificate.specs.Marks.{MarksOnly}
+use Rattle.crawl_certificate.proofs.walk.are_founded.Given as goal
+
+abbrev pub invariant-loop-index : goal.invariant-loop-index
+invariant-loop-index l =
+    (holds : Entry → Bool) → MarksOnly holds (pointed l.entries) l.marks → All (λ e. (allows l.filter e.url && (if e.hops == 0 then is_in l.seeds e.url else holds e)) ≡ true) (take l.index (pointed l.entries))

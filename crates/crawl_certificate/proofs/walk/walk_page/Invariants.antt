@@ -1,0 +1,11 @@
+use Rattle.std.proofs.Common.{◌≡◌, ◌+◌, Bool, true, length}
+use Rattle.crawl_frontier.specs.declared.entry.Entry.{Entry}
+use Rattle.crawl_certificate.specs.CertFaults.{stands_in}
+use Rattle.crawl_certificate.specs.Marks.{MarksOnly}
+use Rattle.crawl_certificate.proofs.walk.walk_page.Given as goal
+
+abbrev pub invariant-loop-link : goal.invariant-loop-link
+invariant-loop-link l = record {
+  long : length l.linked ≡ length l.fn.linked;
+  marks : (holds : Entry → Bool) → ((e : Entry) → stands_in l.links e.url ≡ true → e.hops ≡ l.hops + 1 → holds e ≡ true) → MarksOnly holds l.accepted l.fn.linked → MarksOnly holds l.accepted l.linked;
+}
