@@ -10,7 +10,7 @@
 # hang nor crash. So does it with the calls of a frontier that `library_calls` makes.
 #
 # Growths are calls of malloc, calloc, realloc and aligned_alloc, which a small library answers in the C library's place.
-# Wants `rt` (where the program is not built), a C compiler and Python 3.9.
+# Wants `rt` (where the program is not built), a C compiler and Python 3.9. SECONDS in the environment is the time limit of a run.
 #
 # Usage: tests/refused-growths.sh [tests]
 set -euo pipefail

@@ -16,7 +16,7 @@ from typing import Iterable, Iterator, NamedTuple, Optional, Sequence
 
 ROOT = Path(__file__).resolve().parent.parent
 DATA = str(ROOT / "examples")
-SECONDS = 20
+SECONDS = float(os.environ.get("SECONDS", "60"))  # the time limit of a run
 AT_ONCE = len(os.sched_getaffinity(0))
 RING = f"{DATA}/ring.web"
 SITE = f"{DATA}/site.web"
