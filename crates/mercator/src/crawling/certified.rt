@@ -1,5 +1,5 @@
 //! The certificate of a run, by threads where its workers had some.
-ghost use Rattle.std.specs.Prelude.{◌≡◌, ℕ, List, IfErr, IfOk};
+ghost use Rattle.std.specs.Prelude.{◌≡◌, true, ℕ, List, IfErr, IfOk};
 ghost use Rattle.std.specs.List.Sorted.{IsPermutation};
 ghost use Rattle.crawl_certificate.specs.AccountEntries.{entries_of};
 ghost use Rattle.crawl_certificate.specs.Certificate.{ArePages, IsAscending, IsCrawl, CountsOf, NothingLost, result_urls};
@@ -13,15 +13,19 @@ ghost use Rattle.mercator.specs.Losses.{IsLost};
 ghost use Rattle.mercator.specs.declared.crawling.Mode.{Mode};
 
 use crate::crawling::gather::{Ran, counts_of};
+use crate::crawling::losses::are_none;
 use crate::crawling::{CrawlFailure, CrawlSettings, Crawled, Mode};
-use crawl_certificate::{CrawlResult, Culprit, certify_in_threads, certify_moved};
+use crawl_certificate::{
+    CrawlResult, Culprit, certify_in_threads, certify_lossless, certify_lossless_in_threads,
+    certify_moved,
+};
 use crawl_frontier::Account;
 use crawl_keys::CanonUrl;
 use crawl_web::PageResult;
 use std::alloc::Global;
 use std::thread::Threads;
 
-/// What a run found, once it is certified.
+/// What a run found, once it is certified. What was asked for is accepted and fetched, where seeder and workers lost nothing.
 pub fn crawled_of<R: Threads + Sync>(
     rt: &R,
     alloc: Global,
@@ -29,12 +33,13 @@ pub fn crawled_of<R: Threads + Sync>(
     seeds: &[CanonUrl],
     ran: Ran,
 ) -> Result<Crawled, CrawlFailure>
+    requires lost { all_losses ran.losses ≡ 0 → NothingLost (allows settings.now.filter.now) seeds.now (entries_of ran.account) ran.results.items }
     ensures pages { (meaning : List ℕ → Page) → ArePages meaning ran.results.items → IfOk result (λ crawled. IsCrawl meaning (allows settings.now.filter.now) seeds.now crawled.result) }
     ensures counts { IfOk result (λ crawled. AreCounts ran.account.workers (result_urls crawled.result) crawled.counts.items) }
     ensures errors { IfErr result (λ failure. IsOfRun failure.error) }
     ensures mode { (mode : Mode) → IfErr result (λ failure. ComesIn mode failure.error) }
     ensures judged { (meaning : List ℕ → Page) → ArePages meaning ran.results.items → IfErr result (λ failure. IsJudgedAt meaning (allows settings.now.filter.now) seeds.now failure.error failure.culprit) }
-    ensures lost { (all_losses ran.losses ≡ 0 → NothingLost (allows settings.now.filter.now) seeds.now (entries_of ran.account) ran.results.items) → IfErr result (λ failure. IsLost failure.error failure.losses) }
+    ensures lost { IfErr result (λ failure. IsLost failure.error failure.losses) }
     ensures counted { (workers : ℕ) (meaning : List ℕ → Page) → IsRun workers (allows settings.now.filter.now) meaning seeds.now (entries_of ran.account) ran.results.items ran.losses → IfErr result (λ failure. CountsLosses workers (allows settings.now.filter.now) meaning seeds.now failure.error failure.culprit failure.losses) }
 {
     let Ran {
@@ -42,7 +47,8 @@ pub fn crawled_of<R: Threads + Sync>(
         results,
         losses,
     } = ran;
-    match certified(rt, alloc, settings, seeds, &account, results) {
+    let is_lossless = are_none(&losses);
+    match certified(rt, settings, seeds, &account, results, is_lossless) {
         Ok(result) => {
             let counts = counts_of(alloc, &account)?;
             Ok(Crawled { result, counts })
@@ -54,22 +60,25 @@ pub fn crawled_of<R: Threads + Sync>(
 /// Certifies the results. Where no worker had a thread, none is started here.
 fn certified<R: Threads + Sync>(
     rt: &R,
-    alloc: Global,
     settings: &CrawlSettings<'_>,
     seeds: &[CanonUrl],
     account: &Account,
     results: Vec<PageResult>,
+    is_lossless: bool,
 ) -> Result<CrawlResult, Culprit>
+    requires lost { is_lossless ≡ true → NothingLost (allows settings.now.filter.now) seeds.now (entries_of account.now) results.items }
     ensures fault { NamesCulprit (allows settings.now.filter.now) seeds.now (entries_of account.now) results.items result }
     ensures same { IfOk result (λ pages. IsPermutation results.items pages) }
     ensures ascends { IfOk result (λ pages. IsAscending (result_urls pages)) }
     ensures counts { IfOk result (λ pages. CountsOf account.now (result_urls pages)) }
 {
+    let alloc = *results.allocator();
     let filter = settings.filter;
-    match settings.mode {
-        Mode::Threads if account.workers() > 1 => {
-            certify_in_threads(rt, alloc, filter, seeds, account, results)
-        }
-        _ => certify_moved(alloc, filter, seeds, account, results),
+    let by_threads = matches!(settings.mode, Mode::Threads) && account.workers() > 1;
+    match (by_threads, is_lossless) {
+        (true, true) => certify_lossless_in_threads(rt, alloc, filter, seeds, account, results),
+        (true, false) => certify_in_threads(rt, alloc, filter, seeds, account, results),
+        (false, true) => certify_lossless(alloc, filter, seeds, account, results),
+        (false, false) => certify_moved(alloc, filter, seeds, account, results),
     }
 }

@@ -1,6 +1,6 @@
 //! What a crawl lost, put together.
-ghost use Rattle.std.specs.Prelude.{◌≡◌};
-ghost use Rattle.crawl_workers.specs.Losses.{no_losses};
+ghost use Rattle.std.specs.Prelude.{◌≡◌, true};
+ghost use Rattle.crawl_workers.specs.Losses.{all_losses, no_losses};
 ghost use Rattle.mercator.specs.Losses.{both_losses, with_refusal};
 
 use crawl_frontier::OfferError;
@@ -18,6 +18,18 @@ pub fn no_losses() -> Losses
         crossed: 0,
         no_memory: 0,
     }
+}
+
+/// Whether nothing was lost.
+pub fn are_none(losses: &Losses) -> bool
+    ensures { result ≡ true → all_losses losses.now ≡ 0 }
+{
+    losses.failed == 0
+        && losses.unkept == 0
+        && losses.full == 0
+        && losses.too_far == 0
+        && losses.crossed == 0
+        && losses.no_memory == 0
 }
 
 /// A seed more whose offer was refused for this reason. One that the filter does not allow is not lost, and no seed meets the

@@ -25,8 +25,8 @@ returns-clause-judged g c = λ meaning found.
     rw c.of_culprit.ensures (culprit_judged meaning (allows c.args.settings.now.filter.now) c.args.seeds.now (entries_of c.args.ran.account) _ c.in-Err.culprit found c.in-Err.ensures.fault)
 
 pub returns-clause-lost : goal.returns-clause-lost
-returns-clause-lost g c = λ whole.
-    rw c.of_culprit.ensures (culprit_lost (allows c.args.settings.now.filter.now) c.args.seeds.now (entries_of c.args.ran.account) _ c.in-Err.culprit c.args.ran.losses (λ none. nothing_lost (allows c.args.settings.now.filter.now) c.args.seeds.now (entries_of c.args.ran.account) _ (whole none)) c.in-Err.ensures.fault)
+returns-clause-lost g c =
+    rw c.of_culprit.ensures (culprit_lost (allows c.args.settings.now.filter.now) c.args.seeds.now (entries_of c.args.ran.account) _ c.in-Err.culprit c.args.ran.losses (λ none. nothing_lost (allows c.args.settings.now.filter.now) c.args.seeds.now (entries_of c.args.ran.account) _ (c.requires.lost none)) c.in-Err.ensures.fault)
 
 pub returns-clause-counted : goal.returns-clause-counted
 returns-clause-counted g c = λ workers meaning run.

@@ -28,9 +28,6 @@ returns-in_err-ran-clause-judged g c =
     let p = err_from_is_err_and r.result r.ensures.1 in
     rw (p.1, p.2) (uncertified_judged (g.F.SessionFetch.meaning c.args.fetcher.now) (allows c.args.settings.now.filter.now) c.args.seeds.now c.in_err-ran.field-0.0 c.in_err-ran.ensures.errors).1
 
-pub returns-clause-lost : goal.returns-clause-lost
-returns-clause-lost g c = c.crawled_of.ensures.lost c.in_ok-ran.ensures.lost
-
 pub returns-in_err-ran-clause-lost : goal.returns-in_err-ran-clause-lost
 returns-in_err-ran-clause-lost g c =
     let r = c.from_residual in
