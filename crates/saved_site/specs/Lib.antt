@@ -1,5 +1,6 @@
 pub mod Files
 pub mod Meaning
 pub mod Pages
+pub mod Pieces
 pub mod Places
 pub mod Texts

@@ -1,5 +1,5 @@
 -- Texts that stand in one line of a saved web, and the lines that are made of them.
-use Rattle.std.specs.Prelude.{◌≡◌, ℕ, ◌+◌, ◌==◌, Bool, true, not, ◌&&◌, ◌||◌, List, [], ◌∷◌, ◌++◌, length, drop, map, nat_le, codes}
+use Rattle.std.specs.Prelude.{◌≡◌, ℕ, ◌+◌, ◌==◌, Bool, true, not, ◌&&◌, ◌||◌, List, [], ◌∷◌, ◌++◌, length, drop, map, nat_le, nat_lt, codes}
 use Rattle.std.specs.Str.{is_utf8}
 use Rattle.std.specs.List.{list_all, flat_map}
 use Rattle.std.specs.Str.Lines.{lines}
@@ -8,6 +8,10 @@ use Rattle.crawl_limits.specs.Limits.{line_limit}
 -- the byte ends no line: it is neither LF nor CR
 abbrev pub is_inner : ℕ → Bool
 is_inner b = not (b == 10 || b == 13)
+
+-- the byte is a visible one of ASCII, and no colon
+abbrev pub is_plain : ℕ → Bool
+is_plain b = nat_lt 32 b && (nat_lt b 127 && not (b == 58))
 
 -- behind so many bytes the text stands in one line: it is short enough, UTF-8, and has no line break
 abbrev pub fits : ℕ → List ℕ → Bool

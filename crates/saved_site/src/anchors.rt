@@ -1,6 +1,6 @@
 //! The parts of documents, and links to parts.
-use crate::cleaning::{trimmed, without_breaks};
-use crate::found_links::Found;
+use crate::cleaning::{has_breaks, push_without_breaks, trimmed_end};
+use crate::found_links::{Found, Piece};
 use crate::targets::Targets;
 use crate::texts::Texts;
 use crawl_keys::CanonUrl;
@@ -15,11 +15,11 @@ pub struct AnchorLinks {
     pub links: Vec<AnchorLink>,
 }
 
-/// A link to a part of a page.
-#[derive(Drop)]
+/// A link to a part of a page. `Anchors::fragment` has its fragment.
+#[derive(Clone, Copy)]
 pub struct AnchorLink {
-    /// What is behind its first `#`.
-    pub fragment: Vec<u8>,
+    begin: usize,
+    end: usize,
     /// The index in the document's text at which the attribute's value begins.
     pub index: usize,
 }
@@ -31,6 +31,18 @@ pub struct Anchors {
     pub ids: Vec<Vec<u8>>,
     /// Links with a `#` that have a canonical URL; those with the same text before it stand together, in order.
     pub links: Vec<AnchorLinks>,
+    /// The texts of the document's links, one behind the other.
+    texts: Vec<u8>,
+}
+
+impl Anchors {
+    /// What is behind the first `#` of one of its links.
+    pub fn fragment(&self, link: &AnchorLink) -> &[u8] {
+        self.texts
+            .as_slice()
+            .get(link.begin..link.end)
+            .unwrap_or(&[])
+    }
 }
 
 /// The anchors of a document at a URL, by its ids and its links; `texts` says what these mean.
@@ -40,25 +52,30 @@ pub struct Anchors {
 pub(crate) fn anchors_of(
     alloc: Global,
     ids: Vec<Vec<u8>>,
-    found: &Found,
+    found: Found,
     texts: Texts,
     url: &CanonUrl,
 ) -> Result<Anchors, AllocError> {
     let mut ids = ids;
     ids.sort()?;
-    let links = anchor_links(alloc, found, texts, url)?;
-    Ok(Anchors { ids, links })
+    let mut odd = Vec::new(alloc);
+    let links = anchor_links(alloc, &found, texts, url, &mut odd)?;
+    let Found { mut texts, .. } = found;
+    texts.append(&mut odd)?;
+    Ok(Anchors { ids, links, texts })
 }
 
-/// The links with a `#` that have a canonical URL.
+/// The links with a `#` that have a canonical URL. Fragments that no text has as they are read go to `odd`, as if that stood
+/// behind the texts.
 fn anchor_links(
     alloc: Global,
     found: &Found,
     texts: Texts,
     url: &CanonUrl,
+    odd: &mut Vec<u8>,
 ) -> Result<Vec<AnchorLinks>, AllocError> {
     let mut targets = Targets::new(alloc, texts, url)?;
-    let parts = parts_by_target(alloc, found, &mut targets)?;
+    let parts = parts_by_target(alloc, found, &mut targets, odd)?;
     with_urls(alloc, targets.into_urls(), parts)
 }
 
@@ -82,13 +99,15 @@ fn parts_by_target<'t>(
     alloc: Global,
     found: &'t Found,
     targets: &mut Targets<'t>,
+    odd: &mut Vec<u8>,
 ) -> Result<Vec<Vec<AnchorLink>>, AllocError> {
     let mut parts = Vec::new(alloc);
-    for (link, index) in found.texts.iter().zip(found.indices.iter()) {
-        if let Some(fragment) = fragment_of(alloc, link.as_slice())? {
-            let number = targets.number_of(link.as_slice())?;
-            let index = *index;
-            push_at(alloc, &mut parts, number, AnchorLink { fragment, index })?;
+    for piece in &found.pieces {
+        let text = found.text(*piece);
+        if let Some(mark) = memchr(b'#', text) {
+            let number = targets.number_of(&text[..mark + 1])?;
+            let link = link_to_part(found, *piece, mark, odd)?;
+            push_at(alloc, &mut parts, number, link)?;
         }
     }
     Ok(parts)
@@ -110,15 +129,38 @@ fn push_at(
     Ok(())
 }
 
-/// What is behind the first `#` of a link.
-fn fragment_of(alloc: Global, link: &[u8]) -> Result<Option<Vec<u8>>, AllocError> {
-    match behind_mark(trimmed(link)) {
-        Some(fragment) => Ok(Some(without_breaks(alloc, fragment)?)),
-        None => Ok(None),
+/// The link with this text, whose first `#` is at an index in it.
+fn link_to_part(
+    found: &Found,
+    piece: Piece,
+    mark: usize,
+    odd: &mut Vec<u8>,
+) -> Result<AnchorLink, AllocError> {
+    let behind = found.text(piece).get(mark..).unwrap_or(&[]);
+    let marked = trimmed_end(behind);
+    if has_breaks(marked) {
+        return odd_link(found, piece, marked, odd);
     }
+    let begin = piece.begin.saturating_add(mark);
+    Ok(AnchorLink {
+        begin: begin.saturating_add(1),
+        end: begin.saturating_add(marked.len()),
+        index: piece.index,
+    })
 }
 
-fn behind_mark(text: &[u8]) -> Option<&[u8]> {
-    let index = memchr(b'#', text)?;
-    Some(&text[index + 1..])
+/// The link whose fragment, with its `#` in front, has breaks.
+fn odd_link(
+    found: &Found,
+    piece: Piece,
+    marked: &[u8],
+    odd: &mut Vec<u8>,
+) -> Result<AnchorLink, AllocError> {
+    let begin = found.texts.len().saturating_add(odd.len());
+    push_without_breaks(marked, odd)?;
+    Ok(AnchorLink {
+        begin: begin.saturating_add(1),
+        end: found.texts.len().saturating_add(odd.len()),
+        index: piece.index,
+    })
 }

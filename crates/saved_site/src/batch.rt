@@ -10,7 +10,7 @@ const BATCH_LENGTH: usize = 1 << 22;
 /// The most room that is made before a file is read.
 const ROOM: usize = 1 << 23;
 
-/// By how many bytes the room for documents grows at least.
+/// By how many bytes the room for documents grows: no more of it is touched than is used, about.
 const GROWTH: usize = 1 << 20;
 
 /// The bytes of some files, one behind the other.
@@ -133,7 +133,6 @@ impl Batch {
 
     fn grow(&mut self) -> Result<(), AllocError> {
         let length = self.bytes.len().max(self.used);
-        self.bytes
-            .resize(length.saturating_add(GROWTH.max(length)), 0)
+        self.bytes.resize(length.saturating_add(GROWTH), 0)
     }
 }

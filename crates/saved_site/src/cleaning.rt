@@ -16,7 +16,8 @@ fn trimmed_start(text: &[u8]) -> &[u8] {
     &[]
 }
 
-fn trimmed_end(text: &[u8]) -> &[u8] {
+/// The text without the bytes up to a space at its end.
+pub(crate) fn trimmed_end(text: &[u8]) -> &[u8] {
     let mut text = text;
     while let [rest @ .., b'\0'..=b' '] = text {
         text = rest;
@@ -45,7 +46,7 @@ pub(crate) fn without_breaks(alloc: Global, text: &[u8]) -> Result<Vec<u8>, Allo
 }
 
 /// Appends the text without tabs and line breaks.
-fn push_without_breaks(text: &[u8], out: &mut Vec<u8>) -> Result<(), AllocError> {
+pub(crate) fn push_without_breaks(text: &[u8], out: &mut Vec<u8>) -> Result<(), AllocError> {
     for piece in text.split(|byte| matches!(*byte, b'\t' | b'\n' | b'\r')) {
         out.extend_from_slice(piece)?;
     }

@@ -45,6 +45,9 @@ impl<T: Drop> From<AllocFailed<T>> for SiteError {
 
 impl From<io::Error> for SiteError {
     fn from(error: io::Error) -> SiteError {
+        if error.kind() == io::ErrorKind::OutOfMemory {
+            return SiteError::NoMemory;
+        }
         SiteError::Io(error)
     }
 }

@@ -1,4 +1,7 @@
 //! The files and folders below a folder.
+ghost use Rattle.std.specs.Prelude.{◌≡◌};
+ghost use Rattle.std.specs.IoError.{error_kind};
+
 use crate::error::SiteError;
 use crate::notes::{Left, Note};
 use std::alloc::Global;
@@ -93,6 +96,16 @@ impl Walk {
         Ok(())
     }
 
+    /// Tells what the system did not give, unless a growth was refused for it.
+    fn tell_unread(&mut self, error: &io::Error, left: Left, place: String) -> Result<(), SiteError>
+        ensures { error_kind error.now ≡ ErrorKind.OutOfMemory → result ≡ Err SiteError.NoMemory }
+    {
+        match error.kind() {
+            ErrorKind::OutOfMemory => Err(SiteError::NoMemory),
+            _ => self.tell(left, place),
+        }
+    }
+
     /// Adds what is in a folder.
     fn read<R: Files>(&mut self, rt: &R, top: &str, folder: Waiting) -> Result<(), SiteError> {
         let Waiting { name, entered } = folder;
@@ -100,8 +113,8 @@ impl Walk {
         let path = format!(in alloc; "{top}/{name}")?;
         let listed = match names_in(rt, alloc, path.as_str()) {
             Ok(listed) => listed,
-            Err(error) if name.is_empty() => return Err(SiteError::Io(error)),
-            Err(_) => return self.tell(Left::FolderUnread, name),
+            Err(error) if name.is_empty() => return Err(SiteError::from(error)),
+            Err(error) => return self.tell_unread(&error, Left::FolderUnread, name),
         };
         for own in listed.as_slice().split(|byte| *byte == 0) {
             self.add_listed(rt, top, name.as_str(), own, entered)?;
@@ -143,7 +156,8 @@ impl Walk {
         match fs::metadata(rt, path.as_str()) {
             Ok(found) if found.is_dir() => self.add_folder(rt, path.as_str(), name, from),
             Ok(found) if found.is_file() => Ok(self.names.push(name)?),
-            _ => self.tell(Left::NoFile, name),
+            Ok(_) => self.tell(Left::NoFile, name),
+            Err(error) => self.tell_unread(&error, Left::NoFile, name),
         }
     }
 
@@ -157,8 +171,9 @@ impl Walk {
         let mut name = name;
         name.push('/')?;
         self.names.push(name.clone()?)?;
-        let Ok(real) = rt.canonicalize(*self.names.allocator(), path) else {
-            return self.tell(Left::FolderUnread, name);
+        let real = match rt.canonicalize(*self.names.allocator(), path) {
+            Ok(real) => real,
+            Err(error) => return self.tell_unread(&error, Left::FolderUnread, name),
         };
         let real = real.as_path();
         if self.is_above(real.to_string_lossy(), from) {

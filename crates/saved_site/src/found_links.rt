@@ -1,46 +1,99 @@
 //! What `html_links` gives of a document, as it was found.
-ghost use Rattle.std.specs.Prelude.{◌≡◌, map};
+ghost use Rattle.std.specs.Prelude.{◌≡◌, ◌∷◌, ◌++◌, [], OnOk, map, reverse};
+ghost use Rattle.saved_site.specs.Pieces.{texts_before};
 
 use html_links::{Links, PlacedLinks};
 use std::alloc::{AllocError, Global};
 
-/// The texts of a document's links or ids, and the indices of their values.
+/// Where the text of a link stands among those of its document, and the index at which its value begins there.
+#[derive(Clone, Copy)]
+pub(crate) struct Piece {
+    pub(crate) begin: usize,
+    pub(crate) end: usize,
+    pub(crate) index: usize,
+}
+
+/// The texts of a document's links, one behind the other, and the indices of their values.
 #[derive(Drop)]
 pub(crate) struct Found {
-    alloc: Global,
     index: usize,
-    pub(crate) texts: Vec<Vec<u8>>,
-    pub(crate) indices: Vec<usize>,
+    pub(crate) texts: Vec<u8>,
+    pub(crate) pieces: Vec<Piece>,
 }
 
 impl Found {
     pub(crate) fn new(alloc: Global) -> Found {
         Found {
-            alloc,
             index: 0,
             texts: Vec::new(alloc),
-            indices: Vec::new(alloc),
+            pieces: Vec::new(alloc),
         }
     }
 
-    pub(crate) fn into_texts(self) -> Vec<Vec<u8>> {
-        let Found { texts, .. } = self;
-        texts
+    /// The text of one of its links.
+    pub(crate) fn text(&self, piece: Piece) -> &[u8] {
+        self.texts
+            .as_slice()
+            .get(piece.begin..piece.end)
+            .unwrap_or(&[])
     }
 }
 
 impl Links for Found {
-    ghost texts = { λ found. map (λ text. text.items) found.texts.items };
+    ghost texts = { λ found. texts_before found.texts.items (reverse found.pieces.items) };
 
     fn push(&mut self, text: &[u8]) -> Result<(), AllocError> {
-        self.texts.push(Vec::from_slice(self.alloc, text)?)?;
-        self.indices.push(self.index)?;
-        Ok(())
+        push_piece(text, self.index, &mut self.texts, &mut self.pieces)
     }
 }
 
 impl PlacedLinks for Found {
     fn begin_at(&mut self, index: usize) {
         self.index = index;
+    }
+}
+
+fn push_piece(
+    text: &[u8],
+    index: usize,
+    texts: &mut Vec<u8>,
+    pieces: &mut Vec<Piece>,
+) -> Result<(), AllocError>
+    ensures { OnOk result (texts_before texts.new.items (reverse pieces.new.items) ≡ texts_before texts.old.items (reverse pieces.old.items) ++ text.now ∷ []) }
+{
+    let begin = texts.len();
+    texts.extend_from_slice(text)?;
+    let end = texts.len();
+    pieces.push(Piece { begin, end, index })?;
+    Ok(())
+}
+
+/// The ids of a document.
+#[derive(Drop)]
+pub(crate) struct Ids {
+    alloc: Global,
+    texts: Vec<Vec<u8>>,
+}
+
+impl Ids {
+    pub(crate) fn new(alloc: Global) -> Ids {
+        Ids {
+            alloc,
+            texts: Vec::new(alloc),
+        }
+    }
+
+    pub(crate) fn into_texts(self) -> Vec<Vec<u8>> {
+        let Ids { texts, .. } = self;
+        texts
+    }
+}
+
+impl Links for Ids {
+    ghost texts = { λ ids. map (λ text. text.items) ids.texts.items };
+
+    fn push(&mut self, text: &[u8]) -> Result<(), AllocError> {
+        self.texts.push(Vec::from_slice(self.alloc, text)?)?;
+        Ok(())
     }
 }

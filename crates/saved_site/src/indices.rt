@@ -39,6 +39,16 @@ impl Indices {
         Ok(())
     }
 
+    /// The same of a text without a colon.
+    pub(crate) fn push_plain(&mut self, text: &[u8]) -> Result<(), AllocError> {
+        if names_host(text) {
+            self.push(text)
+        } else {
+            self.kept.push(self.index)?;
+            Ok(())
+        }
+    }
+
     /// A text without a scheme and a host always leads to one.
     fn has_url(&self, text: &[u8]) -> Result<bool, AllocError> {
         match scheme_of(text) {

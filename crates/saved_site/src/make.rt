@@ -50,6 +50,8 @@ impl Given<'_> {
 /// A page that is made.
 #[derive(Drop)]
 pub(crate) struct Made {
+    /// The number of its task.
+    pub(crate) number: usize,
     pub(crate) url: CanonUrl,
     /// The page, unless its URL is too long.
     pub(crate) page: Option<SitePage>,
@@ -62,22 +64,26 @@ pub(crate) struct Made {
     pub(crate) notes: Vec<Note>,
 }
 
-/// The pages of the tasks that one of several threads took. Each takes the next task until there is none, so that a long file
-/// keeps one thread alone.
+/// The pages of the tasks that one of several threads took. Each takes the next in this order of their numbers until there is
+/// none, so that a long file keeps one thread alone.
 pub(crate) fn taken(
     alloc: Global,
     given: Given<'_>,
     tasks: &[Task],
     batch: &Batch,
+    order: &[usize],
     next: &AtomicUsize,
 ) -> Result<Vec<Made>, AllocError> {
     let mut made = Vec::new(alloc);
-    for _ in 0..tasks.len() {
-        let number = next.fetch_add(1, Ordering::SeqCst);
-        let Some(task) = tasks.get(number) else {
+    for _ in 0..order.len() {
+        let Some(number) = order.get(next.fetch_add(1, Ordering::SeqCst)) else {
             break;
         };
-        made.push(page_of(alloc, given, task, batch.body(number))?)?;
+        if let Some(task) = tasks.get(*number) {
+            let mut page = page_of(alloc, given, task, batch.body(*number))?;
+            page.number = *number;
+            made.push(page)?;
+        }
     }
     Ok(made)
 }
@@ -243,6 +249,7 @@ impl Made {
             notes.push(Note::at(alloc, Left::LongUrl, &task.url)?)?;
         }
         Ok(Made {
+            number: 0,
             url: task.url.clone()?,
             page,
             spellings,

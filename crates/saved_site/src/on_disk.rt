@@ -1,5 +1,6 @@
 //! The saved web of a folder, whose files the calling thread reads.
-ghost use Rattle.std.specs.Prelude.{IfOk};
+ghost use Rattle.std.specs.IoError.{error_kind};
+ghost use Rattle.std.specs.Prelude.{◌≡◌, IfOk, alloc_error};
 ghost use Rattle.saved_site.specs.Meaning.{IsSiteWeb};
 
 use crate::batch::Batch;
@@ -12,7 +13,7 @@ use crate::notes::{Left, Note};
 use crate::site::{Rules, split_name};
 use crate::web::{Contents, SiteNames, Web, web_of};
 use std::alloc::{AllocError, Global};
-use std::io::Read;
+use std::io::{ErrorKind, Read};
 use std::rt::Files;
 use std::thread::Threads;
 use std::{fs, io};
@@ -136,7 +137,7 @@ impl<R: Files> Contents for OnDisk<'_, R> {
 }
 
 impl<R: Files> OnDisk<'_, R> {
-    /// Reads the file of a task, or notes that it cannot be read.
+    /// Reads the file of a task, or notes that it cannot be read, unless a growth was refused for it.
     fn read_task(
         &self,
         given: Given<'_>,
@@ -145,10 +146,10 @@ impl<R: Files> OnDisk<'_, R> {
     ) -> Result<(), AllocError> {
         let begin = batch.begin();
         if let Some(name) = given.name_of(task)
-            && self.read_named(given.rules, name, batch).is_err()
+            && let Err(error) = self.read_named(given.rules, name, batch)
         {
+            let left = left_by(&error)?;
             let place = String::from_str(self.alloc, name)?;
-            let left = Left::FileUnread;
             batch.cut(begin, Note { left, place })?;
         }
         batch.end_file(begin)
@@ -169,6 +170,16 @@ impl<R: Files> OnDisk<'_, R> {
             return Ok(());
         }
         batch.read(&mut fs::open(self.rt, path.as_str())?)
+    }
+}
+
+/// Why a file is left out that the system did not give, unless a growth was refused for it.
+fn left_by(error: &io::Error) -> Result<Left, AllocError>
+    ensures { error_kind error.now ≡ ErrorKind.OutOfMemory → result ≡ Err alloc_error }
+{
+    match error.kind() {
+        ErrorKind::OutOfMemory => Err(AllocError),
+        _ => Ok(Left::FileUnread),
     }
 }
 

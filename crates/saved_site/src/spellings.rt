@@ -3,7 +3,7 @@ use crate::base_href::{base_of, resolved};
 use crate::escapes::{push_query, push_respelled};
 use crate::site::{Rules, Site};
 use crawl_keys::{Base, CanonUrl};
-use memchr::memchr2;
+use memchr::{memchr, memchr2, memrchr};
 use std::alloc::{AllocError, Global};
 
 /// A URL, and the page that a server takes it for, by its index.
@@ -34,15 +34,41 @@ pub(crate) fn spellings(
         return Ok(found);
     }
     let base = base_of(alloc, page.url)?;
-    for line in lines.split(|byte| *byte == b'\n') {
+    let mut rest = lines;
+    for _ in 0..lines.len() {
+        let Some((line, behind)) = next_line(page.is_plain, rest) else {
+            break;
+        };
+        rest = behind;
         if let Some(text) = text_of(line)
-            && (!page.is_plain || memchr2(b'?', b'%', text).is_some())
             && let Some(spelling) = spelling_at(alloc, site, rules, &base, text)?
         {
             found.push(spelling)?;
         }
     }
     Ok(found)
+}
+
+/// The first line, or the first that has an escape or a query, and the lines behind it.
+fn next_line(is_marked: bool, lines: &[u8]) -> Option<(&[u8], &[u8])> {
+    if lines.is_empty() {
+        return None;
+    }
+    let mark = if is_marked {
+        memchr2(b'?', b'%', lines)?
+    } else {
+        0
+    };
+    let (front, marked) = lines.split_at(mark.min(lines.len()));
+    let begin = match memrchr(b'\n', front) {
+        Some(end) => end.saturating_add(1),
+        None => 0,
+    };
+    let end = mark.saturating_add(memchr(b'\n', marked).unwrap_or(marked.len()));
+    Some((
+        lines.get(begin..end).unwrap_or(&[]),
+        lines.get(end.saturating_add(1)..).unwrap_or(&[]),
+    ))
 }
 
 /// The other spellings of pages among links of the top.

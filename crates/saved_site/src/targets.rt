@@ -2,17 +2,18 @@
 use crate::base_href::{base_of, resolved};
 use crate::texts::Texts;
 use crawl_keys::{Base, CanonUrl};
-use memchr::memchr;
 use std::alloc::{AllocError, Global};
 use std::collections::BTreeMap;
 
-/// What the links of a document lead to. Links with the same text before their `#` have one number, and are looked at once.
+/// What the links of a document lead to. Links with the same text up to their `#` have one number, and are looked at once.
 #[derive(Drop)]
 pub(crate) struct Targets<'t> {
     alloc: Global,
     texts: Texts,
     base: Base,
     numbers: BTreeMap<&'t [u8], usize>,
+    /// The text that was asked for last, and its number. Many links have that of the one before.
+    last: Option<(&'t [u8], usize)>,
     /// What the links of each number lead to, where they have a canonical URL.
     urls: Vec<Option<CanonUrl>>,
 }
@@ -29,13 +30,24 @@ impl<'t> Targets<'t> {
             texts,
             base: base_of(alloc, url)?,
             numbers: BTreeMap::new(alloc),
+            last: None,
             urls: Vec::new(alloc),
         })
     }
 
-    /// The number of a link. Numbers are given from 0 on.
-    pub(crate) fn number_of(&mut self, link: &'t [u8]) -> Result<usize, AllocError> {
-        let text = up_to_mark(link);
+    /// The number of links with this text up to their first `#`, which it ends with. Numbers are given from 0 on.
+    pub(crate) fn number_of(&mut self, text: &'t [u8]) -> Result<usize, AllocError> {
+        if let Some((last, number)) = self.last
+            && last == text
+        {
+            return Ok(number);
+        }
+        let number = self.find_or_insert(text)?;
+        self.last = Some((text, number));
+        Ok(number)
+    }
+
+    fn find_or_insert(&mut self, text: &'t [u8]) -> Result<usize, AllocError> {
         if let Some(number) = self.numbers.get(text) {
             return Ok(*number);
         }
@@ -48,6 +60,9 @@ impl<'t> Targets<'t> {
 
     /// What a link leads to, by the line that is written of it.
     fn url_of(&mut self, link: &[u8]) -> Result<Option<CanonUrl>, AllocError> {
+        if self.texts.keeps(link) {
+            return resolved(self.alloc, &self.base, link);
+        }
         let lines = self.texts.line_of(link)?;
         match lines.as_bytes().strip_prefix(b"link ") {
             Some([text @ .., b'\n']) => resolved(self.alloc, &self.base, text),
@@ -59,13 +74,5 @@ impl<'t> Targets<'t> {
     pub(crate) fn into_urls(self) -> Vec<Option<CanonUrl>> {
         let Targets { urls, .. } = self;
         urls
-    }
-}
-
-/// The text up to its first `#`, or the whole text. What is behind that does not change what a link leads to.
-fn up_to_mark(text: &[u8]) -> &[u8] {
-    match memchr(b'#', text) {
-        Some(index) => &text[..index + 1],
-        None => text,
     }
 }

@@ -1,7 +1,7 @@
 //! Texts that stand in one line of a saved web.
 ghost use Rattle.std.specs.Prelude.{◌≡◌, ◌≤◌, true, IfOk, IfSome};
 ghost use Rattle.std.specs.List.{list_all};
-ghost use Rattle.saved_site.specs.Texts.{fits, is_inner};
+ghost use Rattle.saved_site.specs.Texts.{fits, is_inner, is_plain};
 ghost use Rattle.std.specs.Str.{is_utf8};
 
 use crawl_web::LINE_LIMIT;
@@ -41,6 +41,26 @@ fn is_inner(byte: u8) -> bool
     ensures { result ≡ is_inner byte }
 {
     !(byte == b'\n' || byte == b'\r')
+}
+
+/// Whether the text stands in a link's line, is in ASCII, and has no byte that ends its scheme or that a URL parser drops. Most
+/// texts are so, and are looked at once.
+pub(crate) fn fits_plainly(text: &[u8]) -> bool
+    ensures { result ≡ true → fits 5 text.now ≡ true }
+{
+    text.len() <= TEXT_LIMIT && is_plain(text)
+}
+
+fn is_plain(text: &[u8]) -> bool
+    ensures { result ≡ list_all is_plain text.now }
+{
+    text.iter().all(|byte| is_plain_byte(*byte))
+}
+
+fn is_plain_byte(byte: u8) -> bool
+    ensures { result ≡ is_plain byte }
+{
+    b' ' < byte && byte < 0x7f && byte != b':'
 }
 
 /// The text of a redirect's line.

@@ -8,12 +8,12 @@ use crate::charset::Charset;
 use crate::cleaning::{
     before_fragment, cut, has_breaks, is_over_lines, is_web, scheme_of, trimmed, without_breaks,
 };
-use crate::found_links::Found;
+use crate::found_links::{Found, Ids};
 use crate::in_query::push_with_query;
 use crate::indices::Indices;
 use crate::link_lines::LinkLines;
 use crate::site::Rules;
-use crate::text::{LINK_FRONT, TEXT_LIMIT, fits};
+use crate::text::{LINK_FRONT, TEXT_LIMIT, fits, fits_plainly};
 use crawl_keys::CanonUrl;
 use html_links::{Base, read_links, read_page, read_places};
 use std::alloc::{AllocError, Global};
@@ -69,14 +69,14 @@ pub(crate) fn links_at(
     rules: &Rules,
 ) -> Result<Read, AllocError> {
     let mut found = Found::new(alloc);
-    let mut ids = Found::new(alloc);
+    let mut ids = Ids::new(alloc);
     let base = found_in(alloc, text, rules, &mut found, &mut ids)?;
     let mut texts = texts_of(alloc, charset, base, url, &found, rules.places)?;
     let lines = texts.take_lines();
     let indices = texts.take_indices();
     let counts = texts.counts;
     let anchors = if rules.anchors {
-        Some(anchors_of(alloc, ids.into_texts(), &found, texts, url)?)
+        Some(anchors_of(alloc, ids.into_texts(), found, texts, url)?)
     } else {
         None
     };
@@ -112,7 +112,7 @@ fn found_in(
     text: &[u8],
     rules: &Rules,
     found: &mut Found,
-    ids: &mut Found,
+    ids: &mut Ids,
 ) -> Result<Base, AllocError> {
     if rules.anchors {
         read_page(alloc, text, found, ids)
@@ -149,11 +149,11 @@ impl Texts {
 
     /// The lines of these links.
     fn push_all(&mut self, found: &Found) -> Result<(), AllocError> {
-        for (text, index) in found.texts.iter().zip(found.indices.iter()) {
+        for piece in &found.pieces {
             if let Some(indices) = &mut self.indices {
-                indices.begin_at(*index);
+                indices.begin_at(piece.index);
             }
-            self.push(text.as_slice())?;
+            self.push(found.text(*piece))?;
         }
         Ok(())
     }
@@ -177,8 +177,16 @@ impl Texts {
         Ok(self.take_lines())
     }
 
+    /// Whether a link's text is in its line as it stands, without a scheme.
+    pub(crate) fn keeps(&self, text: &[u8]) -> bool {
+        matches!(self.given, Given::None) && fits_plainly(text)
+    }
+
     /// The next link's text.
     fn push(&mut self, text: &[u8]) -> Result<(), AllocError> {
+        if matches!(self.given, Given::None) && fits_plainly(text) {
+            return self.push_plain(text);
+        }
         let text = trimmed(text);
         if !has_breaks(text) {
             return self.push_clean(text);
@@ -242,6 +250,17 @@ impl Texts {
         }
         self.counts.left_out = self.counts.left_out.saturating_add(1);
         Ok(())
+    }
+
+    /// Appends a text without a colon.
+    fn push_plain(&mut self, text: &[u8]) -> Result<(), AllocError>
+        requires { fits 5 text.now ≡ true }
+    {
+        self.counts.links = self.counts.links.saturating_add(1);
+        if let Some(indices) = &mut self.indices {
+            indices.push_plain(text)?;
+        }
+        self.links.push(text)
     }
 
     fn push_line(&mut self, text: &[u8]) -> Result<(), AllocError>

@@ -305,19 +305,32 @@ fn make_in_threads<R: Threads + Sync>(
     tasks: &[Task],
     batch: &Batch,
 ) -> Result<Vec<Made>, AllocError> {
+    let order = longest_first(alloc, tasks.len(), batch)?;
+    let order = order.as_slice();
     let next = AtomicUsize::new(0);
     let parts = thread::map_indices(
         rt,
         alloc,
         given.rules.threads.max(1),
-        &|_: usize| { taken(alloc, given, tasks, batch, &next) },
+        &|_: usize| { taken(alloc, given, tasks, batch, order, &next) },
     )?;
-    let mut all = Vec::new(alloc);
+    let mut all: Vec<Made> = Vec::new(alloc);
     for part in parts {
         let mut part = part?;
         all.append(&mut part)?;
     }
+    all.sort_by(|a: &Made, b: &Made| a.number.cmp(&b.number))?;
     Ok(all)
+}
+
+/// The numbers of the first files of a batch, the longest first, so that no thread begins with a long one last.
+fn longest_first(alloc: Global, count: usize, batch: &Batch) -> Result<Vec<usize>, AllocError> {
+    let mut order: Vec<usize> = Vec::new(alloc);
+    for number in 0..count {
+        order.push(number)?;
+    }
+    order.sort_by(|a: &usize, b: &usize| batch.body(*b).len().cmp(&batch.body(*a).len()))?;
+    Ok(order)
 }
 
 impl Making {

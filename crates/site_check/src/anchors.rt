@@ -13,28 +13,32 @@ use crate::shown::shown;
 use check_report::{Broken, Kind, Place};
 use crawl_web::{NoMemory, Page, PageResult};
 use page_anchors::is_indicated;
-use saved_site::{AnchorLink, Anchors, PageAnchors};
+use saved_site::{Anchors, PageAnchors};
 use std::alloc::Global;
-use std::collections::BTreeMap;
+use std::cmp::Ordering;
 
 /// A part that a document lacks: the number of the document, and what is behind the `#`.
-#[derive(Drop, PartialEq, Eq, PartialOrd, Ord)]
-pub(crate) struct Part {
-    pub(crate) page: usize,
-    pub(crate) fragment: Vec<u8>,
-}
-
-/// How many pages link to a part, and which of them did last.
 #[derive(Clone, Copy)]
-pub(crate) struct Count {
-    pub(crate) pages: u64,
-    last: usize,
-    /// The part's number among all that are told.
-    pub(crate) number: usize,
+pub(crate) struct Part<'a> {
+    page: usize,
+    fragment: &'a [u8],
 }
 
-/// The parts that pages lack and links lead to.
-pub(crate) type LackedParts = BTreeMap<Part, Count>;
+impl Part<'_> {
+    fn order(&self, other: &Part<'_>) -> Ordering {
+        (self.page, self.fragment).cmp(&(other.page, other.fragment))
+    }
+}
+
+/// A part that a document lacks, and how many results link to it.
+#[derive(Clone, Copy)]
+pub(crate) struct LackedPart<'a> {
+    part: Part<'a>,
+    pages: u64,
+}
+
+/// The parts that pages lack and links lead to, in order.
+pub(crate) type LackedParts<'a> = Vec<LackedPart<'a>>;
 
 /// The results of a crawl, and the anchors of the site's documents, both ascending by URL.
 #[derive(Clone, Copy)]
@@ -45,7 +49,7 @@ pub(crate) struct Pages<'a> {
 
 impl<'a> Pages<'a> {
     /// The number of the document that a URL leads to, by one redirect at most.
-    pub(crate) fn find(&self, url: &str) -> Option<usize> {
+    fn find(&self, url: &str) -> Option<usize> {
         if let Some(page) = self.find_document(url) {
             return Some(page);
         }
@@ -77,9 +81,9 @@ impl<'a> Pages<'a> {
     }
 
     /// Whether a document has the part that a text behind a `#` indicates; it does where there is no such document.
-    fn has_part(&self, alloc: Global, page: usize, text: &[u8]) -> Result<bool, NoMemory> {
-        match self.anchors.get(page) {
-            Some(page) => is_indicated(alloc, page.anchors.ids.as_slice(), text),
+    fn has_part(&self, alloc: Global, part: Part<'_>) -> Result<bool, NoMemory> {
+        match self.anchors.get(part.page) {
+            Some(page) => is_indicated(alloc, page.anchors.ids.as_slice(), part.fragment),
             None => Ok(true),
         }
     }
@@ -90,20 +94,20 @@ fn is_found(page: &Page) -> bool {
 }
 
 /// A part that a document lacks, and a link to it: the number of the result that has it, and the index of its value.
-#[derive(Drop)]
-pub(crate) struct Lacked {
-    part: Part,
+#[derive(Clone, Copy)]
+pub(crate) struct Lacked<'a> {
+    part: Part<'a>,
     source: usize,
     index: usize,
 }
 
-/// The links to parts that documents lack, of each result whose number leaves this rest by `of`, result by result.
-pub(crate) fn every_lacked(
+/// The links to parts that documents lack, of each result whose number leaves this rest by `of`, part by part.
+pub(crate) fn every_lacked<'a>(
     alloc: Global,
-    pages: Pages<'_>,
+    pages: Pages<'a>,
     rest: usize,
     of: usize,
-) -> Result<Vec<Lacked>, NoMemory> {
+) -> Result<Vec<Lacked<'a>>, NoMemory> {
     let mut all = Vec::new(alloc);
     for (source, result) in pages.results.iter().enumerate() {
         if source.checked_rem(of) == Some(rest)
@@ -112,22 +116,30 @@ pub(crate) fn every_lacked(
             push_lacked(alloc, pages, source, anchors, &mut all)?;
         }
     }
+    sort_by_part(&mut all)?;
     Ok(all)
 }
 
 /// Appends a result's links to parts that documents lack.
-fn push_lacked(
+fn push_lacked<'a>(
     alloc: Global,
-    pages: Pages<'_>,
+    pages: Pages<'a>,
     source: usize,
-    anchors: &Anchors,
-    all: &mut Vec<Lacked>,
+    anchors: &'a Anchors,
+    all: &mut Vec<Lacked<'a>>,
 ) -> Result<(), NoMemory> {
     for to in &anchors.links {
         if let Some(page) = pages.find(to.url.as_str()) {
             for link in &to.links {
-                if !pages.has_part(alloc, page, link.fragment.as_slice())? {
-                    all.push(Lacked::new(page, source, link)?)?;
+                let fragment = anchors.fragment(link);
+                let part = Part { page, fragment };
+                if !pages.has_part(alloc, part)? {
+                    let index = link.index;
+                    all.push(Lacked {
+                        part,
+                        source,
+                        index,
+                    })?;
                 }
             }
         }
@@ -135,55 +147,56 @@ fn push_lacked(
     Ok(())
 }
 
-impl Lacked {
-    fn new(page: usize, source: usize, link: &AnchorLink) -> Result<Lacked, NoMemory> {
-        let fragment = link.fragment.clone()?;
-        Ok(Lacked {
-            part: Part { page, fragment },
-            source,
-            index: link.index,
-        })
-    }
+/// Sorts the links by their parts; those of a result stay together.
+fn sort_by_part(all: &mut Vec<Lacked<'_>>) -> Result<(), NoMemory> {
+    all.sort_by(|a: &Lacked<'_>, b: &Lacked<'_>| a.part.order(&b.part))
 }
 
 /// The parts that documents lack, with how many results link to each. Appends the links to them, whose numbers come behind so
 /// many others.
-pub(crate) fn lacking(
+pub(crate) fn lacking<'a>(
     alloc: Global,
-    all: Vec<Lacked>,
+    all: Vec<Lacked<'a>>,
     before: usize,
     leads: &mut Vec<Lead>,
-) -> Result<LackedParts, NoMemory> {
-    let mut lacking = BTreeMap::new(alloc);
-    for lacked in all {
-        let Lacked {
-            part,
-            source,
-            index,
-        } = lacked;
-        let number = count_part(&mut lacking, part, source)?;
+) -> Result<LackedParts<'a>, NoMemory> {
+    let mut all = all;
+    sort_by_part(&mut all)?;
+    let mut lacking = Vec::new(alloc);
+    let mut last = None;
+    for lacked in &all {
+        count_part(&mut lacking, *lacked, last)?;
+        last = Some(*lacked);
         leads.push(Lead {
-            source,
-            index,
-            number: before.saturating_add(number),
+            source: lacked.source,
+            index: lacked.index,
+            number: before.saturating_add(lacking.len().saturating_sub(1)),
         })?;
     }
     Ok(lacking)
 }
 
-/// Counts a result for a part, once, and answers the part's number.
-fn count_part(lacking: &mut LackedParts, part: Part, source: usize) -> Result<usize, NoMemory> {
-    let number = lacking.len();
-    let known = lacking.entry(part)?.or_insert(Count {
-        pages: 0,
-        last: source,
-        number,
-    });
-    if known.pages == 0 || known.last != source {
-        known.pages = known.pages.saturating_add(1);
-        known.last = source;
+/// Counts a link behind the last one of its order: its result, where that is another or the part is.
+fn count_part<'a>(
+    lacking: &mut LackedParts<'a>,
+    lacked: Lacked<'a>,
+    last: Option<Lacked<'a>>,
+) -> Result<(), NoMemory> {
+    let part = lacked.part;
+    match last {
+        Some(last) if last.part.order(&part).is_eq() => {
+            if last.source != lacked.source
+                && let Some(known) = lacking.last_mut()
+            {
+                known.pages = known.pages.saturating_add(1);
+            }
+            Ok(())
+        }
+        _ => {
+            lacking.push(LackedPart { part, pages: 1 })?;
+            Ok(())
+        }
     }
-    Ok(known.number)
 }
 
 /// A part that a page lacks, as it is told.
@@ -201,14 +214,14 @@ pub(crate) fn told_parts(
     alloc: Global,
     front: &str,
     pages: Pages<'_>,
-    lacking: &LackedParts,
+    lacking: &[LackedPart<'_>],
 ) -> Result<Vec<ToldPart>, NoMemory> {
     let mut parts = Vec::new(alloc);
-    for (part, count) in lacking {
+    for (number, lacked) in lacking.iter().enumerate() {
         parts.push(ToldPart {
-            text: part_text(alloc, front, pages, part)?,
-            pages: count.pages,
-            number: count.number,
+            text: part_text(alloc, front, pages, lacked.part)?,
+            pages: lacked.pages,
+            number,
         })?;
     }
     Ok(parts)
@@ -219,7 +232,7 @@ fn part_text(
     alloc: Global,
     front: &str,
     pages: Pages<'_>,
-    part: &Part,
+    part: Part<'_>,
 ) -> Result<String, NoMemory> {
     let url = match pages.anchors.get(part.page) {
         Some(page) => shown(front, page.url.as_str()),
@@ -227,7 +240,7 @@ fn part_text(
     };
     let mut text = String::from_str(alloc, url)?;
     text.push('#')?;
-    let fragment = String::from_utf8_lossy(alloc, part.fragment.as_slice())?;
+    let fragment = String::from_utf8_lossy(alloc, part.fragment)?;
     text.push_str(fragment.as_str())?;
     Ok(text)
 }

@@ -146,8 +146,8 @@ fn site_of<'p, 'f>(
 
 /// The links whose places are told.
 #[derive(Drop)]
-struct Sought {
-    lacking: LackedParts,
+struct Sought<'p> {
+    lacking: LackedParts<'p>,
     /// Those to pages that are not there and to such parts, page by page, in the order of a page's text.
     leads: Vec<Lead>,
 }
@@ -158,7 +158,7 @@ fn sought_by<'p, R: Threads + Sync>(
     asked: Asked<'p>,
     site: Site<'p, '_>,
     linked: &[Linked<'p>],
-) -> Result<Sought, NoMemory> {
+) -> Result<Sought<'p>, NoMemory> {
     let threads = site.files.threads().max(1);
     let mut leads = page_leads(rt, alloc, asked, site, linked)?;
     let lacked = lacked_by(rt, alloc, site.pages, threads)?;
@@ -193,7 +193,7 @@ fn told(
     asked: Asked<'_>,
     site: Site<'_, '_>,
     linked: &[Linked<'_>],
-    sought: &Sought,
+    sought: &Sought<'_>,
     places: Vec<PlaceOf>,
 ) -> Result<Checked, NoMemory>
     ensures broken { IfOk result (λ checked. rows_in checked.broken.items ≡ flat_map (rows_with asked.entry.front.now (map string_bytes asked.entry.ignores.now)) (map linked_at linked.now)) }

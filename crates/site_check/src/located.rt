@@ -8,7 +8,7 @@ use std::alloc::Global;
 use std::mem;
 
 /// About how many bytes of pages are read before they are looked at.
-const READ_LENGTH: usize = 1 << 25;
+const READ_LENGTH: usize = 1 << 24;
 
 /// Takes the places of what has this number.
 pub(crate) fn take_places(alloc: Global, found: &mut [Vec<Place>], number: usize) -> Vec<Place> {

@@ -101,12 +101,12 @@ fn leads_of_part<R: Threads + Sync>(
 }
 
 /// The parts that documents lack and results link to, by so many threads.
-pub(crate) fn lacked_by<R: Threads + Sync>(
+pub(crate) fn lacked_by<'p, R: Threads + Sync>(
     rt: &R,
     alloc: Global,
-    pages: Pages<'_>,
+    pages: Pages<'p>,
     count: usize,
-) -> Result<Vec<Lacked>, NoMemory> {
+) -> Result<Vec<Lacked<'p>>, NoMemory> {
     let parts = thread::map_indices(
         rt,
         alloc,
@@ -116,7 +116,7 @@ pub(crate) fn lacked_by<R: Threads + Sync>(
     joined(alloc, parts)
 }
 
-/// Where these links stand, which stand together by their pages. The caller reads the pages.
+/// Where these links stand, which stand together by their pages. The caller reads pages while threads look at those read before.
 pub(crate) fn locate_by<R: Threads + Sync, B: Bodies>(
     rt: &R,
     alloc: Global,
@@ -124,16 +124,23 @@ pub(crate) fn locate_by<R: Threads + Sync, B: Bodies>(
     leads: &[Lead],
     bodies: &mut B,
 ) -> Result<Vec<PlaceOf>, NoMemory> {
+    let count = site.files.threads().max(1);
     let mut all = Vec::new(alloc);
-    let mut rest = leads;
+    let (mut read, mut rest) = read_some(alloc, site, leads, bodies)?;
     for _ in 0..leads.len() {
-        if rest.is_empty() {
+        if read.is_empty() {
             break;
         }
-        let (read, more) = read_some(alloc, site, rest, bodies)?;
-        let mut places = places_by(rt, alloc, read.as_slice(), site.files.threads().max(1))?;
+        let (places, next) = join(
+            rt,
+            || places_by(rt, alloc, read.as_slice(), count),
+            || read_some(alloc, site, rest, bodies),
+        );
+        let mut places = places?;
         all.append(&mut places)?;
-        rest = more;
+        let (more, behind) = next?;
+        read = more;
+        rest = behind;
     }
     Ok(all)
 }

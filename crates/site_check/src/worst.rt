@@ -14,16 +14,38 @@ pub(crate) fn worst(alloc: Global, broken: &[Broken]) -> Result<Vec<FileCount>, 
     told(alloc, most.as_slice())
 }
 
+/// Broken links that come one after another in a file.
+#[derive(Clone, Copy)]
+struct Run<'a> {
+    file: &'a str,
+    links: u64,
+}
+
 /// How many broken links stand in each file.
 fn counts_of(alloc: Global, broken: &[Broken]) -> Result<BTreeMap<&str, u64>, NoMemory> {
     let mut counts: BTreeMap<&str, u64> = BTreeMap::new(alloc);
+    let mut run = Run { file: "", links: 0 };
     for one in broken {
         for place in &one.places {
-            let count = counts.entry(place.file.as_str())?.or_insert(0);
-            *count = count.saturating_add(1);
+            let file = place.file.as_str();
+            if file != run.file {
+                add_run(&mut counts, run)?;
+                run = Run { file, links: 0 };
+            }
+            run.links = run.links.saturating_add(1);
         }
     }
+    add_run(&mut counts, run)?;
     Ok(counts)
+}
+
+/// Adds a run, of one link at least.
+fn add_run<'a>(counts: &mut BTreeMap<&'a str, u64>, run: Run<'a>) -> Result<(), NoMemory> {
+    if run.links > 0 {
+        let count = counts.entry(run.file)?.or_insert(0);
+        *count = count.saturating_add(run.links);
+    }
+    Ok(())
 }
 
 /// The files with the greatest counts, greatest first, and in order where counts are equal.
