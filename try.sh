@@ -20,7 +20,7 @@ scratch=$(mktemp -d)
 trap 'rm -rf "$scratch"' EXIT
 
 if [ ! -x "$program" ] && [ "${1:-}" = --proved ]; then
-    echo "proving and building the program, which takes an hour and a half of processor .." >&2
+    echo "proving and building the program, which takes an hour and a quarter of processor .." >&2
     (cd crates/mercator_cli && rt run -- --help > "$scratch/told" 2>&1) || { cat "$scratch/told"; exit 1; }
 fi
 if [ -x "$program" ]; then
