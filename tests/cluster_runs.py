@@ -334,7 +334,7 @@ def crawl(shared: Shared, server: Server, draw: random.Random, wanted: Iterable[
     """Runs all parts to the end. Some are killed, and Redis is, at drawn moments of the crawl."""
     parts = {part: forked(shared, part) for part in range(shared.crawl.parts)}
     stopped = losses = 0
-    is_told_again = False
+    told_after = 0  # the losses of Redis after which parts that had ended were started again to tell it
     whole = sum(len(url) + 3 for url in wanted)
     what = ["part"] * shared.faults.kills + ["redis"] * shared.faults.losses
     moments = sorted((draw.random() * whole, word) for word in what)
@@ -366,9 +366,9 @@ def crawl(shared: Shared, server: Server, draw: random.Random, wanted: Iterable[
                         parts[part] = forked(shared, part)
             else:
                 time.sleep(0.001 if moments else 0.005)
-            if losses and not parts and not is_told_again and not is_complete(shared, server):
+            if not parts and losses > told_after and not is_complete(shared, server):
                 # Redis was lost while the last ones ended, so none of them has told the new one.
-                is_told_again = True
+                told_after = losses
                 parts = {part: forked(shared, part) for part in range(shared.crawl.parts)}
     finally:
         for process in parts.values():  # some are left only where something failed
