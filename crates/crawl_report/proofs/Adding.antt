@@ -11,7 +11,7 @@ use Rattle.crawl_report.specs.Lines.{Line}
 use Rattle.crawl_report.specs.Printing.{Adds, bytes_of, is_json}
 use Rattle.crawl_report.specs.Tallies.{pointed}
 use Rattle.crawl_report.specs.declared.out.Out.{Out}
-use Rattle.crawl_report.proofs.Counts.{pointed_more}
+use Rattle.crawl_sources.proofs.Counts.{pointed_more}
 
 pub adds_none : (out : Out) → Adds out out []
 adds_none out = record { same = refl; added = sym (append-nil (bytes_of out)) }

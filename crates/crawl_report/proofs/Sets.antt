@@ -10,7 +10,7 @@ use Rattle.hash_order.specs.HashOrder.{by_hash, by_hash_ties}
 use Rattle.crawl_web.specs.declared.page.PageResult.{PageResult}
 use Rattle.crawl_report.specs.Tallies.{pointed}
 use Rattle.crawl_report.specs.Unreached.{has_result, is_in, is_unreached}
-use Rattle.crawl_report.proofs.Counts.{length_pointed}
+use Rattle.crawl_sources.proofs.Counts.{length_pointed}
 
 -- a set of URLs after one was put in
 pub set_put : (old new : sorted.BTreeSet (List ℕ)) (key : List ℕ) → sorted.Updates by_hash old new key true → (url : List ℕ) → is_in new url ≡ (is_in old url || bytes_eq key url)

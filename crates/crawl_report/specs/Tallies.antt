@@ -1,52 +1,7 @@
--- What is counted for each URL while the results are looked through.
-use Rattle.std.specs.Prelude.{◌≡◌, ℕ, ◌+◌, ◌≤◌, Bool, List, [], ◌∷◌, ◌++◌, length, map, nat_lt, if◌then◌else◌, Option, Some, None}
+-- Lists of references.
+use Rattle.std.specs.Prelude.{List, map}
 use Rattle.std.specs.Borrow.{Bor}
-use Rattle.std.specs.BTreeMap.{BTreeMap, get_by}
-use Rattle.std.specs.Cmp.Lexicographic.{slice_cmp}
-use Rattle.std.specs.Ordering.{nat_cmp}
-use Rattle.crawl_web.specs.declared.page.PageResult.{PageResult}
-use Rattle.crawl_sources.specs.Sources.{least_with, sources_of, least}
 
 -- what the references point to
 abbrev pub pointed : {X : Type 0} → List (Bor X) → List X
 pointed xs = map (λ x. x.now) xs
-
--- a count of results that link to a URL
-pub record Count : Type 0 where
-  -- how many do, of those looked through
-  pub count : ℕ
-  -- the least of their URLs
-  pub page : Option (List ℕ)
-  -- their URLs, where all are kept
-  pub all : List (List ℕ)
-  -- which result was counted last, by its number from 1; 0 where none was
-  pub last : ℕ
-
--- nothing is counted
-abbrev pub none_counted : Count
-none_counted = record { count = 0; page = None; all = []; last = 0 }
-
--- the result with this number and this URL is counted, unless it was
-abbrev pub counted : Bool → ℕ → List ℕ → Count → Count
-counted all number url c =
-    if nat_lt c.last number then record { count = c.count + 1; page = least_with c.page url; all = if all then c.all ++ url ∷ [] else c.all; last = number }
-    else c
-
-abbrev pub Tallies : Type 0
-Tallies = BTreeMap (Bor (List ℕ)) Count
-
--- the count that is kept for the URL
-abbrev pub count_of : Tallies → List ℕ → Option Count
-count_of tallies url = get_by (λ k. slice_cmp nat_cmp url k.now) tallies
-
--- the count is that of the results that link to the URL
-pub record IsCount (all : Bool) (results : List PageResult) (url : List ℕ) (c : Count) : Type 0 where
-  pub count : c.count ≡ length (sources_of results url)
-  pub page : c.page ≡ least (map (λ r. r.url) (sources_of results url))
-  pub kept : c.all ≡ (if all then map (λ r. r.url) (sources_of results url) else [])
-  pub last : c.last ≤ length results
-
--- what is kept for the URL, if anything is, is the count of the results that link to it
-abbrev pub IsTally : Bool → List PageResult → List ℕ → Option Count → Type 0
-IsTally all results url None = Unit {0}
-IsTally all results url (Some c) = IsCount all results url c

@@ -10,7 +10,6 @@ mod queues;
 mod report;
 mod row;
 mod sources;
-mod tally;
 mod threads;
 mod unseen;
 mod web_urls;

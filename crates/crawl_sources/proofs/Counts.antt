@@ -1,19 +1,17 @@
 -- What is kept of a URL while the links to it are counted.
-use Rattle.std.proofs.Common.{◌≡◌, ℕ, zero, suc, ◌+◌, ◌≤◌, ◌<◌, Bool, true, false, ◌||◌, cond, List, [], ◌∷◌, ◌++◌, length, map, take, filter, get_or, nat_lt, Option, Some, None, IsSome, refl, sym, ap, ◌∙◌, subst, arith, inl, inr, append-nil, length-append, le-ltb, if◌then◌else◌}
+use Rattle.std.proofs.Common.{◌≡◌, ℕ, zero, suc, ◌+◌, ◌<◌, Bool, true, false, ◌||◌, cond, List, [], ◌∷◌, ◌++◌, length, map, take, get_or, nat_lt, Option, Some, None, IsSome, refl, sym, ap, ◌∙◌, subst, arith, inl, inr, append-nil, length-append, le-ltb, if◌then◌else◌}
 use Rattle.std.proofs.lemmas.Bool.{cases_Bool, cond-true, cond-false, lt-ltb}
 use Rattle.std.proofs.lemmas.List.{map_more, map-append}
 use Rattle.std.proofs.lemmas.List.Elements.{filter-append}
-use Rattle.std.proofs.lemmas.List.Folds.{list_any-append}
+use Rattle.std.proofs.lemmas.List.Folds.{list_any-append, list_any_at}
 use Rattle.std.proofs.lemmas.List.Sums.{fold-append}
-use Rattle.std.proofs.lemmas.Map.Text.{btree_map_updates_str}
 use Rattle.std.proofs.lemmas.Slice.Eq.{bytes_eq-Decides}
 use Rattle.std.specs.Borrow.{Bor}
 use Rattle.std.specs.BTreeMap as tree
-use Rattle.std.specs.Cmp.Lexicographic.{slice_cmp}
-use Rattle.std.specs.Ordering.{nat_cmp}
 use Rattle.std.specs.List.{list_any}
 use Rattle.std.specs.Option.{option_map}
 use Rattle.std.specs.Str.{bytes_eq}
+use Rattle.hash_order.specs.HashOrder.{by_hash, by_hash_ties}
 use Rattle.crawl_web.specs.Pages.{links_of}
 use Rattle.crawl_web.specs.declared.page.PageResult.{PageResult}
 use Rattle.crawl_web.proofs.ReportOrder.{filter-kept, filter-dropped}
@@ -34,7 +32,7 @@ pub pointed_more : {X : Type 0} (xs : List (Bor X)) (i : ℕ) (x : Bor X) → i 
 pointed_more xs i x below at =
     map_more (λ (y : Bor _). y.now) xs i x below ∙ ap (λ (y : Bor _). pointed (take i xs) ++ y.now ∷ []) (sym at)
 
-get_pointed : {X : Type 0} (xs : List (Bor X)) (k : ℕ) (d : Bor X) → get_or (pointed xs) k d.now ≡ (get_or xs k d).now
+pub get_pointed : {X : Type 0} (xs : List (Bor X)) (k : ℕ) (d : Bor X) → get_or (pointed xs) k d.now ≡ (get_or xs k d).now
 get_pointed [] k d = refl
 get_pointed (y ∷ ys) zero d = refl
 get_pointed (y ∷ ys) (suc k) d = get_pointed ys k d
@@ -46,16 +44,25 @@ pub length_pointed : {X : Type 0} (xs : List (Bor X)) → length (pointed xs) �
 length_pointed [] = refl
 length_pointed (x ∷ xs) = ap suc (length_pointed xs)
 
+-- the URL of a result that is referred to is among theirs
+pub url_among : (all : List (Bor PageResult)) (i : ℕ) (x : Bor PageResult) → i < length all → x ≡ get_or all i x → list_any (λ (r : PageResult). bytes_eq r.url x.now.url) (pointed all) ≡ true
+url_among all i x below is =
+    let p : PageResult → Bool = λ r. bytes_eq r.url x.now.url in
+    list_any_at p (pointed all) i x.now (omega (arith, length_pointed all, below)) (ap p (read_pointed all i x is) ∙ (bytes_eq-Decides x.now.url x.now.url).1 refl)
+
 -- ---- what a map has after one count was written
+
+put_at : (old new : Tallies) (key : List ℕ) (w : Option Count) → tree.Updates by_hash old new key w → (url : List ℕ) → count_of new url ≡ cond (bytes_eq key url) w (count_of old url)
+put_at old new key w updates url = updates.0 url ∙ ap (λ b. cond b w (count_of old url)) (sym (by_hash_ties key url))
 
 written : (b : Bool) (o : Option Count) (c : Count) (f : Count → Count) → (b ≡ true → o ≡ Some c) → cond b (Some (f c)) o ≡ option_map (λ x. if b then f x else x) o
 written true o c f at = sym (ap (option_map f) (at refl))
 written false None c f at = refl
 written false (Some x) c f at = refl
 
-pub count_put : (old new : Tallies) (key : List ℕ) (c w : Count) (f : Count → Count) → tree.UpdatesBy (λ x y. slice_cmp nat_cmp x.now y.now) (λ k. slice_cmp nat_cmp key k.now) old new (Some w) → w ≡ f c → count_of old key ≡ Some c → (url : List ℕ) → count_of new url ≡ option_map (λ x. if bytes_eq key url then f x else x) (count_of old url)
+pub count_put : (old new : Tallies) (key : List ℕ) (c w : Count) (f : Count → Count) → tree.Updates by_hash old new key (Some w) → w ≡ f c → count_of old key ≡ Some c → (url : List ℕ) → count_of new url ≡ option_map (λ x. if bytes_eq key url then f x else x) (count_of old url)
 count_put old new key c w f updates value at url =
-    btree_map_updates_str key old new (Some w) updates url
+    put_at old new key (Some w) updates url
     ∙ ap (λ x. cond (bytes_eq key url) (Some x) (count_of old url)) value
     ∙ written (bytes_eq key url) (count_of old url) c f (λ same. ap (count_of old) (sym ((bytes_eq-Decides key url).0 same)) ∙ at)
 
@@ -65,72 +72,80 @@ none_written true false = refl
 none_written false true = refl
 none_written false false = refl
 
-pub none_put : (old new : Tallies) (rs : List PageResult) (r : PageResult) (key : Bor (List ℕ)) (v : Count) → key.now ≡ r.url → v ≡ none_counted → tree.Updates (λ x y. slice_cmp nat_cmp x.now y.now) old new key (Some v) → (url : List ℕ) → count_of old url ≡ (if list_any (λ (x : PageResult). bytes_eq x.url url) rs then Some none_counted else None) → count_of new url ≡ (if list_any (λ (x : PageResult). bytes_eq x.url url) (rs ++ r ∷ []) then Some none_counted else None)
+pub none_put : (old new : Tallies) (rs : List PageResult) (r : PageResult) (key : List ℕ) (v : Count) → key ≡ r.url → v ≡ none_counted → tree.Updates by_hash old new key (Some v) → (url : List ℕ) → count_of old url ≡ (if list_any (λ (x : PageResult). bytes_eq x.url url) rs then Some none_counted else None) → count_of new url ≡ (if list_any (λ (x : PageResult). bytes_eq x.url url) (rs ++ r ∷ []) then Some none_counted else None)
 none_put old new rs r key v text value updates url known =
     let p : PageResult → Bool = λ x. bytes_eq x.url url in
-    btree_map_updates_str key.now old new (Some v) updates url
-    ∙ ap (λ x. cond (bytes_eq key.now url) (Some x) (count_of old url)) value
-    ∙ ap (λ o. cond (bytes_eq key.now url) (Some none_counted) o) known
-    ∙ none_written (bytes_eq key.now url) (list_any p rs)
+    put_at old new key (Some v) updates url
+    ∙ ap (λ x. cond (bytes_eq key url) (Some x) (count_of old url)) value
+    ∙ ap (λ o. cond (bytes_eq key url) (Some none_counted) o) known
+    ∙ none_written (bytes_eq key url) (list_any p rs)
     ∙ ap (λ t. if list_any p rs || bytes_eq t url then Some none_counted else None) text
     ∙ ap (λ b. if b then Some none_counted else None) (sym (any_push p rs r))
 
 -- ---- one more link
 
 -- a result is counted once
-counted_once : (n : ℕ) (url : List ℕ) (c : Count) → counted n url (counted n url c) ≡ counted n url c
-counted_once n url c =
+counted_once : (all : Bool) (n : ℕ) (url : List ℕ) (c : Count) → counted all n url (counted all n url c) ≡ counted all n url c
+counted_once all n url c =
     elim (cases_Bool (nat_lt c.last n)) [
       | inl more ↦
-          ap (counted n url) (cond-true _ _ _ more) ∙ cond-false _ _ _ (same n) ∙ sym (cond-true _ _ _ more)
-      | inr done ↦ ap (counted n url) (cond-false _ _ _ done)
+          ap (counted all n url) (cond-true _ _ _ more) ∙ cond-false _ _ _ (same n) ∙ sym (cond-true _ _ _ more)
+      | inr done ↦ ap (counted all n url) (cond-false _ _ _ done)
     ]
   where
     same : (n : ℕ) → nat_lt n n ≡ false
     same n = le-ltb n n (omega arith)
 
-either_link : (a b : Bool) (n : ℕ) (url : List ℕ) (o : Option Count) → option_map (λ c. if b then counted n url c else c) (option_map (λ c. if a then counted n url c else c) o) ≡ option_map (λ c. if a || b then counted n url c else c) o
-either_link a b n url None = refl
-either_link true true n url (Some c) = ap Some (counted_once n url c)
-either_link true false n url (Some c) = refl
-either_link false b n url (Some c) = refl
+either_link : (all a b : Bool) (n : ℕ) (url : List ℕ) (o : Option Count) → option_map (λ c. if b then counted all n url c else c) (option_map (λ c. if a then counted all n url c else c) o) ≡ option_map (λ c. if a || b then counted all n url c else c) o
+either_link all a b n url None = refl
+either_link all true true n url (Some c) = ap Some (counted_once all n url c)
+either_link all true false n url (Some c) = refl
+either_link all false b n url (Some c) = refl
 
-pub link_more : (links : List (List ℕ)) (link : List ℕ) (n : ℕ) (page url : List ℕ) (o mid new : Option Count) → mid ≡ option_map (λ c. if list_any (λ own. bytes_eq own url) links then counted n page c else c) o → new ≡ option_map (λ c. if bytes_eq link url then counted n page c else c) mid → new ≡ option_map (λ c. if list_any (λ own. bytes_eq own url) (links ++ link ∷ []) then counted n page c else c) o
-link_more links link n page url o mid new before after =
-    after ∙ ap (option_map (λ c. if bytes_eq link url then counted n page c else c)) before
-    ∙ either_link (list_any (λ own. bytes_eq own url) links) (bytes_eq link url) n page o
-    ∙ ap (λ b. option_map (λ c. if b then counted n page c else c) o) (sym (any_push (λ own. bytes_eq own url) links link))
+pub link_more : (all : Bool) (links : List (List ℕ)) (link : List ℕ) (n : ℕ) (page url : List ℕ) (o mid new : Option Count) → mid ≡ option_map (λ c. if list_any (λ own. bytes_eq own url) links then counted all n page c else c) o → new ≡ option_map (λ c. if bytes_eq link url then counted all n page c else c) mid → new ≡ option_map (λ c. if list_any (λ own. bytes_eq own url) (links ++ link ∷ []) then counted all n page c else c) o
+link_more all links link n page url o mid new before after =
+    after ∙ ap (option_map (λ c. if bytes_eq link url then counted all n page c else c)) before
+    ∙ either_link all (list_any (λ own. bytes_eq own url) links) (bytes_eq link url) n page o
+    ∙ ap (λ b. option_map (λ c. if b then counted all n page c else c) o) (sym (any_push (λ own. bytes_eq own url) links link))
 
 -- ---- one more result
 
-count_more : (b : Bool) (results : List PageResult) (r : PageResult) (url : List ℕ) (c : Count) (n : ℕ) → links_to url r ≡ b → n ≡ length results + 1 → IsCount results url c → IsCount (results ++ r ∷ []) url (if b then counted n r.url c else c)
-count_more true results r url c n links numbered k =
+-- its URL is kept where all are
+one_more : (all : Bool) (own before after : List (List ℕ)) (url : List ℕ) → own ≡ (if all then before else []) → after ≡ before ++ url ∷ [] → (if all then own ++ url ∷ [] else own) ≡ (if all then after else [])
+one_more true own before after url is more = ap (λ us. us ++ url ∷ []) is ∙ sym more
+one_more false own before after url is more = is
+
+count_more : (all b : Bool) (results : List PageResult) (r : PageResult) (url : List ℕ) (c : Count) (n : ℕ) → links_to url r ≡ b → n ≡ length results + 1 → IsCount all results url c → IsCount all (results ++ r ∷ []) url (if b then counted all n r.url c else c)
+count_more all true results r url c n links numbered k =
     let more : sources_of (results ++ r ∷ []) url ≡ sources_of results url ++ r ∷ [] =
     filter-append (links_to url) results (r ∷ []) ∙ ap (λ l. sources_of results url ++ l) (filter-kept (links_to url) r [] links) in
     let later : nat_lt c.last n ≡ true = lt-ltb c.last n (omega (arith, k.last)) in
-    subst (λ x. IsCount (results ++ r ∷ []) url x) (sym (cond-true _ _ _ later)) (record {
+    subst (λ x. IsCount all (results ++ r ∷ []) url x) (sym (cond-true _ _ _ later)) (record {
       count = ap (λ x. x + 1) k.count ∙ sym (length-append (sources_of results url) (r ∷ [])) ∙ ap length (sym more);
       page =
           ap (λ o. least_with o r.url) k.page
           ∙ sym (fold-append least_with None (map (λ (x : PageResult). x.url) (sources_of results url)) (r.url ∷ []))
           ∙ ap least (sym (map-append (λ (x : PageResult). x.url) (sources_of results url) (r ∷ [])) ∙ ap (map (λ (x : PageResult). x.url)) (sym more));
+      kept = one_more all c.all (map (λ (x : PageResult). x.url) (sources_of results url)) (map (λ (x : PageResult). x.url) (sources_of (results ++ r ∷ []) url)) r.url k.kept
+          (ap (map (λ (x : PageResult). x.url)) more ∙ map-append (λ (x : PageResult). x.url) (sources_of results url) (r ∷ []));
       last = omega (arith, length-append results (r ∷ []));
     })
-count_more false results r url c n links numbered k =
+count_more all false results r url c n links numbered k =
     let same : sources_of (results ++ r ∷ []) url ≡ sources_of results url =
     filter-append (links_to url) results (r ∷ []) ∙ ap (λ l. sources_of results url ++ l) (filter-dropped (links_to url) r [] links) ∙ append-nil (sources_of results url) in
     record {
       count = k.count ∙ ap length (sym same);
       page = k.page ∙ ap (λ rs. least (map (λ (x : PageResult). x.url) rs)) (sym same);
+      kept = k.kept ∙ ap (λ rs. if all then map (λ (x : PageResult). x.url) rs else []) (sym same);
       last = omega (arith, k.last, length-append results (r ∷ []));
     }
 
-pub tally_more : (results : List PageResult) (r : PageResult) (links : List (List ℕ)) (page url : List ℕ) (n : ℕ) (old new : Option Count) → links ≡ links_of r.page → page ≡ r.url → n ≡ length results + 1 → new ≡ option_map (λ c. if list_any (λ link. bytes_eq link url) links then counted n page c else c) old → IsTally results url old → IsTally (results ++ r ∷ []) url new
-tally_more results r links page url n None new those own numbered is k = subst (IsTally (results ++ r ∷ []) url) (sym is) tt
-tally_more results r links page url n (Some c) new those own numbered is k =
-    let same : Some (if list_any (λ link. bytes_eq link url) links then counted n page c else c) ≡ Some (if links_to url r then counted n r.url c else c) =
-    λ i. Some (if list_any (λ link. bytes_eq link url) (those i) then counted n (own i) c else c) in
-    subst (IsTally (results ++ r ∷ []) url) (sym (is ∙ same)) (count_more (links_to url r) results r url c n refl numbered k)
+pub tally_more : (all : Bool) (results : List PageResult) (r : PageResult) (links : List (List ℕ)) (page url : List ℕ) (n : ℕ) (old new : Option Count) → links ≡ links_of r.page → page ≡ r.url → n ≡ length results + 1 → new ≡ option_map (λ c. if list_any (λ link. bytes_eq link url) links then counted all n page c else c) old → IsTally all results url old → IsTally all (results ++ r ∷ []) url new
+tally_more all results r links page url n None new those own numbered is k = subst (IsTally all (results ++ r ∷ []) url) (sym is) tt
+tally_more all results r links page url n (Some c) new those own numbered is k =
+    let same : Some (if list_any (λ link. bytes_eq link url) links then counted all n page c else c) ≡ Some (if links_to url r then counted all n r.url c else c) =
+    λ i. Some (if list_any (λ link. bytes_eq link url) (those i) then counted all n (own i) c else c) in
+    subst (IsTally all (results ++ r ∷ []) url) (sym (is ∙ same)) (count_more all (links_to url r) results r url c n refl numbered k)
 
 pub kept_some : (f : Count → Count) (old new : Option Count) → new ≡ option_map f old → IsSome old → IsSome new
 kept_some f None new is some = absurd (cc)
@@ -141,7 +156,7 @@ kept_some f (Some c) new is some = subst IsSome (sym is) refl
 pub no_count : (o : Option Count) → o ≡ None → IsSome o → ⊥
 no_count o none some = let clash : IsSome {T = Count} None = subst IsSome none some in (cc)
 
-pub line_counted : (results : List PageResult) (url : List ℕ) (o : Option Count) (c : Count) → o ≡ Some c → IsTally results url o → source_line c.count c.page url ≡ line_of results url
-line_counted results url o c is k =
-    let kept : IsCount results url c = subst (IsTally results url) is k in
-    ap (λ n. source_line n c.page url) kept.count ∙ ap (λ p. source_line (length (sources_of results url)) p url) kept.page
+pub line_counted : (all : Bool) (results : List PageResult) (url : List ℕ) (o : Option Count) (c : Count) → o ≡ Some c → IsTally all results url o → source_line c.count c.page url ≡ line_of results url
+line_counted all results url o c is k =
+    let kept : IsCount all results url c = subst (IsTally all results url) is k in
+    (λ i. source_line (kept.count i) (kept.page i) url)

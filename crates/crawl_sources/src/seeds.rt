@@ -2,12 +2,12 @@
 ghost use Rattle.std.specs.Prelude.{◌≡◌, IfOk};
 ghost use Rattle.std.specs.Str.Lines.{lines};
 ghost use Rattle.crawl_keys.specs.Outcome.{Gives};
-ghost use Rattle.crawl_sources.specs.Seeds.{fault_of, key_fault, line_fault, seed_url, seeds_in, checked};
+ghost use Rattle.crawl_sources.specs.Seeds.{fault_of, line_fault, seed_url, seeds_in, checked};
 ghost use Rattle.crawl_sources.specs.declared.seeds.SeedsFault.TheVariants as wrong;
 
 use crawl_keys::{CanonUrl, KeyError, canonical};
 use crawl_web::{LineError, first_line, text_of};
-use std::alloc::{AllocError, AllocFailed, Global};
+use std::alloc::{AllocFailed, Global};
 
 /// Why bytes are no seeds, in the order of the checks of a line. Lines are numbered from 1.
 #[derive(Clone, Copy, Debug, PartialEq, Eq)]
@@ -32,14 +32,6 @@ impl From<LineError> for SeedsFault {
             LineError::TooLong(number) => SeedsFault::LineTooLong(number),
             LineError::NotText(number) => SeedsFault::NotText(number),
         }
-    }
-}
-
-impl From<AllocError> for SeedsFault {
-    ghost from_gives = { λ _ fault. fault ≡ wrong.NoMemory };
-
-    fn from(_refused: AllocError) -> SeedsFault {
-        SeedsFault::NoMemory
     }
 }
 

@@ -1,54 +1,63 @@
 //! A count of the results that link to a URL.
-ghost use Rattle.std.specs.Prelude.{◌≡◌};
+ghost use Rattle.std.specs.Prelude.{◌≡◌, OnOk};
 ghost use Rattle.std.specs.Option.{option_map};
 ghost use Rattle.crawl_sources.specs.Sources.{least_with};
-ghost use Rattle.crawl_sources.specs.Tallies.{none_counted, counted};
+ghost use Rattle.crawl_sources.specs.Tallies.{pointed, none_counted, counted};
 
+use crawl_web::NoMemory;
+use std::alloc::Global;
 use std::marker::Model;
 
-/// How many results link to a URL, and the least of their URLs.
+/// How many results link to a URL, the least of their URLs, and all of them where they are told.
 #[derive(Drop)]
 pub struct Tally<'a> {
     count: u64,
     page: Option<&'a str>,
+    all: Vec<&'a str>,
     /// The number of the result that was counted last, from 1.
     last: u64,
 }
 
-// Contracts see the page as its text. No more are counted than were looked through, so that a count never overflows.
+// Contracts see pages as their texts. No more are counted than were looked through, so that a count never overflows.
 impl<'a> Model for Tally<'a> {
     ghost use Rattle.std.specs.Prelude.{◌≤◌};
     ghost use Rattle.std.specs.Option.{option_map};
-    ghost use Rattle.crawl_sources.specs.Tallies.{Count};
+    ghost use Rattle.crawl_sources.specs.Tallies.{Count, pointed};
 
     ghost Value = { Count };
 
-    ghost view = { λ t. record { count = t.count; page = option_map (λ p. p.now) t.page; last = t.last } };
+    ghost view = { λ t. record { count = t.count; page = option_map (λ p. p.now) t.page; all = pointed t.all.items; last = t.last } };
 
     ghost invariant = { λ t. t.count ≤ t.last };
 }
 
 impl<'a> Tally<'a> {
     /// The count of none.
-    pub fn new() -> Tally<'a>
+    pub fn new(alloc: Global) -> Tally<'a>
         ensures { result ≡ none_counted }
     {
         Tally {
             count: 0,
             page: None,
+            all: Vec::new(alloc),
             last: 0,
         }
     }
 
-    /// Counts the result with this number, from 1, and this URL, unless it was counted.
-    pub fn add(&mut self, number: u64, url: &'a str)
-        ensures { self.new ≡ counted number url.now self.old }
+    /// Counts the result with this number, from 1, and this URL, unless it was counted; its URL is kept where all are.
+    pub fn add(&mut self, all: bool, number: u64, url: &'a str) -> Result<(), NoMemory>
+        ensures { OnOk result (self.new ≡ counted all number url.now self.old) }
     {
-        if self.last < number {
-            self.count += 1;
-            self.page = least_with(self.page, url);
-            self.last = number;
+        if self.last >= number {
+            return Ok(());
         }
+        if all {
+            self.all.push(url)?;
+        }
+        self.count += 1;
+        self.page = least_with(self.page, url);
+        self.last = number;
+        Ok(())
     }
 
     /// How many were counted.
@@ -63,6 +72,13 @@ impl<'a> Tally<'a> {
         ensures { option_map (λ p. p.now) result ≡ self.now.page }
     {
         self.page
+    }
+
+    /// Their URLs, where all are kept.
+    pub fn all(&self) -> &[&'a str]
+        ensures { pointed result.now ≡ self.now.all }
+    {
+        self.all.as_slice()
     }
 }
 

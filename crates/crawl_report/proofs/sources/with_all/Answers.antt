@@ -11,11 +11,11 @@ use Rattle.crawl_report.proofs.sources.with_all.Goals as goal
 pub with_told-requires : goal.with_told-requires
 with_told-requires c = λ url known.
     let P : List (Bor PageResult) → Type 0 = λ ms. list_any (λ (r : PageResult). bytes_eq r.url url) (pointed ms) ≡ true in
-    c.in_ok-count_results.ensures.kept url (c.in_ok-tallies.ensures.known url (subst P (c.deref-2.ensures.value ∙ sym c.deref.ensures.value) known))
+    c.in_ok-tallies.ensures.known url (subst P (c.deref-2.ensures.value ∙ sym c.deref.ensures.value) known)
 
 pub returns : goal.returns
 returns c =
     let pages = c.args.pages.now in
     subst (λ rs. IfOk c.with_told.result (λ more. Adds c.args.out more (flat_map (λ (r : PageResult). lines_at c.args.all pages r.url) rs)))
     (ap pointed c.deref-2.ensures.value ∙ c.in_ok-told.ensures)
-    (c.with_told.ensures pages (λ url. c.in_ok-count_results.ensures.counted url (c.in_ok-tallies.ensures.none c.args.all url)))
+    (c.with_told.ensures pages c.in_ok-tallies.ensures.counted)

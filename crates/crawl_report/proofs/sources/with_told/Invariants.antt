@@ -3,7 +3,7 @@ use Rattle.std.specs.List.{flat_map}
 use Rattle.crawl_web.specs.declared.page.PageResult.{PageResult}
 use Rattle.crawl_report.specs.Printing.{Adds}
 use Rattle.crawl_report.specs.Rows.{lines_at}
-use Rattle.crawl_report.specs.Tallies.{pointed, count_of, IsTally}
+use Rattle.crawl_sources.specs.Tallies.{pointed, count_of, IsTally}
 use Rattle.crawl_report.proofs.sources.with_told.Given as goal
 
 abbrev pub invariant-loop-one : goal.invariant-loop-one

@@ -1,14 +1,14 @@
 use Rattle.std.proofs.Common.{◌≡◌, ℕ, List, sym, subst, rules, if◌then◌else◌}
 use Rattle.std.specs.Option.{option_map}
 use Rattle.std.specs.Str.{bytes_eq}
-use Rattle.crawl_report.specs.Tallies.{counted, count_of}
-use Rattle.crawl_report.proofs.Counts.{count_put}
-use Rattle.crawl_report.proofs.sources.count_link.Goals as goal
+use Rattle.crawl_sources.specs.Tallies.{counted, count_of}
+use Rattle.crawl_sources.proofs.Counts.{count_put}
+use Rattle.crawl_sources.proofs.counting.count_link.Goals as goal
 
 pub returns-in_ok-add : goal.returns-in_ok-add
 returns-in_ok-add c = λ url.
     let new = c.get_mut.follows.lender c.add.new.self in
     let P : List ℕ → Type 0 = λ key. count_of new url ≡ option_map (λ n. if bytes_eq key url then counted c.args.all c.args.number c.args.page.now n else n) (count_of c.args.tallies.now url) in
-    subst P c.as_str.ensures.value
-    (count_put c.args.tallies.now new c.as_str.result.now c.in-Some.tally.now c.add.new.self (counted c.args.all c.args.number c.args.page.now)
+    subst P c.hashed.ensures
+    (count_put c.args.tallies.now new c.hashed.result c.in-Some.tally.now c.add.new.self (counted c.args.all c.args.number c.args.page.now)
     ((c.get_mut.follows.holds c.add.new.self).3 (search rules)) c.in_ok-add.ensures (sym c.in-Some.ensures.value) url)

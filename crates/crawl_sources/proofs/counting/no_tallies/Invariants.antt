@@ -3,8 +3,8 @@ use Rattle.std.specs.List.{list_any}
 use Rattle.std.specs.Str.{bytes_eq}
 use Rattle.crawl_web.specs.declared.page.PageResult.{PageResult}
 use Rattle.crawl_sources.specs.Tallies.{pointed, count_of, none_counted}
-use Rattle.crawl_sources.proofs.sources.no_tallies.Given as goal
+use Rattle.crawl_sources.proofs.counting.no_tallies.Given as goal
 
 abbrev pub invariant-loop-one : goal.invariant-loop-one
 invariant-loop-one l =
-    (url : List ℕ) → count_of l.tallies url ≡ (if list_any (λ (r : PageResult). bytes_eq r.url url) (pointed (take l.one-index l.missing)) then Some none_counted else None)
+    (url : List ℕ) → count_of l.tallies url ≡ (if list_any (λ (r : PageResult). bytes_eq r.url url) (pointed (take l.one-index l.told)) then Some none_counted else None)

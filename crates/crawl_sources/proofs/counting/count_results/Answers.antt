@@ -3,9 +3,9 @@ use Rattle.std.proofs.lemmas.List.{take_more, length-take-le}
 use Rattle.std.specs.List.{list_any}
 use Rattle.std.specs.Str.{bytes_eq}
 use Rattle.crawl_web.specs.declared.page.PageResult.{PageResult}
-use Rattle.crawl_report.specs.Tallies.{counted, count_of, IsTally}
-use Rattle.crawl_report.proofs.Counts.{tally_more, kept_some}
-use Rattle.crawl_report.proofs.sources.count_results.Goals as goal
+use Rattle.crawl_sources.specs.Tallies.{counted, count_of, IsTally}
+use Rattle.crawl_sources.proofs.Counts.{tally_more, kept_some}
+use Rattle.crawl_sources.proofs.counting.count_results.Goals as goal
 
 pub loop-one-preserved : goal.loop-one-preserved
 loop-one-preserved c =

@@ -3,9 +3,9 @@ use Rattle.std.proofs.lemmas.List.{take_more}
 use Rattle.std.specs.List.{list_any}
 use Rattle.std.specs.Option.{option_map}
 use Rattle.std.specs.Str.{bytes_eq}
-use Rattle.crawl_report.specs.Tallies.{counted, count_of}
-use Rattle.crawl_report.proofs.Counts.{link_more}
-use Rattle.crawl_report.proofs.sources.count_links.Goals as goal
+use Rattle.crawl_sources.specs.Tallies.{counted, count_of}
+use Rattle.crawl_sources.proofs.Counts.{link_more}
+use Rattle.crawl_sources.proofs.counting.count_links.Goals as goal
 
 pub loop-link-preserved : goal.loop-link-preserved
 loop-link-preserved c = λ url.

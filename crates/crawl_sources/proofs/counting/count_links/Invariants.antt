@@ -3,8 +3,8 @@ use Rattle.std.specs.List.{list_any}
 use Rattle.std.specs.Option.{option_map}
 use Rattle.std.specs.Str.{bytes_eq}
 use Rattle.crawl_sources.specs.Tallies.{counted, count_of}
-use Rattle.crawl_sources.proofs.sources.count_links.Given as goal
+use Rattle.crawl_sources.proofs.counting.count_links.Given as goal
 
 abbrev pub invariant-loop-link : goal.invariant-loop-link
 invariant-loop-link l =
-    (url : List ℕ) → count_of l.tallies url ≡ option_map (λ c. if list_any (λ link. bytes_eq link url) (take l.link-index l.links) then counted l.number l.page c else c) (count_of l.fn.tallies url)
+    (url : List ℕ) → count_of l.tallies url ≡ option_map (λ c. if list_any (λ link. bytes_eq link url) (take l.link-index l.links) then counted l.all l.number l.page c else c) (count_of l.fn.tallies url)
