@@ -78,13 +78,9 @@ moved_lines with_moved pages = if with_moved then map (λ r. line.to (target r.p
 
 -- ---- the report
 
--- the lines of the parts but the sources, in their order
-abbrev pub other_lines : Parts → List PageResult → List (List ℕ) → List Line
-other_lines parts pages unreached = moved_lines parts.moved pages ++ map line.unreached unreached
-
 -- the lines of the parts, in their order
 abbrev pub part_lines : Parts → List PageResult → List (List ℕ) → List Line
-part_lines parts pages unreached = source_lines parts.sources parts.moved pages ++ other_lines parts pages unreached
+part_lines parts pages unreached = source_lines parts.sources parts.moved pages ++ (moved_lines parts.moved pages ++ map line.unreached unreached)
 
 -- the parts where nothing is told but, if at all, the first source of each missing URL
 abbrev pub plain_parts : Bool → Parts

@@ -9,7 +9,6 @@ mod printing;
 mod queues;
 mod report;
 mod row;
-mod sources;
 mod threads;
 mod unseen;
 mod web_urls;

@@ -1,28 +1,24 @@
 //! A report as bytes.
-ghost use Rattle.std.specs.Prelude.{◌≡◌, ℕ, ◌∷◌, ◌++◌, [], true, IfOk, length, map, filter, count_by};
+ghost use Rattle.std.specs.Prelude.{◌≡◌, ◌++◌, IfOk, count_by};
 ghost use Rattle.std.specs.List.{flat_map};
-ghost use Rattle.std.specs.Option.{option_map};
 ghost use Rattle.crawl_web.specs.ReportText.{is_found, is_missing, is_moved};
 ghost use Rattle.crawl_report.specs.Json.{printed_line};
 ghost use Rattle.crawl_report.specs.Lines as line;
 ghost use Rattle.crawl_report.specs.Lines.{line_of};
 ghost use Rattle.crawl_report.specs.Printing.{Adds, bytes_of, is_json};
-ghost use Rattle.crawl_report.specs.Rows.{printed, rows_behind, page_line, result_lines, total_of, queue_lines, part_lines, other_lines, moved_lines, target};
-ghost use Rattle.crawl_report.specs.Tallies.{pointed};
+ghost use Rattle.crawl_report.specs.Rows.{printed, rows_behind, page_line, result_lines, total_of, queue_lines};
 
 use crate::out::Out;
-use crate::report::{Parts, Report};
+use crate::report::{Report, with_parts};
 use crate::row::Row;
-use crate::sources::with_sources;
 use crate::threads::results_in_threads;
-use crawl_keys::CanonUrl;
 use crawl_web::{NoMemory, Page, PageResult};
 use std::alloc::Global;
 use std::thread::Threads;
 
 /// The report's bytes: a line for each row, as text or as a JSON object, each ended by LF.
 ///
-/// The rows come in this order: the results, their total, the queues, the sources, where pages moved to, unreached pages.
+/// The rows come in this order: the results, their total, the queues, the parts in the order of `Parts`.
 ///
 /// # Errors
 /// Out of memory alone.
@@ -58,25 +54,6 @@ fn with_rest(alloc: Global, results: Out, report: &Report<'_>) -> Result<Vec<u8>
     let queues = with_queues(total, report.queues)?;
     let all = with_parts(alloc, queues, report)?;
     Ok(all.into_bytes())
-}
-
-/// What is printed, and behind it the lines of the parts.
-#[tactic(auto, using(crate::proofs::Adding::then_more))]
-fn with_parts(alloc: Global, out: Out, report: &Report<'_>) -> Result<Out, NoMemory>
-    ensures { IfOk result (λ more. Adds out more (part_lines report.now.parts report.now.pages.now (pointed report.now.unreached.now))) }
-{
-    let Parts { sources, moved, .. } = report.parts;
-    let sources = with_sources(alloc, out, report.pages, sources, moved)?;
-    with_others(sources, report)
-}
-
-/// What is printed, and behind it the lines of all parts but the sources.
-#[tactic(auto, using(crate::proofs::Adding::then_more))]
-fn with_others(out: Out, report: &Report<'_>) -> Result<Out, NoMemory>
-    ensures { IfOk result (λ more. Adds out more (other_lines report.now.parts report.now.pages.now (pointed report.now.unreached.now))) }
-{
-    let moved = with_moved(out, report.pages, report.parts.moved)?;
-    with_unreached(moved, report.unreached)
 }
 
 /// What is printed, and behind it a line for each result.
@@ -168,46 +145,4 @@ fn queue_row(queue: usize, count: &u64) -> Row<'static>
         queue,
         urls: *count,
     }
-}
-
-fn with_moved(out: Out, pages: &[PageResult], moved: bool) -> Result<Out, NoMemory>
-    ensures { IfOk result (λ more. Adds out more (moved_lines moved pages.now)) }
-{
-    if moved {
-        with_targets(out, pages)
-    } else {
-        Ok(out)
-    }
-}
-
-fn with_targets(mut out: Out, pages: &[PageResult]) -> Result<Out, NoMemory>
-    ensures { IfOk result (λ more. Adds out more (moved_lines true pages.now)) }
-{
-    for one in pages {
-        if let Page::Moved { to } = &one.page {
-            out = out.with(Row::To {
-                target: text_of(to),
-                url: one.url.as_str(),
-            })?;
-        }
-    }
-    Ok(out)
-}
-
-fn text_of(url: &Option<CanonUrl>) -> Option<&str>
-    ensures { option_map (λ t. t.now) result ≡ url.now }
-{
-    match url {
-        Some(url) => Some(url.as_str()),
-        None => None,
-    }
-}
-
-fn with_unreached(mut out: Out, urls: &[&CanonUrl]) -> Result<Out, NoMemory>
-    ensures { IfOk result (λ more. Adds out more (map line.unreached (pointed urls.now))) }
-{
-    for url in urls {
-        out = out.with(Row::Unreached { url: url.as_str() })?;
-    }
-    Ok(out)
 }

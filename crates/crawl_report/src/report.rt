@@ -1,9 +1,20 @@
-//! A report as a value.
-ghost use Rattle.std.specs.Prelude.{◌≡◌, false};
-ghost use Rattle.crawl_report.specs.Rows.{plain_parts};
+//! A report as a value, and the lines of its parts.
+ghost use Rattle.std.specs.Prelude.{◌≡◌, false, IfOk};
+ghost use Rattle.crawl_report.specs.Printing.{Adds};
+ghost use Rattle.crawl_report.specs.Rows.{part_lines, plain_parts};
+ghost use Rattle.crawl_report.specs.Tallies.{pointed};
 
+mod moved;
+mod referrers;
+mod unreached;
+
+use crate::out::Out;
+use crate::report::moved::with_moved;
+use crate::report::referrers::with_sources;
+use crate::report::unreached::with_unreached;
 use crawl_keys::CanonUrl;
-use crawl_web::PageResult;
+use crawl_web::{NoMemory, PageResult};
+use std::alloc::Global;
 
 /// Which sources of missing URLs a report tells.
 #[derive(Clone, Copy, Debug)]
@@ -48,4 +59,15 @@ pub struct Report<'r> {
     /// Pages that no result has, as [`unreached`](crate::unreached) gives them; none where they are not told.
     pub unreached: &'r [&'r CanonUrl],
     pub parts: Parts,
+}
+
+/// What is printed, and behind it the lines of the parts.
+#[tactic(auto, using(crate::proofs::Adding::then_more))]
+pub(crate) fn with_parts(alloc: Global, out: Out, report: &Report<'_>) -> Result<Out, NoMemory>
+    ensures { IfOk result (λ more. Adds out more (part_lines report.now.parts report.now.pages.now (pointed report.now.unreached.now))) }
+{
+    let Parts { sources, moved, .. } = report.parts;
+    let out = with_sources(alloc, out, report.pages, sources, moved)?;
+    let out = with_moved(out, report.pages, moved)?;
+    with_unreached(out, report.unreached)
 }

@@ -3,7 +3,7 @@ use Rattle.std.specs.Borrow.{Bor}
 use Rattle.crawl_report.specs.Lines as line
 use Rattle.crawl_report.specs.Tallies.{pointed}
 use Rattle.crawl_report.proofs.Adding.{adds_none, adds_same, lines_all, pointed_line_at}
-use Rattle.crawl_report.proofs.printing.with_unreached.Goals as goal
+use Rattle.crawl_report.proofs.report.unreached.with_unreached.Goals as goal
 
 pub loop-url-init : goal.loop-url-init
 loop-url-init c = adds_none c.args.out

@@ -1,7 +1,7 @@
 use Rattle.std.proofs.Common.{true}
 use Rattle.crawl_report.specs.Rows.{moved_lines}
 use Rattle.crawl_report.proofs.Adding.{adds_none, lines_all}
-use Rattle.crawl_report.proofs.printing.with_targets.Goals as goal
+use Rattle.crawl_report.proofs.report.moved.with_targets.Goals as goal
 
 pub loop-one-init : goal.loop-one-init
 loop-one-init c = adds_none c.args.out

@@ -6,7 +6,7 @@ use Rattle.crawl_web.specs.declared.page.PageResult.{PageResult}
 use Rattle.crawl_report.specs.Printing.{Adds}
 use Rattle.crawl_report.specs.Rows.{lines_at}
 use Rattle.crawl_report.specs.Tallies.{pointed}
-use Rattle.crawl_report.proofs.sources.with_all.Goals as goal
+use Rattle.crawl_report.proofs.report.referrers.with_all.Goals as goal
 
 pub with_told-requires : goal.with_told-requires
 with_told-requires c = λ url known.

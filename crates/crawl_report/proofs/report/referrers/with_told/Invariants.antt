@@ -4,7 +4,7 @@ use Rattle.crawl_web.specs.declared.page.PageResult.{PageResult}
 use Rattle.crawl_report.specs.Printing.{Adds}
 use Rattle.crawl_report.specs.Rows.{lines_at}
 use Rattle.crawl_sources.specs.Tallies.{pointed, count_of, IsTally}
-use Rattle.crawl_report.proofs.sources.with_told.Given as goal
+use Rattle.crawl_report.proofs.report.referrers.with_told.Given as goal
 
 abbrev pub invariant-loop-one : goal.invariant-loop-one
 invariant-loop-one l =

@@ -2,7 +2,7 @@ use Rattle.std.proofs.Common.{take, map}
 use Rattle.crawl_report.specs.Lines as line
 use Rattle.crawl_report.specs.Printing.{Adds}
 use Rattle.crawl_report.specs.Tallies.{pointed}
-use Rattle.crawl_report.proofs.sources.with_links.Given as goal
+use Rattle.crawl_report.proofs.report.referrers.with_links.Given as goal
 
 abbrev pub invariant-loop-page : goal.invariant-loop-page
 invariant-loop-page l = Adds l.fn.out l.out (map (λ page. line.link page l.url) (pointed (take l.page-index l.pages)))

@@ -3,7 +3,7 @@ use Rattle.crawl_report.specs.Lines as line
 use Rattle.crawl_report.specs.Lines.{Line}
 use Rattle.crawl_report.specs.Tallies.{pointed}
 use Rattle.crawl_report.proofs.Adding.{adds_none, adds_same, lines_all, pointed_line_at}
-use Rattle.crawl_report.proofs.sources.with_links.Goals as goal
+use Rattle.crawl_report.proofs.report.referrers.with_links.Goals as goal
 
 pub loop-page-init : goal.loop-page-init
 loop-page-init c = adds_none c.args.out

@@ -8,7 +8,7 @@ use Rattle.crawl_report.specs.Lines as line
 use Rattle.crawl_report.specs.Rows.{lines_at}
 use Rattle.crawl_report.proofs.Adding.{adds_none, adds_same, told_more}
 use Rattle.crawl_report.proofs.Counts.{lines_counted}
-use Rattle.crawl_report.proofs.sources.with_told.Goals as goal
+use Rattle.crawl_report.proofs.report.referrers.with_told.Goals as goal
 
 pub tally_of-tally-requires : goal.tally_of-tally-requires
 tally_of-tally-requires c = c.requires c.one-item.result.now.url (url_among c.args.told.now c.loop-one.one-index c.one-item.result c.loop-one-test.true c.one-item.is)

@@ -3,7 +3,7 @@ use Rattle.std.specs.Option.{option_map}
 use Rattle.crawl_report.specs.Lines as line
 use Rattle.crawl_report.specs.Tallies.{pointed}
 use Rattle.crawl_report.proofs.Adding.{then_more}
-use Rattle.crawl_report.proofs.sources.with_tally.Goals as goal
+use Rattle.crawl_report.proofs.report.referrers.with_tally.Goals as goal
 
 pub returns : goal.returns
 returns c =

@@ -1,0 +1,44 @@
+//! Where pages moved to.
+ghost use Rattle.std.specs.Prelude.{◌≡◌, true, IfOk};
+ghost use Rattle.std.specs.Option.{option_map};
+ghost use Rattle.crawl_report.specs.Printing.{Adds};
+ghost use Rattle.crawl_report.specs.Rows.{moved_lines};
+
+use crate::out::Out;
+use crate::row::Row;
+use crawl_keys::CanonUrl;
+use crawl_web::{NoMemory, Page, PageResult};
+
+/// Prints where the pages moved to, where this is told.
+pub fn with_moved(out: Out, pages: &[PageResult], moved: bool) -> Result<Out, NoMemory>
+    ensures { IfOk result (λ more. Adds out more (moved_lines moved pages.now)) }
+{
+    if moved {
+        with_targets(out, pages)
+    } else {
+        Ok(out)
+    }
+}
+
+fn with_targets(mut out: Out, pages: &[PageResult]) -> Result<Out, NoMemory>
+    ensures { IfOk result (λ more. Adds out more (moved_lines true pages.now)) }
+{
+    for one in pages {
+        if let Page::Moved { to } = &one.page {
+            out = out.with(Row::To {
+                target: text_of(to),
+                url: one.url.as_str(),
+            })?;
+        }
+    }
+    Ok(out)
+}
+
+fn text_of(url: &Option<CanonUrl>) -> Option<&str>
+    ensures { option_map (λ t. t.now) result ≡ url.now }
+{
+    match url {
+        Some(url) => Some(url.as_str()),
+        None => None,
+    }
+}

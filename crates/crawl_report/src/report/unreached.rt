@@ -1,0 +1,20 @@
+//! The lines of pages that no result has.
+ghost use Rattle.std.specs.Prelude.{IfOk, map};
+ghost use Rattle.crawl_report.specs.Lines as line;
+ghost use Rattle.crawl_report.specs.Printing.{Adds};
+ghost use Rattle.crawl_report.specs.Tallies.{pointed};
+
+use crate::out::Out;
+use crate::row::Row;
+use crawl_keys::CanonUrl;
+use crawl_web::NoMemory;
+
+/// Prints a line for each of these URLs.
+pub fn with_unreached(mut out: Out, urls: &[&CanonUrl]) -> Result<Out, NoMemory>
+    ensures { IfOk result (λ more. Adds out more (map line.unreached (pointed urls.now))) }
+{
+    for url in urls {
+        out = out.with(Row::Unreached { url: url.as_str() })?;
+    }
+    Ok(out)
+}
