@@ -1,13 +1,12 @@
 -- Marks that only what is linked has, and a run that lost nothing.
-use Rattle.std.proofs.Common.{◌≡◌, ℕ, zero, suc, ◌+◌, ◌<◌, ◌==◌, Bool, true, false, not, ◌||◌, ◌&&◌, List, [], ◌∷◌, length, map, take, get_or, set, slice_get, Option, Some, None, refl, sym, ap, subst, ◌∙◌, arith, if◌then◌else◌}
+use Rattle.std.proofs.Common.{◌≡◌, inl, inr, ℕ, zero, suc, ◌+◌, ◌<◌, ◌^◌, ◌==◌, Bool, true, false, not, ◌||◌, ◌&&◌, List, [], ◌∷◌, ◌++◌, length, map, get_or, set, slice_get, Option, Some, None, IfSome, IsSomeAnd, Vec, Global, refl, sym, ap, subst, ◌∙◌, arith, length-append, if◌then◌else◌}
 use Rattle.std.specs.Borrow.{Bor}
 use Rattle.std.specs.List.{AllByRecursion, Contains, IsDistinct, list_any}
 use Rattle.std.specs.Str.{bytes_eq}
-use Rattle.std.proofs.lemmas.Bool.{and_from, eq-eqb, not_from_true}
+use Rattle.std.proofs.lemmas.Bool.{and_from, cases_lt, eq-eqb, not_from_true, or_left, or_right}
 use Rattle.std.proofs.lemmas.Option.{slice_get_read}
-use Rattle.std.proofs.lemmas.List.{length-map, take_all}
 use Rattle.std.proofs.lemmas.List.Elements.{All-contains_itself, All-weaker}
-use Rattle.std.proofs.lemmas.List.Folds.{list_any_none}
+use Rattle.std.proofs.lemmas.List.Folds.{list_any-append, list_any_none}
 use Rattle.crawl_frontier.specs.declared.entry.Entry.{Entry}
 use Rattle.crawl_frontier.proofs.Gets.{same_at}
 use Rattle.crawl_web.specs.declared.page.PageResult.{PageResult}
@@ -16,7 +15,8 @@ use Rattle.crawl_certificate.specs.AccountEntries.{DifferByUrl}
 use Rattle.crawl_certificate.specs.CertFaults.{first_fault, has_result, is_accepted, is_behind, is_founded, is_linked, stands_in, twice, unfounded}
 use Rattle.crawl_certificate.specs.Certificate.{NothingLost, entry_urls, result_urls}
 use Rattle.crawl_certificate.specs.Lookups.{Urls, at_this, is_in, pointed, stands_at}
-use Rattle.crawl_certificate.specs.Marks.{MarksOnly}
+use Rattle.crawl_certificate.specs.Marks.{MarksOnly, in_one}
+use Rattle.crawl_certificate.specs.Walks.{AreFrom, IsWalk}
 use Rattle.crawl_certificate.proofs.Certified.{in_map}
 use Rattle.crawl_certificate.proofs.Lists.{any_from, same_text, text_itself}
 use Rattle.crawl_certificate.proofs.NothingLost.{accepted_in, nothing_lost}
@@ -39,12 +39,12 @@ none_set test (y ∷ ys) zero e at mark = absurd (cc)
 none_set test (y ∷ ys) (suc k) e at mark = none_set test ys k e at mark
 
 -- an entry that is linked from the result of the entry before it
-pub linked_from : (entries : List Entry) (results : List PageResult) (i : ℕ) (r : PageResult) (before : Entry) → slice_get results i ≡ Some r → slice_get entries i ≡ Some before → before.url ≡ r.url
+pub linked_from : (entries : List Entry) (results : List PageResult) (i j : ℕ) (r : PageResult) (before : Entry) → slice_get results i ≡ Some r → slice_get entries j ≡ Some before → before.url ≡ r.url
     → (e : Entry) → stands_in (links_of r.page) e.url ≡ true → e.hops ≡ before.hops + 1 → is_linked entries results e ≡ true
-linked_from entries results i r before at there same e link far =
+linked_from entries results i j r before at there same e link far =
     any_from (λ (x : PageResult). stands_in (links_of x.page) e.url && is_behind entries x.url e) results r (among_at results i r at)
     (and_from _ _ link
-    (any_from (λ (b : Entry). bytes_eq b.url r.url && e.hops == b.hops + 1) entries before (among_at entries i before there)
+    (any_from (λ (b : Entry). bytes_eq b.url r.url && e.hops == b.hops + 1) entries before (among_at entries j before there)
     (and_from _ _ (subst (λ u. bytes_eq before.url u ≡ true) same (text_itself before.url)) (eq-eqb e.hops (before.hops + 1) far))))
 
 -- ---- no fault
@@ -92,26 +92,20 @@ stands_at_place links i link url within is same = any_from (λ own. bytes_eq own
 pub read_at : {X : Type 0} (xs : List X) (i : ℕ) (x : X) → i < length xs → x ≡ get_or xs i x → slice_get xs i ≡ Some x
 read_at xs i x within is = slice_get_read xs (length xs) i x refl within is
 
-cons_parts : {X : Type 0} (x y : X) (xs ys : List X) → (x ∷ xs) ≡ (y ∷ ys) → (x ≡ y) × (xs ≡ ys)
-cons_parts x y xs ys e = (cc, cc)
+-- an entry that stands at an index
+pub stands_here : (entries : List Entry) (k : ℕ) (e : Entry) (url : List ℕ) → slice_get entries k ≡ Some e → e.url ≡ url → stands_at entries k url ≡ true
+stands_here entries k e url at same = subst (λ o. at_this o url ≡ true) (sym at) (subst (λ u. bytes_eq e.url u ≡ true) same (text_itself e.url))
 
--- the URLs of one entry and one result more
-same_urls_next : (entries : List Entry) (results : List PageResult) (i : ℕ) (e : Entry) (r : PageResult) → slice_get entries i ≡ Some e → slice_get results i ≡ Some r → e.url ≡ r.url
-    → take i (entry_urls entries) ≡ take i (result_urls results) → take (suc i) (entry_urls entries) ≡ take (suc i) (result_urls results)
-same_urls_next [] results i e r there at same so_far = absurd (cc)
-same_urls_next (x ∷ xs) [] i e r there at same so_far = absurd (cc)
-same_urls_next (x ∷ xs) (y ∷ ys) zero e r there at same so_far =
-    let own : x.url ≡ y.url = ap (λ (z : Entry). z.url) (same_at (x ∷ xs) zero x e refl there) ∙ same ∙ ap (λ (z : PageResult). z.url) (same_at (y ∷ ys) zero r y at refl) in
-    ap (λ u. u ∷ []) own
-same_urls_next (x ∷ xs) (y ∷ ys) (suc i) e r there at same so_far =
-    let parts = cons_parts x.url y.url (take i (entry_urls xs)) (take i (result_urls ys)) so_far in
-    (λ k. parts.0 k ∷ same_urls_next xs ys i e r there at same parts.1 k)
-
-pub same_urls_more : (entries : List Entry) (results : List PageResult) (i : ℕ) (e : Entry) (r : PageResult) → slice_get entries i ≡ Some e → slice_get results i ≡ Some r → e.url ≡ r.url
-    → take i (entry_urls entries) ≡ take i (result_urls results) → take (i + 1) (entry_urls entries) ≡ take (i + 1) (result_urls results)
-same_urls_more entries results i e r there at same so_far =
-    let next : suc i ≡ i + 1 = omega arith in
-    subst (λ n. take n (entry_urls entries) ≡ take n (result_urls results)) next (same_urls_next entries results i e r there at same so_far)
+-- one result more
+pub own_more : (entries : List Entry) (first : ℕ) (results : List PageResult) (i : ℕ) (r : PageResult) → ((k : ℕ) (x : PageResult) → k < i → slice_get results k ≡ Some x → stands_at entries (first + k) x.url ≡ true)
+    → slice_get results i ≡ Some r → stands_at entries (first + i) r.url ≡ true → (k : ℕ) (x : PageResult) → k < i + 1 → slice_get results k ≡ Some x → stands_at entries (first + k) x.url ≡ true
+own_more entries first results i r so_far at stands k x below there = elim (cases_lt k i) [
+  | inl before ↦ so_far k x before there
+  | inr behind ↦
+      let same : k ≡ i = omega (arith, below, behind) in
+      let one : r ≡ x = same_at results i r x at (subst (λ n. slice_get results n ≡ Some x) same there) in
+      subst (λ n. stands_at entries (first + n) x.url ≡ true) (sym same) (subst (λ y. stands_at entries (first + i) y.url ≡ true) one stands)
+]
 
 stays : (a z s m : Bool) → (a && (if z then s else false)) ≡ true → (a && (if z then s else m)) ≡ true
 stays a z s m h = grind arith
@@ -128,10 +122,19 @@ founded_more allowed seeds holds entries marks i e mark within is at only passes
     by_mark true then' h = subst (λ b. (allowed e.now.url && (if e.now.hops == 0 then is_in seeds e.now.url else b)) ≡ true) (sym (then' refl)) h
     by_mark false then' h = stays (allowed e.now.url) (e.now.hops == 0) (is_in seeds e.now.url) (holds e.now) h
 
--- all urls, where there are as many entries as results
-pub all_urls : (entries : List Entry) (results : List PageResult) → length entries ≡ length results → take (length results) (entry_urls entries) ≡ result_urls results → entry_urls entries ≡ result_urls results
-all_urls entries results long same =
-    sym (take_all (length results) (entry_urls entries) (omega (arith, long, length-map entries (λ (e : Entry). e.url)))) ∙ same
+-- all URLs, where there are as many entries as results
+urls_by_index : (entries : List Entry) (results : List PageResult) → length entries ≡ length results → ((k : ℕ) (r : PageResult) → slice_get results k ≡ Some r → stands_at entries k r.url ≡ true) → entry_urls entries ≡ result_urls results
+urls_by_index [] [] long own = refl
+urls_by_index [] (r ∷ rs) long own = absurd (omega (arith, long))
+urls_by_index (e ∷ es) [] long own = absurd (omega (arith, long))
+urls_by_index (e ∷ es) (r ∷ rs) long own =
+    let first : e.url ≡ r.url = same_text e.url r.url (own zero r refl) in
+    let rest = urls_by_index es rs (omega (arith, long)) (λ k x at. own (suc k) x at) in
+    (λ i. first i ∷ rest i)
+
+pub all_urls : (entries : List Entry) (results : List PageResult) → length entries ≡ length results → AreFrom entries 0 results → entry_urls entries ≡ result_urls results
+all_urls entries results long own =
+    urls_by_index entries results long (λ k r at. let same : 0 + k ≡ k = omega arith in subst (λ n. stands_at entries n r.url ≡ true) same (own k r at))
 
 -- an entry that stands at an index with the URL
 pub stands_there : (entries : List Entry) (k : ℕ) (url : List ℕ) → stands_at entries k url ≡ true → (e : Entry) × (slice_get entries k ≡ Some e) × (e.url ≡ url)
@@ -140,3 +143,73 @@ stands_there entries k url h = by_case (slice_get entries k) refl h
     by_case : (o : Option Entry) → slice_get entries k ≡ o → at_this o url ≡ true → (e : Entry) × (slice_get entries k ≡ Some e) × (e.url ≡ url)
     by_case None is there = absurd (cc)
     by_case (Some e) is there = (e, is, same_text e.url url there)
+
+-- ---- two walks put together
+
+in_one_only : (test : Entry → Bool) (entries : List Entry) (marks more : List Bool) → MarksOnly test entries marks → MarksOnly test entries more → MarksOnly test entries (in_one marks more)
+in_one_only test entries marks [] only more_only k e at mark = only k e at mark
+in_one_only test entries [] (y ∷ ys) only more_only k e at mark = only k e at mark
+in_one_only test [] (x ∷ xs) (y ∷ ys) only more_only k e at mark = absurd (cc)
+in_one_only test (z ∷ zs) (x ∷ xs) (y ∷ ys) only more_only zero e at mark = by_mark x y refl refl mark
+  where
+    by_mark : (a b : Bool) → x ≡ a → y ≡ b → Some (a || b) ≡ Some true → test e ≡ true
+    by_mark true b p q either = only zero e at (ap Some p)
+    by_mark false true p q either = more_only zero e at (ap Some q)
+    by_mark false false p q either = absurd (cc)
+in_one_only test (z ∷ zs) (x ∷ xs) (y ∷ ys) only more_only (suc k) e at mark = in_one_only test zs xs ys (λ i w. only (suc i) w) (λ i w. more_only (suc i) w) k e at mark
+
+length_in_one : (marks more : List Bool) → length (in_one marks more) ≡ length marks
+length_in_one marks [] = refl
+length_in_one [] (y ∷ ys) = refl
+length_in_one (x ∷ xs) (y ∷ ys) = ap suc (length_in_one xs ys)
+
+own_append : (entries : List Entry) (first : ℕ) (xs ys : List PageResult) → AreFrom entries first xs → AreFrom entries (first + length xs) ys → AreFrom entries first (xs ++ ys)
+own_append entries first [] ys own more k r at =
+    let same : (first + 0) + k ≡ first + k = omega arith in
+    subst (λ n. stands_at entries n r.url ≡ true) same (more k r at)
+own_append entries first (x ∷ xs) ys own more zero r at = own zero r at
+own_append entries first (x ∷ xs) ys own more (suc k) r at =
+    let next : suc first + k ≡ first + suc k = omega arith in
+    subst (λ n. stands_at entries n r.url ≡ true) next
+    (own_append entries (suc first) xs ys
+    (λ i y there. let e : first + suc i ≡ suc first + i = omega arith in subst (λ n. stands_at entries n y.url ≡ true) e (own (suc i) y there))
+    (λ i y there. let e : (first + suc (length xs)) + i ≡ (suc first + length xs) + i = omega arith in subst (λ n. stands_at entries n y.url ≡ true) e (more i y there))
+    k r at)
+
+linked_front : (entries : List Entry) (xs ys : List PageResult) (e : Entry) → is_linked entries xs e ≡ true → is_linked entries (xs ++ ys) e ≡ true
+linked_front entries xs ys e link = list_any-append (λ (r : PageResult). stands_in (links_of r.page) e.url && is_behind entries r.url e) xs ys ∙ or_left _ _ link
+
+linked_back : (entries : List Entry) (xs ys : List PageResult) (e : Entry) → is_linked entries ys e ≡ true → is_linked entries (xs ++ ys) e ≡ true
+linked_back entries xs ys e link = list_any-append (λ (r : PageResult). stands_in (links_of r.page) e.url && is_behind entries r.url e) xs ys ∙ or_right _ _ link
+
+-- walks over results and over those behind them
+walks_together : (entries : List Entry) (first behind : ℕ) (xs ys : List PageResult) (marks more : List Bool) → (first + length (xs ++ ys) < 2 ^ 64 → behind ≡ first + length xs) → IsWalk entries first xs marks → IsWalk entries behind ys more → IsWalk entries first (xs ++ ys) (in_one marks more)
+walks_together entries first behind xs ys marks more at p q = record {
+  long = length_in_one marks more ∙ p.long;
+  own = λ fits.
+      let sum : length (xs ++ ys) ≡ length xs + length ys = length-append xs ys in
+      let middle : behind ≡ first + length xs = at fits in
+      let later : AreFrom entries behind ys = q.own (omega (arith, fits, sum, middle)) in
+      own_append entries first xs ys (p.own (omega (arith, fits, sum))) (subst (λ n. AreFrom entries n ys) middle later);
+  only =
+      in_one_only (is_linked entries (xs ++ ys)) entries marks more
+      (λ k e at mark. linked_front entries xs ys e (p.only k e at mark)) (λ k e at mark. linked_back entries xs ys e (q.only k e at mark));
+}
+
+-- the same of two parts of a chunk
+pub parts_together : (entries here' there' : List Entry) → here' ≡ entries → there' ≡ entries → (first front behind : ℕ) → front ≡ first → (xs ys whole : List PageResult) → xs ++ ys ≡ whole → (first + length whole < 2 ^ 64 → behind ≡ first + length xs)
+    → (one other all : List Bool) → IsWalk here' front xs one → IsWalk there' behind ys other → all ≡ in_one one other → IsWalk entries first whole all
+parts_together entries here' there' e f first front behind at xs ys whole joined past one other all p q both =
+    let own : IsWalk entries first xs one = subst (λ n. IsWalk entries n xs one) at (subst (λ es. IsWalk es front xs one) e p) in
+    let later : IsWalk entries behind ys other = subst (λ es. IsWalk es behind ys other) f q in
+    let sum : IsWalk entries first (xs ++ ys) (in_one one other) =
+    walks_together entries first behind xs ys one other (λ fits. past (subst (λ rs. first + length rs < 2 ^ 64) joined fits)) own later in
+    subst (λ ms. IsWalk entries first whole ms) (sym both) (subst (λ rs. IsWalk entries first rs (in_one one other)) joined sum)
+
+-- what holds of the marks of two walks, where both came to their end
+pub both_told : (P Q R : List Bool → Type 0) → ((one other all : List Bool) → P one → Q other → all ≡ in_one one other → R all) → (first second told : Option (Vec Bool Global))
+    → IfSome first (λ v. P v.items) → IfSome second (λ v. Q v.items) → IfSome told (λ all. IsSomeAnd first (λ one. IsSomeAnd second (λ other. all.items ≡ in_one one.items other.items))) → IfSome told (λ v. R v.items)
+both_told P Q R sum first second None p q t = tt
+both_told P Q R sum None second (Some c) p q t = absurd t
+both_told P Q R sum (Some a) None (Some c) p q t = absurd t
+both_told P Q R sum (Some a) (Some b) (Some c) p q t = sum a.items b.items c.items p q t

@@ -11,3 +11,4 @@ pub mod Reachable
 pub mod ResultPages
 pub mod SmallRuns
 pub mod Sorting
+pub mod Walks

@@ -22,7 +22,7 @@ use crate::marks::{Marks, Told, marks_of};
 use crate::missing::{least_missing, least_unmarked};
 use crate::sorting::{in_order, in_order_by_threads};
 use crate::threads::marks_in_threads;
-use crate::walk::is_faultless;
+use crate::walk::{is_faultless, is_faultless_in_threads};
 use crawl_frontier::Account;
 use crawl_keys::{CanonUrl, Filter};
 use crawl_web::PageResult;
@@ -175,8 +175,7 @@ pub fn certify_lossless(
     Ok(CrawlResult { pages })
 }
 
-/// As [`certify_lossless`], where as many threads as there are processors sort the pages. Links are looked up, by four threads,
-/// only where that is needed.
+/// As [`certify_lossless`], where four threads look at the results, and as many as there are processors sort the pages.
 ///
 /// # Errors
 /// Those of [`certify_lossless`]. A thread that cannot be started is none: its part is done by the thread that wanted it.
@@ -254,7 +253,7 @@ fn find_fault_unlost<'a>(
     find_fault(alloc, filter, seeds, accepted, results)
 }
 
-/// As [`find_fault_unlost`], by threads where links have to be looked up.
+/// As [`find_fault_unlost`], by threads.
 fn find_fault_unlost_in_threads<'a, R: Threads + Sync>(
     rt: &R,
     alloc: Global,
@@ -267,7 +266,7 @@ fn find_fault_unlost_in_threads<'a, R: Threads + Sync>(
     requires apart { DifferByUrl accepted.now }
     ensures { NamesCulprit (allows filter.now) seeds.now accepted.now results.now result }
 {
-    if is_faultless(alloc, filter, seeds, accepted, results)? {
+    if is_faultless_in_threads(rt, alloc, filter, seeds, accepted, results)? {
         return Ok(());
     }
     find_fault_in_threads(rt, alloc, filter, seeds, accepted, results)

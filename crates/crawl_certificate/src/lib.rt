@@ -6,6 +6,7 @@
 
 mod certificate;
 mod chains;
+mod chunk;
 mod culprit;
 mod error;
 mod founded;
@@ -16,6 +17,7 @@ mod lookups;
 mod marks;
 mod missing;
 mod sorting;
+pub mod testing;
 mod threads;
 mod walk;
 

@@ -70,6 +70,17 @@ impl<'a> Accepted<'a> {
         self.entries.as_slice()
     }
 
+    /// Where the entries of a subqueue begin among all, as near to the index as can be.
+    pub fn nearest_first(&self, index: usize) -> usize {
+        let mut nearest: usize = 0;
+        for first in &self.firsts {
+            if first.abs_diff(index) < nearest.abs_diff(index) {
+                nearest = *first;
+            }
+        }
+        nearest
+    }
+
     pub fn entry(&self, index: usize) -> &Entry
         requires { index < length self.now }
         ensures { slice_get self.now index ≡ Some result.now }

@@ -1,5 +1,5 @@
 //! The pass over the results by threads: each takes a chunk, and what they find is put together.
-ghost use Rattle.std.specs.Prelude.{◌≡◌, ◌<◌, Bool, ◌&&◌, ◌++◌, map, length, vec_len, IfOk};
+ghost use Rattle.std.specs.Prelude.{◌≡◌, ◌<◌, Bool, ◌&&◌, map, length, vec_len, IfOk};
 ghost use Rattle.std.specs.List.{list_any};
 ghost use Rattle.std.specs.Str.{bytes_eq};
 ghost use Rattle.crawl_keys.specs.HostFilter.{allows};
@@ -8,6 +8,7 @@ ghost use Rattle.crawl_certificate.specs.Least.{IsLeast, url_of, lesser};
 ghost use Rattle.crawl_certificate.specs.Lookups.{pointed};
 ghost use Rattle.crawl_certificate.specs.Marks.{AreMarks, AreTogether, in_one};
 
+use crate::chunk::Chunk;
 use crate::least::{lesser, where_at_fault};
 use crate::lookups::Accepted;
 use crate::marks::{Marks, Told, marks_of};
@@ -22,37 +23,6 @@ const LEAST: usize = 4096;
 
 /// How often results are halved, so that as many threads take a chunk as two to this power.
 const HALVINGS: u32 = 2;
-
-/// A chunk of the results, with the entries that they may have.
-#[derive(Clone, Copy)]
-struct Chunk<'r, 'e, 'a> {
-    accepted: &'e Accepted<'a>,
-    /// How many results come before this chunk.
-    first: usize,
-    results: &'r [PageResult],
-}
-
-impl<'r, 'e, 'a> Chunk<'r, 'e, 'a> {
-    fn halves(self) -> (Chunk<'r, 'e, 'a>, Chunk<'r, 'e, 'a>)
-        ensures accepted { (result.0.accepted.now ≡ self.entry.accepted.now) × (result.1.accepted.now ≡ self.entry.accepted.now) }
-        ensures results { result.0.results.now ++ result.1.results.now ≡ self.entry.results.now }
-    {
-        let accepted = self.accepted;
-        let (front, back) = self.results.split_at(self.results.len() / 2);
-        (
-            Chunk {
-                accepted,
-                first: self.first,
-                results: front,
-            },
-            Chunk {
-                accepted,
-                first: self.first.saturating_add(front.len()),
-                results: back,
-            },
-        )
-    }
-}
 
 /// As [`marks_of`], by four threads where there is enough to do.
 pub fn marks_in_threads<'r, 'e, R: Threads + Sync>(
@@ -69,8 +39,12 @@ pub fn marks_in_threads<'r, 'e, R: Threads + Sync>(
         first: 0,
         results,
     };
-    let halvings = if results.len() < LEAST { 0 } else { HALVINGS };
-    marks_of_chunk(rt, alloc, filter, halvings, whole)
+    marks_of_chunk(rt, alloc, filter, halvings_of(results), whole)
+}
+
+/// How often so many results are halved.
+pub fn halvings_of(results: &[PageResult]) -> u32 {
+    if results.len() < LEAST { 0 } else { HALVINGS }
 }
 
 /// What the chunk says, by a thread for each half of it, as often as it is halved. Where none can be started this one looks at
@@ -129,7 +103,11 @@ fn together<'r, 'e>(
 }
 
 /// Marks each entry that is marked in `more`, and tells the least URL of an entry that was marked before.
-fn add_marks<'e>(entries: &'e [&Entry], marks: &mut [bool], more: &[bool]) -> Option<&'e CanonUrl>
+pub fn add_marks<'e>(
+    entries: &'e [&Entry],
+    marks: &mut [bool],
+    more: &[bool],
+) -> Option<&'e CanonUrl>
     requires marks { length marks.old ≡ length entries.now }
     requires more { length more.now ≡ length entries.now }
     ensures marks { marks.new ≡ in_one marks.old more.now }

@@ -1,12 +1,13 @@
-use Rattle.std.proofs.Common.{◌≡◌, true, subst, ◌∙◌}
+use Rattle.std.proofs.Common.{◌≡◌, ◌+◌, true, Some, slice_get, subst, ◌∙◌, arith}
 use Rattle.crawl_certificate.specs.CertFaults.{is_linked, stands_in}
-use Rattle.crawl_certificate.proofs.Walks.{linked_from, same_urls_more, read_at}
+use Rattle.crawl_certificate.proofs.Walks.{linked_from, own_more, read_at, stands_here}
 use Rattle.crawl_certificate.proofs.walk.walk.Goals as goal
 
 pub loop-index-preserved : goal.loop-index-preserved
 loop-index-preserved c =
-    let entries = c.args.accepted.now in
-    let results = c.args.results.now in
+    let entries = c.args.chunk.accepted.now in
+    let results = c.args.chunk.results.now in
+    let first = c.args.chunk.first in
     let i = c.loop-index.index in
     let r = c.index-results-index.result in
     let before = c.in-Some.entry.now in
@@ -14,9 +15,12 @@ loop-index-preserved c =
     let kept = c.loop-index.invariant in
     record {
       long = c.walk_page.ensures.long ∙ kept.long;
-      urls = same_urls_more entries results i before r c.in-Some.ensures.0 at c.in-Some.ensures.1 kept.urls;
+      own = λ fits.
+          let index : c.saturating_add.result ≡ first + i = omega (arith, c.saturating_add.ensures, fits, c.loop-index-test.true) in
+          let there = subst (λ j. slice_get entries j ≡ Some before) index c.in-Some.ensures.0 in
+          own_more entries first results i r (kept.own fits) at (stands_here entries (first + i) before r.url there c.in-Some.ensures.1);
       marks = λ marked.
           c.walk_page.ensures.marks (is_linked entries results)
-          (λ e link far. linked_from entries results i r before at c.in-Some.ensures.0 c.in-Some.ensures.1 e (subst (λ ls. stands_in ls e.url ≡ true) c.links_of.ensures link) far)
+          (λ e link far. linked_from entries results i c.saturating_add.result r before at c.in-Some.ensures.0 c.in-Some.ensures.1 e (subst (λ ls. stands_in ls e.url ≡ true) c.links_of-links.ensures link) far)
           (kept.marks marked);
     }

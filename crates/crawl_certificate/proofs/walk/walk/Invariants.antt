@@ -1,12 +1,13 @@
-use Rattle.std.proofs.Common.{◌≡◌, length, take}
+use Rattle.std.proofs.Common.{◌≡◌, ℕ, ◌+◌, ◌<◌, ◌^◌, true, length, slice_get, Some}
+use Rattle.crawl_web.specs.declared.page.PageResult.{PageResult}
 use Rattle.crawl_certificate.specs.CertFaults.{is_linked}
-use Rattle.crawl_certificate.specs.Certificate.{entry_urls, result_urls}
+use Rattle.crawl_certificate.specs.Lookups.{stands_at}
 use Rattle.crawl_certificate.specs.Marks.{MarksOnly}
 use Rattle.crawl_certificate.proofs.walk.walk.Given as goal
 
 abbrev pub invariant-loop-index : goal.invariant-loop-index
 invariant-loop-index l = record {
   long : length l.linked ≡ length l.fn.linked;
-  urls : take l.index (entry_urls l.accepted) ≡ take l.index (result_urls l.results);
-  marks : MarksOnly (is_linked l.accepted l.results) l.accepted l.fn.linked → MarksOnly (is_linked l.accepted l.results) l.accepted l.linked;
+  own : l.chunk.first + length l.chunk.results.now < 2 ^ 64 → (k : ℕ) (r : PageResult) → k < l.index → slice_get l.chunk.results.now k ≡ Some r → stands_at l.chunk.accepted.now (l.chunk.first + k) r.url ≡ true;
+  marks : MarksOnly (is_linked l.chunk.accepted.now l.chunk.results.now) l.chunk.accepted.now l.fn.linked → MarksOnly (is_linked l.chunk.accepted.now l.chunk.results.now) l.chunk.accepted.now l.linked;
 }

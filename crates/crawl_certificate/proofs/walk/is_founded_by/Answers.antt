@@ -1,0 +1,25 @@
+use Rattle.std.proofs.Common.{◌≡◌, ◌+◌, ◌<◌, ◌^◌, ◌==◌, ◌&&◌, true, length, IfSome, sym, subst, arith, if◌then◌else◌}
+use Rattle.std.specs.List.{Contains}
+use Rattle.crawl_frontier.specs.declared.entry.Entry.{Entry}
+use Rattle.crawl_keys.specs.HostFilter.{allows}
+use Rattle.crawl_certificate.specs.CertFaults.{is_founded, is_linked}
+use Rattle.crawl_certificate.specs.Marks.{MarksOnly}
+use Rattle.crawl_certificate.specs.Walks.{IsWalk}
+use Rattle.crawl_certificate.proofs.Walks.{all_urls, faultless}
+use Rattle.crawl_certificate.proofs.walk.is_founded_by.Goals as goal
+
+pub returns : goal.returns
+returns c = λ results lost apart long walk seen.
+    let fits : 0 + length results < 2 ^ 64 = omega (arith, long, c.entries.ensures.len) in
+    let entries = c.args.accepted.now in
+    let allowed = allows c.args.filter.now in
+    let seeds = c.args.seeds.now in
+    let listed = c.entries.ensures.entries in
+    let holds = is_linked entries results in
+    let told = subst (λ o. IfSome o (λ m. IsWalk entries 0 results m.items)) c.in-Some.is walk in
+    let only = subst (λ es. MarksOnly holds es c.deref.result.now) (sym listed) (subst (MarksOnly holds entries) (sym c.deref.ensures.value) told.only) in
+    let each : (e : Entry) → Contains entries e → is_founded allowed seeds entries results e ≡ true =
+    λ e has.
+    subst (λ b. (allowed e.url && (if e.hops == 0 then b else holds e)) ≡ true) (c.in_ok-seed_set.ensures e.url)
+    (c.are_founded.ensures holds seen only e (subst (λ es. Contains es e) (sym listed) has)) in
+    faultless allowed seeds entries results lost apart (all_urls entries results long (told.own fits)) each
