@@ -1,15 +1,14 @@
 -- What a table of slots keeps.
-use Rattle.std.proofs.Common.{◌≡◌, ◌<◌, ℕ, List, length, Option, Some, IfSome, sym, subst, slice_set, slice_index_or}
+use Rattle.std.proofs.Common.{◌≡◌, ◌<◌, ℕ, List, length, IfSome, sym, subst, slice_set, slice_index_or}
 use Rattle.std.proofs.lemmas.List.Elements.{All-set}
 use Rattle.crawl_frontier.specs.declared.book.Logged.{Logged}
 use Rattle.crawl_workers.specs.declared.recent.Slot.{Slot}
 use Rattle.crawl_workers.specs.Logs.{HasLine}
 use Rattle.crawl_workers.specs.Recent.{AllKnown, url_in}
 
--- a URL with a line comes into a slot, and what was there into another
-pub moved_on : (workers : ℕ) (log : List Logged) (slots : List Slot) (i j : ℕ) (first second d : Slot) (url : List ℕ) → AllKnown workers log slots → HasLine workers log url
-    → url_in first ≡ Some url → second ≡ slice_index_or slots i d → i < length slots → AllKnown workers log (slice_set (slice_set slots i first) j second)
-moved_on workers log slots i j first second d url known line is was less =
+-- a slot whose URL has a line comes to a place, and what was there to another
+pub moved_on : (workers : ℕ) (log : List Logged) (slots : List Slot) (i j : ℕ) (first second d : Slot) → AllKnown workers log slots → IfSome (url_in first) (HasLine workers log)
+    → second ≡ slice_index_or slots i d → i < length slots → AllKnown workers log (slice_set (slice_set slots i first) j second)
+moved_on workers log slots i j first second d known now was less =
     let P : Slot → Type 0 = λ slot. IfSome (url_in slot) (HasLine workers log) in
-    let now : P first = subst (λ (o : Option (List ℕ)). IfSome o (HasLine workers log)) (sym is) line in
     All-set P (slice_set slots i first) j second (subst P (sym was) (known i d less)) (All-set P slots i first now known)

@@ -13,10 +13,11 @@ use crawl_keys::CanonUrl;
 use crawl_web::{Page, PageResult};
 use std::alloc::Global;
 
-/// The results so far, how much was lost, up to the greatest u64, in all and by why, and the URLs that were offered not long
-/// ago.
+/// Where its memory comes from, the results so far, how much was lost, up to the greatest u64, in all and by why, and the URLs
+/// that were offered not long ago.
 #[derive(Drop)]
 pub(crate) struct WorkerOutput {
+    pub alloc: Global,
     pub results: Vec<PageResult>,
     pub lost: u64,
     pub losses: Losses,
@@ -30,6 +31,7 @@ impl WorkerOutput {
         ensures recent { (workers : ℕ) (log : List Logged) → Knows workers log result.recent }
     {
         WorkerOutput {
+            alloc,
             results: Vec::new(alloc),
             lost: 0,
             losses: Losses::none(),

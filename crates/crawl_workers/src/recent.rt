@@ -1,5 +1,5 @@
 //! The URLs that a worker offered not long ago: each has a line in its log, and is not offered again.
-ghost use Rattle.std.specs.Prelude.{◌≡◌, ◌<◌, ◌≤◌, ◌+◌, true, ℕ, List, IfOk, Some};
+ghost use Rattle.std.specs.Prelude.{◌≡◌, ◌<◌, ◌≤◌, ◌+◌, true, ℕ, List, length, IfOk, IfSome, Some};
 ghost use Rattle.crawl_frontier.specs.declared.book.Logged.{Logged};
 ghost use Rattle.crawl_workers.specs.Logs.{HasLine};
 ghost use Rattle.crawl_workers.specs.Recent.{AllKnown, Knows, url_in};
@@ -14,7 +14,11 @@ const FEWEST_SLOTS: usize = 1_024;
 
 const MOST_SLOTS: usize = 1 << 22;
 
-// What a slot has. Half of its URL's hash stands beside it and tells most other URLs from it, so that few texts are looked at.
+/// So many URLs have their slots read at once.
+pub(crate) const READ_AT_ONCE: usize = 64;
+
+// What a slot has. Half of its URL's hash stands beside it, which leads to the slot and tells most other URLs from it, so that few
+// texts are looked at.
 #[derive(Drop)]
 enum Slot {
     Vacant,
@@ -24,8 +28,27 @@ enum Slot {
 const _: () = prove!(size_of::<Slot>() == 16);
 
 impl Slot {
-    fn is_taken(&self) -> bool {
-        matches!(self, Slot::Taken { .. })
+    fn mark(&self) -> Option<u32> {
+        match self {
+            Slot::Taken { mark, .. } => Some(*mark),
+            Slot::Vacant => None,
+        }
+    }
+
+    // Whether it has this URL's mark.
+    fn has_mark(&self, of: &CanonUrl) -> bool {
+        match self {
+            Slot::Taken { mark, .. } => *mark == mark_of(of),
+            Slot::Vacant => false,
+        }
+    }
+
+    // Whether it has this URL's mark, and its URL this one's hash.
+    fn has_hash(&self, of: &CanonUrl) -> bool {
+        match self {
+            Slot::Taken { mark, url } => *mark == mark_of(of) && url.text_hash() == of.text_hash(),
+            Slot::Vacant => false,
+        }
     }
 }
 
@@ -56,8 +79,62 @@ impl RecentUrls {
         if self.slots.len() < 2 {
             return false;
         }
-        let slot = pair_of(url, self.slots.len());
+        let slot = pair_of(mark_of(url), self.slots.len());
         share(&self.slots[slot], url) || share(&self.slots[slot + 1], url)
+    }
+
+    /// A bit for each of the 64 URLs from this index on, the lowest for the first: whether one of its slots has a URL of its hash. A
+    /// look-up waits for memory twice, for the slot and for the URL that it leads to. Here those of many URLs wait at the same
+    /// time, and `has` then finds both near.
+    pub(crate) fn marks(&self, urls: &[CanonUrl], from: usize) -> u64
+        requires { from ≤ length urls.now }
+    {
+        if self.slots.len() < 2 {
+            return 0;
+        }
+        let urls = &urls[from..];
+        let urls = &urls[..urls.len().min(READ_AT_ONCE)];
+        let marked = self.marked(urls);
+        self.hashed(urls, marked)
+    }
+
+    /// As [`RecentUrls::has`], where this was the URL's bit of the marks some time ago. One that came into its slots since then is
+    /// not looked for: it is offered once more.
+    pub(crate) fn has_marked(&self, marked: bool, url: &mut CanonUrl) -> bool
+        ensures url { url.new ≡ url.old }
+        ensures line { (workers : ℕ) (log : List Logged) → Knows workers log self.now → result ≡ true → HasLine workers log url.old }
+    {
+        marked && self.has(url)
+    }
+
+    // A bit for each URL: whether one of its slots has its mark.
+    fn marked(&self, urls: &[CanonUrl]) -> u64
+        requires slots { 2 ≤ length self.now.slots.items }
+        requires urls { length urls.now ≤ 64 }
+    {
+        let mut marked = 0;
+        for (bit, url) in urls.iter().enumerate() {
+            let slot = pair_of(mark_of(url), self.slots.len());
+            let has = self.slots[slot].has_mark(url) || self.slots[slot + 1].has_mark(url);
+            marked |= u64::from(has) << bit;
+        }
+        marked
+    }
+
+    // Those of the bits whose URL has a slot with its whole hash.
+    fn hashed(&self, urls: &[CanonUrl], marked: u64) -> u64
+        requires slots { 2 ≤ length self.now.slots.items }
+        requires urls { length urls.now ≤ 64 }
+    {
+        let mut hashed = 0;
+        for (bit, url) in urls.iter().enumerate() {
+            if marked >> bit & 1 == 1 {
+                let slot = pair_of(mark_of(url), self.slots.len());
+                let has = self.slots[slot].has_hash(url) || self.slots[slot + 1].has_hash(url);
+                hashed |= u64::from(has) << bit;
+            }
+        }
+        hashed
     }
 
     /// Remembers the URL, where there is room for it.
@@ -68,59 +145,58 @@ impl RecentUrls {
         if self.put_out >= slots / 16 && slots < MOST_SLOTS {
             self.grow(alloc, FEWEST_SLOTS.max(2 * slots));
         }
-        self.put(url);
+        if let Ok(copy) = url.copy() {
+            let mark = mark_of(url);
+            self.put(Slot::Taken { mark, url: copy });
+        }
     }
 
-    // Puts the URL into its slot.
-    fn put(&mut self, url: &CanonUrl)
-        ensures { (workers : ℕ) (log : List Logged) → Knows workers log self.old → HasLine workers log url.now → Knows workers log self.new }
+    // Puts a URL into the first of its slots, and what was there into the second.
+    fn put(&mut self, slot: Slot)
+        ensures { (workers : ℕ) (log : List Logged) → Knows workers log self.old → IfSome (url_in slot) (HasLine workers log) → Knows workers log self.new }
     {
+        let Some(mark) = slot.mark() else {
+            return;
+        };
         if self.slots.len() < 2 {
             return;
         }
-        let slot = pair_of(url, self.slots.len());
-        let Ok(copy) = url.copy() else {
-            return;
-        };
-        let taken = Slot::Taken {
-            mark: mark_of(url),
-            url: copy,
-        };
-        let before = mem::replace(&mut self.slots[slot], taken);
-        let out = mem::replace(&mut self.slots[slot + 1], before);
-        if out.is_taken() {
+        let first = pair_of(mark, self.slots.len());
+        let before = mem::replace(&mut self.slots[first], slot);
+        let out = mem::replace(&mut self.slots[first + 1], before);
+        if out.mark().is_some() {
             self.put_out = self.put_out.saturating_add(1);
         }
     }
 
-    // Moves to a table of so many slots, where there is room for it.
+    // Moves to a table of so many slots, where there is room for it. No URL is read or copied for it.
     fn grow(&mut self, alloc: Global, count: usize)
         ensures { (workers : ℕ) (log : List Logged) → Knows workers log self.old → Knows workers log self.new }
     {
         let Ok(slots) = empty_slots(alloc, count) else {
             return;
         };
-        let old = mem::replace(&mut self.slots, slots);
+        let mut old = mem::replace(&mut self.slots, slots);
         self.put_out = 0;
-        for slot in old.as_slice() {
-            if let Slot::Taken { mark: _, url } = slot {
-                self.put(url);
-            }
+        while let Some(slot) = old.pop() {
+            self.put(slot);
         }
     }
 }
 
-// The first of the two slots of a URL, among so many.
-fn pair_of(url: &CanonUrl, slots: usize) -> usize
+// The first of the two slots for URLs of this mark, among so many. They are a power of two, so that `&` serves for the remainder.
+#[tactic(auto, using(std::proofs::lemmas::Nat::and_le_r))]
+fn pair_of(mark: u32, slots: usize) -> usize
     requires { 2 ≤ slots }
     ensures { result + 1 < slots }
 {
-    2 * (url.text_hash() % (slots as u64 / 2)) as usize
+    let pairs = slots / 2;
+    2 * (mark as usize & (pairs - 1))
 }
 
-// The half of a URL's hash that tells least of its slots.
+// Half of a URL's hash.
 fn mark_of(url: &CanonUrl) -> u32 {
-    (url.text_hash() >> 32) as u32
+    (url.text_hash() & 0xffff_ffff) as u32
 }
 
 // Whether the slot has the URL. Then it shares the text that is kept there.

@@ -10,6 +10,7 @@ ghost use Rattle.crawl_workers.specs.Turn.{CountsLinks, Finds, Goes, Loses, Same
 
 use crate::losses::{Loss, loss_of};
 use crate::output::WorkerOutput;
+use crate::recent::READ_AT_ONCE;
 use crawl_frontier::{BusyWorker, ClosedWorker, Frontier, Name, OfferError, Turn, Worker};
 use crawl_keys::CanonUrl;
 use crawl_web::{Links, Page, SessionFetch};
@@ -28,13 +29,14 @@ pub(crate) enum Step<K: Name> {
 }
 
 // Offers a link that is not remembered, counts it where it is lost, and answers whether it is. One that the filter does not
-// allow is not. A link that is remembered or was seen shares the text of the frontier's from then on.
+// allow is not. A link that is remembered or was seen shares the text of the frontier's from then on. Only one that is marked is
+// looked for.
 fn is_refused<K: Name, R: Wait>(
     rt: &R,
-    alloc: Global,
     frontier: &Frontier<K>,
     busy: &mut BusyWorker<K>,
     output: &mut WorkerOutput,
+    marked: bool,
     url: &mut CanonUrl,
 ) -> bool
     ensures url { url.new ≡ url.old }
@@ -45,12 +47,12 @@ fn is_refused<K: Name, R: Wait>(
     ensures counts { CountsLinks (if result then 1 else 0) output.old output.new }
     ensures told { Knows K.workers busy.old.worker.book.log output.old.recent → TellsLinks K.workers (allows K.filter) (url.old ∷ []) busy.old busy.new output.old output.new }
 {
-    if output.recent.has(url) {
+    if output.recent.has_marked(marked, url) {
         return false;
     }
     match busy.offer_shared(rt, frontier, url) {
         Ok(_) => {
-            output.recent.remember(alloc, url);
+            output.recent.remember(output.alloc, url);
             false
         }
         Err(OfferError::Filtered) => false,
@@ -64,7 +66,6 @@ fn is_refused<K: Name, R: Wait>(
 // Offers all links, in order, and counts those that are lost.
 fn offer_links<K: Name, R: Wait>(
     rt: &R,
-    alloc: Global,
     frontier: &Frontier<K>,
     busy: &mut BusyWorker<K>,
     output: &mut WorkerOutput,
@@ -79,8 +80,18 @@ fn offer_links<K: Name, R: Wait>(
     ensures told { Knows K.workers busy.old.worker.book.log output.old.recent → TellsLinks K.workers (allows K.filter) links.old busy.old busy.new output.old output.new }
 {
     let mut refused = 0;
+    let mut marks = 0;
     for index in 0..links.len() {
-        if is_refused(rt, alloc, frontier, busy, output, &mut links[index]) {
+        let bit = index % READ_AT_ONCE;
+        if bit == 0 {
+            marks = output.recent.marks(links, index);
+        }
+        let marked = marks >> bit & 1 == 1;
+        if !marked {
+            // It is offered and remembered, so each behind it is looked for: it may be the same.
+            marks = u64::MAX;
+        }
+        if is_refused(rt, frontier, busy, output, marked, &mut links[index]) {
             refused += 1;
         }
     }
@@ -90,7 +101,6 @@ fn offer_links<K: Name, R: Wait>(
 // Offers the links of a page, in order, counts those that are lost, and answers the page as it was.
 fn offer_page<K: Name, R: Wait>(
     rt: &R,
-    alloc: Global,
     frontier: &Frontier<K>,
     busy: &mut BusyWorker<K>,
     output: &mut WorkerOutput,
@@ -107,12 +117,12 @@ fn offer_page<K: Name, R: Wait>(
     match page {
         Page::Found { links, skipped } => {
             let mut urls = Vec::from(links);
-            let refused = offer_links(rt, alloc, frontier, busy, output, urls.as_mut_slice());
+            let refused = offer_links(rt, frontier, busy, output, urls.as_mut_slice());
             let links = Links::from(urls);
             (Page::Found { links, skipped }, refused)
         }
         Page::Moved { to: Some(mut url) } => {
-            let refused = is_refused(rt, alloc, frontier, busy, output, &mut url);
+            let refused = is_refused(rt, frontier, busy, output, true, &mut url);
             (Page::Moved { to: Some(url) }, u64::from(refused))
         }
         Page::Moved { to: None } => (Page::Moved { to: None }, 0),
@@ -142,7 +152,7 @@ fn work<K: Name, F: SessionFetch, R: Wait>(
         output.lose(Loss::Failed);
         return;
     };
-    let (page, _refused) = offer_page(rt, alloc, frontier, busy, output, page);
+    let (page, _refused) = offer_page(rt, frontier, busy, output, page);
     output.keep(busy.url(), page);
 }
 

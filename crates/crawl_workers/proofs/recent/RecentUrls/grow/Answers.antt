@@ -1,19 +1,12 @@
-use Rattle.std.proofs.Common.{subst, sym, ◌∙◌, IfSome}
+use Rattle.std.proofs.Common.{IfSome, Some}
+use Rattle.std.proofs.lemmas.List.Elements.{All-pop}
+use Rattle.crawl_workers.specs.declared.recent.Slot.{Slot}
 use Rattle.crawl_workers.specs.Logs.{HasLine}
-use Rattle.crawl_workers.specs.Recent.{AllKnown, url_in}
-use Rattle.crawl_workers.proofs.recent.RecentUrls.grow.Goals.{in-Taken, in_default-slot}
+use Rattle.crawl_workers.specs.Recent.{url_in}
 use Rattle.crawl_workers.proofs.recent.RecentUrls.grow.Goals as goal
 
 pub loop-slot-preserved : goal.loop-slot-preserved
-loop-slot-preserved c =
-    let inv = c.loop-slot.invariant in
-    let d = c.slot-item.result in (
-      inv.0,
-      λ workers log was. elim c.match-slot.branch [
-        | in-Taken w ↦
-            let all : AllKnown workers log c.as_slice-slot-items.result.now = subst (AllKnown workers log) (sym inv.0) was in
-            let line = subst (λ slot. IfSome (url_in slot) (HasLine workers log)) (sym c.slot-item.is ∙ w.in-Taken.is) (all c.loop-slot.slot-index d c.loop-slot-test.true) in
-            rw w.self-is (w.put.ensures workers log (inv.1 workers log was) line)
-        | in_default-slot w ↦ rw w.self-is (inv.1 workers log was)
-      ],
-    )
+loop-slot-preserved c = λ workers log was.
+    let before = c.loop-slot.invariant workers log was in
+    let popped = All-pop (λ (slot : Slot). IfSome (url_in slot) (HasLine workers log)) c.loop-slot.old.items c.pop.new.self.items (Some c.in-Some.slot) c.in-Some.ensures.items before.0 in
+    (popped.0, c.put.ensures workers log before.1 popped.1)
