@@ -14,6 +14,7 @@ pub struct Chunk<'r, 'e, 'a> {
 }
 
 impl<'r, 'e, 'a> Chunk<'r, 'e, 'a> {
+    /// Half of the results each, about.
     pub fn halves(self) -> (Chunk<'r, 'e, 'a>, Chunk<'r, 'e, 'a>)
         ensures accepted { (result.0.accepted.now ≡ self.entry.accepted.now) × (result.1.accepted.now ≡ self.entry.accepted.now) }
         ensures results { result.0.results.now ++ result.1.results.now ≡ self.entry.results.now }

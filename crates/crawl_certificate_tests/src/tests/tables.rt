@@ -3,6 +3,7 @@ use crawl_certificate::CertError;
 use crawl_certificate::CertError::{LinkMissing, NotFetched, SeedMissing, Twice, Unfounded};
 
 /// A run, and what is certified of it.
+#[derive(Drop)]
 pub struct Group {
     pub name: &'static str,
     pub workers: u32,
@@ -289,3 +290,21 @@ pub static FAULTS_IN_EACH_CHUNK: Group = Group {
         (NONE, &[A], More(IN_CHUNK_4), Fault(Twice, IN_CHUNK_4)),
     ],
 };
+
+/// How many pages the web of many hosts has: so many that four threads walk over their results.
+pub const PAGES: u32 = 5_000;
+
+/// How many workers crawl it.
+pub const WORKERS: [u32; 6] = [1, 2, 3, 4, 8, 64];
+
+/// Runs over the web of many hosts, by so many workers.
+pub fn many_hosts(workers: u32) -> Group {
+    Group {
+        name: "many_hosts",
+        workers,
+        within: NONE,
+        seeds: &["http://h0.test/p0"],
+        web: "",
+        cases: &[],
+    }
+}
