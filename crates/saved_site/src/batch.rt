@@ -7,6 +7,9 @@ use std::{io, mem};
 /// About how many bytes are read before they are looked at: few enough that they are near the processor still.
 const BATCH_LENGTH: usize = 1 << 22;
 
+/// The same of the first batch, since none is looked at while that is read; those behind it grow.
+const FIRST_LENGTH: usize = 1 << 20;
+
 /// The most room that is made before a file is read.
 const ROOM: usize = 1 << 23;
 
@@ -24,6 +27,8 @@ pub(crate) struct Batch {
     bounds: Vec<(usize, usize)>,
     /// Which of them cannot be read.
     unread: Vec<Note>,
+    /// About how many bytes are read into it.
+    length: usize,
 }
 
 impl Batch {
@@ -33,6 +38,7 @@ impl Batch {
             used: 0,
             bounds: Vec::new(alloc),
             unread: Vec::new(alloc),
+            length: FIRST_LENGTH,
         }
     }
 
@@ -42,6 +48,12 @@ impl Batch {
         // One byte more, so that the end is met without more room.
         batch.bytes.resize(length.min(ROOM).saturating_add(1), 0)?;
         Ok(batch)
+    }
+
+    /// Its room.
+    pub(crate) fn into_room(self) -> Vec<u8> {
+        let Batch { bytes, .. } = self;
+        bytes
     }
 
     /// All that was read.
@@ -58,11 +70,12 @@ impl Batch {
     pub(crate) fn clear(&mut self) {
         self.used = 0;
         self.bounds.clear();
+        self.length = self.length.saturating_mul(2).min(BATCH_LENGTH);
     }
 
     /// Whether no more should be read before these are looked at.
     pub(crate) fn is_full(&self) -> bool {
-        self.used > BATCH_LENGTH
+        self.used > self.length
     }
 
     /// How many files it has.

@@ -32,6 +32,8 @@ struct Walk {
     entered: Vec<Entered>,
     waiting: Vec<Waiting>,
     notes: Vec<Note>,
+    /// Room for the names that one call of the system gives.
+    room: Vec<u8>,
 }
 
 /// The files and folders below a folder in the order of their names' bytes, and what was left out. Symbolic links are followed,
@@ -75,6 +77,7 @@ impl Walk {
             entered: Vec::new(alloc),
             waiting: Vec::new(alloc),
             notes: Vec::new(alloc),
+            room: vec![in alloc; 0u8; NAMES_ROOM]?,
         };
         walk.enter(real, String::new(alloc), None)?;
         Ok(walk)
@@ -111,7 +114,7 @@ impl Walk {
         let Waiting { name, entered } = folder;
         let alloc = *self.names.allocator();
         let path = format!(in alloc; "{top}/{name}")?;
-        let listed = match names_in(rt, alloc, path.as_str()) {
+        let listed = match names_in(rt, alloc, path.as_str(), self.room.as_mut_slice()) {
             Ok(listed) => listed,
             Err(error) if name.is_empty() => return Err(SiteError::from(error)),
             Err(error) => return self.tell_unread(&error, Left::FolderUnread, name),
@@ -199,20 +202,19 @@ impl Walk {
     }
 }
 
-/// Room for the names that one call of the system gives, which fails where a name has no room.
+/// How much room is given for them: a call fails where a name has none.
 const NAMES_ROOM: usize = 1 << 16;
 
 /// The names in a folder, each ended by a NUL.
-fn names_in<R: Files>(rt: &R, alloc: Global, path: &str) -> io::Result<Vec<u8>> {
+fn names_in<R: Files>(rt: &R, alloc: Global, path: &str, room: &mut [u8]) -> io::Result<Vec<u8>> {
     let mut folder = rt.open_dir(path)?;
-    let mut room = vec![in alloc; 0u8; NAMES_ROOM]?;
     let mut names = Vec::new(alloc);
     for _ in 0..u64::MAX {
-        let count = folder.read(room.as_mut_slice())?;
+        let count = folder.read(room)?;
         if count == 0 {
             break;
         }
-        names.extend_from_slice(room.as_slice().get(..count).unwrap_or(&[]))?;
+        names.extend_from_slice(room.get(..count).unwrap_or(&[]))?;
     }
     Ok(names)
 }

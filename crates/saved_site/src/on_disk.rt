@@ -13,6 +13,7 @@ use crate::notes::{Left, Note};
 use crate::site::{Rules, split_name};
 use crate::web::{Contents, SiteNames, Web, web_of};
 use std::alloc::{AllocError, Global};
+use std::fs::OpenFile;
 use std::io::{ErrorKind, Read};
 use std::rt::Files;
 use std::thread::Threads;
@@ -110,9 +111,10 @@ pub fn folder_body<R: Files>(
     name: &str,
 ) -> io::Result<Vec<u8>> {
     let path = format!(in alloc; "{folder}/{name}")?;
-    let length = fs::metadata(rt, path.as_str())?.len();
+    let mut file = fs::open(rt, path.as_str())?;
+    let length = file.metadata()?.len();
     let mut batch = Batch::with_room(alloc, usize::try_from(length).unwrap_or(0))?;
-    batch.read(&mut fs::open(rt, path.as_str())?)?;
+    batch.read(&mut file)?;
     Ok(batch.into_bytes())
 }
 

@@ -7,6 +7,9 @@ use crate::document::{made_text, without_mark};
 use memchr::memrchr;
 use std::alloc::{AllocError, Global};
 
+/// How many bytes are looked at together.
+const RUN: usize = 240;
+
 /// A place in a document's text.
 #[derive(Clone, Copy, Debug, PartialEq, Eq)]
 pub struct TextPlace {
@@ -110,7 +113,28 @@ fn line_feeds(bytes: &[u8]) -> usize
     ensures count { result ≡ count_by is_lf bytes.now }
     ensures small { result ≤ length bytes.now }
 {
-    bytes.iter().filter(|byte| **byte == b'\n').count()
+    let mut count = 0;
+    let mut rest = bytes;
+    'runs: while !rest.is_empty() {
+        let (run, behind) = rest.split_at(rest.len().min(RUN));
+        count += usize::from(feeds_in_run(run));
+        rest = behind;
+    }
+    count
+}
+
+/// The line feeds of so few bytes that a byte counts them, sixteen at once.
+fn feeds_in_run(run: &[u8]) -> u8
+    requires few { length run.now ≤ 240 }
+    ensures { result ≡ count_by is_lf run.now }
+{
+    let mut count: u8 = 0;
+    for byte in run {
+        if *byte == b'\n' {
+            count += 1;
+        }
+    }
+    count
 }
 
 /// How many characters of UTF-8 begin in the bytes.

@@ -20,7 +20,17 @@ pub fn print_web(alloc: Global, pages: &[SitePage]) -> Result<Vec<u8>, AllocErro
     // And what is read has at each URL the page that these have.
     ensures pages { IfOk result (λ web. (url : List ℕ) → page_of (lines web.items) url ≡ page_in (ascending pages.now) url) }
 {
-    let mut web = header(alloc)?;
+    let web = print_in(Vec::new(alloc), pages)?;
+    Ok(web)
+}
+
+/// The same, in room that is used again.
+fn print_in(room: Vec<u8>, pages: &[SitePage]) -> Result<Vec<u8>, AllocError>
+    ensures text { IfOk result (λ web. web.items ≡ web_text (ascending pages.now)) }
+    ensures sound { IfOk result (λ web. IsSound (lines web.items)) }
+    ensures pages { IfOk result (λ web. (url : List ℕ) → page_of (lines web.items) url ≡ page_in (ascending pages.now) url) }
+{
+    let mut web = header(room)?;
     let mut last: &[u8] = &[];
     let mut rest = pages;
     'pages: while let Some((page, more)) = parts(rest) {
@@ -38,17 +48,20 @@ pub fn print_web(alloc: Global, pages: &[SitePage]) -> Result<Vec<u8>, AllocErro
 ///
 /// # Errors
 /// Where a growth was refused.
-pub(crate) fn site_text(alloc: Global, pages: &[SitePage]) -> Result<Vec<u8>, AllocError>
+pub(crate) fn site_text(room: Vec<u8>, pages: &[SitePage]) -> Result<Vec<u8>, AllocError>
     ensures { IfOk result (λ web. IsSiteWeb web.items) }
 {
-    let web = print_web(alloc, pages)?;
+    let web = print_in(room, pages)?;
     Ok(web)
 }
 
-fn header(alloc: Global) -> Result<Vec<u8>, AllocError>
+fn header(room: Vec<u8>) -> Result<Vec<u8>, AllocError>
     ensures { IfOk result (λ web. web.items ≡ web_text []) }
 {
-    b"savedweb 2\n".to_vec(alloc)
+    let mut web = room;
+    web.clear();
+    web.extend_from_slice(b"savedweb 2\n")?;
+    Ok(web)
 }
 
 fn parts(pages: &[SitePage]) -> Option<(&SitePage, &[SitePage])>

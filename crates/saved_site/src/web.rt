@@ -148,6 +148,8 @@ struct Making {
     notes: Vec<Note>,
     anchors: Vec<PageAnchors>,
     places: Vec<LinkPlaces>,
+    /// Room that files were read into, in which the web is printed.
+    room: Vec<u8>,
 }
 
 /// The saved web of a site whose files are read, and what was told of their names before.
@@ -164,10 +166,10 @@ pub(crate) fn web_of<R: Threads + Sync, C: Contents>(
     let mut making = Making::new(alloc, told);
     files.tell_doubles(&mut making.notes)?;
     make_all(rt, alloc, files.given(), seeds, contents, &mut making)?;
-    finish(alloc, making)
+    finish(making)
 }
 
-fn finish(alloc: Global, making: Making) -> Result<Web, SiteError>
+fn finish(making: Making) -> Result<Web, SiteError>
     ensures { IfOk result (λ web. IsSiteWeb web.bytes.items) }
 {
     let Making {
@@ -176,11 +178,12 @@ fn finish(alloc: Global, making: Making) -> Result<Web, SiteError>
         notes,
         mut anchors,
         mut places,
+        room,
     } = making;
     places.sort_by(|a: &LinkPlaces, b: &LinkPlaces| a.url.as_str().cmp(b.url.as_str()))?;
     anchors.sort_by(|a: &PageAnchors, b: &PageAnchors| a.url.as_str().cmp(b.url.as_str()))?;
     pages.sort_by(|a: &SitePage, b: &SitePage| a.url().as_str().cmp(b.url().as_str()))?;
-    let bytes = site_text(alloc, pages.as_slice())?;
+    let bytes = site_text(room, pages.as_slice())?;
     if bytes.len() > WEB_LIMIT {
         return Err(SiteError::TooLarge);
     }
@@ -212,7 +215,7 @@ fn make_all<R: Threads + Sync, C: Contents>(
         if tasks.is_empty() {
             break;
         }
-        let made = make_round(rt, given, tasks.as_slice(), contents, &mut making.notes)?;
+        let made = make_round(rt, given, tasks.as_slice(), contents, making)?;
         tasks = new_tasks(alloc, made.as_slice(), &mut known)?;
         making.summary.spellings = making.summary.spellings.saturating_add(tasks.len() as u64);
         making.keep(made)?;
@@ -233,21 +236,24 @@ fn make_round<R: Threads + Sync, C: Contents>(
     given: Given<'_>,
     tasks: &[Task],
     contents: &C,
-    notes: &mut Vec<Note>,
+    making: &mut Making,
 ) -> Result<Vec<Made>, SiteError> {
-    let alloc = *notes.allocator();
+    let alloc = *making.notes.allocator();
     let mut all: Vec<Made> = Vec::new(alloc);
+    let mut first = Batch::new(alloc);
+    contents.read(given, tasks, &mut first)?;
     let mut batches = Batches {
-        full: next_batch(given, tasks, contents, Batch::new(alloc))?,
+        full: first,
         spare: Batch::new(alloc),
     };
     let mut rest = tasks;
     for _ in 0..tasks.len() {
-        notes.append(&mut batches.full.take_unread())?;
+        making.notes.append(&mut batches.full.take_unread())?;
         let (front, behind) = rest.split_at(batches.full.count().max(1).min(rest.len()));
         let (mut made, next) = make_batch(rt, alloc, given, (front, behind), contents, batches)?;
         all.append(&mut made)?;
         if behind.is_empty() {
+            making.room = next.spare.into_room();
             break;
         }
         batches = next;
@@ -342,6 +348,7 @@ impl Making {
             notes: told,
             anchors: Vec::new(alloc),
             places: Vec::new(alloc),
+            room: Vec::new(alloc),
         }
     }
 
