@@ -1,2 +1,3 @@
 mod Directive
+mod Plain
 mod Searched

@@ -1,5 +1,7 @@
 //! The part that a fragment indicates.
-ghost use Rattle.std.specs.Prelude.{◌≡◌, IfOk};
+ghost use Rattle.std.specs.Prelude.{◌≡◌, IfOk, false, not};
+ghost use Rattle.std.specs.List.{list_any};
+ghost use Rattle.page_anchors.specs.Escapes.{is_escaped, is_odd};
 ghost use Rattle.page_anchors.specs.Indicated.{before_directive, begins_directive, decoded_has, has_decoded, has_fragment, has_part, ids_in, is_indicated, is_letter, is_top, DoAscend};
 
 use crate::search::has_id;
@@ -22,11 +24,50 @@ pub const IN_FRAGMENT: AsciiSet = ascii_set!(
 pub fn is_indicated(alloc: Global, ids: &[Vec<u8>], text: &[u8]) -> Result<bool, NoMemory>
     ensures { DoAscend ids.now → IfOk result (λ found. found ≡ is_indicated (ids_in ids.now) text.now) }
 {
+    if is_plain(text) {
+        return Ok(has_plain(ids, text));
+    }
     let front = before_directive(text);
     if front.is_empty() {
         return Ok(true);
     }
     has_part(alloc, ids, front)
+}
+
+/// Whether the text is just what a URL has of it, has no escapes, and begins no directive.
+fn is_plain(text: &[u8]) -> bool
+    ensures { result ≡ not (list_any is_odd text.now) }
+{
+    for byte in text {
+        if is_odd(*byte) {
+            return false;
+        }
+    }
+    true
+}
+
+/// Whether a byte is escaped in a fragment, or may begin an escape or a directive.
+fn is_odd(byte: u8) -> bool
+    ensures { result ≡ is_odd byte }
+{
+    is_escaped(byte) || byte == b'%' || byte == b':'
+}
+
+fn is_escaped(byte: u8) -> bool
+    ensures { result ≡ is_escaped byte }
+{
+    byte < 33 || byte == b'"' || byte == b'<' || byte == b'>' || byte == b'`' || 126 < byte
+}
+
+/// Whether a document has the part that such a text indicates.
+fn has_plain(ids: &[Vec<u8>], text: &[u8]) -> bool
+    requires { list_any is_odd text.now ≡ false }
+    ensures { DoAscend ids.now → result ≡ is_indicated (ids_in ids.now) text.now }
+{
+    if text.is_empty() {
+        return true;
+    }
+    has_decoded(ids, text)
 }
 
 /// What stands before a fragment directive.

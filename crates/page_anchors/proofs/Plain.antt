@@ -1,0 +1,71 @@
+-- A text of which a URL has each byte as it stands.
+use Rattle.std.proofs.Common.{◌≡◌, ◌≢◌, ◌∙◌, ℕ, ◌<◌, ◌≤◌, Bool, true, false, ◌==◌, ◌||◌, nat_lt, List, [], ◌∷◌, All, length, refl, sym, ap, subst, arith, true≢false, if◌then◌else◌}
+use Rattle.std.proofs.lemmas.Bool.{agree_below_at, eqb-false, eq-eqb, ltb-false, or_parts}
+use Rattle.std.proofs.lemmas.List.Elements.{All-nil, All-cons}
+use Rattle.std.proofs.lemmas.Str.{IsUtf8-from_ascii, utf8_lossy-IsUtf8}
+use Rattle.std.specs.List.{list_any}
+use Rattle.std.specs.Str.Lossy.{utf8_lossy}
+use Rattle.percent_encoding.specs.AsciiSet.{should_percent_encode}
+use Rattle.percent_encoding.specs.Percent.{IsKept, percent_decode}
+use Rattle.percent_encoding.proofs.PercentLemmas.{IsAscii_from_kept, percent_decode-nil, percent_decode_not_percent, percent_encode_unchanged}
+use Rattle.page_anchors.specs.Escapes.{is_escaped, is_odd}
+use Rattle.page_anchors.specs.Indicated.{before_directive, begins_directive, decoded_of, fragment_of, front_indicated, has_decoded, has_id, is_indicated, is_top}
+use Rattle.page_anchors.specs.declared.indicated.TheConstants.{IN_FRAGMENT}
+
+-- a byte of such a text
+record IsPlain (b : ℕ) : Type 0 where
+  kept : IsKept IN_FRAGMENT b
+  escape : b ≢ 37
+  directive : (b == 58) ≡ false
+
+agrees : (b : ℕ) → b < 256 → should_percent_encode IN_FRAGMENT b ≡ is_escaped b
+unfolding should_percent_encode
+agrees b below = agree_below_at (should_percent_encode IN_FRAGMENT) is_escaped 256 b refl below
+
+plain_byte : (b : ℕ) → is_odd b ≡ false → IsPlain b
+plain_byte b odd =
+    let whole = or_parts (is_escaped b || (b == 37)) (b == 58) odd in
+    let escapes = or_parts (is_escaped b) (b == 37) whole.0 in
+    let low = or_parts _ (nat_lt 126 b) escapes.0 in
+    record {
+      kept = agrees b (omega (arith, ltb-false 126 b low.1)) ∙ escapes.0;
+      escape = λ is. true≢false (sym (eq-eqb b 37 is) ∙ escapes.1);
+      directive = whole.1;
+    }
+
+begins_none : (b : ℕ) (bs : List ℕ) → IsPlain b → begins_directive (b ∷ bs) ≡ false
+begins_none b bs plain = grind (arith, plain.directive)
+
+plain_front : (text : List ℕ) → list_any is_odd text ≡ false → before_directive text ≡ text
+plain_front [] none = refl
+plain_front (b ∷ bs) none =
+    let parts = or_parts (is_odd b) (list_any is_odd bs) none in
+    ap (λ q. if q then [] else b ∷ before_directive bs) (begins_none b bs (plain_byte b parts.0)) ∙ ap (λ t. b ∷ t) (plain_front bs parts.1)
+
+all_kept : (text : List ℕ) → list_any is_odd text ≡ false → All (IsKept IN_FRAGMENT) text
+all_kept [] none = All-nil (IsKept IN_FRAGMENT)
+all_kept (b ∷ bs) none =
+    let parts = or_parts (is_odd b) (list_any is_odd bs) none in
+    All-cons (IsKept IN_FRAGMENT) b bs (plain_byte b parts.0).kept (all_kept bs parts.1)
+
+decodes : (text : List ℕ) → list_any is_odd text ≡ false → percent_decode text ≡ text
+decodes [] none = percent_decode-nil
+decodes (b ∷ bs) none =
+    let parts = or_parts (is_odd b) (list_any is_odd bs) none in
+    percent_decode_not_percent b bs (plain_byte b parts.0).escape ∙ ap (λ t. b ∷ t) (decodes bs parts.1)
+
+own_decoded : (text : List ℕ) → list_any is_odd text ≡ false → decoded_of text ≡ text
+own_decoded text none = ap utf8_lossy (decodes text none) ∙ utf8_lossy-IsUtf8 text (IsUtf8-from_ascii text (IsAscii_from_kept IN_FRAGMENT text (all_kept text none)))
+
+-- what is looked for twice is found at once
+once : (has top : Bool) → (if has then true else (if has then true else top)) ≡ (if has then true else top)
+once true top = refl
+once false top = refl
+
+pub plain_indicated : (ids : List (List ℕ)) (text : List ℕ) → list_any is_odd text ≡ false → is_indicated ids text ≡ (if length text == 0 then true else has_decoded ids text)
+plain_indicated ids text none =
+    let fragment : fragment_of text ≡ text = percent_encode_unchanged IN_FRAGMENT text (all_kept text none) in
+    ap (front_indicated ids) (plain_front text none)
+    ∙ ap (λ f. if length text == 0 then true else (if has_id ids f then true else has_decoded ids (decoded_of f))) fragment
+    ∙ ap (λ d. if length text == 0 then true else (if has_id ids text then true else has_decoded ids d)) (own_decoded text none)
+    ∙ ap (λ q. if length text == 0 then true else q) (once (has_id ids text) (is_top text))
