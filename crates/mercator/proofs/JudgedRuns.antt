@@ -1,8 +1,8 @@
 -- What the seeds and the workers of a run lost together, and the run that lost it.
-use Rattle.std.proofs.Common.{◌≡◌, ◌↔◌, ◌⊎◌, inl, inr, ℕ, ◌+◌, ◌-◌, ◌^◌, min, Bool, true, false, true≢false, List, [], ◌∷◌, ◌++◌, map, append-nil, append_assoc, refl, sym, ap, subst, ◌∙◌, arith, Option, Some, None, Result, Ok, Err, IfOk}
+use Rattle.std.proofs.Common.{◌≡◌, ◌⊎◌, inl, inr, ℕ, ◌+◌, ◌-◌, ◌^◌, min, Bool, true≢false, List, [], ◌∷◌, ◌++◌, map, append-nil, append_assoc, refl, sym, ap, subst, ◌∙◌, arith, Option, Some, Result, Ok, Err, IfOk}
 use Rattle.std.proofs.lemmas.List.{map-append, take_all}
 use Rattle.std.proofs.lemmas.List.Sums.{sum_by_push}
-use Rattle.std.specs.List.{AllZip, sum_by}
+use Rattle.std.specs.List.{sum_by}
 use Rattle.crawl_certificate.specs.AccountEntries.{entries_in, entries_of}
 use Rattle.crawl_certificate.specs.CertFaults.{first_fault}
 use Rattle.crawl_certificate.specs.Culprits.{IsCulprit, is_at_fault, no_memory}
@@ -11,25 +11,22 @@ use Rattle.crawl_certificate.specs.declared.culprit.Culprit.{Culprit}
 use Rattle.crawl_certificate.specs.declared.error.CertError.{CertError}
 use Rattle.crawl_certificate.specs.declared.error.CertError.TheVariants as cert
 use Rattle.crawl_frontier.specs.Accounts.{Accounts}
-use Rattle.crawl_frontier.specs.Books.{BookId}
+use Rattle.crawl_frontier.specs.Books.{fresh_book}
 use Rattle.crawl_frontier.specs.FreshParts.{AllFresh}
-use Rattle.crawl_frontier.specs.Offers.{IsFiltered, OfferBooks, OfferWordsBeside}
-use Rattle.crawl_frontier.specs.Parts.{SenderId, WorkerId}
-use Rattle.crawl_frontier.specs.declared.book.Logged.{Logged}
+use Rattle.crawl_frontier.specs.Parts.{SeederId, SenderId, WorkerId}
 use Rattle.crawl_frontier.specs.declared.entry.Entry.{Entry}
 use Rattle.crawl_frontier.specs.declared.error.OfferError.{OfferError}
 use Rattle.crawl_frontier.specs.declared.error.OfferError.TheVariants as refused
-use Rattle.crawl_gate.specs.Seat.{GateId, SeatId}
+use Rattle.crawl_frontier.specs.declared.offer.Offer.{Offer}
+use Rattle.crawl_gate.specs.Seat.{GateId}
 use Rattle.crawl_web.specs.declared.page.Page.{Page}
 use Rattle.crawl_web.specs.declared.page.PageResult.{PageResult}
-use Rattle.crawl_workers.proofs.Running.{has_line_on}
-use Rattle.crawl_workers.specs.Logs.{Grows}
 use Rattle.crawl_workers.specs.Losses.{no_losses}
 use Rattle.crawl_workers.specs.Runs.{AllRan}
 use Rattle.crawl_workers.specs.declared.losses.Losses.{Losses}
 use Rattle.crawl_workers.specs.declared.worker_end.WorkerEnd.{WorkerEnd}
 use Rattle.mercator.specs.Crawls.{losses_at, of_cert}
-use Rattle.mercator.specs.JudgedRuns.{AreOffered, CountsLosses, IsRun, WasOffered}
+use Rattle.mercator.specs.JudgedRuns.{AllOffered, AreOffered, CountsLosses, IsRun, IsSeedOffer}
 use Rattle.mercator.specs.Losses.{both_losses, losses_with, lost_seed, together, with_refusal}
 use Rattle.mercator.specs.LosslessRuns.{all_closed, all_found, all_lost}
 use Rattle.mercator.specs.declared.crawling.gather.Ran as left
@@ -62,10 +59,14 @@ with_ends {K} all (e ∷ es) = ap (λ (l : Losses). losses_with l es) (together_
 
 -- ---- a seed more
 
--- what is lost with a seed whose offer ended so, beside what was lost before
-abbrev with_offer : Option OfferError → Losses → Losses
-with_offer None losses = losses
-with_offer (Some refusal) losses = with_refusal refusal losses
+-- what the offer of a seed was answered
+abbrev Answer : Type 0
+Answer = Result Offer OfferError
+
+-- what is lost with a seed whose offer had this answer, beside what was lost before
+abbrev with_offer : Answer → Losses → Losses
+with_offer (Ok offer) losses = losses
+with_offer (Err refusal) losses = with_refusal refusal losses
 
 -- a count that no seed is added to
 unchanged : (kind : Losses → ℕ) (all : List Losses) → min (sum_by kind all) (2 ^ 64 - 1) ≡ min (min (sum_by kind all) (2 ^ 64 - 1) + 0) (2 ^ 64 - 1)
@@ -81,85 +82,63 @@ none_lost all = λ i. record {
   no_memory = unchanged (λ (x : Losses). x.no_memory) all i;
 }
 
-both_offer : (all : List Losses) (offer : Option OfferError) → with_offer offer (together all) ≡ both_losses (together all) (lost_seed offer)
-both_offer all None = none_lost all
-both_offer all (Some refused.Filtered) = none_lost all
-both_offer all (Some refused.Closed) = none_lost all
-both_offer all (Some refused.Full) = λ i. record {
+both_offer : (all : List Losses) (offer : Answer) → with_offer offer (together all) ≡ both_losses (together all) (lost_seed offer)
+both_offer all (Ok taken) = none_lost all
+both_offer all (Err refused.Filtered) = none_lost all
+both_offer all (Err refused.Closed) = none_lost all
+both_offer all (Err refused.Full) = λ i. record {
   failed = unchanged (λ (x : Losses). x.failed) all i;
   unkept = unchanged (λ (x : Losses). x.unkept) all i;
-  full = (both_losses (together all) (lost_seed (Some refused.Full))).full;
+  full = (both_losses (together all) (lost_seed (Err refused.Full))).full;
   too_far = unchanged (λ (x : Losses). x.too_far) all i;
   crossed = unchanged (λ (x : Losses). x.crossed) all i;
   no_memory = unchanged (λ (x : Losses). x.no_memory) all i;
 }
-both_offer all (Some refused.TooFar) = λ i. record {
+both_offer all (Err refused.TooFar) = λ i. record {
   failed = unchanged (λ (x : Losses). x.failed) all i;
   unkept = unchanged (λ (x : Losses). x.unkept) all i;
   full = unchanged (λ (x : Losses). x.full) all i;
-  too_far = (both_losses (together all) (lost_seed (Some refused.TooFar))).too_far;
+  too_far = (both_losses (together all) (lost_seed (Err refused.TooFar))).too_far;
   crossed = unchanged (λ (x : Losses). x.crossed) all i;
   no_memory = unchanged (λ (x : Losses). x.no_memory) all i;
 }
-both_offer all (Some (refused.Crossed own found)) = λ i. record {
+both_offer all (Err (refused.Crossed own found)) = λ i. record {
   failed = unchanged (λ (x : Losses). x.failed) all i;
   unkept = unchanged (λ (x : Losses). x.unkept) all i;
   full = unchanged (λ (x : Losses). x.full) all i;
   too_far = unchanged (λ (x : Losses). x.too_far) all i;
-  crossed = (both_losses (together all) (lost_seed (Some (refused.Crossed own found)))).crossed;
+  crossed = (both_losses (together all) (lost_seed (Err (refused.Crossed own found)))).crossed;
   no_memory = unchanged (λ (x : Losses). x.no_memory) all i;
 }
-both_offer all (Some refused.NoMemory) = λ i. record {
+both_offer all (Err refused.NoMemory) = λ i. record {
   failed = unchanged (λ (x : Losses). x.failed) all i;
   unkept = unchanged (λ (x : Losses). x.unkept) all i;
   full = unchanged (λ (x : Losses). x.full) all i;
   too_far = unchanged (λ (x : Losses). x.too_far) all i;
   crossed = unchanged (λ (x : Losses). x.crossed) all i;
-  no_memory = (both_losses (together all) (lost_seed (Some refused.NoMemory))).no_memory;
+  no_memory = (both_losses (together all) (lost_seed (Err refused.NoMemory))).no_memory;
 }
 
-offer_more : (offers : List (Option OfferError)) (offer : Option OfferError) → with_offer offer (together (map lost_seed offers)) ≡ together (map lost_seed (offers ++ offer ∷ []))
+offer_more : (offers : List Answer) (offer : Answer) → with_offer offer (together (map lost_seed offers)) ≡ together (map lost_seed (offers ++ offer ∷ []))
 offer_more offers offer = both_offer (map lost_seed offers) offer ∙ together_more (map lost_seed offers) (lost_seed offer) ∙ ap together (sym (map-append lost_seed offers (offer ∷ [])))
 
--- a line of a log that goes on stays
-still_offered : (workers : ℕ) (allowed : List ℕ → Bool) (b b' : BookId) (url : List ℕ) (offer : Option OfferError) → Grows b b' → WasOffered workers allowed b.log url offer → WasOffered workers allowed b'.log url offer
-still_offered workers allowed b b' url None grows was = (was.0, has_line_on workers b b' url grows was.1)
-still_offered workers allowed b b' url (Some refused.Filtered) grows was = was
-still_offered workers allowed b b' url (Some refused.Closed) grows was = absurd was
-still_offered workers allowed b b' url (Some refused.TooFar) grows was = absurd was
-still_offered workers allowed b b' url (Some refusal) grows was = was
+-- the seeder has offered one seed more
+all_more : (workers : ℕ) (allowed : List ℕ → Bool) (s m s' : SeederId) (seeds : List (List ℕ)) (answers : List Answer) (seed : List ℕ) (answer : Answer)
+    → AllOffered workers allowed s m seeds answers → IsSeedOffer workers allowed m s' seed answer → AllOffered workers allowed s s' (seeds ++ seed ∷ []) (answers ++ answer ∷ [])
+all_more workers allowed s m s' [] [] seed answer each own = (s', subst (λ (x : SeederId). IsSeedOffer workers allowed x s' seed answer) each own, refl)
+all_more workers allowed s m s' (u ∷ seeds) (a ∷ answers) seed answer each own = (each.0, each.1, all_more workers allowed each.0 m s' seeds answers seed answer each.2 own)
+all_more workers allowed s m s' seeds answers seed answer each own = absurd each
 
-each_more : (workers : ℕ) (allowed : List ℕ → Bool) (b b' : BookId) (seeds : List (List ℕ)) (offers : List (Option OfferError)) (seed : List ℕ) (offer : Option OfferError) → Grows b b'
-    → AllZip (WasOffered workers allowed b.log) seeds offers → WasOffered workers allowed b'.log seed offer → AllZip (WasOffered workers allowed b'.log) (seeds ++ seed ∷ []) (offers ++ offer ∷ [])
-each_more workers allowed b b' [] [] seed offer grows each was = (was, tt)
-each_more workers allowed b b' (s ∷ seeds) (o ∷ offers) seed offer grows each was = (still_offered workers allowed b b' s o grows each.0, each_more workers allowed b b' seeds offers seed offer grows each.1 was)
-each_more workers allowed b b' seeds offers seed offer grows each was = absurd each
-
-pub offered_more : (workers : ℕ) (allowed : List ℕ → Bool) (b b' : BookId) (seeds : List (List ℕ)) (seed : List ℕ) (offer : Option OfferError) (before after : Losses) → Grows b b' → WasOffered workers allowed b'.log seed offer → after ≡ with_offer offer before
-    → AreOffered workers allowed b.log seeds before → AreOffered workers allowed b'.log (seeds ++ seed ∷ []) after
-offered_more workers allowed b b' seeds seed offer before after grows was counted so_far = record {
-  offers = so_far.offers ++ offer ∷ [];
-  each = each_more workers allowed b b' seeds so_far.offers seed offer grows so_far.each was;
-  lost = counted ∙ ap (with_offer offer) so_far.lost ∙ offer_more so_far.offers offer;
+pub offered_more : (workers : ℕ) (allowed : List ℕ → Bool) (s m s' : SeederId) (seeds : List (List ℕ)) (seed : List ℕ) (answer : Answer) (before after : Losses) → IsSeedOffer workers allowed m s' seed answer → after ≡ with_offer answer before
+    → AreOffered workers allowed s m seeds before → AreOffered workers allowed s s' (seeds ++ seed ∷ []) after
+offered_more workers allowed s m s' seeds seed answer before after own counted so_far = record {
+  answers = so_far.answers ++ answer ∷ [];
+  each = all_more workers allowed s m s' seeds so_far.answers seed answer so_far.each own;
+  lost = counted ∙ ap (with_offer answer) so_far.lost ∙ offer_more so_far.answers answer;
 }
 
-pub none_offered : (workers : ℕ) (allowed : List ℕ → Bool) (log : List Logged) (losses : Losses) → losses ≡ no_losses → AreOffered workers allowed log [] losses
-none_offered workers allowed log losses none = record { offers = []; each = tt; lost = none }
-
--- an offer that is not refused is one of a URL that is allowed, and so is one that is refused for another reason than the filter
-may_be : (may : Bool) → (may ≡ false → ⊥) → may ≡ true
-may_be true never = refl
-may_be false never = absurd (never refl)
-
-pub allowed_offer : (may : Bool) (P : Type 0) → (P → ⊥) → P ↔ (may ≡ false) → may ≡ true
-allowed_offer may P none filtered = may_be may (λ no. none (filtered.1 no))
-
-pub refused_offer : (workers : ℕ) (allowed : List ℕ → Bool) (b b' : BookId) (url : List ℕ) (error : OfferError) (held held' pass pass' : SeatId) → OfferBooks workers b b' url 0 (Err error) → OfferWordsBeside held held' pass pass' (Err error) → IsFiltered (Err error) ↔ (allowed url ≡ false)
-    → WasOffered workers allowed b'.log url (Some error)
-refused_offer workers allowed b b' url refused.Filtered held held' pass pass' books words filtered = filtered.0 tt
-refused_offer workers allowed b b' url refused.Closed held held' pass pass' books words filtered = absurd words
-refused_offer workers allowed b b' url refused.TooFar held held' pass pass' books words filtered = absurd (omega (arith, books.1))
-refused_offer workers allowed b b' url error held held' pass pass' books words filtered = may_be (allowed url) filtered.1
+pub none_offered : (workers : ℕ) (allowed : List ℕ → Bool) (s : SeederId) (losses : Losses) → losses ≡ no_losses → AreOffered workers allowed s s [] losses
+none_offered workers allowed s losses none = record { answers = []; each = refl; lost = none }
 
 -- ---- the ends of a run, whatever names its frontier
 
@@ -189,29 +168,33 @@ same_ran {K} workers allowed meaning starts ends ran = absurd ran
 
 -- ---- what a run answers
 
-pub run_of : {K : _} {E : Type 0} (result : Result left.Ran E) (gate : GateId) (workers : ℕ) (allowed : List ℕ → Bool) (meaning : List ℕ → Page) (seeds : List (List ℕ)) (starts : List WorkerId) (ends : List (WorkerEnd K)) (sender : SenderId) (before : Losses)
+pub run_of : {K : _} {E : Type 0} (result : Result left.Ran E) (gate : GateId) (workers : ℕ) (allowed : List ℕ → Bool) (meaning : List ℕ → Page) (seeds : List (List ℕ)) (starts : List WorkerId) (ends : List (WorkerEnd K)) (seeder seeded : SeederId) (sender : SenderId) (before : Losses)
     (closed : List WorkerId) (found : List PageResult) (losses : Losses)
-    → AllFresh gate workers 0 starts → AllRan workers allowed meaning starts ends → closed ≡ all_closed ends → found ≡ all_found ends → losses ≡ losses_with before ends → AreOffered workers allowed sender.book.log seeds before
+    → AllFresh gate workers 0 starts → AllRan workers allowed meaning starts ends → closed ≡ all_closed ends → found ≡ all_found ends → losses ≡ losses_with before ends → seeder.book ≡ fresh_book workers workers → AreOffered workers allowed seeder seeded seeds before → sender.book ≡ seeded.book
     → IfOk result (λ ran. ran.account.workers ≡ workers) → IfOk result (λ ran. Accounts workers closed (sender ∷ []) ran.account.queues) → IfOk result (λ ran. ran.results.items ≡ found) → IfOk result (λ ran. ran.losses ≡ losses)
     → IfOk result (λ ran. IsRun workers allowed meaning seeds (entries_of ran.account) ran.results.items ran.losses)
-run_of {K} (Ok ran) gate workers allowed meaning seeds starts ends sender before closed found losses fresh did closed_is found_is losses_are offered many own results lost = record {
+run_of {K} (Ok ran) gate workers allowed meaning seeds starts ends seeder seeded sender before closed found losses fresh did closed_is found_is losses_are first offered last many own results lost = record {
   gate = gate;
   starts = starts;
   ends = all_renamed ends;
+  seeder = seeder;
+  seeded = seeded;
   sender = sender;
-  offers = offered.offers;
+  answers = offered.answers;
   queues = ran.account.queues;
   fresh = fresh;
   ran = same_ran workers allowed meaning starts ends did;
+  first = first;
   offered = offered.each;
+  last = last;
   account = subst (λ (c : List WorkerId). Accounts workers c (sender ∷ []) ran.account.queues) (closed_is ∙ same_closed ends) own;
   accepted = ap entries_in (take_all ran.account.workers ran.account.queues (omega (arith, own.len, many)));
   found = results ∙ found_is ∙ same_found ends;
   lost =
-      lost ∙ losses_are ∙ ap (λ (l : Losses). losses_with l ends) offered.lost ∙ with_ends (map lost_seed offered.offers) ends
-      ∙ ap (λ (ls : List Losses). together (map lost_seed offered.offers ++ ls)) (same_lost ends);
+      lost ∙ losses_are ∙ ap (λ (l : Losses). losses_with l ends) offered.lost ∙ with_ends (map lost_seed offered.answers) ends
+      ∙ ap (λ (ls : List Losses). together (map lost_seed offered.answers ++ ls)) (same_lost ends);
 }
-run_of {K} (Err e) gate workers allowed meaning seeds starts ends sender before closed found losses fresh did closed_is found_is losses_are offered many own results lost = tt
+run_of {K} (Err e) gate workers allowed meaning seeds starts ends seeder seeded sender before closed found losses fresh did closed_is found_is losses_are first offered last many own results lost = tt
 
 -- ---- what is told of it
 

@@ -1,5 +1,5 @@
 -- In a run a URL that was taken has a result, or is counted as lost.
-use Rattle.std.proofs.Common.{◌≡◌, inl, inr, ℕ, zero, suc, ◌+◌, ◌-◌, ◌^◌, ◌<◌, ◌≤◌, min, Bool, List, [], ◌∷◌, ◌++◌, length, map, slice_get, length-append, zero-add, refl, sym, ap, subst, ◌∙◌, arith, Option, Some, None}
+use Rattle.std.proofs.Common.{◌≡◌, inl, inr, ℕ, zero, suc, ◌+◌, ◌-◌, ◌^◌, ◌<◌, ◌≤◌, min, Bool, List, [], ◌∷◌, ◌++◌, length, map, slice_get, length-append, zero-add, refl, sym, ap, subst, ◌∙◌, arith, Result, Ok, Err}
 use Rattle.std.proofs.lemmas.List.Sums.{sum_by-append, sum_by-cons}
 use Rattle.std.proofs.lemmas.Option.{slice_get_cases, slice_get_within}
 use Rattle.std.specs.List.{sum_by}
@@ -10,6 +10,7 @@ use Rattle.crawl_frontier.specs.Parts.{WorkerId}
 use Rattle.crawl_frontier.specs.declared.entry.Entry.{Entry}
 use Rattle.crawl_frontier.specs.declared.error.OfferError.{OfferError}
 use Rattle.crawl_frontier.specs.declared.error.OfferError.TheVariants as refused
+use Rattle.crawl_frontier.specs.declared.offer.Offer.{Offer}
 use Rattle.crawl_gate.specs.Seat.{GateId}
 use Rattle.crawl_web.specs.declared.page.Page.{Page}
 use Rattle.crawl_web.specs.declared.page.PageResult.{PageResult}
@@ -19,6 +20,9 @@ use Rattle.crawl_workers.specs.declared.worker_end.WorkerEnd.{WorkerEnd}
 use Rattle.mercator.specs.JudgedRuns.{IsRun}
 use Rattle.mercator.specs.Losses.{lost_seed}
 use Rattle.mercator.specs.LosslessRuns.{all_closed, all_found, all_lost}
+
+abbrev Answer : Type 0
+Answer = Result Offer OfferError
 
 abbrev End : Type 0
 End = WorkerEnd (Unit {0})
@@ -99,28 +103,28 @@ same_lists (q ∷ qs) (e ∷ es) len each =
 
 -- ---- seeds lose links alone
 
-no_url : (offer : Option OfferError) → ((lost_seed offer).failed ≡ 0) × ((lost_seed offer).unkept ≡ 0)
-no_url None = (refl, refl)
-no_url (Some refused.Filtered) = (refl, refl)
-no_url (Some refused.Closed) = (refl, refl)
-no_url (Some refused.Full) = (refl, refl)
-no_url (Some refused.TooFar) = (refl, refl)
-no_url (Some (refused.Crossed own found)) = (refl, refl)
-no_url (Some refused.NoMemory) = (refl, refl)
+no_url : (answer : Answer) → ((lost_seed answer).failed ≡ 0) × ((lost_seed answer).unkept ≡ 0)
+no_url (Ok offer) = (refl, refl)
+no_url (Err refused.Filtered) = (refl, refl)
+no_url (Err refused.Closed) = (refl, refl)
+no_url (Err refused.Full) = (refl, refl)
+no_url (Err refused.TooFar) = (refl, refl)
+no_url (Err (refused.Crossed own found)) = (refl, refl)
+no_url (Err refused.NoMemory) = (refl, refl)
 
-no_urls : (kind : Losses → ℕ) (offers : List (Option OfferError)) → ((offer : Option OfferError) → kind (lost_seed offer) ≡ 0) → sum_by kind (map lost_seed offers) ≡ 0
+no_urls : (kind : Losses → ℕ) (answers : List Answer) → ((answer : Answer) → kind (lost_seed answer) ≡ 0) → sum_by kind (map lost_seed answers) ≡ 0
 no_urls kind [] none = refl
-no_urls kind (o ∷ offers) none = sum_by-cons kind (lost_seed o) (map lost_seed offers) ∙ ap (λ n. n + sum_by kind (map lost_seed offers)) (none o) ∙ (λ i. 0 + no_urls kind offers none i)
+no_urls kind (a ∷ answers) none = sum_by-cons kind (lost_seed a) (map lost_seed answers) ∙ ap (λ n. n + sum_by kind (map lost_seed answers)) (none a) ∙ (λ i. 0 + no_urls kind answers none i)
 
 -- ---- a run
 
 all_of : (most told sum seeds ends : ℕ) → told ≡ min sum most → sum ≡ seeds + ends → seeds ≡ 0 → told < most → told ≡ ends
 all_of most told sum seeds ends is more none few = omega (arith, is, more, none, few)
 
-of_ends : (kind : Losses → ℕ) (told : ℕ) (offers : List (Option OfferError)) (ends : List End) → ((offer : Option OfferError) → kind (lost_seed offer) ≡ 0) → told ≡ min (sum_by kind (map lost_seed offers ++ all_lost ends)) (2 ^ 64 - 1) → told < 2 ^ 64 - 1
+of_ends : (kind : Losses → ℕ) (told : ℕ) (answers : List Answer) (ends : List End) → ((answer : Answer) → kind (lost_seed answer) ≡ 0) → told ≡ min (sum_by kind (map lost_seed answers ++ all_lost ends)) (2 ^ 64 - 1) → told < 2 ^ 64 - 1
     → told ≡ sum_by kind (all_lost ends)
-of_ends kind told offers ends none is few =
-    all_of (2 ^ 64 - 1) told (sum_by kind (map lost_seed offers ++ all_lost ends)) (sum_by kind (map lost_seed offers)) (sum_by kind (all_lost ends)) is (sum_by-append kind (map lost_seed offers) (all_lost ends)) (no_urls kind offers none) few
+of_ends kind told answers ends none is few =
+    all_of (2 ^ 64 - 1) told (sum_by kind (map lost_seed answers ++ all_lost ends)) (sum_by kind (map lost_seed answers)) (sum_by kind (all_lost ends)) is (sum_by-append kind (map lost_seed answers) (all_lost ends)) (no_urls kind answers none) few
 
 pub lost_urls : (workers : ℕ) (allowed : List ℕ → Bool) (meaning : List ℕ → Page) (seeds : List (List ℕ)) (entries : List Entry) (results : List PageResult) (losses : Losses) → IsRun workers allowed meaning seeds entries results losses → losses.failed + losses.unkept < 2 ^ 64 - 1
     → length entries ≡ length results + losses.failed + losses.unkept
@@ -131,8 +135,8 @@ lost_urls workers allowed meaning seeds entries results losses run few =
     let all : workers ≤ length (all_closed run.ends) = enough workers (all_closed run.ends) run.account.worked own in
     let same : run.queues ≡ all_taken run.ends =
     same_lists run.queues run.ends (omega (arith, run.account.len, many, all)) (λ k w at. ap (slice_get run.queues) (sym (own k w at)) ∙ taken k w at) in
-    let failed : losses.failed ≡ sum_by failed_of (all_lost run.ends) = of_ends failed_of losses.failed run.offers run.ends (λ o. (no_url o).0) (ap failed_of run.lost) (omega (arith, few)) in
-    let unkept : losses.unkept ≡ sum_by unkept_of (all_lost run.ends) = of_ends unkept_of losses.unkept run.offers run.ends (λ o. (no_url o).1) (ap unkept_of run.lost) (omega (arith, few)) in
+    let failed : losses.failed ≡ sum_by failed_of (all_lost run.ends) = of_ends failed_of losses.failed run.answers run.ends (λ a. (no_url a).0) (ap failed_of run.lost) (omega (arith, few)) in
+    let unkept : losses.unkept ≡ sum_by unkept_of (all_lost run.ends) = of_ends unkept_of losses.unkept run.answers run.ends (λ a. (no_url a).1) (ap unkept_of run.lost) (omega (arith, few)) in
     let few_ends : sum_by failed_of (all_lost run.ends) + sum_by unkept_of (all_lost run.ends) < 2 ^ 64 - 1 =
     subst (λ n. n + sum_by unkept_of (all_lost run.ends) < 2 ^ 64 - 1) failed (subst (λ n. losses.failed + n < 2 ^ 64 - 1) unkept few) in
     ap length run.accepted ∙ ap (λ qs. length (entries_in qs)) same

@@ -1,9 +1,10 @@
 -- What a crawl lost: what its seeds and its workers did, together.
-use Rattle.std.specs.Prelude.{ℕ, ◌+◌, ◌-◌, ◌^◌, ◌≤◌, min, List, [], ◌∷◌, Option, Some, None}
+use Rattle.std.specs.Prelude.{ℕ, ◌+◌, ◌-◌, ◌^◌, ◌≤◌, min, List, [], ◌∷◌, Result, Ok, Err}
 use Rattle.std.specs.List.{sum_by}
 use Rattle.crawl_certificate.specs.declared.error.CertError.TheVariants as cert
 use Rattle.crawl_frontier.specs.declared.error.OfferError.{OfferError}
 use Rattle.crawl_frontier.specs.declared.error.OfferError.TheVariants as refused
+use Rattle.crawl_frontier.specs.declared.offer.Offer.{Offer}
 use Rattle.crawl_workers.specs.Losses.{all_losses, no_losses, one_more}
 use Rattle.crawl_workers.specs.declared.losses.Losses.{Losses}
 use Rattle.crawl_workers.specs.declared.worker_end.WorkerEnd.{WorkerEnd}
@@ -38,10 +39,10 @@ abbrev pub losses_with : {K : _} → Losses → List (WorkerEnd K) → Losses
 losses_with before [] = before
 losses_with before (e ∷ es) = losses_with (both_losses before e.losses) es
 
--- what a seed loses whose offer was refused so, or was not refused
-abbrev pub lost_seed : Option OfferError → Losses
-lost_seed None = no_losses
-lost_seed (Some refusal) = with_refusal refusal no_losses
+-- what is lost with a seed whose offer had this answer
+abbrev pub lost_seed : Result Offer OfferError → Losses
+lost_seed (Ok offer) = no_losses
+lost_seed (Err refusal) = with_refusal refusal no_losses
 
 -- all of these together: each count is the sum, up to the greatest
 abbrev pub together : List Losses → Losses

@@ -2,6 +2,7 @@
 ghost use Rattle.std.specs.Prelude.{◌≡◌, ◌⊎◌, ◌≤◌, true, false, ℕ, List, [], ◌∷◌, ◌++◌, IfOk, IfErr, vec_len};
 ghost use Rattle.crawl_certificate.specs.AccountEntries.{entries_of};
 ghost use Rattle.crawl_certificate.specs.Certificate.{ArePages, IsCrawl, NothingLost, result_urls};
+ghost use Rattle.crawl_frontier.specs.Parts.{SeederId};
 ghost use Rattle.crawl_keys.specs.HostFilter.{allows};
 ghost use Rattle.crawl_workers.specs.Logs.{AllLogged, Grows, HasLine};
 ghost use Rattle.crawl_workers.specs.Losses.{all_losses};
@@ -87,7 +88,7 @@ fn offer_seeds<K: Name, R: Wait>(
     seeds: &[CanonUrl],
 ) -> Losses
     ensures logged { all_losses result ≡ 0 → AllLogged K.workers (allows K.filter) seeder.new.book.log seeds.now }
-    ensures offered { AreOffered K.workers (allows K.filter) seeder.new.book.log seeds.now result }
+    ensures offered { AreOffered K.workers (allows K.filter) seeder.old seeder.new seeds.now result }
 {
     let mut lost = no_losses();
     for seed in seeds {
@@ -108,7 +109,7 @@ fn offer_seed<K: Name, R: Wait>(
     ensures line { all_losses result ≡ 0 → (all_losses before ≡ 0) × (allows K.filter seed.now ≡ true → HasLine K.workers seeder.new.book.log seed.now) }
     ensures filtered { allows K.filter seed.now ≡ false → result ≡ before }
     // Whatever seeds were offered before it, it is one more.
-    ensures offered { (seeds : List (List ℕ)) → AreOffered K.workers (allows K.filter) seeder.old.book.log seeds before → AreOffered K.workers (allows K.filter) seeder.new.book.log (seeds ++ seed.now ∷ []) result }
+    ensures offered { (first : SeederId) (seeds : List (List ℕ)) → AreOffered K.workers (allows K.filter) first seeder.old seeds before → AreOffered K.workers (allows K.filter) first seeder.new (seeds ++ seed.now ∷ []) result }
 {
     match seeder.offer(rt, frontier, seed) {
         Ok(_) => before,

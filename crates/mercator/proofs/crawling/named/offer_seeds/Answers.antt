@@ -11,7 +11,7 @@ use Rattle.mercator.proofs.crawling.named.offer_seeds.Goals as goal
 pub loop-seed-init : goal.loop-seed-init
 loop-seed-init g c = record {
   logged = λ none. All-nil (λ url. IsTrue (allows g.K.Name.filter url) → HasLine g.K.Name.workers c.args.seeder.now.book.log url);
-  offered = none_offered g.K.Name.workers (allows g.K.Name.filter) c.args.seeder.now.book.log c.no_losses-lost.result c.no_losses-lost.ensures;
+  offered = none_offered g.K.Name.workers (allows g.K.Name.filter) c.args.seeder.now c.no_losses-lost.result c.no_losses-lost.ensures;
 }
 
 pub loop-seed-preserved : goal.loop-seed-preserved
@@ -24,7 +24,7 @@ loop-seed-preserved g c =
           let own = c.offer_seed-lost.ensures.line none in
           rw (take_more seeds i x c.loop-seed-test.true, ← c.seed-item.is)
           (all_logged_more g.K.Name.workers (allows g.K.Name.filter) _ _ (take i seeds) x c.offer_seed-lost.ensures.grows (c.loop-seed.invariant.logged own.0) own.1);
-      offered = rw (take_more seeds i x c.loop-seed-test.true, ← c.seed-item.is) (c.offer_seed-lost.ensures.offered (take i seeds) c.loop-seed.invariant.offered);
+      offered = rw (take_more seeds i x c.loop-seed-test.true, ← c.seed-item.is) (c.offer_seed-lost.ensures.offered c.args.seeder.now (take i seeds) c.loop-seed.invariant.offered);
     }
 
 pub returns-clause-logged : goal.returns-clause-logged
@@ -33,4 +33,4 @@ returns-clause-logged g c = λ none.
 
 pub returns-clause-offered : goal.returns-clause-offered
 returns-clause-offered g c =
-    subst (λ seeds. AreOffered g.K.Name.workers (allows g.K.Name.filter) c.loop-seed.seeder.book.log seeds c.loop-seed.lost) (take_all c.loop-seed.seed-index c.args.seeds.now c.loop-seed-test.false) c.loop-seed.invariant.offered
+    subst (λ seeds. AreOffered g.K.Name.workers (allows g.K.Name.filter) c.args.seeder.now c.loop-seed.seeder seeds c.loop-seed.lost) (take_all c.loop-seed.seed-index c.args.seeds.now c.loop-seed-test.false) c.loop-seed.invariant.offered

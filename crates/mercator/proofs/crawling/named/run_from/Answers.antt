@@ -30,7 +30,7 @@ pub returns-clause-counted : goal.returns-clause-counted
 returns-clause-counted g c =
     let made = c.in_ok-frontier in
     let left = c.in_ok-left in
-    run_of c.ran_of.result g.K.Name.gate g.K.Name.workers (allows g.K.Name.filter) (g.F.SessionFetch.meaning c.args.fetcher.now) c.args.seeds.now made.workers.items c.in_ok-ends.ends.items c.end-sender.result c.offer_seeds-refused.result
+    run_of c.ran_of.result g.K.Name.gate g.K.Name.workers (allows g.K.Name.filter) (g.F.SessionFetch.meaning c.args.fetcher.now) c.args.seeds.now made.workers.items c.in_ok-ends.ends.items made.seeder c.offer_seeds-refused.new.seeder c.end-sender.result c.offer_seeds-refused.result
     left.left.closed.items left.left.results.items left.left.losses
-    made.ensures.1 c.in_ok-ends.ensures.ran left.ensures.closed left.ensures.found left.ensures.losses (rw c.end-sender.ensures.same c.offer_seeds-refused.ensures.offered)
+    made.ensures.1 c.in_ok-ends.ensures.ran left.ensures.closed left.ensures.found left.ensures.losses made.ensures.2 c.offer_seeds-refused.ensures.offered c.end-sender.ensures.same
     c.ran_of.ensures.workers c.ran_of.ensures.account c.ran_of.ensures.found c.ran_of.ensures.losses
