@@ -280,6 +280,8 @@ class Own:
             return out
         for me, (frontier, client) in enumerate(state.parts):
             if client is None:
+                if frontier.ended and self.fault == STAYS_ENDED:
+                    continue
                 after = self.with_part(state, me, frontier, self.started(frontier))
                 out.append((f"part {me} starts again", "step", after))
                 continue
@@ -929,6 +931,8 @@ OWN_ALL: Tuple[Row, ...] = (
 )
 LOSS: Tuple[Row, ...] = ((ONE, 0, 0, 1),)
 LOSS_ALL: Tuple[Row, ...] = ((ONE, 0, 1, 1), (ONE, 0, 0, 2), (ONE, 1, 0, 1), (RING, 0, 0, 1))
+# A fault of who runs the parts: the others wait for it.
+STAYS_ENDED = "is not started again since it had ended"
 FAULTS: Tuple[Tuple[str, Row], ...] = (
     ("done before its links are sent", (ONE, 1, 0, 0)), ("keeps no entry", (ONE, 0, 0, 0)),
     ("keeps the entry read last", (RING, 1, 1, 0)),
@@ -940,7 +944,7 @@ FAULTS: Tuple[Tuple[str, Row], ...] = (
     ("looks at the streams one by one", (RING, 0, 0, 0)),
     ("ends its seeds when it is quiet", (ONE, 0, 0, 0)), ("drops what is refused", (FULL, 0, 0, 0)),
     ("sends nothing again", (ONE, 0, 0, 1)),
-    ("stays ready when Redis starts again", (ONE, 0, 0, 1)),
+    ("stays ready when Redis starts again", (ONE, 0, 0, 1)), (STAYS_ENDED, (ONE, 0, 0, 1)),
 )
 
 
@@ -985,7 +989,7 @@ def own(totals: Totals, is_all: bool) -> None:
 
 def faults(totals: Totals, is_all: bool) -> None:
     for fault, (of, crashes, doubles, losses) in FAULTS:
-        to_the_close = fault == "ends its seeds when it is quiet"
+        to_the_close = fault in ("ends its seeds when it is quiet", STAYS_ENDED)
         tried = Own(of, crashes, doubles, losses, fault, to_the_close)
         totals.run(f"fault: {fault} ({of.name})", tried, holds=False)
 
@@ -993,8 +997,7 @@ def faults(totals: Totals, is_all: bool) -> None:
 def loss(totals: Totals, is_all: bool) -> None:
     for row in LOSS + (LOSS_ALL if is_all else ()):
         totals.row(row)
-    if is_all:
-        totals.row((ONE, 0, 0, 1), to_the_close=True)
+    totals.row((ONE, 0, 0, 1), to_the_close=True)
 
 
 def naive(totals: Totals, is_all: bool) -> None:

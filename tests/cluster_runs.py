@@ -16,6 +16,7 @@ of the environment is the time limit of a crawl. At last it prints `N passed, M 
 from __future__ import annotations
 
 import argparse
+import itertools
 import json
 import os
 import random
@@ -30,6 +31,7 @@ import traceback
 from collections import Counter, defaultdict
 from pathlib import Path
 from typing import Any, Callable, Dict, Iterable, List, NamedTuple, Optional, Set, Tuple, Type
+from unittest import mock
 
 ROOT = Path(__file__).resolve().parent.parent
 sys.path[:0] = [str(ROOT / "tests"), str(ROOT / "clients/python")]
@@ -160,7 +162,7 @@ class Server:
         self.client = redis.Redis(port=self.port)
         while True:
             try:
-                self.client.ping()
+                self.run_id: str = self.client.info("server")["run_id"]
                 return
             except redis.RedisError:
                 is_alive = self.process.poll() is None
@@ -267,6 +269,7 @@ def started(shared: Shared, part: int) -> Part:
     made._outbox = FaultyOutbox(part, shared.faults)  # which is empty once a part is ready
     process = made._frontier._channel._process
     (shared.folder / f"frontier.{part}").write_text(str(process.pid))
+    (shared.folder / f"redis.{part}").write_text(made._broker._ready.rpartition(":")[2])
     return made
 
 
@@ -330,51 +333,62 @@ class Stopped(NamedTuple):
     redis: int = 0
 
 
-def crawl(shared: Shared, server: Server, draw: random.Random, wanted: Iterable[str]) -> Stopped:
-    """Runs all parts to the end. Some are killed, and Redis is, at drawn moments of the crawl."""
-    parts = {part: forked(shared, part) for part in range(shared.crawl.parts)}
-    stopped = losses = 0
-    told_after = 0  # the losses of Redis after which parts that had ended were started again to tell it
-    whole = sum(len(url) + 3 for url in wanted)
-    what = ["part"] * shared.faults.kills + ["redis"] * shared.faults.losses
-    moments = sorted((draw.random() * whole, word) for word in what)
-    end = time.monotonic() + SECONDS
-    try:
-        while parts:
-            expect(time.monotonic() < end, f"it does not end in {SECONDS} s")
-            for part, process in list(parts.items()):
-                ended, status = os.waitpid(process, os.WNOHANG)
-                if not ended:
-                    continue
-                del parts[part]
-                if status and (os.WIFSIGNALED(status) or os.WEXITSTATUS(status) == FRONTIER_DIED):
-                    stopped += 1
-                    parts[part] = forked(shared, part)
+class Crawling:
+    """The processes of a crawl's parts, of which some are killed, and Redis is."""
+
+    def __init__(self, shared: Shared, server: Server, draw: random.Random) -> None:
+        self.shared, self.server, self.draw = shared, server, draw
+        self.parts = {part: forked(shared, part) for part in range(shared.crawl.parts)}
+        self.stopped = self.losses = 0
+
+    def run(self, wanted: Iterable[str]) -> Stopped:
+        """Runs all parts to the end. What goes wrong does so at drawn moments of the crawl."""
+        faults, folder = self.shared.faults, self.shared.folder
+        whole = sum(len(url) + 3 for url in wanted)
+        what = ["part"] * faults.kills + ["redis"] * faults.losses
+        moments = sorted((self.draw.random() * whole, word) for word in what)
+        end = time.monotonic() + SECONDS
+        try:
+            while self.parts:
+                expect(time.monotonic() < end, f"it does not end in {SECONDS} s")
+                self.reap()
+                if moments and self.parts and so_far(folder) >= moments[0][0]:
+                    time.sleep(self.draw.random() / 100)
+                    self.strike(moments.pop(0)[1])
                 else:
-                    expect(status == 0, f"part {part} ended with {status}")
-            if moments and parts and so_far(shared.folder) >= moments[0][0]:
-                _, word = moments.pop(0)
-                time.sleep(draw.random() / 100)
-                if word == "part":
-                    kill(shared.folder, *draw.choice(list(parts.items())), draw)
-                else:
-                    server.lose(everything=losses % 2 == 0)
-                    losses += 1
-                    stopped += len(parts)
-                    # A part that had ended has to tell the new Redis what it knows.
-                    for part in set(range(shared.crawl.parts)) - set(parts):
-                        parts[part] = forked(shared, part)
-            else:
-                time.sleep(0.001 if moments else 0.005)
-            if not parts and losses > told_after and not is_complete(shared, server):
-                # Redis was lost while the last ones ended, so none of them has told the new one.
-                told_after = losses
-                parts = {part: forked(shared, part) for part in range(shared.crawl.parts)}
-    finally:
-        for process in parts.values():  # some are left only where something failed
-            os.kill(process, signal.SIGKILL)
-            os.waitpid(process, 0)
-    return Stopped(stopped, losses)
+                    time.sleep(0.001 if moments else 0.005)
+        finally:
+            for process in self.parts.values():  # some are left only where something failed
+                os.kill(process, signal.SIGKILL)
+                os.waitpid(process, 0)
+        return Stopped(self.stopped, self.losses)
+
+    def reap(self) -> None:
+        """Sees which processes ended. A part has ended once the Redis that lives was told so."""
+        for part, process in list(self.parts.items()):
+            ended, status = os.waitpid(process, os.WNOHANG)
+            if not ended:
+                continue
+            del self.parts[part]
+            if os.WIFSIGNALED(status) or os.WEXITSTATUS(status) == FRONTIER_DIED:
+                self.stopped += 1
+                self.parts[part] = forked(self.shared, part)
+                continue
+            expect(status == 0, f"part {part} ended with {status}")
+            if (self.shared.folder / f"redis.{part}").read_text() != self.server.run_id:
+                # Redis was lost after the part's last look, so the new one knows nothing of it.
+                self.parts[part] = forked(self.shared, part)
+
+    def strike(self, word: str) -> None:
+        if word == "part":
+            kill(self.shared.folder, *self.draw.choice(list(self.parts.items())), self.draw)
+            return
+        self.server.lose(everything=self.losses % 2 == 0)
+        self.losses += 1
+        self.stopped += len(self.parts)
+        # A part that had ended has to tell the new Redis what it knows.
+        for part in set(range(self.shared.crawl.parts)) - set(self.parts):
+            self.parts[part] = forked(self.shared, part)
 
 
 def is_complete(shared: Shared, server: Server) -> bool:
@@ -451,24 +465,31 @@ class Trial:
         wanted: Optional[Dict[str, bool]] = None, **options: Any,
     ) -> Shared:
         """A crawl, compared."""
+        shared = self.new(web, parts, workers, faults, **options)
+        if wanted is None:
+            wanted = wanted_of(web, self.program, shared.folder)
+        self.compare(shared, wanted, Crawling(shared, self.server, draw).run(wanted))
+        return shared
+
+    def new(self, web: Web, parts: int, workers: int, faults: Faults, **options: Any) -> Shared:
+        """A crawl that nobody has begun, in a folder of its own, with an empty Redis."""
         self.number += 1
         folder = self.folder / f"crawl-{self.number}"
         folder.mkdir()
         self.server.empty()
-        crawl_of_all = Crawl(parts, workers, "test", f"crawl {self.number}", self.server.url)
-        shared = Shared(crawl_of_all, web, faults, self.program, folder, **options)
-        if wanted is None:
-            wanted = wanted_of(web, self.program, folder)
-        stopped = crawl(shared, self.server, draw, wanted)
+        crawl = Crawl(parts, workers, "test", f"crawl {self.number}", self.server.url)
+        return Shared(crawl, web, faults, self.program, folder, **options)
+
+    def compare(self, shared: Shared, wanted: Dict[str, bool], stopped: Stopped) -> None:
+        """Compares what was fetched, and counts it."""
         self.again += check(shared, self.server, wanted, stopped)
         self.stopped += stopped.parts
         self.lost += stopped.redis
         self.crawls += 1
         self.pages += len(wanted)
         if not self.words.keep:
-            for log in folder.glob("log.*"):
+            for log in shared.folder.glob("log.*"):
                 log.unlink()
-        return shared
 
     def tell(self) -> None:
         print(
@@ -518,6 +539,87 @@ def lost_redis(trial: Trial) -> None:
     for number in range(trial.webs):
         faults = Faults(losses=4, kills=2 * (number % 2))
         drawn_crawl(trial, "lost", number, (2, 4)[number % 2], faults, has_threads=number % 4 == 3)
+
+
+class ByHand:
+    """One of two parts in this process: they go round by round, and nothing depends on a clock."""
+
+    def __init__(self, shared: Shared, part: int) -> None:
+        self.shared, self.part = shared, part
+        self.start()
+
+    def start(self) -> None:
+        """Starts it from its log."""
+        self.fetched: List[Fetched] = []
+        self.made = started(self.shared, self.part)
+
+    def is_over(self) -> bool:
+        """Whether the part, after one more round, says that the crawl is complete."""
+        taken = self.made.round(self.fetched)
+        with open(self.shared.folder / f"fetched.{self.part}", "a") as file:
+            file.writelines(f"{queue} {url}\n" for queue, url in taken or ())
+        pages = self.shared.web.pages
+        self.fetched = [Fetched(queue, url, pages.get(url, [])) for queue, url in taken or ()]
+        return taken is None
+
+    def sees_end(self) -> bool:
+        """Soon: some rounds read what is in its stream, and the next one looks."""
+        return any(self.is_over() for _ in range(5))
+
+    def start_again(self) -> None:
+        self.made.close()
+        self.start()
+
+
+def lost_at_the_end(trial: Trial) -> None:
+    """Redis is lost between a part's last look and its end; the part, started again, tells it.
+
+    A part's last word may be lost by whatever protocol. So the other part waits until each one was
+    started again, as the client's page says.
+    """
+    with mock.patch.object(mercator_cluster, "_IDLE", 0.01):  # nobody sends while one waits
+        for number in range(max(4, trial.webs // 5)):
+            draw = trial.draw(f"lost at the end {number}")
+            # The one host is of part 0, so part 1 sends nothing: all streams look empty to it.
+            hosts, workers = ((1, 1), (20, 3))[number % 2]
+            web = drawn_web(draw, hosts, draw.randrange(2, 60))
+            shared = trial.new(web, 2, workers, Faults())
+            wanted = wanted_of(web, trial.program, shared.folder)
+            parts = [ByHand(shared, part) for part in range(2)]
+            try:
+                lose_at_the_end(shared, trial.server, parts)
+            finally:
+                for by_hand in parts:
+                    by_hand.made.close()
+            trial.compare(shared, wanted, Stopped(redis=2))
+
+
+def lose_at_the_end(shared: Shared, server: Server, parts: List[ByHand]) -> None:
+    end = Part._end
+
+    def end_without_redis(part: Part) -> None:
+        expect(is_complete(shared, server), "a part ends before it tells so")
+        server.lose(everything=True)
+        end(part)
+
+    with mock.patch.object(Part, "_end", end_without_redis):
+        ended = next(part for part in itertools.cycle(parts) if part.is_over())
+    other = parts[1 - ended.part]
+    try:
+        other.made.round()
+    except Cut:
+        other.start_again()
+    else:
+        raise Differs("a part goes on without its Redis")
+    expect(not other.sees_end(), "a part sees an end that no part told this Redis")
+    ended.start_again()
+    expect(ended.sees_end(), "a part that had ended does not end again")
+    expect(is_complete(shared, server), "a part that had ended does not tell so")
+    expect(other.sees_end(), "a part does not see that the other one had ended")
+    server.lose(everything=True)
+    for part in parts:
+        part.start_again()
+        expect(part.sees_end(), f"part {part.part} does not end once more")
 
 
 def full(trial: Trial) -> None:
@@ -656,8 +758,8 @@ def speed(trial: Trial) -> None:
 
 
 PARTS: Tuple[Callable[[Trial], None], ...] = (
-    plain, killed, twice_and_late, lost_redis, full, one_host, many_queues, refused, full_redis,
-    http, speed,
+    plain, killed, twice_and_late, lost_redis, lost_at_the_end, full, one_host, many_queues,
+    refused, full_redis, http, speed,
 )
 
 

@@ -19,7 +19,8 @@ No number is kept beside streams and logs, and each command says what stays true
 twice or never. A part that was killed goes on from its log, and fetches again what it had in hand.
 A part that is cut off from Redis forgets all but its log and starts again. A Redis that was started
 again, even with nothing, is told from the logs what they had sent; no part sees an end before. So
-then each part has to be started again, one that had ended, too.
+then each part has to be started again: one that had ended, too, and one that ends without having
+met the new one, since it looked at the old one last. Else the others wait for it.
 
 What is lost: nothing with a process. With a machine, what its disk has not: so `sync`, which is on,
 brings the log to the disk before an entry leaves. With a log, all that it has: a crawl cannot go on
