@@ -201,6 +201,7 @@ class Growths:
                     failed += 1
                     print(f"{name}: {text}")
             refused = sum(count for _, count in found)
+            failed += refused == 0  # each program has tests, and they ask for memory
             print(f"{refused:6} growths refused: {len(names)} tests of {os.path.basename(program)}", flush=True)
         return failed
 
@@ -217,7 +218,7 @@ class Growths:
                 failed += 1
                 print(f"calls of a frontier: growth {growth}: status {ended.status}: {ended.told[:400]!r}")
         print(f"{refused:6} growths refused: calls of a frontier", flush=True)
-        return failed
+        return failed + (refused == 0)
 
 
 def is_told(status: int, told: bytes) -> bool:
