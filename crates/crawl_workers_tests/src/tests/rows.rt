@@ -20,6 +20,8 @@ const NO_PAGES: &str = "savedweb 1";
 
 const TWO_LINKS: &str = "savedweb 1\npage http://a.test/\nlink 1\nlink 2\n";
 
+const SAME_LINK: &str = "savedweb 1\npage http://a.test/\nlink 1\nlink 1\n";
+
 pub const THREE_LINKS: &str = "savedweb 1\npage http://a.test/\nlink 1\nlink 2\nlink 3\n";
 
 const OTHER_HOST: &str = "savedweb 1\npage http://a.test/\nlink http://b.test/\nlink 1\n";
@@ -40,7 +42,7 @@ struct Row {
 const ONE_WORKER: &[How] = &[How::Turns, How::Alone, How::Threads];
 
 // One worker begins at a.test. Of two, who begin at both hosts, the first has b.test, and the second a.test.
-static ROWS: [Row; 7] = [
+static ROWS: [Row; 8] = [
     Row {
         name: "full_gate_loses_link, with room for two",
         web: TWO_LINKS,
@@ -73,6 +75,18 @@ static ROWS: [Row; 7] = [
         suffixes: &[],
         hows: ONE_WORKER,
         lost: 2,
+        urls: &[A, PATH_1],
+    },
+    // A link that was offered before on the same page is remembered: it is not offered at the full gate, which would lose it.
+    Row {
+        name: "a_link_twice_is_not_lost",
+        web: SAME_LINK,
+        fails: Fails::None,
+        workers: 1,
+        max_pending: 2,
+        suffixes: &[],
+        hows: ONE_WORKER,
+        lost: 0,
         urls: &[A, PATH_1],
     },
     Row {
