@@ -3,5 +3,4 @@ pub mod Ignored
 pub mod Leads
 pub mod Names
 pub mod Parts
-pub mod Tallies
 pub mod Told

@@ -13,7 +13,7 @@ use crate::shown::shown;
 use check_report::{Broken, Kind, Place};
 use crawl_web::{NoMemory, Page, PageResult};
 use page_anchors::is_indicated;
-use saved_site::{Anchors, PageAnchors};
+use saved_site::{AnchorLinks, Anchors, PageAnchors};
 use std::alloc::Global;
 use std::cmp::Ordering;
 
@@ -101,47 +101,107 @@ pub(crate) struct Lacked<'a> {
     index: usize,
 }
 
-/// The links to parts that documents lack, of each result whose number leaves this rest by `of`, part by part.
-pub(crate) fn every_lacked<'a>(
+/// Links of a result to parts of a document, by the numbers of both.
+#[derive(Clone, Copy)]
+pub(crate) struct LinksTo<'a> {
+    page: usize,
+    source: usize,
+    anchors: &'a Anchors,
+    to: &'a AnchorLinks,
+}
+
+/// The links to parts of documents, of each result whose number leaves this rest by `of`.
+pub(crate) fn every_links<'a>(
     alloc: Global,
     pages: Pages<'a>,
     rest: usize,
     of: usize,
-) -> Result<Vec<Lacked<'a>>, NoMemory> {
+) -> Result<Vec<LinksTo<'a>>, NoMemory> {
     let mut all = Vec::new(alloc);
     for (source, result) in pages.results.iter().enumerate() {
         if source.checked_rem(of) == Some(rest)
             && let Some(anchors) = pages.anchors_of(result)
         {
-            push_lacked(alloc, pages, source, anchors, &mut all)?;
+            push_links(pages, source, anchors, &mut all)?;
         }
+    }
+    Ok(all)
+}
+
+/// Appends a result's links to parts of documents.
+fn push_links<'a>(
+    pages: Pages<'a>,
+    source: usize,
+    anchors: &'a Anchors,
+    all: &mut Vec<LinksTo<'a>>,
+) -> Result<(), NoMemory> {
+    for to in &anchors.links {
+        if let Some(page) = pages.find(to.url.as_str()) {
+            all.push(LinksTo {
+                page,
+                source,
+                anchors,
+                to,
+            })?;
+        }
+    }
+    Ok(())
+}
+
+/// Those of the links that lead to parts that documents lack, of each document whose number leaves this rest by `of`, part by
+/// part. The links of a result stand together. They are looked up document by document, so that the ids of one are near.
+pub(crate) fn every_lacked<'a>(
+    alloc: Global,
+    pages: Pages<'a>,
+    links: &[Vec<LinksTo<'a>>],
+    rest: usize,
+    of: usize,
+) -> Result<Vec<Lacked<'a>>, NoMemory> {
+    let mut all = Vec::new(alloc);
+    for own in &by_document(alloc, links, rest, of)? {
+        push_lacked(alloc, pages, *own, &mut all)?;
     }
     sort_by_part(&mut all)?;
     Ok(all)
 }
 
-/// Appends a result's links to parts that documents lack.
+/// The links to documents whose numbers leave this rest, document by document.
+fn by_document<'a>(
+    alloc: Global,
+    links: &[Vec<LinksTo<'a>>],
+    rest: usize,
+    of: usize,
+) -> Result<Vec<LinksTo<'a>>, NoMemory> {
+    let mut own: Vec<LinksTo<'a>> = Vec::new(alloc);
+    for part in links {
+        for one in part {
+            if one.page.checked_rem(of) == Some(rest) {
+                own.push(*one)?;
+            }
+        }
+    }
+    own.sort_by(|a: &LinksTo<'_>, b: &LinksTo<'_>| a.page.cmp(&b.page))?;
+    Ok(own)
+}
+
+/// Appends the links to parts that the document lacks.
 fn push_lacked<'a>(
     alloc: Global,
     pages: Pages<'a>,
-    source: usize,
-    anchors: &'a Anchors,
+    links: LinksTo<'a>,
     all: &mut Vec<Lacked<'a>>,
 ) -> Result<(), NoMemory> {
-    for to in &anchors.links {
-        if let Some(page) = pages.find(to.url.as_str()) {
-            for link in &to.links {
-                let fragment = anchors.fragment(link);
-                let part = Part { page, fragment };
-                if !pages.has_part(alloc, part)? {
-                    let index = link.index;
-                    all.push(Lacked {
-                        part,
-                        source,
-                        index,
-                    })?;
-                }
-            }
+    let anchors = links.anchors;
+    let page = links.page;
+    for link in &links.to.links {
+        let fragment = anchors.fragment(link);
+        let part = Part { page, fragment };
+        if !pages.has_part(alloc, part)? {
+            all.push(Lacked {
+                part,
+                source: links.source,
+                index: link.index,
+            })?;
         }
     }
     Ok(())
@@ -153,7 +213,7 @@ fn sort_by_part(all: &mut Vec<Lacked<'_>>) -> Result<(), NoMemory> {
 }
 
 /// The parts that documents lack, with how many results link to each. Appends the links to them, whose numbers come behind so
-/// many others.
+/// many others. The links to a document stand together, part by part.
 pub(crate) fn lacking<'a>(
     alloc: Global,
     all: Vec<Lacked<'a>>,
@@ -161,7 +221,7 @@ pub(crate) fn lacking<'a>(
     leads: &mut Vec<Lead>,
 ) -> Result<LackedParts<'a>, NoMemory> {
     let mut all = all;
-    sort_by_part(&mut all)?;
+    all.sort_by(|a: &Lacked<'_>, b: &Lacked<'_>| a.part.page.cmp(&b.part.page))?;
     let mut lacking = Vec::new(alloc);
     let mut last = None;
     for lacked in &all {

@@ -10,7 +10,6 @@ mod located;
 mod names;
 mod rows;
 mod shown;
-mod tally;
 mod threads;
 mod unreached;
 mod worst;

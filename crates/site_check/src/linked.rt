@@ -1,22 +1,15 @@
 //! The results that found no page, and how many results link to each.
-ghost use Rattle.std.specs.Prelude.{◌≡◌, ℕ, Bool, List, [], IfOk, IsSome, map, filter, true, if◌then◌else◌};
+ghost use Rattle.std.specs.Prelude.{◌≡◌, ℕ, List, IfOk, IsSome, map, filter, false, true};
 ghost use Rattle.std.specs.List.{list_any};
-ghost use Rattle.std.specs.Option.{option_map};
 ghost use Rattle.std.specs.Str.{bytes_eq};
 ghost use Rattle.crawl_web.specs.ReportText.{is_missing};
 ghost use Rattle.crawl_web.specs.declared.page.PageResult.{PageResult};
-ghost use Rattle.crawl_sources.specs.Tallies.{pointed, counted, IsTally};
+ghost use Rattle.crawl_sources.specs.Tallies.{pointed, count_of, IsTally};
 ghost use Rattle.site_check.specs.Broken.{is_unfound, linked, linked_at};
-ghost use Rattle.site_check.specs.Tallies.{count_of};
 
-use crate::tally::Tally;
-use crawl_keys::CanonUrl;
-use crawl_web::{NoMemory, Page, PageResult, links_of};
-use hash_order::HashedText;
+use crawl_sources::{Tallies, tally_links, tally_of};
+use crawl_web::{NoMemory, Page, PageResult};
 use std::alloc::Global;
-use std::collections::BTreeMap;
-
-type Tallies<'a> = BTreeMap<HashedText<'a>, Tally<'a>>;
 
 /// A result, and how many results link to its URL.
 #[derive(Clone, Copy)]
@@ -33,8 +26,7 @@ pub(crate) fn linked_results(
     ensures { IfOk result (λ all. map linked_at all.items ≡ map (linked results.now) (filter is_unfound results.now)) }
 {
     let unfound = unfound(alloc, results)?;
-    let mut tallies = no_tallies(alloc, &unfound)?;
-    count_results(&mut tallies, results);
+    let tallies = tally_links(alloc, &unfound, results, false)?;
     with_counts(alloc, &unfound, &tallies)
 }
 
@@ -65,47 +57,6 @@ pub(crate) fn is_missing(one: &PageResult) -> bool
     }
 }
 
-/// A count of none for each of these URLs.
-fn no_tallies<'a>(alloc: Global, unfound: &[&'a PageResult]) -> Result<Tallies<'a>, NoMemory>
-    ensures known { IfOk result (λ tallies. (url : List ℕ) → list_any (λ r. bytes_eq r.url url) (pointed unfound.now) ≡ true → IsSome (count_of tallies url)) }
-    ensures none { IfOk result (λ tallies. (url : List ℕ) → IsTally [] url (count_of tallies url)) }
-{
-    let mut tallies = BTreeMap::new(alloc);
-    for one in unfound {
-        tallies.insert(one.url.hashed(), Tally::new())?;
-    }
-    Ok(tallies)
-}
-
-/// Counts the links of these results, numbered from 1.
-fn count_results<'a>(tallies: &mut Tallies<'a>, results: &'a [PageResult])
-    ensures counted { (url : List ℕ) → IsTally [] url (count_of tallies.old url) → IsTally results.now url (count_of tallies.new url) }
-    ensures kept { (url : List ℕ) → IsSome (count_of tallies.old url) → IsSome (count_of tallies.new url) }
-{
-    let mut number: u64 = 0;
-    for one in results {
-        number += 1;
-        count_links(tallies, number, one.url.as_str(), links_of(&one.page));
-    }
-}
-
-/// Counts the result with this number and this URL for each URL that is among its links.
-fn count_links<'a>(tallies: &mut Tallies<'a>, number: u64, page: &'a str, links: &'a [CanonUrl])
-    ensures { (url : List ℕ) → count_of tallies.new url ≡ option_map (λ c. if list_any (λ link. bytes_eq link url) links.now then counted number page.now c else c) (count_of tallies.old url) }
-{
-    for link in links {
-        count_link(tallies, number, page, link);
-    }
-}
-
-fn count_link<'a>(tallies: &mut Tallies<'a>, number: u64, page: &'a str, link: &'a CanonUrl)
-    ensures { (url : List ℕ) → count_of tallies.new url ≡ option_map (λ c. if bytes_eq link.now url then counted number page.now c else c) (count_of tallies.old url) }
-{
-    if let Some(tally) = tallies.get_mut(&link.hashed()) {
-        tally.add(number, page);
-    }
-}
-
 /// Each of these results with the count that is kept for its URL.
 fn with_counts<'a>(
     alloc: Global,
@@ -113,7 +64,7 @@ fn with_counts<'a>(
     tallies: &Tallies<'a>,
 ) -> Result<Vec<Linked<'a>>, NoMemory>
     requires { (url : List ℕ) → list_any (λ r. bytes_eq r.url url) (pointed unfound.now) ≡ true → IsSome (count_of tallies.now url) }
-    ensures { (results : List PageResult) → ((url : List ℕ) → IsTally results url (count_of tallies.now url)) → IfOk result (λ all. map linked_at all.items ≡ map (linked results) (pointed unfound.now)) }
+    ensures { (results : List PageResult) → ((url : List ℕ) → IsTally false results url (count_of tallies.now url)) → IfOk result (λ all. map linked_at all.items ≡ map (linked results) (pointed unfound.now)) }
 {
     let mut all = Vec::new(alloc);
     for one in unfound {
@@ -124,13 +75,11 @@ fn with_counts<'a>(
 
 fn with_count<'a>(one: &'a PageResult, tallies: &Tallies<'a>) -> Linked<'a>
     requires { IsSome (count_of tallies.now one.now.url) }
-    ensures { (results : List PageResult) → ((url : List ℕ) → IsTally results url (count_of tallies.now url)) → linked_at result ≡ linked results one.now }
+    ensures { (results : List PageResult) → ((url : List ℕ) → IsTally false results url (count_of tallies.now url)) → linked_at result ≡ linked results one.now }
 {
-    match tallies.get(&one.url.hashed()) {
-        Some(tally) => Linked {
-            result: one,
-            pages: tally.pages(),
-        },
-        None => unreachable!("each URL without a page has a count"),
+    let tally = tally_of(tallies, &one.url);
+    Linked {
+        result: one,
+        pages: tally.count(),
     }
 }

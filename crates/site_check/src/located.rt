@@ -7,8 +7,8 @@ use saved_site::{TextPlace, text_places};
 use std::alloc::Global;
 use std::mem;
 
-/// About how many bytes of pages are read before they are looked at.
-const READ_LENGTH: usize = 1 << 24;
+/// About how many bytes of pages are read before they are looked at: few enough that their room is used again.
+const READ_LENGTH: usize = 1 << 22;
 
 /// Takes the places of what has this number.
 pub(crate) fn take_places(alloc: Global, found: &mut [Vec<Place>], number: usize) -> Vec<Place> {

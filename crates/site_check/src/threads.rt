@@ -2,7 +2,7 @@
 ghost use Rattle.std.specs.Prelude.{◌≡◌, ◌++◌, ◌+◌, ◌<◌, ◌^◌, IfOk, length};
 ghost use Rattle.site_check.specs.Leads.{indices_at, leads_from, number_at};
 
-use crate::anchors::{Lacked, Pages, every_lacked};
+use crate::anchors::{Lacked, Pages, every_lacked, every_links};
 use crate::check::{Bodies, Site};
 use crate::leads::{Lead, Maps, leads_from};
 use crate::located::{PlaceOf, ReadPage, every_place, read_some};
@@ -11,8 +11,9 @@ use std::alloc::Global;
 use std::thread;
 use std::thread::{Threads, join};
 
-/// How often results are halved, so that as many threads look at a part as two to this power.
-const HALVINGS: u32 = 2;
+/// How often results are halved, so that as many threads look at a part as two to this power. They are more than work at once,
+/// since the pages of one part can have more links than those of another.
+const HALVINGS: u32 = 4;
 
 /// Some of the results, the first of which has this number, and what their links are looked for in.
 #[derive(Clone, Copy)]
@@ -49,7 +50,7 @@ impl<'a, 'p> Part<'a, 'p> {
     }
 }
 
-/// The links of results that lead to targets, by four threads where there may be so many.
+/// The links of results that lead to targets, by threads where there may be four.
 pub(crate) fn leads_by<'p, R: Threads + Sync>(
     rt: &R,
     alloc: Global,
@@ -111,7 +112,15 @@ pub(crate) fn lacked_by<'p, R: Threads + Sync>(
         rt,
         alloc,
         count,
-        &|rest: usize| { every_lacked(alloc, pages, rest, count) },
+        &|rest: usize| { every_links(alloc, pages, rest, count) },
+    )?;
+    let links = all_made(alloc, parts)?;
+    let links = links.as_slice();
+    let parts = thread::map_indices(
+        rt,
+        alloc,
+        count,
+        &|rest: usize| { every_lacked(alloc, pages, links, rest, count) },
     )?;
     joined(alloc, parts)
 }
@@ -158,6 +167,18 @@ fn places_by<R: Threads + Sync>(
         &|rest: usize| { every_place(alloc, read, rest, count) },
     )?;
     joined(alloc, parts)
+}
+
+/// What each thread found, or that a growth was refused.
+fn all_made<T: Drop>(
+    alloc: Global,
+    parts: Vec<Result<Vec<T>, NoMemory>>,
+) -> Result<Vec<Vec<T>>, NoMemory> {
+    let mut all = Vec::new(alloc);
+    for part in parts {
+        all.push(part?)?;
+    }
+    Ok(all)
 }
 
 /// All that the threads found, or that a growth was refused.

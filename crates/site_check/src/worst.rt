@@ -1,6 +1,7 @@
 //! The files with most broken links.
 use check_report::{Broken, FileCount};
 use crawl_web::NoMemory;
+use hash_order::HashedText;
 use std::alloc::Global;
 use std::collections::BTreeMap;
 
@@ -14,23 +15,32 @@ pub(crate) fn worst(alloc: Global, broken: &[Broken]) -> Result<Vec<FileCount>, 
     told(alloc, most.as_slice())
 }
 
-/// Broken links that come one after another in a file.
+/// A file, and how many broken links stand in it, or come one after another there.
 #[derive(Clone, Copy)]
-struct Run<'a> {
+struct Count<'a> {
     file: &'a str,
     links: u64,
 }
 
+impl Count<'_> {
+    /// Whether it comes before the other: with more links, or with as many and a lesser name.
+    fn is_before(&self, other: &Count<'_>) -> bool {
+        self.links > other.links || self.links == other.links && self.file < other.file
+    }
+}
+
 /// How many broken links stand in each file.
-fn counts_of(alloc: Global, broken: &[Broken]) -> Result<BTreeMap<&str, u64>, NoMemory> {
-    let mut counts: BTreeMap<&str, u64> = BTreeMap::new(alloc);
-    let mut run = Run { file: "", links: 0 };
+type Counts<'a> = BTreeMap<HashedText<'a>, Count<'a>>;
+
+fn counts_of(alloc: Global, broken: &[Broken]) -> Result<Counts<'_>, NoMemory> {
+    let mut counts: Counts<'_> = BTreeMap::new(alloc);
+    let mut run = Count { file: "", links: 0 };
     for one in broken {
         for place in &one.places {
             let file = place.file.as_str();
             if file != run.file {
                 add_run(&mut counts, run)?;
-                run = Run { file, links: 0 };
+                run = Count { file, links: 0 };
             }
             run.links = run.links.saturating_add(1);
         }
@@ -40,35 +50,45 @@ fn counts_of(alloc: Global, broken: &[Broken]) -> Result<BTreeMap<&str, u64>, No
 }
 
 /// Adds a run, of one link at least.
-fn add_run<'a>(counts: &mut BTreeMap<&'a str, u64>, run: Run<'a>) -> Result<(), NoMemory> {
+fn add_run<'a>(counts: &mut Counts<'a>, run: Count<'a>) -> Result<(), NoMemory> {
     if run.links > 0 {
-        let count = counts.entry(run.file)?.or_insert(0);
-        *count = count.saturating_add(run.links);
+        let file = run.file;
+        let count = counts
+            .entry(HashedText::from(file))?
+            .or_insert(Count { file, links: 0 });
+        count.links = count.links.saturating_add(run.links);
     }
     Ok(())
 }
 
-/// The files with the greatest counts, greatest first, and in order where counts are equal.
-fn most_first<'a>(
-    alloc: Global,
-    counts: &BTreeMap<&'a str, u64>,
-) -> Result<Vec<(&'a str, u64)>, NoMemory> {
-    let mut all: Vec<(&'a str, u64)> = Vec::new(alloc);
-    for (file, count) in counts {
-        all.push((*file, *count))?;
+/// The first files, at most ten.
+fn most_first<'a>(alloc: Global, counts: &Counts<'a>) -> Result<Vec<Count<'a>>, NoMemory> {
+    let mut first = Vec::new(alloc);
+    for count in counts.values() {
+        insert(*count, &mut first)?;
     }
-    all.sort_by(|a: &(&str, u64), b: &(&str, u64)| b.1.cmp(&a.1))?;
-    all.truncate(TOLD);
-    Ok(all)
+    Ok(first)
 }
 
-fn told(alloc: Global, counts: &[(&str, u64)]) -> Result<Vec<FileCount>, NoMemory> {
+/// Inserts a file where it comes among the first, and leaves out what comes last behind ten.
+fn insert<'a>(count: Count<'a>, first: &mut Vec<Count<'a>>) -> Result<(), NoMemory> {
+    let place = first
+        .iter()
+        .position(|other| count.is_before(other))
+        .unwrap_or(first.len());
+    if place < TOLD {
+        first.insert(place, count)?;
+        first.truncate(TOLD);
+    }
+    Ok(())
+}
+
+fn told(alloc: Global, counts: &[Count<'_>]) -> Result<Vec<FileCount>, NoMemory> {
     let mut told = Vec::new(alloc);
-    for (file, links) in counts {
-        let file = String::from_str(alloc, file)?;
+    for count in counts {
         told.push(FileCount {
-            file,
-            links: *links,
+            file: String::from_str(alloc, count.file)?,
+            links: count.links,
         })?;
     }
     Ok(told)

@@ -9,4 +9,4 @@ use Rattle.site_check.proofs.linked.linked_results.Goals as goal
 pub with_counts-requires : goal.with_counts-requires
 with_counts-requires c = λ url known.
     let P : List (Bor PageResult) → Type 0 = λ ms. list_any (λ (r : PageResult). bytes_eq r.url url) (pointed ms) ≡ true in
-    c.count_results.ensures.kept url (c.in_ok-tallies.ensures.known url (subst P (c.deref-2.ensures.value ∙ sym c.deref.ensures.value) known))
+    c.in_ok-tallies.ensures.known url (subst P (c.deref-2.ensures.value ∙ sym c.deref.ensures.value) known)
