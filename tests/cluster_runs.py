@@ -42,21 +42,12 @@ from mercator_cluster import (  # noqa: E402
 )
 from mercator_frontier import FrontierEnded  # noqa: E402
 from serving.crawlers import Folder, found_by_search  # noqa: E402
+from serving.trial import SECONDS, Differs, expect  # noqa: E402
 
 LONG = "\u00fc" * 1500
-SECONDS = float(os.environ.get("SECONDS", "120"))
 BUILT = ROOT / "crates/mercator_cli/out/mercator_cli"
 # How a process of a part ends.
 COMPLETE, FRONTIER_DIED, FAULT = 0, 3, 1
-
-
-class Differs(Exception):
-    """A crawl is not as it should be."""
-
-
-def expect(is_so: bool, text: str) -> None:
-    if not is_so:
-        raise Differs(text)
 
 
 # ---------------------------------------------------------------- webs

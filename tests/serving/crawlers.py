@@ -19,6 +19,7 @@ from serving import ROOT
 from serving.trial import SECONDS, Differs, Skipped, Trial, expect
 
 CRAWLER = ROOT / "examples/crawl_http.py"
+LONG = 5 * SECONDS  # for Python's documentation, which takes some minutes under load
 
 
 class Folder:
@@ -209,7 +210,7 @@ def saved_documentation(trial: Trial) -> None:
     with Folder(site) as folder:
         wanted = found_in_saved_web(trial, site, folder.url)
         words = ("--delay", "0", "--largest", "100000000", "--within", "127.0.0.1", folder.url)
-        done = run_crawler(crawler_words(trial, *words), 5 * SECONDS)  # some minutes under load
+        done = run_crawler(crawler_words(trial, *words), LONG)
         told = told_by_crawler(done.stdout)
         expect(done.returncode == 0 and not done.stderr, f"status {done.returncode}: {done.stderr.decode()}")
         expect(len(told) == len(dict(told)), "a URL is told twice")
@@ -227,7 +228,7 @@ def found_in_saved_web(trial: Trial, site: Path, url: str) -> Dict[str, str]:
     with open(web, "wb") as file:
         subprocess.run(
             [sys.executable, str(ROOT / "tools/site_to_web.py"), str(site), url],
-            stdout=file, stderr=subprocess.DEVNULL, timeout=SECONDS, check=True,
+            stdout=file, stderr=subprocess.DEVNULL, timeout=LONG, check=True,
         )
     words = [trial.program, "crawl", "--within", "127.0.0.1", str(web), url]
     report = subprocess.run(words, capture_output=True, timeout=SECONDS, check=True).stdout.decode()
