@@ -342,6 +342,8 @@ def without_row(crates: Crates) -> list[str]:
         if line.startswith("| `"):
             rows.update(re.findall(r"`([^`]+)`", line.split(" | ")[0]))
     reached = reached_by_contracts(crates)
+    if not reached:
+        return ["no contract reaches a definition"]
     return sorted(f"no row for {it.path}: {it.name}" for it in reached if it.name not in rows)
 
 
