@@ -262,12 +262,12 @@ class Crate:
 
 
 def memory_of(folder: Path) -> float:
-    """The gigabytes that a check of a crate takes at most, reckoned by lines as `rt ci` does."""
+    """The gigabytes that a check of a crate takes at most, reckoned by its lines."""
     code, *proofs = [
         sum(path.read_bytes().count(b"\n") for path in (folder / part).rglob("*.*t"))
         for part in ("src", "specs", "proofs")
     ]
-    return 2 + code / 1000 + sum(proofs) / 5000
+    return 1 + code / 1500 + sum(proofs) / 7500
 
 
 def link_proved(one: str, other: str) -> None:
