@@ -1,6 +1,6 @@
 //! The commands over a folder as `clap` knows them. The crate `mercator_site` runs them.
 use crate::commands::arguments::{Flag, option, push_flags, word, workers};
-use clap::{Arg, ArgAction, Command};
+use clap::{Arg, ArgAction, ArgGroup, Command};
 use std::alloc::{AllocError, Global};
 
 const SITE_HELP: &str = "\
@@ -33,10 +33,20 @@ fn site_args<'a>(alloc: Global) -> Result<Vec<Arg<'a>>, AllocError> {
 /// `check`: which links of a folder are broken.
 pub fn check_command<'a>(alloc: Global) -> Result<Command<'a>, AllocError> {
     let args = check_args(alloc)?;
+    let forms = forms(alloc)?;
     Command::new(alloc, "check")
         .about("Tells which links of a folder of HTML pages are broken, and where they stand")
         .after_help(CHECK_HELP)
-        .args(args)
+        .args(args)?
+        .group(forms)
+}
+
+/// What a check is told as in place of a text for people: one of these.
+fn forms<'a>(alloc: Global) -> Result<ArgGroup<'a>, AllocError> {
+    ArgGroup::new(alloc, "form")
+        .arg("json")?
+        .arg("annotations")?
+        .arg("html")
 }
 
 fn check_args<'a>(alloc: Global) -> Result<Vec<Arg<'a>>, AllocError> {
