@@ -1,6 +1,6 @@
 //! The parts of documents, and links to parts.
-use crate::cleaning::{has_breaks, push_without_breaks, trimmed_end};
-use crate::found_links::{Found, Piece};
+use crate::cleaning::{push_without_breaks, trimmed_end};
+use crate::found_links::Found;
 use crate::targets::Targets;
 use crate::texts::Texts;
 use crawl_keys::CanonUrl;
@@ -31,14 +31,14 @@ pub struct Anchors {
     pub ids: Vec<Vec<u8>>,
     /// Links with a `#` that have a canonical URL; those with the same text before it stand together, in order.
     pub links: Vec<AnchorLinks>,
-    /// The texts of the document's links, one behind the other.
-    texts: Vec<u8>,
+    /// What is behind the first `#` of each of these links, one behind the other.
+    fragments: Vec<u8>,
 }
 
 impl Anchors {
     /// What is behind the first `#` of one of its links.
     pub fn fragment(&self, link: &AnchorLink) -> &[u8] {
-        self.texts
+        self.fragments
             .as_slice()
             .get(link.begin..link.end)
             .unwrap_or(&[])
@@ -52,30 +52,31 @@ impl Anchors {
 pub(crate) fn anchors_of(
     alloc: Global,
     ids: Vec<Vec<u8>>,
-    found: Found,
+    found: &Found,
     texts: Texts,
     url: &CanonUrl,
 ) -> Result<Anchors, AllocError> {
     let mut ids = ids;
     ids.sort()?;
-    let mut odd = Vec::new(alloc);
-    let links = anchor_links(alloc, &found, texts, url, &mut odd)?;
-    let Found { mut texts, .. } = found;
-    texts.append(&mut odd)?;
-    Ok(Anchors { ids, links, texts })
+    let mut fragments = Vec::new(alloc);
+    let links = anchor_links(alloc, found, texts, url, &mut fragments)?;
+    Ok(Anchors {
+        ids,
+        links,
+        fragments,
+    })
 }
 
-/// The links with a `#` that have a canonical URL. Fragments that no text has as they are read go to `odd`, as if that stood
-/// behind the texts.
+/// The links with a `#` that have a canonical URL. Their fragments are appended.
 fn anchor_links(
     alloc: Global,
     found: &Found,
     texts: Texts,
     url: &CanonUrl,
-    odd: &mut Vec<u8>,
+    fragments: &mut Vec<u8>,
 ) -> Result<Vec<AnchorLinks>, AllocError> {
     let mut targets = Targets::new(alloc, texts, url)?;
-    let parts = parts_by_target(alloc, found, &mut targets, odd)?;
+    let parts = parts_by_target(alloc, found, &mut targets, fragments)?;
     with_urls(alloc, targets.into_urls(), parts)
 }
 
@@ -99,14 +100,14 @@ fn parts_by_target<'t>(
     alloc: Global,
     found: &'t Found,
     targets: &mut Targets<'t>,
-    odd: &mut Vec<u8>,
+    fragments: &mut Vec<u8>,
 ) -> Result<Vec<Vec<AnchorLink>>, AllocError> {
     let mut parts = Vec::new(alloc);
     for piece in &found.pieces {
         let text = found.text(*piece);
         if let Some(mark) = memchr(b'#', text) {
             let number = targets.number_of(&text[..mark + 1])?;
-            let link = link_to_part(found, *piece, mark, odd)?;
+            let link = link_to_part(text, mark, piece.index, fragments)?;
             push_at(alloc, &mut parts, number, link)?;
         }
     }
@@ -129,38 +130,19 @@ fn push_at(
     Ok(())
 }
 
-/// The link with this text, whose first `#` is at an index in it.
+/// The link with this text, whose first `#` is at a mark in it, and whose value begins at an index. Its fragment is appended.
 fn link_to_part(
-    found: &Found,
-    piece: Piece,
+    text: &[u8],
     mark: usize,
-    odd: &mut Vec<u8>,
+    index: usize,
+    fragments: &mut Vec<u8>,
 ) -> Result<AnchorLink, AllocError> {
-    let behind = found.text(piece).get(mark..).unwrap_or(&[]);
-    let marked = trimmed_end(behind);
-    if has_breaks(marked) {
-        return odd_link(found, piece, marked, odd);
-    }
-    let begin = piece.begin.saturating_add(mark);
+    let marked = trimmed_end(text.get(mark..).unwrap_or(&[]));
+    let begin = fragments.len();
+    push_without_breaks(marked.get(1..).unwrap_or(&[]), fragments)?;
     Ok(AnchorLink {
-        begin: begin.saturating_add(1),
-        end: begin.saturating_add(marked.len()),
-        index: piece.index,
-    })
-}
-
-/// The link whose fragment, with its `#` in front, has breaks.
-fn odd_link(
-    found: &Found,
-    piece: Piece,
-    marked: &[u8],
-    odd: &mut Vec<u8>,
-) -> Result<AnchorLink, AllocError> {
-    let begin = found.texts.len().saturating_add(odd.len());
-    push_without_breaks(marked, odd)?;
-    Ok(AnchorLink {
-        begin: begin.saturating_add(1),
-        end: found.texts.len().saturating_add(odd.len()),
-        index: piece.index,
+        begin,
+        end: fragments.len(),
+        index,
     })
 }

@@ -37,9 +37,6 @@ pub(crate) fn is_over_lines(text: &[u8]) -> bool {
 
 /// The text without tabs and line breaks.
 pub(crate) fn without_breaks(alloc: Global, text: &[u8]) -> Result<Vec<u8>, AllocError> {
-    if !has_breaks(text) {
-        return text.to_vec(alloc);
-    }
     let mut clean = Vec::new(alloc);
     push_without_breaks(text, &mut clean)?;
     Ok(clean)
@@ -47,6 +44,9 @@ pub(crate) fn without_breaks(alloc: Global, text: &[u8]) -> Result<Vec<u8>, Allo
 
 /// Appends the text without tabs and line breaks.
 pub(crate) fn push_without_breaks(text: &[u8], out: &mut Vec<u8>) -> Result<(), AllocError> {
+    if !has_breaks(text) {
+        return out.extend_from_slice(text);
+    }
     for piece in text.split(|byte| matches!(*byte, b'\t' | b'\n' | b'\r')) {
         out.extend_from_slice(piece)?;
     }

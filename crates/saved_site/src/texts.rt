@@ -76,7 +76,7 @@ pub(crate) fn links_at(
     let indices = texts.take_indices();
     let counts = texts.counts;
     let anchors = if rules.anchors {
-        Some(anchors_of(alloc, ids.into_texts(), found, texts, url)?)
+        Some(anchors_of(alloc, ids.into_texts(), &found, texts, url)?)
     } else {
         None
     };
