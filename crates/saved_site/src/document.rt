@@ -4,6 +4,7 @@ ghost use Rattle.saved_site.specs.Places.{keeps_ascii};
 
 use crate::anchors::Anchors;
 use crate::charset::{Charset, charset_of, declared, from_utf16, from_windows};
+use crate::found_links::Found;
 use crate::kinds::start_of;
 use crate::link_lines::LinkLines;
 use crate::site::Rules;
@@ -46,6 +47,7 @@ pub(crate) fn document_at(
     body: &[u8],
     url: &CanonUrl,
     rules: &Rules,
+    found: &mut Found,
 ) -> Result<Document, AllocError> {
     let charset = charset_of(body);
     let Read {
@@ -54,8 +56,8 @@ pub(crate) fn document_at(
         anchors,
         indices,
     } = match made_text(alloc, body, charset)? {
-        Some(text) => links_at(alloc, text.as_slice(), charset, url, rules)?,
-        None => links_at(alloc, without_mark(body), charset, url, rules)?,
+        Some(text) => links_at(alloc, text.as_slice(), charset, url, rules, found)?,
+        None => links_at(alloc, without_mark(body), charset, url, rules, found)?,
     };
     let encoding = match charset {
         Charset::Other => {

@@ -30,6 +30,12 @@ impl Found {
         }
     }
 
+    /// Those of no document. The room for them is kept.
+    pub(crate) fn clear(&mut self) {
+        self.texts.clear();
+        self.pieces.clear();
+    }
+
     /// The text of one of its links.
     pub(crate) fn text(&self, piece: Piece) -> &[u8] {
         self.texts

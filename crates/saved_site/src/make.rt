@@ -2,6 +2,7 @@
 use crate::anchors::Anchors;
 use crate::batch::Batch;
 use crate::document::{Document, document_at};
+use crate::found_links::Found;
 use crate::kinds::{is_document, kind_of};
 use crate::link_lines::LinkLines;
 use crate::notes::{Left, Note};
@@ -75,12 +76,13 @@ pub(crate) fn taken(
     next: &AtomicUsize,
 ) -> Result<Vec<Made>, AllocError> {
     let mut made = Vec::new(alloc);
+    let mut found = Found::new(alloc);
     for _ in 0..order.len() {
         let Some(number) = order.get(next.fetch_add(1, Ordering::SeqCst)) else {
             break;
         };
         if let Some(task) = tasks.get(*number) {
-            let mut page = page_of(alloc, given, task, batch.body(*number))?;
+            let mut page = page_of(alloc, given, task, batch.body(*number), &mut found)?;
             page.number = *number;
             made.push(page)?;
         }
@@ -89,7 +91,13 @@ pub(crate) fn taken(
 }
 
 /// Makes a page, of the bytes of its file where it has one.
-fn page_of(alloc: Global, given: Given<'_>, task: &Task, body: &[u8]) -> Result<Made, AllocError> {
+fn page_of(
+    alloc: Global,
+    given: Given<'_>,
+    task: &Task,
+    body: &[u8],
+    found: &mut Found,
+) -> Result<Made, AllocError> {
     match given
         .site
         .entries
@@ -98,7 +106,7 @@ fn page_of(alloc: Global, given: Given<'_>, task: &Task, body: &[u8]) -> Result<
     {
         Some(Source::Moved(target)) => moved_page(alloc, given, task, target.as_str()),
         Some(Source::File(index)) => {
-            let document = file_document(alloc, given, *index, task, body)?;
+            let document = file_document(alloc, given, *index, task, body, found)?;
             linked_page(alloc, given, task, document)
         }
         None => linked_page(alloc, given, task, Document::empty(alloc)),
@@ -112,6 +120,7 @@ fn file_document(
     index: usize,
     task: &Task,
     body: &[u8],
+    found: &mut Found,
 ) -> Result<Document, AllocError> {
     let name = match given.names.get(index) {
         Some(name) => name.as_str(),
@@ -119,7 +128,7 @@ fn file_document(
     };
     let (path, _) = split_name(name, given.rules.queries);
     if is_document(kind_of(path), body) {
-        document_at(alloc, body, &task.url, given.rules)
+        document_at(alloc, body, &task.url, given.rules, found)
     } else {
         Ok(Document::empty(alloc))
     }

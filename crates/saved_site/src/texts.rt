@@ -57,7 +57,7 @@ pub(crate) struct Texts {
 }
 
 /// What a document in UTF-8 at a URL has: the lines of its links, and its anchors and where links stand where the rules want
-/// them; `charset` is the encoding that it had.
+/// them; `charset` is the encoding that it had. In `found` is room for what is found.
 ///
 /// # Errors
 /// Where a growth was refused.
@@ -67,16 +67,17 @@ pub(crate) fn links_at(
     charset: Charset,
     url: &CanonUrl,
     rules: &Rules,
+    found: &mut Found,
 ) -> Result<Read, AllocError> {
-    let mut found = Found::new(alloc);
     let mut ids = Ids::new(alloc);
-    let base = found_in(alloc, text, rules, &mut found, &mut ids)?;
-    let mut texts = texts_of(alloc, charset, base, url, &found, rules.places)?;
+    found.clear();
+    let base = found_in(alloc, text, rules, found, &mut ids)?;
+    let mut texts = texts_of(alloc, charset, base, url, found, rules.places)?;
     let lines = texts.take_lines();
     let indices = texts.take_indices();
     let counts = texts.counts;
     let anchors = if rules.anchors {
-        Some(anchors_of(alloc, ids.into_texts(), &found, texts, url)?)
+        Some(anchors_of(alloc, ids.into_texts(), found, texts, url)?)
     } else {
         None
     };
