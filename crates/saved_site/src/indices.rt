@@ -16,13 +16,13 @@ pub(crate) struct Indices {
 }
 
 impl Indices {
-    /// None yet, of the page at a URL.
-    pub(crate) fn new(alloc: Global, url: &CanonUrl) -> Result<Indices, AllocError> {
+    /// None yet, of the page at a URL, with room for those of so many links.
+    pub(crate) fn new(alloc: Global, url: &CanonUrl, links: usize) -> Result<Indices, AllocError> {
         Ok(Indices {
             alloc,
             page: base_of(alloc, url)?,
             index: 0,
-            kept: Vec::new(alloc),
+            kept: Vec::with_capacity(alloc, links)?,
         })
     }
 

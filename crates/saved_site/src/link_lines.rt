@@ -1,5 +1,5 @@
 //! The lines of a page's links.
-ghost use Rattle.std.specs.Prelude.{◌≡◌, ◌∷◌, ◌++◌, [], true, OnOk, OnErr};
+ghost use Rattle.std.specs.Prelude.{◌≡◌, ◌∷◌, ◌++◌, [], true, IfOk, OnOk, OnErr};
 ghost use Rattle.saved_site.specs.Texts.{fits, all_fit, link_line, link_lines};
 
 use std::alloc::{AllocError, Global};
@@ -30,6 +30,17 @@ impl LinkLines {
         LinkLines {
             bytes: Vec::new(alloc),
         }
+    }
+
+    /// No lines, with room for so many bytes of them.
+    ///
+    /// # Errors
+    /// Where there is no such room.
+    pub(crate) fn with_room(alloc: Global, room: usize) -> Result<LinkLines, AllocError>
+        ensures { IfOk result (λ links. links ≡ []) }
+    {
+        let bytes = Vec::with_capacity(alloc, room)?;
+        Ok(LinkLines { bytes })
     }
 
     /// The lines, each with its line break.

@@ -100,11 +100,21 @@ fn texts_of(
     places: bool,
 ) -> Result<Texts, AllocError> {
     let mut texts = Texts::under(alloc, charset, base, url)?;
+    texts.links = LinkLines::with_room(alloc, room_of(found))?;
     if places {
-        texts.indices = Some(Indices::new(alloc, url)?);
+        texts.indices = Some(Indices::new(alloc, url, found.pieces.len())?);
     }
     texts.push_all(found)?;
     Ok(texts)
+}
+
+/// About how many bytes the lines of these links have: each its text, five bytes before it and a line break.
+fn room_of(found: &Found) -> usize {
+    let around = LINK_FRONT.saturating_add(1);
+    found
+        .texts
+        .len()
+        .saturating_add(found.pieces.len().saturating_mul(around))
 }
 
 /// Finds the links of a document, and its ids where its anchors are wanted.
