@@ -77,31 +77,39 @@ pub fn report_of_files<R: Threads + Wait + Sync>(
     let pages = SiteFiles::new(alloc, input)?;
     let web = files_web(rt, alloc, &pages, settings.seeds, files.bodies)?;
     let mut bodies = InMemory { alloc, files };
-    report_of_site(rt, alloc, &web, &pages, &mut bodies, settings)
+    report_of_site(rt, alloc, web, &pages, &mut bodies, settings)
 }
 
 /// The report of a check of a site by its saved web: of the crawl of that web from its top or the seeds, within the top's host.
+/// The web's bytes are gone before pages are looked for in what was found.
 ///
 /// # Errors
 /// `BadSeed`; `Crawl` where the crawl is incomplete; `NoMemory`.
 pub fn report_of_site<R: Threads + Wait + Sync, B: Bodies>(
     rt: &R,
     alloc: Global,
-    web: &Web,
+    web: Web,
     files: &SiteFiles<'_>,
     bodies: &mut B,
     settings: CheckSettings<'_>,
 ) -> Result<CheckReport, SiteFault>
-    ensures { IfOk result (λ report. IsCheck (string_bytes files.now.site.top) web.now.bytes.items (asks_in settings.entry) report.is_broken report.text.items) }
+    ensures { IfOk result (λ report. IsCheck (string_bytes files.now.site.top) web.bytes.items (asks_in settings.entry) report.is_broken report.text.items) }
 {
+    let Web {
+        bytes,
+        anchors,
+        places,
+        ..
+    } = web;
     let found = crawl_site(
         rt,
         alloc,
-        web.bytes.as_slice(),
+        bytes.as_slice(),
         files.top(),
         settings.seeds,
         settings.workers,
     )?;
+    drop(bytes);
     let others = others_asked(alloc, settings.external, files.top(), found.result.pages())?;
     let told = Told {
         unreached: settings.unreached,
@@ -110,8 +118,8 @@ pub fn report_of_site<R: Threads + Wait + Sync, B: Bodies>(
     let asked = Asked {
         front: settings.front,
         ignores: settings.ignores,
-        anchors: web.anchors.as_slice(),
-        places: web.places.as_slice(),
+        anchors: anchors.as_slice(),
+        places: places.as_slice(),
         unreached: settings.unreached,
     };
     let checked = check_site(rt, alloc, found.result.pages(), files, bodies, asked)?;
@@ -119,6 +127,8 @@ pub fn report_of_site<R: Threads + Wait + Sync, B: Bodies>(
     let text = print_check(alloc, &findings, told, settings.form, settings.all)?;
     // The process ends soon, and gives it back at once.
     forget(found);
+    forget(anchors);
+    forget(places);
     Ok(CheckReport {
         text,
         is_broken: checked.is_broken(),

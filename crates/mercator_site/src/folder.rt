@@ -16,7 +16,6 @@ use site_check::read_ignores;
 use std::alloc::{AllocError, Global};
 use std::fs::{self, Files};
 use std::io::{Read, Write};
-use std::mem::forget;
 use std::sync::Wait;
 use std::thread::Threads;
 
@@ -107,9 +106,7 @@ fn report_of_names<R: Files + Threads + Wait + Sync, E: Write>(
     tell_notes(alloc, err, web.notes.as_slice())?;
     let mut bodies = OnDisk { rt, alloc, folder };
     let settings = settings_of(asked, files.top(), known);
-    let report = report_of_site(rt, alloc, &web, &files, &mut bodies, settings)?;
-    // As the pages, by `report_of_site`.
-    forget(web);
+    let report = report_of_site(rt, alloc, web, &files, &mut bodies, settings)?;
     Ok(report)
 }
 
