@@ -3,4 +3,5 @@ pub mod Meaning
 pub mod Pages
 pub mod Pieces
 pub mod Places
+pub mod Printed
 pub mod Texts

@@ -130,7 +130,8 @@ fn push_at(
     Ok(())
 }
 
-/// The link with this text, whose first `#` is at a mark in it, and whose value begins at an index. Its fragment is appended.
+/// The link with this text, in which the first `#` stands at the mark, and whose value begins at the index. Its fragment is
+/// appended.
 fn link_to_part(
     text: &[u8],
     mark: usize,

@@ -50,12 +50,6 @@ impl Batch {
         Ok(batch)
     }
 
-    /// Its room.
-    pub(crate) fn into_room(self) -> Vec<u8> {
-        let Batch { bytes, .. } = self;
-        bytes
-    }
-
     /// All that was read.
     pub(crate) fn into_bytes(self) -> Vec<u8> {
         let Batch {

@@ -22,6 +22,7 @@ mod on_disk;
 mod page;
 mod places;
 mod print;
+mod printer;
 mod site;
 mod spellings;
 mod targets;

@@ -1,6 +1,7 @@
 //! The saved web of a site, made round by round.
 ghost use Rattle.std.specs.Prelude.{IfOk};
 ghost use Rattle.saved_site.specs.Meaning.{IsSiteWeb};
+ghost use Rattle.saved_site.specs.Printed.{HasPrinted};
 
 use crate::anchors::Anchors;
 use crate::batch::Batch;
@@ -9,7 +10,7 @@ use crate::files::SiteFiles;
 use crate::make::{Given, Made, Task, taken};
 use crate::notes::Note;
 use crate::page::SitePage;
-use crate::print::site_text;
+use crate::printer::Printer;
 use crate::site::Rules;
 use crate::tasks::{first_tasks, new_tasks, seed_tasks};
 use crate::texts::LinkCounts;
@@ -143,12 +144,13 @@ impl Contents for InMemory<'_> {
 /// What is made so far.
 #[derive(Drop)]
 struct Making {
-    pages: Vec<SitePage>,
+    /// The pages that did not come in the order of their URLs.
+    late: Vec<SitePage>,
     summary: Summary,
     notes: Vec<Note>,
     anchors: Vec<PageAnchors>,
     places: Vec<LinkPlaces>,
-    /// Room that files were read into, in which the web is printed.
+    /// Room for the lines of a page.
     room: Vec<u8>,
 }
 
@@ -165,25 +167,27 @@ pub(crate) fn web_of<R: Threads + Sync, C: Contents>(
 {
     let mut making = Making::new(alloc, told);
     files.tell_doubles(&mut making.notes)?;
-    make_all(rt, alloc, files.given(), seeds, contents, &mut making)?;
-    finish(making)
+    let web = make_all(rt, alloc, files.given(), seeds, contents, &mut making)?;
+    finish(web, making)
 }
 
-fn finish(making: Making) -> Result<Web, SiteError>
+fn finish(web: Printer, making: Making) -> Result<Web, SiteError>
+    requires { HasPrinted web }
     ensures { IfOk result (λ web. IsSiteWeb web.bytes.items) }
 {
     let Making {
-        mut pages,
+        mut late,
         summary,
         notes,
         mut anchors,
         mut places,
-        room,
+        ..
     } = making;
     places.sort_by(|a: &LinkPlaces, b: &LinkPlaces| a.url.as_str().cmp(b.url.as_str()))?;
     anchors.sort_by(|a: &PageAnchors, b: &PageAnchors| a.url.as_str().cmp(b.url.as_str()))?;
-    pages.sort_by(|a: &SitePage, b: &SitePage| a.url().as_str().cmp(b.url().as_str()))?;
-    let bytes = site_text(room, pages.as_slice())?;
+    late.sort_by(|a: &SitePage, b: &SitePage| a.url().as_str().cmp(b.url().as_str()))?;
+    let web = web.with_pages(late.as_slice())?;
+    let bytes = web.into_web();
     if bytes.len() > WEB_LIMIT {
         return Err(SiteError::TooLarge);
     }
@@ -205,22 +209,26 @@ fn make_all<R: Threads + Sync, C: Contents>(
     seeds: &[String],
     contents: &C,
     making: &mut Making,
-) -> Result<(), SiteError> {
+) -> Result<Printer, SiteError>
+    ensures { IfOk result HasPrinted }
+{
+    let mut web = Printer::new(alloc)?;
     let mut tasks = first_tasks(alloc, given)?;
     let mut known = BTreeSet::new(alloc);
     let mut more = seed_tasks(alloc, given, seeds, &mut known)?;
     making.summary.spellings = more.len() as u64;
     tasks.append(&mut more)?;
-    for _ in 0..u64::MAX {
+    'rounds: for _ in 0..u64::MAX {
         if tasks.is_empty() {
             break;
         }
-        let made = make_round(rt, given, tasks.as_slice(), contents, making)?;
+        let (made, more) = make_round(rt, given, tasks.as_slice(), contents, making, web)?;
+        web = more;
         tasks = new_tasks(alloc, made.as_slice(), &mut known)?;
         making.summary.spellings = making.summary.spellings.saturating_add(tasks.len() as u64);
         making.keep(made)?;
     }
-    Ok(())
+    Ok(web)
 }
 
 /// A batch whose pages are to be made, and room for the next.
@@ -230,14 +238,19 @@ struct Batches {
     spare: Batch,
 }
 
-/// Makes the page of each task, batch by batch, in the order of URLs.
+/// Makes the page of each task, batch by batch, in the order of URLs. Those that are behind all before are printed.
 fn make_round<R: Threads + Sync, C: Contents>(
     rt: &R,
     given: Given<'_>,
     tasks: &[Task],
     contents: &C,
     making: &mut Making,
-) -> Result<Vec<Made>, SiteError> {
+    web: Printer,
+) -> Result<(Vec<Made>, Printer), SiteError>
+    requires { HasPrinted web }
+    ensures { IfOk result (λ made. HasPrinted made.1) }
+{
+    let mut web = web;
     let alloc = *making.notes.allocator();
     let mut all: Vec<Made> = Vec::new(alloc);
     let mut first = Batch::new(alloc);
@@ -247,20 +260,20 @@ fn make_round<R: Threads + Sync, C: Contents>(
         spare: Batch::new(alloc),
     };
     let mut rest = tasks;
-    for _ in 0..tasks.len() {
+    'batches: for _ in 0..tasks.len() {
         making.notes.append(&mut batches.full.take_unread())?;
         let (front, behind) = rest.split_at(batches.full.count().max(1).min(rest.len()));
         let (mut made, next) = make_batch(rt, alloc, given, (front, behind), contents, batches)?;
+        web = printed(web, made.as_mut_slice(), &mut making.summary, &mut making.room)?;
         all.append(&mut made)?;
         if behind.is_empty() {
-            making.room = next.spare.into_room();
             break;
         }
         batches = next;
         rest = behind;
     }
     all.sort_by(|a: &Made, b: &Made| a.url.as_str().cmp(b.url.as_str()))?;
-    Ok(all)
+    Ok((all, web))
 }
 
 /// Makes the pages of a batch, whose tasks come first, by threads; meanwhile the files of the tasks behind these are read.
@@ -343,7 +356,7 @@ impl Making {
     /// Nothing yet but what was told before.
     fn new(alloc: Global, told: Vec<Note>) -> Making {
         Making {
-            pages: Vec::new(alloc),
+            late: Vec::new(alloc),
             summary: Summary::default(),
             notes: told,
             anchors: Vec::new(alloc),
@@ -373,7 +386,7 @@ impl Making {
         self.notes.append(&mut notes)?;
         if let Some(page) = page {
             self.summary.add(&page, counts);
-            self.pages.push(page)?;
+            self.late.push(page)?;
         }
         self.keep_places(&url, indices)?;
         if let Some(anchors) = anchors {
@@ -388,6 +401,44 @@ impl Making {
             self.places.push(LinkPlaces { url, indices })?;
         }
         Ok(())
+    }
+}
+
+/// The web with those of the pages whose URLs are behind all before. They are taken, and counted.
+fn printed(
+    web: Printer,
+    made: &mut [Made],
+    summary: &mut Summary,
+    room: &mut Vec<u8>,
+) -> Result<Printer, AllocError>
+    requires { HasPrinted web }
+    ensures { IfOk result HasPrinted }
+{
+    let mut web = web;
+    'pages: for one in made.iter_mut() {
+        web = printed_one(web, one, summary, room)?;
+    }
+    Ok(web)
+}
+
+fn printed_one(
+    web: Printer,
+    one: &mut Made,
+    summary: &mut Summary,
+    room: &mut Vec<u8>,
+) -> Result<Printer, AllocError>
+    requires { HasPrinted web }
+    ensures { IfOk result HasPrinted }
+{
+    if !web.takes(&one.url) {
+        return Ok(web);
+    }
+    match one.page.take() {
+        Some(page) => {
+            summary.add(&page, one.counts);
+            web.push(&page, room)
+        }
+        None => Ok(web),
     }
 }
 

@@ -1,4 +1,4 @@
-use Rattle.std.proofs.Common.{◌≡◌, ◌∙◌, true, false, IsAscii, sym, true≢false}
+use Rattle.std.proofs.Common.{◌≡◌, ◌∙◌, true, false, sym, true≢false}
 use Rattle.std.proofs.lemmas.Str.{IsUtf8-from_ascii}
 use Rattle.saved_site.proofs.document.mended.Goals as goal
 

@@ -1,6 +1,6 @@
-use Rattle.std.proofs.Common.{rules, ◌≡◌, ◌∙◌, ◌++◌, ◌+◌, ◌-◌, ℕ, List, length, count_by, drop, ap, arith, length-drop}
+use Rattle.std.proofs.Common.{◌≡◌, ◌∙◌, ◌+◌, ◌-◌, ℕ, List, length, count_by, drop, ap, arith, length-drop}
 use Rattle.std.proofs.lemmas.List.{take_all}
-use Rattle.saved_site.specs.Places.{begins_character, is_lf, last_line, place_of}
+use Rattle.saved_site.specs.Places.{begins_character, is_lf, last_line}
 use Rattle.saved_site.proofs.Behind.{behind_feed, behind_none, same_place}
 use Rattle.saved_site.proofs.places.behind.Goals as goal
 

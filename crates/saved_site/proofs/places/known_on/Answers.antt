@@ -1,5 +1,5 @@
-use Rattle.std.proofs.Common.{rules, ◌≡◌, ◌∙◌, ◌++◌, ◌+◌, ◌-◌, ◌<◌, ◌≤◌, ℕ, List, count_by, drop, take, length, ap, sym, arith}
-use Rattle.saved_site.specs.Places.{begins_character, last_line, place_at, place_of}
+use Rattle.std.proofs.Common.{◌≡◌, ◌∙◌, ◌+◌, count_by, take, ap, arith}
+use Rattle.saved_site.specs.Places.{begins_character, last_line, place_of}
 use Rattle.saved_site.proofs.Behind.{column_below, taken_on}
 use Rattle.saved_site.proofs.places.known_on.Goals as goal
 

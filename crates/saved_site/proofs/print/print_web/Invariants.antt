@@ -1,6 +1,6 @@
 use Rattle.std.proofs.Common.{length}
 use Rattle.saved_site.proofs.Printing.{Printed}
-use Rattle.saved_site.proofs.print.print_in.Given as goal
+use Rattle.saved_site.proofs.print.print_web.Given as goal
 
 abbrev pub decreases-pages : goal.decreases-pages
 decreases-pages l = length l.rest

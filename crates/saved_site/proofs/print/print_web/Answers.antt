@@ -1,7 +1,7 @@
 use Rattle.std.proofs.Common.{◌≡◌, ℕ, List, true, ap, sym, subst, ◌∙◌}
 use Rattle.saved_site.proofs.Printing.{Printed, printed_more, printed_sound, printed_pages}
 use Rattle.saved_site.specs.Pages.{is_behind}
-use Rattle.saved_site.proofs.print.print_in.Goals as goal
+use Rattle.saved_site.proofs.print.print_web.Goals as goal
 
 pub pages-preserved-then-is_behind : goal.pages-preserved-then-is_behind
 pages-preserved-then-is_behind c =

@@ -1,0 +1,41 @@
+-- What is known of a saved web that is printed page by page.
+use Rattle.std.specs.Prelude.{◌≡◌, ℕ, ◌≤◌, true, List, [], ◌∷◌, ◌++◌, codes, drop, length, take}
+use Rattle.saved_site.specs.Pages.{page_text, is_behind, IsPage}
+use Rattle.saved_site.specs.declared.page.SitePage.{SitePage}
+use Rattle.saved_site.specs.declared.printer.Printer.{Printer}
+
+-- the text is that of a page at the URL
+pub record IsPageText (url text : List ℕ) : Type 0 where
+  pub page : SitePage
+  pub there : page.url ≡ url
+  pub told : page_text page ≡ text
+  pub owes : IsPage page
+
+-- the bytes are the texts of pages at these URLs, one behind the other, each of so many bytes
+abbrev pub AreTexts : List (List ℕ) → List ℕ → List ℕ → Type 0
+AreTexts [] [] bytes = bytes ≡ []
+AreTexts [] (count ∷ counts) bytes = ⊥
+AreTexts (url ∷ urls) [] bytes = ⊥
+AreTexts (url ∷ urls) (count ∷ counts) bytes =
+    (count ≤ length bytes) × (IsPageText url (take count bytes) × AreTexts urls counts (drop count bytes))
+
+-- the last of the URLs, or this where there is none
+abbrev pub last_url : List ℕ → List (List ℕ) → List ℕ
+last_url last [] = last
+last_url last (url ∷ urls) = last_url url urls
+
+-- each URL is behind the one before it
+abbrev pub DoAscend : List ℕ → List (List ℕ) → Type 0
+DoAscend last [] = Unit {0}
+DoAscend last (url ∷ urls) = (is_behind last url ≡ true) × DoAscend url urls
+
+-- the bytes are a header and the texts of pages at these URLs, which ascend
+pub record IsPrinted (bytes : List ℕ) (urls : List (List ℕ)) (counts : List ℕ) : Type 0 where
+  pub body : List ℕ
+  pub whole : bytes ≡ codes "savedweb 2" ++ 10 ∷ body
+  pub texts : AreTexts urls counts body
+  pub up : DoAscend [] urls
+
+-- the same of a printer
+abbrev pub HasPrinted : Printer → Type 0
+HasPrinted printer = IsPrinted printer.bytes.items printer.urls.items printer.counts.items
