@@ -25,10 +25,13 @@ texts_push [] (count ∷ counts) bytes url text never is = absurd never
 texts_push (first ∷ urls) [] bytes url text never is = absurd never
 texts_push (first ∷ urls) (count ∷ counts) bytes url text all is =
     let Q : List ℕ → Type 0 = λ t. IsPageText first t in
-    let R : List ℕ → Type 0 = λ b. AreTexts (urls ++ url ∷ []) (counts ++ length text ∷ []) b in
-    (omega (arith, all.0, length-append bytes text),
-     (subst Q (sym (take-append-le count bytes text all.0)) all.1.0,
-      subst R (sym (drop-append-le count bytes text all.0)) (texts_push urls counts (drop count bytes) url text all.1.1 is)))
+    let R : List ℕ → Type 0 = λ b. AreTexts (urls ++ url ∷ []) (counts ++ length text ∷ []) b in (
+      omega (arith, all.0, length-append bytes text),
+      (
+        subst Q (sym (take-append-le count bytes text all.0)) all.1.0,
+        subst R (sym (drop-append-le count bytes text all.0)) (texts_push urls counts (drop count bytes) url text all.1.1 is),
+      ),
+    )
 
 up_push : (from : List ℕ) (urls : List (List ℕ)) (url : List ℕ) → DoAscend from urls → is_behind (last_url from urls) url ≡ true → DoAscend from (urls ++ url ∷ [])
 up_push from [] url up behind = (behind, tt)

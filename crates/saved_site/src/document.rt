@@ -7,7 +7,7 @@ use crate::charset::{Charset, charset_of, declared, from_utf16, from_windows};
 use crate::found_links::Found;
 use crate::kinds::start_of;
 use crate::link_lines::LinkLines;
-use crate::site::Rules;
+use crate::make::Given;
 use crate::texts::{LinkCounts, Read, links_at};
 use crawl_keys::CanonUrl;
 use std::alloc::{AllocError, Global};
@@ -46,7 +46,7 @@ pub(crate) fn document_at(
     alloc: Global,
     body: &[u8],
     url: &CanonUrl,
-    rules: &Rules,
+    given: Given<'_>,
     found: &mut Found,
 ) -> Result<Document, AllocError> {
     let charset = charset_of(body);
@@ -56,8 +56,8 @@ pub(crate) fn document_at(
         anchors,
         indices,
     } = match made_text(alloc, body, charset)? {
-        Some(text) => links_at(alloc, text.as_slice(), charset, url, rules, found)?,
-        None => links_at(alloc, without_mark(body), charset, url, rules, found)?,
+        Some(text) => links_at(alloc, text.as_slice(), charset, url, given, found)?,
+        None => links_at(alloc, without_mark(body), charset, url, given, found)?,
     };
     let encoding = match charset {
         Charset::Other => {

@@ -43,6 +43,7 @@ pub use page::{SitePage, Under};
 pub use places::{TextPlace, text_places};
 pub use print::print_web;
 pub use site::Rules;
+pub use targets::Target;
 pub use text::LineText;
 pub use texts::LinkCounts;
 pub use web::{LinkPlaces, PageAnchors, SiteNames, Summary, Web, files_web, site_web};

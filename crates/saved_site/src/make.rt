@@ -128,7 +128,7 @@ fn file_document(
     };
     let (path, _) = split_name(name, given.rules.queries);
     if is_document(kind_of(path), body) {
-        document_at(alloc, body, &task.url, given.rules, found)
+        document_at(alloc, body, &task.url, given, found)
     } else {
         Ok(Document::empty(alloc))
     }

@@ -1,37 +1,50 @@
 //! What the links of a document lead to.
 use crate::base_href::{base_of, resolved};
+use crate::site::Site;
 use crate::texts::Texts;
 use crawl_keys::{Base, CanonUrl};
 use std::alloc::{AllocError, Global};
 use std::collections::BTreeMap;
 
+/// What a link leads to.
+#[derive(Drop)]
+pub enum Target {
+    /// The page of the site with this number.
+    Page(usize),
+    /// A URL that no page has.
+    Other(CanonUrl),
+}
+
 /// What the links of a document lead to. Links with the same text up to their `#` have one number, and are looked at once.
 #[derive(Drop)]
 pub(crate) struct Targets<'t> {
     alloc: Global,
+    site: &'t Site,
     texts: Texts,
     base: Base,
     numbers: BTreeMap<&'t [u8], usize>,
     /// The text that was asked for last, and its number. Many links have that of the one before.
     last: Option<(&'t [u8], usize)>,
     /// What the links of each number lead to, where they have a canonical URL.
-    urls: Vec<Option<CanonUrl>>,
+    targets: Vec<Option<Target>>,
 }
 
 impl<'t> Targets<'t> {
     /// No links yet, of the document at a URL; `texts` says what its links mean.
     pub(crate) fn new(
         alloc: Global,
+        site: &'t Site,
         texts: Texts,
         url: &CanonUrl,
     ) -> Result<Targets<'t>, AllocError> {
         Ok(Targets {
             alloc,
+            site,
             texts,
             base: base_of(alloc, url)?,
             numbers: BTreeMap::new(alloc),
             last: None,
-            urls: Vec::new(alloc),
+            targets: Vec::new(alloc),
         })
     }
 
@@ -51,11 +64,21 @@ impl<'t> Targets<'t> {
         if let Some(number) = self.numbers.get(text) {
             return Ok(*number);
         }
-        let number = self.urls.len();
-        let url = self.url_of(text)?;
-        self.urls.push(url)?;
+        let number = self.targets.len();
+        let target = self.target_of(text)?;
+        self.targets.push(target)?;
         self.numbers.insert(text, number)?;
         Ok(number)
+    }
+
+    fn target_of(&mut self, link: &[u8]) -> Result<Option<Target>, AllocError> {
+        let Some(url) = self.url_of(link)? else {
+            return Ok(None);
+        };
+        Ok(Some(match self.site.find(url.as_str()) {
+            Some(page) => Target::Page(page),
+            None => Target::Other(url),
+        }))
     }
 
     /// What a link leads to, by the line that is written of it.
@@ -71,8 +94,8 @@ impl<'t> Targets<'t> {
     }
 
     /// What the links of each number lead to.
-    pub(crate) fn into_urls(self) -> Vec<Option<CanonUrl>> {
-        let Targets { urls, .. } = self;
-        urls
+    pub(crate) fn into_targets(self) -> Vec<Option<Target>> {
+        let Targets { targets, .. } = self;
+        targets
     }
 }

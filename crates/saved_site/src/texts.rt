@@ -12,6 +12,7 @@ use crate::found_links::{Found, Ids};
 use crate::in_query::push_with_query;
 use crate::indices::Indices;
 use crate::link_lines::LinkLines;
+use crate::make;
 use crate::site::Rules;
 use crate::text::{LINK_FRONT, TEXT_LIMIT, fits, fits_plainly};
 use crawl_keys::CanonUrl;
@@ -66,9 +67,10 @@ pub(crate) fn links_at(
     text: &[u8],
     charset: Charset,
     url: &CanonUrl,
-    rules: &Rules,
+    given: make::Given<'_>,
     found: &mut Found,
 ) -> Result<Read, AllocError> {
+    let rules = given.rules;
     let mut ids = Ids::new(alloc);
     found.clear();
     let base = found_in(alloc, text, rules, found, &mut ids)?;
@@ -77,7 +79,7 @@ pub(crate) fn links_at(
     let indices = texts.take_indices();
     let counts = texts.counts;
     let anchors = if rules.anchors {
-        Some(anchors_of(alloc, ids.into_texts(), found, texts, url)?)
+        Some(anchors_of(alloc, ids.into_texts(), found, given.site, texts, url)?)
     } else {
         None
     };

@@ -264,7 +264,12 @@ fn make_round<R: Threads + Sync, C: Contents>(
         making.notes.append(&mut batches.full.take_unread())?;
         let (front, behind) = rest.split_at(batches.full.count().max(1).min(rest.len()));
         let (mut made, next) = make_batch(rt, alloc, given, (front, behind), contents, batches)?;
-        web = printed(web, made.as_mut_slice(), &mut making.summary, &mut making.room)?;
+        web = printed(
+            web,
+            made.as_mut_slice(),
+            &mut making.summary,
+            &mut making.room,
+        )?;
         all.append(&mut made)?;
         if behind.is_empty() {
             break;

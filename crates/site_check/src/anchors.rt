@@ -13,7 +13,7 @@ use crate::shown::shown;
 use check_report::{Broken, Kind, Place};
 use crawl_web::{NoMemory, Page, PageResult};
 use page_anchors::is_indicated;
-use saved_site::{AnchorLinks, Anchors, PageAnchors};
+use saved_site::{AnchorLinks, Anchors, PageAnchors, SiteFiles, Target};
 use std::alloc::Global;
 use std::cmp::Ordering;
 
@@ -45,9 +45,49 @@ pub(crate) type LackedParts<'a> = Vec<LackedPart<'a>>;
 pub(crate) struct Pages<'a> {
     pub(crate) results: &'a [PageResult],
     pub(crate) anchors: &'a [PageAnchors],
+    /// Of each page of the site which of these documents it is; none where it is no document.
+    pub(crate) documents: &'a [Option<usize>],
+}
+
+/// Of each page of a site which of the documents it is.
+pub(crate) fn documents_of(
+    alloc: Global,
+    files: &SiteFiles<'_>,
+    anchors: &[PageAnchors],
+) -> Result<Vec<Option<usize>>, NoMemory> {
+    let mut all = Vec::new(alloc);
+    let mut next: usize = 0;
+    for number in 0..files.page_count() {
+        let mut found = None;
+        if let Some((url, _)) = files.page(number) {
+            for _ in 0..anchors.len() {
+                match anchors.get(next) {
+                    Some(page) if page.url.as_str() < url => next = next.saturating_add(1),
+                    Some(page) if page.url.as_str() == url => {
+                        found = Some(next);
+                        break;
+                    }
+                    _ => break,
+                }
+            }
+        }
+        all.push(found)?;
+    }
+    Ok(all)
 }
 
 impl<'a> Pages<'a> {
+    /// The number of the document that a link leads to, by one redirect at most.
+    fn find_target(&self, files: &SiteFiles<'_>, target: &Target) -> Option<usize> {
+        match target {
+            Target::Page(number) => match self.documents.get(*number) {
+                Some(Some(document)) => Some(*document),
+                _ => self.find(files.page(*number)?.0),
+            },
+            Target::Other(url) => self.find(url.as_str()),
+        }
+    }
+
     /// The number of the document that a URL leads to, by one redirect at most.
     fn find(&self, url: &str) -> Option<usize> {
         if let Some(page) = self.find_document(url) {
@@ -114,6 +154,7 @@ pub(crate) struct LinksTo<'a> {
 pub(crate) fn every_links<'a>(
     alloc: Global,
     pages: Pages<'a>,
+    files: &SiteFiles<'_>,
     rest: usize,
     of: usize,
 ) -> Result<Vec<LinksTo<'a>>, NoMemory> {
@@ -122,7 +163,7 @@ pub(crate) fn every_links<'a>(
         if source.checked_rem(of) == Some(rest)
             && let Some(anchors) = pages.anchors_of(result)
         {
-            push_links(pages, source, anchors, &mut all)?;
+            push_links(pages, files, source, anchors, &mut all)?;
         }
     }
     Ok(all)
@@ -131,12 +172,13 @@ pub(crate) fn every_links<'a>(
 /// Appends a result's links to parts of documents.
 fn push_links<'a>(
     pages: Pages<'a>,
+    files: &SiteFiles<'_>,
     source: usize,
     anchors: &'a Anchors,
     all: &mut Vec<LinksTo<'a>>,
 ) -> Result<(), NoMemory> {
-    for to in &anchors.links {
-        if let Some(page) = pages.find(to.url.as_str()) {
+    for to in &anchors.groups {
+        if let Some(page) = pages.find_target(files, &to.to) {
             all.push(LinksTo {
                 page,
                 source,
@@ -193,7 +235,7 @@ fn push_lacked<'a>(
 ) -> Result<(), NoMemory> {
     let anchors = links.anchors;
     let page = links.page;
-    for link in &links.to.links {
+    for link in anchors.links_to(links.to) {
         let fragment = anchors.fragment(link);
         let part = Part { page, fragment };
         if !pages.has_part(alloc, part)? {

@@ -11,7 +11,7 @@ ghost use Rattle.site_check.specs.Names.{AreNamed};
 ghost use Rattle.site_check.specs.Parts.{part_text};
 ghost use Rattle.site_check.specs.Told.{rows_in, way_of};
 
-use crate::anchors::{LackedParts, Pages, ToldPart, lacking, part_rows, told_parts};
+use crate::anchors::{LackedParts, Pages, ToldPart, documents_of, lacking, part_rows, told_parts};
 use crate::ignored::unused;
 use crate::leads::{Lead, Maps, link_indices, targets};
 use crate::linked::{Linked, is_missing, linked_results};
@@ -112,7 +112,8 @@ pub fn check_site<'f, R: Threads + Sync, B: Bodies>(
     // The entries that are told stand for no page that is not there, and for no part that a page lacks.
     ensures ignores { IfOk result (λ checked. AreUnused asked.entry.front.now (map string_bytes asked.entry.ignores.now) results.now (parts_in checked.broken.items) (map string_bytes checked.unused_ignores.items)) }
 {
-    let site = site_of(results, files, asked);
+    let documents = documents_of(alloc, files, asked.anchors)?;
+    let site = site_of(results, files, asked, documents.as_slice());
     let linked = linked_results(alloc, results)?;
     let all = linked.as_slice();
     let sought = sought_by(rt, alloc, asked, site, all)?;
@@ -132,6 +133,7 @@ fn site_of<'p, 'f>(
     results: &'p [PageResult],
     files: &'f SiteFiles<'f>,
     asked: Asked<'p>,
+    documents: &'p [Option<usize>],
 ) -> Site<'p, 'f>
     ensures { result.files.now ≡ files.now }
 {
@@ -139,6 +141,7 @@ fn site_of<'p, 'f>(
         pages: Pages {
             results,
             anchors: asked.anchors,
+            documents,
         },
         files,
     }
@@ -161,7 +164,7 @@ fn sought_by<'p, R: Threads + Sync>(
 ) -> Result<Sought<'p>, NoMemory> {
     let threads = site.files.threads().max(1);
     let mut leads = page_leads(rt, alloc, asked, site, linked)?;
-    let lacked = lacked_by(rt, alloc, site.pages, threads)?;
+    let lacked = lacked_by(rt, alloc, site, threads)?;
     let lacking = lacking(alloc, lacked, linked.len(), &mut leads)?;
     leads.sort_by(|a: &Lead, b: &Lead| (a.source, a.index).cmp(&(b.source, b.index)))?;
     Ok(Sought { lacking, leads })

@@ -105,14 +105,16 @@ fn leads_of_part<R: Threads + Sync>(
 pub(crate) fn lacked_by<'p, R: Threads + Sync>(
     rt: &R,
     alloc: Global,
-    pages: Pages<'p>,
+    site: Site<'p, '_>,
     count: usize,
 ) -> Result<Vec<Lacked<'p>>, NoMemory> {
+    let pages = site.pages;
+    let files = site.files;
     let parts = thread::map_indices(
         rt,
         alloc,
         count,
-        &|rest: usize| { every_links(alloc, pages, rest, count) },
+        &|rest: usize| { every_links(alloc, pages, files, rest, count) },
     )?;
     let links = all_made(alloc, parts)?;
     let links = links.as_slice();
