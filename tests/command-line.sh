@@ -122,6 +122,15 @@ if setpriv --reuid 54321 --regid 54321 --clear-groups true 2> /dev/null; then
             expect "$workers workers where $count threads may run" 2 "" "mercator: incomplete: no thread"
         done
     done
+    # A site's documents are read by the one thread where no other may run.
+    cp -r "$data/site" "$closed/site"
+    chmod -R a+rX "$closed/site"
+    run check "$closed/site"
+    mv "$scratch/out" "$scratch/site.told"
+    run_limited 1 check --workers 1 "$closed/site"
+    expect "a check by one worker and no other thread" 4 "@$scratch/site.told" ""
+    run_limited 2 check --workers 2 "$closed/site"
+    expect "a check by two workers where 2 threads may run" 2 "" "mercator: incomplete: no thread"
 else
     echo "not shown, because the user cannot be changed here: how many threads a crawl has, and its end where one cannot be started"
 fi
