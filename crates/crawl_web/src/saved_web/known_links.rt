@@ -17,6 +17,9 @@ use std::marker::Model;
 /// Of so many texts, or fewer, the room is used again.
 const FEW_TEXTS: usize = 64;
 
+/// Where so many texts are known, no more are: who has more links on a page has most of them once.
+const MOST_TEXTS: usize = 4_096;
+
 /// A text, and where a link with it leads.
 #[derive(Drop)]
 pub struct KnownLink<'a> {
@@ -108,9 +111,31 @@ impl<'a> KnownLinks<'a> {
         }
     }
 
-    /// Where a link with this text leads, which is known from now on: the links with one text share the text of their URL. A
-    /// refused growth of what is known is `NoMemory`, as any other.
+    /// Where a link with this text leads, which is known from now on, unless many are: the links with one text share the text of
+    /// their URL. A refused growth of what is known is `NoMemory`, as any other.
     pub fn link(
+        &mut self,
+        alloc: Global,
+        base: &Base,
+        text: &LinkText<'a>,
+    ) -> Result<Option<CanonUrl>, FetchError>
+        requires { AreLinks base.now self.old }
+        ensures link { IfOk result (λ link. link ≡ link_url base.now text.now) }
+        ensures known { AreLinks base.now self.new }
+        ensures of_folder { is_of_folder text.now ≡ true → AreOfFolder self.old → AreOfFolder self.new }
+        ensures refused { IfErr result (λ e. e ≡ FetchError.NoMemory) }
+    {
+        if self.links.len() < MOST_TEXTS {
+            return self.learn(alloc, base, text);
+        }
+        match self.find(text) {
+            Some(link) => Ok(copy_of(link)?),
+            None => link_of(alloc, base, text.as_str()),
+        }
+    }
+
+    // The same, which is known from now on.
+    fn learn(
         &mut self,
         alloc: Global,
         base: &Base,

@@ -7,7 +7,7 @@ use Rattle.hash_index.proofs.Keeping.{pushed_item}
 use Rattle.crawl_web.specs.KnownLinks.{TextLink}
 use Rattle.crawl_web.specs.SavedWeb.{link_url}
 use Rattle.crawl_web.proofs.LinkIndex.{texts, within_at, contains_at}
-use Rattle.crawl_web.proofs.saved_web.known_links.KnownLinks.link.Goals as goal
+use Rattle.crawl_web.proofs.saved_web.known_links.KnownLinks.learn.Goals as goal
 
 pub link_at-requires : goal.link_at-requires
 link_at-requires c =
