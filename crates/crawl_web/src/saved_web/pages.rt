@@ -100,6 +100,10 @@ impl<'a> Pages<'a> {
         ensures page { option_map (λ page. page.now) result ≡ page_with self.now url.now }
         ensures same { IfSome result (λ page. page.now.url ≡ url.now) }
     {
+        // An index with no slots is searched to its end.
+        if self.list.is_empty() {
+            return None;
+        }
         match self.index.find(&self.list, url) {
             Some(index) => self.list.get(index),
             None => None,
