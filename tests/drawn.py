@@ -807,8 +807,13 @@ def folders(draw: Random) -> list[Case]:
     return [of_all_pages(draw, "\n".join(lines).encode())]
 
 
+# so many links are more bytes than one thread looks at
+LONG_PAGE = 12_000
+LONG_LINKS = ("/x/", "x/", "http://b.test/", "mailto:")
+
+
 def large_webs(draw: Random) -> list[Case]:
-    """A ring of pages, each with `gone` twice and a missing URL of its own; some of one hash.
+    """A ring of pages, each with `gone` twice and a missing URL of its own; some of one hash, and one page long.
 
     It is crawled as it is, and with one page once more.
     """
@@ -816,9 +821,12 @@ def large_webs(draw: Random) -> list[Case]:
     urls += [f"{ONE_HASH}{number:08}" for number in range(draw.choice((0, 200)))]
     draw.shuffle(urls)
     lines = ["savedweb 1"]
+    long = draw.choice((None, draw.randrange(len(urls))))
     for place, url in enumerate(urls):
         after = urls[(place + 1) % len(urls)]
         lines += [f"page {url}", f"link {after}", "link gone", f"link m{place}", "link gone"]
+        if place == long:
+            lines += [f"link {draw.choice(LONG_LINKS)}{number:015}" for number in range(LONG_PAGE)]
     crawl = Crawl("\n".join(lines).encode(), urls[:1], queues=True, sources=True)
     twice = crawl._replace(web=b"%b\npage %b#f" % (crawl.web, draw.choice(urls).encode()))
     return [crawl_case(crawl, 1), crawl_case(crawl, draw.choice((2, 4))), crawl_case(twice, 1)]

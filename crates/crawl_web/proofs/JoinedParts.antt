@@ -157,7 +157,7 @@ unlinked earlier (line ∷ more) some none sound =
     at_begin (before earlier) (line_of line) more none passes
     (λ other. unlinked (earlier ++ line ∷ []) more (omega (arith, length-append earlier (line ∷ []))) (list_any-append is_page earlier (line ∷ []) ∙ (λ i. none i || (other i || false))) sound.1)
 
-links_end : (xs ys : List (List ℕ)) → link_texts ys ≡ [] → link_texts (xs ++ ys) ≡ link_texts xs
+pub links_end : (xs ys : List (List ℕ)) → link_texts ys ≡ [] → link_texts (xs ++ ys) ≡ link_texts xs
 links_end [] ys none = none
 links_end (x ∷ xs) ys none = ap (put_link (line_of x)) (links_end xs ys none)
 

@@ -3,6 +3,7 @@ pub mod FirstVersion
 pub mod JoinedParts
 pub mod LeastLine
 pub mod LinkIndex
+pub mod LongPages
 pub mod PageIndex
 pub mod PageLinks
 pub mod PartPages

@@ -3,6 +3,7 @@ pub mod KnownLinks
 pub mod KnownPages
 pub mod LeastFault
 pub mod Lines
+pub mod LongPages
 pub mod PageLists
 pub mod PageTexts
 pub mod Pages

@@ -16,5 +16,5 @@ pub use lines::{LINE_LIMIT, LineError, first_line, text_of};
 pub use page::{Links, Page, PageResult, links_of};
 pub use parts::split_space;
 pub use report::{NoMemory, report_text};
-pub use saved_web::{SavedWeb, WebError};
+pub use saved_web::{SavedWeb, WebError, WebInThreads};
 pub use session::{SessionFetch, WithoutSession};

@@ -16,9 +16,11 @@ mod line;
 mod link_cache;
 mod link_text;
 mod links;
+mod long;
 mod pages;
 mod reader;
 mod threads;
+mod web_in_threads;
 mod web_pages;
 
 use crate::fetch::{Fetch, FetchError};
@@ -36,6 +38,7 @@ use simdutf8::compat::from_utf8;
 use std::alloc::Global;
 use std::thread::Threads;
 use threads::pages_in_threads;
+pub use web_in_threads::WebInThreads;
 use web_pages::WebPages;
 
 /// The pages of a saved web, each with its links. It borrows the bytes that it was read from.
@@ -183,7 +186,7 @@ impl<'a> SessionFetch for SavedWeb<'a> {
 }
 
 /// The base for the links of the page at this URL.
-fn base_of(alloc: Global, url: &CanonUrl) -> Result<Base, FetchError>
+pub(crate) fn base_of(alloc: Global, url: &CanonUrl) -> Result<Base, FetchError>
     ensures base { IfOk result (λ base. base ≡ url.now) }
     ensures refused { IfErr result (λ e. e ≡ FetchError.NoMemory) }
 {

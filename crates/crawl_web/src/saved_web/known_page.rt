@@ -97,6 +97,16 @@ impl<'a> KnownPage<'a> {
     }
 }
 
+impl KnownPage<'_> {
+    /// How many bytes are left of the input where its own begin, about.
+    pub fn bytes_left(&self) -> usize {
+        match &self.text {
+            PageText::Written(text) => text.len(),
+            PageText::Made(page) => page.behind.len(),
+        }
+    }
+}
+
 impl Keyed for KnownPage<'_> {
     ghost use Rattle.hash_order.specs.HashOrder.{hash_of};
 

@@ -94,7 +94,7 @@ fn found_page<'a>(
 }
 
 /// Puts the links among these lines, up to the next page, in place of those before, and tells how many lead to no URL.
-fn find_links<'a>(
+pub fn find_links<'a>(
     alloc: Global,
     folder: &mut Folder<'a>,
     known: &mut KnownLinks<'a>,
@@ -177,7 +177,7 @@ fn next_link(behind: &str) -> Option<(&str, &str)>
 }
 
 /// The text of the moved line, where one comes before any page or link.
-fn moved_text(behind: &str) -> Option<&str>
+pub fn moved_text(behind: &str) -> Option<&str>
     ensures { option_map (λ text. text.now) result ≡ moved_text (lines behind.now) }
 {
     let mut rest = behind;

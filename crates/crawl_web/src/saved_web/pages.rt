@@ -110,6 +110,19 @@ impl<'a> Pages<'a> {
         }
     }
 
+    /// Whether some page has so many bytes, about: those up to the next page, or to the end.
+    pub fn has_long_page(&self, bytes: usize) -> bool {
+        let mut before: usize = 0;
+        for page in &self.list {
+            let left = page.bytes_left();
+            if before.saturating_sub(left) >= bytes {
+                return true;
+            }
+            before = left;
+        }
+        before >= bytes
+    }
+
     /// Whether a page of each has one URL. Where there are many others, threads look for some of them each.
     pub fn shares_url<R: Threads + Sync>(&self, rt: &R, others: &Pages<'_>) -> bool
         ensures { result ≡ false → (url : List ℕ) → has others.now url ≡ true → has self.now url ≡ false }

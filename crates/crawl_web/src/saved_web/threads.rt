@@ -1,5 +1,5 @@
 //! A saved web read by threads: each reads a part of its lines, and the parts are put together.
-ghost use Rattle.std.specs.Prelude.{◌≡◌, ◌++◌, ◌<◌, length, IfSome};
+ghost use Rattle.std.specs.Prelude.{◌≡◌, ◌++◌, ◌<◌, ◌≤◌, length, IfSome};
 ghost use Rattle.std.specs.Str.Lines.{lines};
 ghost use Rattle.crawl_web.specs.Reading.{AreRead, AreReadBehind, IsHeader};
 
@@ -32,7 +32,7 @@ impl<'a> Part<'a> {
         ensures lines { lines self.entry.bytes.now ≡ lines result.0.bytes.now ++ lines result.1.bytes.now }
     {
         let second = self.second;
-        let (front, back) = cut_before_page(self.bytes);
+        let (front, back) = cut_before_page(self.bytes, self.bytes.len() / 2);
         (
             Part {
                 second,
@@ -136,11 +136,12 @@ fn read_text(alloc: Global, second: bool, text: &str) -> Option<WebPages<'_>>
     }
 }
 
-/// The bytes, cut at the end of a line: of the first that ends behind the middle and is followed by a page.
-fn cut_before_page(bytes: &[u8]) -> (&[u8], &[u8])
+/// The bytes, cut at the end of a line: of the first that ends behind so many bytes and is followed by a page.
+pub fn cut_before_page(bytes: &[u8], from: usize) -> (&[u8], &[u8])
+    requires { from ≤ length bytes.now }
     ensures { lines bytes.now ≡ lines result.0.now ++ lines result.1.now }
 {
-    let mut from = bytes.len() / 2;
+    let mut from = from;
     while let Some((front, back)) = cut_line(bytes, from) {
         if back.starts_with(b"page ") {
             return (front, back);

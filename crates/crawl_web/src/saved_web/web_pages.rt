@@ -49,6 +49,16 @@ impl<'a> WebPages<'a> {
         first_with(&self.parts, url)
     }
 
+    /// Whether some page has so many bytes, about.
+    pub fn has_long_page(&self, bytes: usize) -> bool {
+        for part in &self.parts {
+            if part.has_long_page(bytes) {
+                return true;
+            }
+        }
+        false
+    }
+
     /// The pages of both, these first; nothing where a page of each has one URL, or there is no room.
     pub fn and<R: Threads + Sync>(self, rt: &R, more: WebPages<'a>) -> Option<WebPages<'a>>
         ensures both { IfSome result (λ web. web ≡ self.entry ++ more.entry) }

@@ -1,0 +1,68 @@
+//! A saved web whose long pages are looked at by threads.
+ghost use Rattle.std.specs.Prelude.{◌≡◌, IfOk, IfErr};
+ghost use Rattle.crawl_web.specs.KnownPages.{page_at};
+
+use crate::fetch::FetchError;
+use crate::page::Page;
+use crate::saved_web::SavedWeb;
+use crate::saved_web::link_cache::LinkCache;
+use crate::saved_web::long::{LEAST, page_in_threads};
+use crate::session::SessionFetch;
+use crawl_keys::CanonUrl;
+use std::alloc::Global;
+use std::thread::Threads;
+
+/// A saved web as a source of the same pages. Four threads find the links of a page that is long.
+#[derive(Drop)]
+pub struct WebInThreads<'w, 'a, R: Threads> {
+    web: &'w SavedWeb<'a>,
+    rt: &'w R,
+    /// Some page is long, and may be looked at by threads.
+    long: bool,
+}
+
+impl<'w, 'a, R: Threads> WebInThreads<'w, 'a, R> {
+    /// The web, and whether threads may look at its pages.
+    pub fn new(rt: &'w R, web: &'w SavedWeb<'a>, in_threads: bool) -> WebInThreads<'w, 'a, R>
+        ensures { result.web.now ≡ web.now }
+    {
+        WebInThreads {
+            web,
+            rt,
+            long: in_threads && web.pages.has_long_page(LEAST),
+        }
+    }
+}
+
+impl<'w, 'a, R: Threads> SessionFetch for WebInThreads<'w, 'a, R> {
+    ghost use Rattle.crawl_web.specs.KnownPages.{page_at};
+
+    type Session = LinkCache<'a>;
+
+    ghost meaning = { λ source. page_at source.web.now };
+
+    ghost is_of = { λ _ _. Unit {0} };
+
+    fn open_session(&self, alloc: Global, among: u32) -> LinkCache<'a> {
+        LinkCache::new(alloc, among)
+    }
+
+    fn fetch_in(
+        &self,
+        alloc: Global,
+        session: &mut LinkCache<'a>,
+        url: &CanonUrl,
+    ) -> Result<Page, FetchError>
+        ensures meaning { IfOk result (λ page. page ≡ page_at self.now.web.now url.now) }
+        // It never fails of itself.
+        ensures refused { IfErr result (λ e. e ≡ FetchError.NoMemory) }
+    {
+        if !self.long {
+            return self.web.fetch_in(alloc, session, url);
+        }
+        match self.web.pages.get(url) {
+            Some(page) => page_in_threads(self.rt, alloc, session, url, page.behind()),
+            None => Ok(Page::Missing),
+        }
+    }
+}
