@@ -1,10 +1,15 @@
 -- The links of a tag by the values that they stand in.
-use Rattle.std.specs.Prelude.{ℕ, if◌then◌else◌, List, []}
+use Rattle.std.specs.Prelude.{ℕ, Bool, false, if◌then◌else◌, List, []}
 use Rattle.html_links.specs.declared.element.Element.{Element}
 use Rattle.html_links.specs.declared.element.Element.TheVariants as element
 use Rattle.html_links.specs.declared.reader.Form.TheVariants as form
 use Rattle.html_links.specs.Values.{Values}
 use Rattle.html_links.specs.Links.{value_links, names_host, is_refresh}
+
+-- the tag is a `link` that names a host and no document
+abbrev pub is_hint : Element → Values → Bool
+is_hint element.Link v = names_host v.third
+is_hint _ v = false
 
 abbrev pub first_with : Element → Values → List (List ℕ)
 first_with element.Base v = []

@@ -49,6 +49,7 @@ pub(crate) enum Markup<'a> {
     Unfinished,
 }
 
+#[inline(always)]
 fn opening_of(byte: u8) -> Opening
     ensures { result ≡ opening_of byte }
 {
@@ -74,6 +75,7 @@ fn tag_name_len(bytes: &[u8]) -> usize
     bytes.iter().take_while(|byte| in_tag_name(**byte)).count()
 }
 
+#[inline(always)]
 fn split_tag_name(bytes: &[u8]) -> (&[u8], &[u8])
     requires { 0 < length bytes.now }
     ensures name { result.0.now ≡ led_front in_tag_name bytes.now }
@@ -82,6 +84,7 @@ fn split_tag_name(bytes: &[u8]) -> (&[u8], &[u8])
     bytes.split_at(1 + tag_name_len(&bytes[1..]))
 }
 
+#[inline(never)]
 fn after_bogus(bytes: &[u8]) -> Option<&[u8]>
     ensures reads { read Bogus bytes.now ≡ read_rest result }
     ensures leaves { RestLeaves result bytes.now }
@@ -93,6 +96,7 @@ fn after_bogus(bytes: &[u8]) -> Option<&[u8]>
 }
 
 /// What is behind what begins with `<!`.
+#[inline(never)]
 fn after_declaration(bytes: &[u8]) -> Option<&[u8]>
     ensures reads { read MarkupDeclaration bytes.now ≡ read_rest result }
     ensures leaves { RestLeaves result bytes.now }
@@ -106,6 +110,7 @@ fn after_declaration(bytes: &[u8]) -> Option<&[u8]>
     }
 }
 
+#[inline(always)]
 fn after_end_open(bytes: &[u8]) -> Markup<'_>
     ensures reads { MarkupEnds result bytes.now }
     ensures leaves { MarkupLeaves result bytes.now }
@@ -122,6 +127,7 @@ fn after_end_open(bytes: &[u8]) -> Markup<'_>
     }
 }
 
+#[inline(always)]
 fn other(rest: Option<&[u8]>) -> Markup<'_>
     ensures { result ≡ other_markup rest.entry }
 {
@@ -131,6 +137,8 @@ fn other(rest: Option<&[u8]>) -> Markup<'_>
     }
 }
 
+/// What stands behind a `<`. It stands in line, so that its answer does so in registers.
+#[inline(always)]
 pub(crate) fn next_markup(bytes: &[u8]) -> Markup<'_>
     ensures reads { MarkupReads result bytes.now }
     ensures leaves { MarkupLeaves result bytes.now }
@@ -161,6 +169,7 @@ pub(crate) fn after_tag(bytes: &[u8]) -> Option<&[u8]>
     }
 }
 
+#[inline(never)]
 fn after_pieces(bytes: &[u8]) -> Option<&[u8]>
     ensures { bytes_at result ≡ rest_of (tag_of bytes.now) }
 {

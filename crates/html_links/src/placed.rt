@@ -2,7 +2,7 @@
 ghost use Rattle.std.specs.Prelude.{◌≡◌, ◌++◌, IfOk, OnOk};
 ghost use Rattle.html_links.specs.Values.{values_at};
 ghost use Rattle.html_links.specs.Links.{links_of, links_with, base_of};
-ghost use Rattle.html_links.specs.Placed.{first_with, second_with};
+ghost use Rattle.html_links.specs.Placed.{first_with, second_with, is_hint};
 ghost use Rattle.html_links.specs.Reads.{base_at};
 
 use crate::element::Element;
@@ -38,6 +38,7 @@ pub fn read_places<L: PlacedLinks>(
 }
 
 /// Gives the links of a tag in a document of this length.
+#[inline(always)]
 pub(crate) fn push_placed<L: PlacedLinks>(
     length: usize,
     tag: NextTag<'_>,
@@ -47,13 +48,26 @@ pub(crate) fn push_placed<L: PlacedLinks>(
 ) -> Result<(), AllocError>
     ensures { OnOk result (L.texts links.new ≡ L.texts links.old ++ links_with tag.entry.element (values_at values.now)) }
 {
+    let hint = is_hint(tag.element, values, decoded)?;
     begin(length, tag.inside, values.first, values.first_left, links);
-    push_first(tag.element, values, decoded, links)?;
+    push_first(tag.element, hint, values, decoded, links)?;
     begin(length, tag.inside, values.second, values.second_left, links);
-    push_second(tag.element, values, decoded, links)
+    push_second(tag.element, hint, values, decoded, links)
+}
+
+/// Whether a tag is a `link` that names a host and no document.
+#[inline(always)]
+fn is_hint(element: Element, values: &Values<'_>, decoded: &mut Vec<u8>) -> Result<bool, AllocError>
+    ensures { IfOk result (λ is. is ≡ is_hint element (values_at values.now)) }
+{
+    match element {
+        Element::Link => names_host(values.third, decoded),
+        _ => Ok(false),
+    }
 }
 
 /// Tells where a tag's value begins, where it has one, by the bytes that are left behind its attribute.
+#[inline(always)]
 fn begin<L: PlacedLinks>(
     length: usize,
     inside: &[u8],
@@ -79,12 +93,15 @@ fn value_left(inside: &[u8], value: &[u8], left: usize) -> usize {
 }
 
 /// Gives the links of the first wanted value.
+#[inline(always)]
 fn push_first<L: Links>(
     element: Element,
+    hint: bool,
     values: &Values<'_>,
     decoded: &mut Vec<u8>,
     links: &mut L,
 ) -> Result<(), AllocError>
+    requires { hint ≡ is_hint element (values_at values.now) }
     ensures { OnOk result (L.texts links.new ≡ L.texts links.old ++ first_with element (values_at values.now)) }
 {
     match element {
@@ -97,7 +114,7 @@ fn push_first<L: Links>(
             }
         }
         Element::Link => {
-            if names_host(values.third, decoded)? {
+            if hint {
                 Ok(())
             } else {
                 push_value(Form::Link, values.first, decoded, links)
@@ -108,19 +125,22 @@ fn push_first<L: Links>(
 }
 
 /// Gives the links of the second wanted value.
+#[inline(always)]
 fn push_second<L: Links>(
     element: Element,
+    hint: bool,
     values: &Values<'_>,
     decoded: &mut Vec<u8>,
     links: &mut L,
 ) -> Result<(), AllocError>
+    requires { hint ≡ is_hint element (values_at values.now) }
     ensures { OnOk result (L.texts links.new ≡ L.texts links.old ++ second_with element (values_at values.now)) }
 {
     match element {
         Element::Base => Ok(()),
         Element::Meta => Ok(()),
         Element::Link => {
-            if names_host(values.third, decoded)? {
+            if hint {
                 Ok(())
             } else {
                 push_value(Form::List, values.second, decoded, links)

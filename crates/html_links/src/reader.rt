@@ -2,6 +2,7 @@
 ghost use Rattle.std.specs.Prelude.{◌≡◌, ◌++◌, [], map, false, IfOk, OnOk};
 ghost use Rattle.html_links.specs.Comments.{bytes_at};
 ghost use Rattle.html_links.specs.Tags.{lower};
+ghost use Rattle.html_links.specs.References.{text_of};
 ghost use Rattle.html_links.specs.Values.{values_at};
 ghost use Rattle.html_links.specs.Links.{value_links, text_links, is_host_hint, hints_behind, names_host, is_refresh, links_with, links_of, ids_with, anchors_with, ids_of, base_of, base_with, or_later};
 ghost use Rattle.html_links.specs.Reads.{base_at};
@@ -86,6 +87,7 @@ pub fn read_page<L: PlacedLinks, I: Links>(
     Ok(base)
 }
 
+#[inline(always)]
 fn push_ids<I: Links>(
     name: &[u8],
     values: &Values<'_>,
@@ -98,6 +100,7 @@ fn push_ids<I: Links>(
     push_anchor(name, values, decoded, ids)
 }
 
+#[inline(always)]
 fn push_anchor<I: Links>(
     name: &[u8],
     values: &Values<'_>,
@@ -133,6 +136,7 @@ fn push_styles<L: Links>(
 }
 
 /// Takes the base of a tag where there is none yet.
+#[inline(always)]
 pub(crate) fn take_base(
     alloc: Global,
     base: &mut Base,
@@ -223,6 +227,8 @@ pub(crate) fn names_host(rel: Option<&[u8]>, decoded: &mut Vec<u8>) -> Result<bo
     Ok(has_host_hint(decoded.as_slice()))
 }
 
+/// Gives the links of a value. Most values are none, which is seen in line.
+#[inline(always)]
 pub(crate) fn push_value<L: Links>(
     form: Form,
     value: Option<&[u8]>,
@@ -234,6 +240,18 @@ pub(crate) fn push_value<L: Links>(
     let Some(value) = value else {
         return Ok(());
     };
+    push_some(form, value, decoded, links)
+}
+
+#[inline(never)]
+fn push_some<L: Links>(
+    form: Form,
+    value: &[u8],
+    decoded: &mut Vec<u8>,
+    links: &mut L,
+) -> Result<(), AllocError>
+    ensures { OnOk result (L.texts links.new ≡ L.texts links.old ++ text_links form (text_of value.now)) }
+{
     if !is_coded(value) {
         return push_text(form, value, links);
     }
