@@ -6,6 +6,8 @@ pub mod Documents
 pub mod RawTexts
 pub mod Reading
 pub mod Seeing
+pub mod Telling
+pub mod Passing
 pub mod Scripts
 pub mod Decoding
 pub mod Sources

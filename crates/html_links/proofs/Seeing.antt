@@ -3,7 +3,7 @@ use Rattle.std.proofs.Common.{◌≡◌, ◌∙◌, ◌<◌, ◌≤◌, sym, ap,
 use Rattle.html_links.specs.declared.element.Element.{Element}
 use Rattle.html_links.specs.declared.next_tag.NextTag.{NextTag}
 use Rattle.html_links.specs.Tags.{Tag, BeforeName, tag_of}
-use Rattle.html_links.specs.Document.{StartTag, Data, InTag, behind_tag, read}
+use Rattle.html_links.specs.Document.{StartTag, InTag, behind_tag, read}
 use Rattle.html_links.specs.Elements.{Wanted, element_of, wanted_of}
 use Rattle.html_links.specs.Values.{Values, TagValues, tag_with, values_of, values_in}
 use Rattle.html_links.specs.Seen.{seen_of, seen_with, LeavesTag}
@@ -57,14 +57,3 @@ text_less w v text bytes found = text_less_at (tag_of bytes) w v text bytes (λ 
 pub leaves_within : (t : Option NextTag) (more bytes : List ℕ) → length more ≤ length bytes → LeavesTag t more → LeavesTag t bytes
 leaves_within None more bytes le leaves = tt
 leaves_within (Some t) more bytes le leaves = omega arith
-
--- what is sought in the bytes stands in what is left of them
-pub record Sought (bytes rest : List ℕ) : Type 0 where
-  pub same : map seen_of (read Data bytes) ≡ map seen_of (read Data rest)
-  pub left : length rest ≤ length bytes
-
-pub sought_on : (bytes rest more : List ℕ) → Sought bytes rest → read Data rest ≡ read Data more → length more < length rest → Sought bytes more
-sought_on bytes rest more so_far reads less = record {
-  same = so_far.same ∙ ap (map seen_of) reads;
-  left = omega (arith, so_far.left);
-}

@@ -1,9 +1,11 @@
 -- The elements whose attributes name documents, and which attributes these are.
-use Rattle.std.specs.Prelude.{ℕ, ◌||◌, Bool, if◌then◌else◌, List, [], codes}
+use Rattle.std.specs.Prelude.{ℕ, ◌||◌, not, Bool, if◌then◌else◌, List, [], codes}
 use Rattle.std.specs.Str.{bytes_eq}
 use Rattle.html_links.specs.declared.element.Element.{Element}
 use Rattle.html_links.specs.declared.element.Element.TheVariants as element
 use Rattle.html_links.specs.declared.element.Wanted as code
+use Rattle.html_links.specs.declared.element.TheConstants.{LENGTHS}
+use Rattle.html_links.specs.Lengths.{may_be}
 
 abbrev pub is_anchor : List ℕ → Bool
 is_anchor name = bytes_eq name (codes "a") || bytes_eq name (codes "image") || bytes_eq name (codes "use")
@@ -33,6 +35,10 @@ element_of name =
     else if bytes_eq name (codes "object") then element.Object
     else if bytes_eq name (codes "video") then element.Video
     else element.Other
+
+-- by its first letter and its length the name is of no element that names documents, nor of one with text
+abbrev pub is_usual : List ℕ → Bool
+is_usual name = not (may_be LENGTHS name)
 
 -- names of attributes; an empty one is none's
 pub record Wanted : Type 0 where

@@ -5,6 +5,7 @@ pub mod Dashes
 pub mod Document
 pub mod Markup
 pub mod RawText
+pub mod Lengths
 pub mod Elements
 pub mod Values
 pub mod Seen
@@ -16,6 +17,7 @@ pub mod Decoding
 pub mod Candidates
 pub mod Refresh
 pub mod Links
+pub mod Passed
 pub mod Placed
 pub mod Reads
 pub mod Styles

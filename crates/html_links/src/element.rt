@@ -1,8 +1,9 @@
 //! The elements whose attributes name documents, and these attributes.
 ghost use Rattle.std.specs.Prelude.{◌≡◌, map};
 ghost use Rattle.html_links.specs.Tags.{lower};
-ghost use Rattle.html_links.specs.Elements.{is_anchor, is_background, is_embedded, is_image, element_of, wanted_at, wanted_of, wants};
+ghost use Rattle.html_links.specs.Elements.{is_anchor, is_background, is_embedded, is_image, is_usual, element_of, wanted_at, wanted_of, wants};
 
+use crate::lengths::may_be;
 use crate::raw_text::same_name;
 
 /// Elements that name documents alike.
@@ -28,6 +29,12 @@ pub(crate) struct Wanted {
     pub(crate) second: &'static [u8],
     pub(crate) third: &'static [u8],
 }
+
+/// The lengths of the names of elements that name documents or whose content is text.
+static LENGTHS: [u16; 32] = [
+    0x0, 0x19, 0x8, 0x0, 0x0, 0x10, 0x10, 0x0, 0x0, 0x34, 0x0, 0x0, 0x8, 0x8, 0xc0, 0x20, 0x100,
+    0x0, 0x0, 0x30, 0x92, 0x4, 0x10, 0x0, 0x4, 0x0, 0x0, 0x0, 0x0, 0x0, 0x0, 0x0,
+];
 
 fn is_anchor(name: &[u8]) -> bool
     ensures { result ≡ is_anchor (map lower name.now) }
@@ -60,6 +67,14 @@ fn is_image(name: &[u8]) -> bool
     ensures { result ≡ is_image (map lower name.now) }
 {
     same_name(name, b"img") || same_name(name, b"source")
+}
+
+/// Whether an element with this name is sure to name no documents and to have no text, as its first letter and its length tell.
+#[inline(always)]
+pub(crate) fn is_usual(name: &[u8]) -> bool
+    ensures { result ≡ is_usual name.now }
+{
+    !may_be(&LENGTHS, name)
 }
 
 /// The element with this name, in any case.

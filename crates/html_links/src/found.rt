@@ -4,6 +4,7 @@ ghost use Rattle.html_links.specs.Tags.{tag_of};
 ghost use Rattle.html_links.specs.Comments.{bytes_at};
 ghost use Rattle.html_links.specs.Shown.{attribute_at};
 ghost use Rattle.html_links.specs.Elements.{wanted_at};
+ghost use Rattle.html_links.specs.Passed.{is_absent, name_nothing};
 ghost use Rattle.html_links.specs.Values.{or_named, values_at, no_values, with_attribute, values_in, tag_values};
 
 use crate::element::Wanted;
@@ -41,6 +42,17 @@ impl<'a> Values<'a> {
         }
     }
 
+    /// Whether none names a document or a part, or is a style.
+    #[inline(always)]
+    pub(crate) fn name_nothing(&self) -> bool
+        ensures { result ≡ name_nothing (values_at self.now) }
+    {
+        is_absent(self.first)
+            && is_absent(self.second)
+            && is_absent(self.style)
+            && is_absent(self.id)
+    }
+
     #[inline(always)]
     fn clear(&mut self)
         ensures { values_at self.new ≡ no_values }
@@ -51,6 +63,16 @@ impl<'a> Values<'a> {
         self.style = None;
         self.id = None;
         self.name = None;
+    }
+}
+
+#[inline(always)]
+fn is_absent(value: Option<&[u8]>) -> bool
+    ensures { result ≡ is_absent (bytes_at value.entry) }
+{
+    match value {
+        Some(_) => false,
+        None => true,
     }
 }
 

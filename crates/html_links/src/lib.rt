@@ -6,6 +6,7 @@ mod comments;
 mod document;
 mod element;
 mod found;
+mod lengths;
 mod links;
 mod names;
 mod next_tag;

@@ -1,5 +1,5 @@
 use Rattle.std.proofs.Common.{length}
-use Rattle.html_links.proofs.Seeing.{Sought}
+use Rattle.html_links.proofs.Passing.{Sought}
 use Rattle.html_links.proofs.next_tag.next_tag.Given as goal
 
 abbrev pub invariant-markup : goal.invariant-markup

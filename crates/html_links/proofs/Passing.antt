@@ -1,0 +1,149 @@
+-- What a reader of links passes has none.
+use Rattle.std.proofs.Common.{◌≡◌, ◌∙◌, ◌<◌, ◌≤◌, sym, ap, refl, arith, ℕ, Bool, true, false, not, cond, ◌&&◌, ◌||◌, List, [], ◌∷◌, ◌++◌, length, map, Option, None, Some}
+use Rattle.std.specs.Prelude.{codes}
+use Rattle.std.specs.Str.{bytes_eq}
+use Rattle.html_links.specs.declared.element.Element.TheVariants as element
+use Rattle.html_links.specs.declared.element.TheConstants.{LENGTHS}
+use Rattle.html_links.specs.declared.document.Content.TheVariants as content
+use Rattle.html_links.specs.declared.next_tag.NextTag.{NextTag}
+use Rattle.html_links.specs.declared.reader.Form.TheVariants as form
+use Rattle.html_links.specs.Tags.{lower, tag_of, BeforeName}
+use Rattle.html_links.specs.Lengths.{may_be}
+use Rattle.html_links.specs.Elements.{element_of, wanted_of, is_usual}
+use Rattle.html_links.specs.Document.{Data, InTag, content_of, read}
+use Rattle.html_links.specs.Values.{Values, tag_with, values_in}
+use Rattle.html_links.specs.Seen.{Seen, Sees, seen_of, seen_with, seen_in}
+use Rattle.html_links.specs.Links.{links_in, ids_in, base_in, value_links, anchors_with}
+use Rattle.html_links.specs.Passed.{is_absent, name_nothing, styled_in, Has, Finds}
+use Rattle.html_links.proofs.Documents.{to_markup}
+use Rattle.html_links.proofs.Telling.{other_name}
+use Rattle.html_links.proofs.Seeing.{seen_start, text_less}
+
+-- the name of no element that names documents, nor of one with text
+
+not_so : (b : Bool) → not b ≡ true → b ≡ false
+not_so true e = absurd (cc)
+not_so false e = refl
+
+usual_not : (name : List ℕ) → is_usual name ≡ true → (text : List ℕ) → may_be LENGTHS text ≡ true → bytes_eq (map lower name) text ≡ false
+usual_not name usual text may = other_name LENGTHS name text (not_so (may_be LENGTHS name) usual) may
+
+neither : (a b : Bool) → a ≡ false → b ≡ false → (a || b) ≡ false
+neither true b p q = absurd (cc)
+neither false b p q = q
+
+otherwise : {A : Type 0} (b : Bool) (x y z : A) → b ≡ false → y ≡ z → cond b x y ≡ z
+otherwise true x y z isnt later = absurd (cc)
+otherwise false x y z isnt later = later
+
+pub usual_element : (name : List ℕ) → is_usual name ≡ true → element_of (map lower name) ≡ element.Other
+usual_element name usual =
+    let unlike = usual_not name usual in
+    otherwise _ element.Anchor _ _ (neither _ _ (neither _ _ (unlike (codes "a") refl) (unlike (codes "image") refl)) (unlike (codes "use") refl))
+    (otherwise _ element.Image _ _ (neither _ _ (unlike (codes "img") refl) (unlike (codes "source") refl))
+    (otherwise _ element.Embedded _ _
+    (neither _ _ (neither _ _ (neither _ _ (neither _ _ (neither _ _ (neither _ _ (unlike (codes "audio") refl) (unlike (codes "embed") refl)) (unlike (codes "frame") refl)) (unlike (codes "iframe") refl)) (unlike (codes "input") refl))
+    (unlike (codes "script") refl)) (unlike (codes "track") refl))
+    (otherwise _ element.Background _ _ (neither _ _ (neither _ _ (neither _ _ (unlike (codes "body") refl) (unlike (codes "table") refl)) (unlike (codes "td") refl)) (unlike (codes "th") refl))
+    (otherwise _ element.Area _ _ (unlike (codes "area") refl)
+    (otherwise _ element.Base _ _ (unlike (codes "base") refl)
+    (otherwise _ element.Link _ _ (unlike (codes "link") refl)
+    (otherwise _ element.Meta _ _ (unlike (codes "meta") refl)
+    (otherwise _ element.Object _ _ (unlike (codes "object") refl)
+    (otherwise _ element.Video _ _ (unlike (codes "video") refl) refl)))))))))
+
+pub usual_content : (name : List ℕ) → is_usual name ≡ true → content_of (map lower name) ≡ content.Markup
+usual_content name usual =
+    let unlike = usual_not name usual in
+    otherwise _ content.Raw _ _
+    (neither _ _ (neither _ _ (neither _ _ (neither _ _ (neither _ _ (neither _ _ (unlike (codes "title") refl) (unlike (codes "textarea") refl)) (unlike (codes "style") refl)) (unlike (codes "xmp") refl)) (unlike (codes "iframe") refl))
+    (unlike (codes "noembed") refl)) (unlike (codes "noframes") refl))
+    (otherwise _ content.Script _ _ (unlike (codes "script") refl)
+    (otherwise _ content.Plain _ _ (unlike (codes "plaintext") refl) refl))
+
+-- such a tag as it is seen
+
+pub usual_seen : (rest name more last : List ℕ) (v : Values) → is_usual name ≡ true → read Data rest ≡ read (InTag false (map lower name) BeforeName []) more →
+    Some (tag_with v last) ≡ values_in (wanted_of element.Other) (tag_of more) → seen_in rest ≡ seen_with (map lower name) element.Other v ∷ seen_in last
+usual_seen rest name more last v usual opens found =
+    ap (map seen_of) opens
+    ∙ seen_start (map lower name) more element.Other (wanted_of element.Other) v last (read Data last) (sym (usual_element name usual)) refl found
+    (to_markup (map lower name) last (sym (usual_content name usual)))
+
+-- tags that have what some others have
+
+pub has_same : (all some : List Seen) → all ≡ some → Has all some
+has_same all some same = record { links = ap links_in same; ids = ap ids_in same; base = ap base_in same; styles = ap styled_in same }
+
+pub has_then : (all some less : List Seen) → Has all some → Has some less → Has all less
+has_then all some less first then = record {
+  links = first.links ∙ then.links;
+  ids = first.ids ∙ then.ids;
+  base = first.base ∙ then.base;
+  styles = first.styles ∙ then.styles;
+}
+
+absent_is : (value : Option (List ℕ)) → is_absent value ≡ true → value ≡ None
+absent_is None e = refl
+absent_is (Some x) e = absurd (cc)
+
+both : (a b : Bool) → (a && b) ≡ true → (a ≡ true) × (b ≡ true)
+both true b e = (refl, e)
+both false b e = absurd (cc)
+
+pub passed : (name : List ℕ) (v : Values) (rest : List Seen) → is_usual name ≡ true → name_nothing v ≡ true → Has (seen_with (map lower name) element.Other v ∷ rest) rest
+passed name v rest usual nothing =
+    let id = both _ _ nothing in
+    let style = both _ _ id.0 in
+    let second = both _ _ style.0 in
+    let none : v.first ≡ None = absent_is v.first second.0 in
+    let none_too : v.second ≡ None = absent_is v.second second.1 in
+    let no_id : v.id ≡ None = absent_is v.id id.1 in
+    let no_anchor : bytes_eq (map lower name) (codes "a") ≡ false = usual_not name usual (codes "a") refl in
+    let no_sheet : bytes_eq (map lower name) (codes "style") ≡ false = usual_not name usual (codes "style") refl in
+    record {
+      links =
+          ap (λ (o : Option (List ℕ)). (value_links form.Link o ++ value_links form.Link v.second) ++ links_in rest) none
+          ∙ ap (λ (o : Option (List ℕ)). value_links form.Link o ++ links_in rest) none_too;
+      ids =
+          ap (λ (o : Option (List ℕ)). (value_links form.Link o ++ anchors_with (map lower name) v) ++ ids_in rest) no_id
+          ∙ ap (λ (b : Bool). cond b (value_links form.Link v.name) [] ++ ids_in rest) no_anchor;
+      base = refl;
+      styles =
+          ap (λ (b : Bool). cond (b && not (bytes_eq (map lower name) (codes "style"))) (styled_in rest) (seen_with (map lower name) element.Other v ∷ styled_in rest)) style.1
+          ∙ ap (λ (b : Bool). cond (not b) (styled_in rest) (seen_with (map lower name) element.Other v ∷ styled_in rest)) no_sheet;
+    }
+
+-- what is sought in the bytes stands in what is left of them
+pub record Sought (bytes rest : List ℕ) : Type 0 where
+  pub has : Has (seen_in bytes) (seen_in rest)
+  pub left : length rest ≤ length bytes
+
+pub sought_all : (bytes : List ℕ) → Sought bytes bytes
+sought_all bytes = record { has = has_same (seen_in bytes) (seen_in bytes) refl; left = omega arith }
+
+-- and in other bytes, with what is read before them
+pub sought_as : (bytes rest : List ℕ) (some : List Seen) → Sought bytes rest → seen_in rest ≡ some → Has (seen_in bytes) some
+sought_as bytes rest some so_far same = has_then (seen_in bytes) (seen_in rest) some so_far.has (has_same (seen_in rest) some same)
+
+pub sought_on : (bytes rest more : List ℕ) → Sought bytes rest → read Data rest ≡ read Data more → length more < length rest → Sought bytes more
+sought_on bytes rest more so_far reads less = record {
+  has = sought_as bytes rest (seen_in more) so_far (ap (map seen_of) reads);
+  left = omega (arith, so_far.left);
+}
+
+-- behind a tag that is passed
+pub sought_past : (bytes rest name more last : List ℕ) (v : Values) → Sought bytes rest → is_usual name ≡ true → name_nothing v ≡ true →
+    read Data rest ≡ read (InTag false (map lower name) BeforeName []) more → Some (tag_with v last) ≡ values_in (wanted_of element.Other) (tag_of more) → length more < length rest → Sought bytes last
+sought_past bytes rest name more last v so_far usual nothing opens found less =
+    let shorter : length last < length more = text_less (wanted_of element.Other) v last more found in
+    record {
+      has =
+          has_then (seen_in bytes) (seen_with (map lower name) element.Other v ∷ seen_in last) (seen_in last)
+          (sought_as bytes rest (seen_with (map lower name) element.Other v ∷ seen_in last) so_far (usual_seen rest name more last v usual opens found)) (passed name v (seen_in last) usual nothing);
+      left = omega (arith, so_far.left);
+    }
+
+pub finds_from : (t : Option NextTag) (v : Values) (all seen : List Seen) → Has all seen → Sees t v seen → Finds t v all
+finds_from None v all seen has is = has_then all seen [] has (has_same seen [] is)
+finds_from (Some t) v all seen has is = has_then all seen _ has (has_same seen _ is)

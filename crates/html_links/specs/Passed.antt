@@ -1,0 +1,35 @@
+-- What a reader of links finds of what is seen: it passes tags that name nothing.
+use Rattle.std.specs.Prelude.{◌≡◌, ℕ, ◌&&◌, not, Bool, true, false, if◌then◌else◌, List, [], ◌∷◌, codes, Option, None, Some}
+use Rattle.std.specs.Str.{bytes_eq}
+use Rattle.html_links.specs.declared.next_tag.NextTag.{NextTag}
+use Rattle.html_links.specs.Values.{Values}
+use Rattle.html_links.specs.Seen.{Seen, seen_in, seen_at}
+use Rattle.html_links.specs.Links.{links_in, ids_in, base_in}
+
+abbrev pub is_absent : Option (List ℕ) → Bool
+is_absent None = true
+is_absent (Some value) = false
+
+-- none names a document or a part, or is a style
+abbrev pub name_nothing : Values → Bool
+name_nothing v = is_absent v.first && is_absent v.second && is_absent v.style && is_absent v.id
+
+abbrev pub is_unstyled : Seen → Bool
+is_unstyled seen = is_absent seen.values.style && not (bytes_eq seen.name (codes "style"))
+
+-- the tags with a style, and the style sheets
+abbrev pub styled_in : List Seen → List Seen
+styled_in [] = []
+styled_in (seen ∷ rest) = if is_unstyled seen then styled_in rest else seen ∷ styled_in rest
+
+-- some tags have the links, the ids, the base and the styles of all
+pub record Has (all some : List Seen) : Type 0 where
+  pub links : links_in all ≡ links_in some
+  pub ids : ids_in all ≡ ids_in some
+  pub base : base_in all ≡ base_in some
+  pub styles : styled_in all ≡ styled_in some
+
+-- What is said of the code: the tag with these values has, with those behind it, what is seen.
+abbrev pub Finds : Option NextTag → Values → List Seen → Type 0
+Finds None values seen = Has seen []
+Finds (Some t) values seen = Has seen (seen_at t values ∷ seen_in t.rest.now)
