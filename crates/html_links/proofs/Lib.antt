@@ -1,4 +1,5 @@
 pub mod Cuts
+pub mod Nearness
 pub mod Jumps
 pub mod Loops
 pub mod Dashing

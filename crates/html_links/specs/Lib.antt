@@ -6,6 +6,7 @@ pub mod Document
 pub mod Markup
 pub mod RawText
 pub mod Lengths
+pub mod Near
 pub mod Elements
 pub mod Values
 pub mod Seen

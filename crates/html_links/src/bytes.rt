@@ -1,11 +1,10 @@
 //! Classes of bytes, and slices cut where they change.
 ghost use Rattle.std.specs.Prelude.{◌≡◌, ◌∷◌, ◌==◌, [], length, not, MatchOption};
 ghost use Rattle.std.specs.List.{take_while};
-ghost use Rattle.memchr.specs.Find.{IsFirstByte, is_byte};
 ghost use Rattle.html_links.specs.Tags.{class_of};
 ghost use Rattle.html_links.specs.Shown.{front, behind, is_space, in_name, in_unquoted, name_front, name_behind, BeginsName, Stopped};
 
-use memchr::memchr_iter;
+use crate::near::near_byte;
 
 /// What a byte means within a tag.
 #[derive(Clone, Copy)]
@@ -131,17 +130,8 @@ pub(crate) fn split_quoted(quote: u8, bytes: &[u8]) -> Option<(&[u8], &[u8])>
     ensures { MatchOption result (behind (λ c. not (c == quote)) bytes.now ≡ [])
         (λ x. (x.0.now ≡ front (λ c. not (c == quote)) bytes.now) × (quote ∷ x.1.now ≡ behind (λ c. not (c == quote)) bytes.now)) }
 {
-    match find_byte(quote, bytes) {
+    match near_byte(quote, bytes) {
         Some(end) => Some((&bytes[..end], &bytes[end + 1..])),
         None => None,
     }
-}
-
-/// The first index of a byte that is likely to be near. The search stands once in the program, and its answer in registers.
-#[inline(never)]
-fn find_byte(byte: u8, bytes: &[u8]) -> Option<usize>
-    ensures { IsFirstByte (is_byte byte) bytes.now result }
-{
-    let mut found = memchr_iter(byte, bytes);
-    found.next()
 }

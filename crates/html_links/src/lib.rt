@@ -9,6 +9,7 @@ mod found;
 mod lengths;
 mod links;
 mod names;
+mod near;
 mod next_tag;
 mod placed;
 mod raw_text;

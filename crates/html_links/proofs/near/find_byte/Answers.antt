@@ -1,6 +1,6 @@
 use Rattle.memchr.specs.Find.{is_byte}
 use Rattle.html_links.proofs.Cuts.{first_byte}
-use Rattle.html_links.proofs.bytes.find_byte.Goals as goal
+use Rattle.html_links.proofs.near.find_byte.Goals as goal
 
 pub returns : goal.returns
 returns c =
