@@ -3,11 +3,12 @@ ghost use Rattle.std.specs.Prelude.{◌≡◌};
 ghost use Rattle.html_links.specs.Tags.{tag_of};
 ghost use Rattle.html_links.specs.Comments.{bytes_at};
 ghost use Rattle.html_links.specs.Shown.{attribute_at};
-ghost use Rattle.html_links.specs.Elements.{wanted_at};
+ghost use Rattle.html_links.specs.Elements.{wanted_at, wanted_of};
 ghost use Rattle.html_links.specs.Passed.{is_absent, name_nothing};
 ghost use Rattle.html_links.specs.Values.{or_named, values_at, no_values, with_attribute, values_in, tag_values};
 
-use crate::element::Wanted;
+use crate::element::{Element, Wanted, wanted_of};
+use crate::lengths::may_be;
 use crate::raw_text::same_name;
 use crate::tag::{AttributeAt, Piece, next_piece};
 
@@ -66,6 +67,12 @@ impl<'a> Values<'a> {
     }
 }
 
+/// The lengths of the names of attributes that are wanted of an element, or of each.
+static LENGTHS: [u16; 32] = [
+    0x0, 0x0, 0x200, 0x40, 0x8, 0x0, 0x0, 0x0, 0x208, 0x402, 0x0, 0x0, 0x0, 0x0, 0x8, 0x0, 0x20,
+    0x0, 0x4, 0x34, 0x0, 0x0, 0x0, 0x0, 0x200, 0x0, 0x0, 0x0, 0x0, 0x0, 0x0, 0x0,
+];
+
 #[inline(always)]
 fn is_absent(value: Option<&[u8]>) -> bool
     ensures { result ≡ is_absent (bytes_at value.entry) }
@@ -92,6 +99,22 @@ fn take_named<'a>(value: &mut Option<&'a [u8]>, name: &[u8], attribute: Attribut
 #[inline(always)]
 fn take_attribute<'a>(
     values: &mut Values<'a>,
+    element: Element,
+    attribute: AttributeAt<'a>,
+    left: usize,
+)
+    ensures { values_at values.new ≡ with_attribute (values_at values.old) (wanted_of element) (attribute_at attribute.entry) }
+{
+    if !may_be(&LENGTHS, attribute.name) {
+        return;
+    }
+    take_wanted(values, &wanted_of(element), attribute, left);
+}
+
+/// The same where the names that are wanted are known.
+#[inline(always)]
+fn take_wanted<'a>(
+    values: &mut Values<'a>,
     wanted: &Wanted,
     attribute: AttributeAt<'a>,
     left: usize,
@@ -113,18 +136,18 @@ fn take_attribute<'a>(
 /// Finds the wanted values of a tag from behind its name; answers what is behind the tag, and nothing where the tag does not end.
 #[inline(always)]
 pub(crate) fn values_in<'a>(
-    wanted: &Wanted,
+    element: Element,
     bytes: &'a [u8],
     values: &mut Values<'a>,
 ) -> Option<&'a [u8]>
-    ensures { tag_values (values_at values.new) result ≡ values_in (wanted_at wanted.now) (tag_of bytes.now) }
+    ensures { tag_values (values_at values.new) result ≡ values_in (wanted_of element) (tag_of bytes.now) }
 {
     values.clear();
     let mut rest = bytes;
     'pieces: loop {
         match next_piece(rest) {
             Piece::Attribute(attribute, more) => {
-                take_attribute(values, wanted, attribute, more.len());
+                take_attribute(values, element, attribute, more.len());
                 rest = more;
             }
             Piece::Slash(more) => rest = more,

@@ -8,7 +8,7 @@ ghost use Rattle.html_links.specs.Passed.{Finds};
 
 use crate::bytes::split_quoted;
 use crate::document::{Markup, after_element, after_tag, next_markup};
-use crate::element::{Element, element_of, is_usual, wanted_of};
+use crate::element::{Element, element_of, is_usual};
 use crate::found::{Values, values_in};
 
 /// A start tag: what is behind its name, its element, what is behind the tag, and what is behind the element where its text is
@@ -67,7 +67,7 @@ pub(crate) fn next_tag<'a>(bytes: &'a [u8], values: &mut Values<'a>) -> Option<N
 fn usual_values<'a>(bytes: &'a [u8], values: &mut Values<'a>) -> Option<&'a [u8]>
     ensures { tag_values (values_at values.new) result ≡ values_in (wanted_of Element.Other) (tag_of bytes.now) }
 {
-    values_in(&wanted_of(Element::Other), bytes, values)
+    values_in(Element::Other, bytes, values)
 }
 
 /// A start tag from behind its name. It stands apart so that the values stay in the caller's memory, written where one is found.
@@ -77,7 +77,7 @@ fn start_tag<'a>(name: &'a [u8], bytes: &'a [u8], values: &mut Values<'a>) -> Op
     ensures leaves { LeavesTag result bytes.now }
 {
     let element = element_of(name);
-    let Some(text) = values_in(&wanted_of(element), bytes, values) else {
+    let Some(text) = values_in(element, bytes, values) else {
         return None;
     };
     match after_element(name, text) {

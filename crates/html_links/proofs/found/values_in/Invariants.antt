@@ -1,11 +1,11 @@
 use Rattle.std.proofs.Common.{length}
-use Rattle.html_links.specs.Elements.{wanted_at}
+use Rattle.html_links.specs.Elements.{wanted_of}
 use Rattle.html_links.specs.Values.{values_at}
 use Rattle.html_links.proofs.Reading.{Reading}
 use Rattle.html_links.proofs.found.values_in.Given as goal
 
 abbrev pub invariant-pieces : goal.invariant-pieces
-invariant-pieces l = Reading l.fn.bytes l.rest (wanted_at l.wanted) (values_at l.values)
+invariant-pieces l = Reading l.fn.bytes l.rest (wanted_of l.element) (values_at l.values)
 
 abbrev pub decreases-pieces : goal.decreases-pieces
 decreases-pieces l = length l.rest
