@@ -1,12 +1,31 @@
--- Which entries of what is known to be broken stand for nothing.
-use Rattle.std.specs.Prelude.{◌≡◌, ℕ, not, List, [], ◌∷◌, ◌++◌, filter, if◌then◌else◌, string_bytes}
+-- The entries of what is known to be broken, and which of them stand for nothing.
+use Rattle.std.specs.Prelude.{◌≡◌, ◌==◌, ℕ, Bool, true, not, List, [], ◌∷◌, ◌++◌, filter, if◌then◌else◌, string_bytes}
 use Rattle.std.specs.List.{list_any, flat_map}
+use Rattle.std.specs.Str.{trim}
+use Rattle.std.specs.Str.Lines.{lines}
+use Rattle.std.specs.Str.Lossy.{utf8_lossy}
 use Rattle.check_report.specs.declared.value.Broken.{Broken}
 use Rattle.check_report.specs.declared.value.Kind.{Kind}
 use Rattle.check_report.specs.declared.value.Kind.TheVariants.{NoPage, NoAnchor}
 use Rattle.crawl_web.specs.ReportText.{is_missing}
 use Rattle.crawl_web.specs.declared.page.PageResult.{PageResult}
 use Rattle.site_check.specs.Broken.{begins, is_ignored, shown}
+
+-- a text that is empty or begins with `#` is no entry
+abbrev pub has_no_entry : List ℕ → Bool
+has_no_entry [] = true
+has_no_entry (byte ∷ rest) = byte == 35
+
+abbrev pub entry_of : List ℕ → List (List ℕ)
+entry_of text = if has_no_entry text then [] else text ∷ []
+
+-- the entry of a line, without the white space round it
+abbrev pub entry_in : List ℕ → List (List ℕ)
+entry_in line = entry_of (trim (utf8_lossy line))
+
+-- those of all lines
+abbrev pub entries_in : List ℕ → List (List ℕ)
+entries_in bytes = flat_map entry_in (lines bytes)
 
 -- the entries that none of the texts begins with
 abbrev pub unused : List (List ℕ) → List (List ℕ) → List (List ℕ)

@@ -49,7 +49,7 @@ pub(crate) struct Pages<'a> {
     pub(crate) documents: &'a [Option<usize>],
 }
 
-/// Of each page of a site which of the documents it is.
+/// Of each page of a site which of the documents it is. Both ascend by URL, and are gone through once.
 pub(crate) fn documents_of(
     alloc: Global,
     files: &SiteFiles<'_>,
@@ -60,20 +60,30 @@ pub(crate) fn documents_of(
     for number in 0..files.page_count() {
         let mut found = None;
         if let Some((url, _)) = files.page(number) {
-            for _ in 0..anchors.len() {
-                match anchors.get(next) {
-                    Some(page) if page.url.as_str() < url => next = next.saturating_add(1),
-                    Some(page) if page.url.as_str() == url => {
-                        found = Some(next);
-                        break;
-                    }
-                    _ => break,
-                }
-            }
+            next = next_document(anchors, next, url);
+            found = document_at(anchors, next, url);
         }
         all.push(found)?;
     }
     Ok(all)
+}
+
+/// The number of the first document from this one on whose URL does not come before this one.
+fn next_document(anchors: &[PageAnchors], from: usize, url: &str) -> usize {
+    let (_, behind) = anchors.split_at(from.min(anchors.len()));
+    let passed = behind
+        .iter()
+        .position(|page| page.url.as_str() >= url)
+        .unwrap_or(behind.len());
+    from.saturating_add(passed)
+}
+
+/// The number of this document, where it is that of the URL.
+fn document_at(anchors: &[PageAnchors], number: usize, url: &str) -> Option<usize> {
+    match anchors.get(number) {
+        Some(page) if page.url.as_str() == url => Some(number),
+        _ => None,
+    }
 }
 
 impl<'a> Pages<'a> {

@@ -1,12 +1,13 @@
 //! What is known to be broken.
-ghost use Rattle.std.specs.Prelude.{◌≡◌, ◌∷◌, ◌++◌, [], IfOk, MatchOption, map, string_bytes};
+ghost use Rattle.std.specs.Prelude.{◌≡◌, ◌∷◌, ◌++◌, [], IfOk, MatchOption, OnOk, map, string_bytes};
 ghost use Rattle.std.specs.List.{list_any};
 ghost use Rattle.crawl_sources.specs.Tallies.{pointed};
 ghost use Rattle.site_check.specs.Broken.{begins, is_ignored};
-ghost use Rattle.site_check.specs.Ignored.{unused};
+ghost use Rattle.site_check.specs.Ignored.{entries_in, entry_in, entry_of, has_no_entry, unused};
 
+use crate::names::split_byte;
 use crate::shown::begins;
-use crawl_web::NoMemory;
+use crawl_web::{NoMemory, first_line};
 use std::alloc::Global;
 
 /// The entries that the bytes have, one a line: each stands for the targets that begin with it. A line that is empty or begins
@@ -14,16 +15,47 @@ use std::alloc::Global;
 ///
 /// # Errors
 /// Where a growth was refused.
-pub fn read_ignores(alloc: Global, bytes: &[u8]) -> Result<Vec<String>, NoMemory> {
-    let text = String::from_utf8_lossy(alloc, bytes)?;
+pub fn read_ignores(alloc: Global, bytes: &[u8]) -> Result<Vec<String>, NoMemory>
+    ensures { IfOk result (λ entries. map string_bytes entries.items ≡ entries_in bytes.now) }
+{
     let mut entries = Vec::new(alloc);
-    for line in text.as_str().lines() {
-        let entry = line.trim();
-        if !entry.is_empty() && !entry.starts_with('#') {
-            entries.push(String::from_str(alloc, entry)?)?;
-        }
+    let mut rest = bytes;
+    'lines: while let Some((line, more)) = first_line(rest) {
+        push_line(alloc, line, &mut entries)?;
+        rest = more;
     }
     Ok(entries)
+}
+
+/// Appends the entry of a line, where it has one.
+fn push_line(alloc: Global, line: &[u8], entries: &mut Vec<String>) -> Result<(), NoMemory>
+    ensures { OnOk result (map string_bytes entries.new.items ≡ map string_bytes entries.old.items ++ entry_in line.now) }
+{
+    let text = String::from_utf8_lossy(alloc, line)?;
+    push_entry(alloc, text.as_str().trim(), entries)?;
+    Ok(())
+}
+
+/// Appends a text that has no white space round it, where it is an entry.
+fn push_entry(alloc: Global, text: &str, entries: &mut Vec<String>) -> Result<(), NoMemory>
+    ensures { OnOk result (map string_bytes entries.new.items ≡ map string_bytes entries.old.items ++ entry_of text.now) }
+{
+    if has_no_entry(text) {
+        return Ok(());
+    }
+    let entry = String::from_str(alloc, text)?;
+    entries.push(entry)?;
+    Ok(())
+}
+
+/// Whether the text is empty or begins with `#`.
+fn has_no_entry(text: &str) -> bool
+    ensures { result ≡ has_no_entry text.now }
+{
+    match split_byte(text.as_bytes()) {
+        Some((first, _)) => first == b'#',
+        None => true,
+    }
 }
 
 /// Whether an entry stands for the text.

@@ -24,11 +24,32 @@ pub(crate) fn by_number(
     places: Vec<PlaceOf>,
     count: usize,
 ) -> Result<Vec<Vec<Place>>, NoMemory> {
-    let mut found = Vec::new(alloc);
-    for _ in 0..count {
-        found.push(Vec::new(alloc))?;
-    }
+    let counts = place_counts(alloc, places.as_slice(), count)?;
+    let mut found = with_room(alloc, counts.as_slice())?;
     add_places(places, found.as_mut_slice())?;
+    for own in found.iter_mut() {
+        in_order(own)?;
+    }
+    Ok(found)
+}
+
+/// How many of the places have each number.
+fn place_counts(alloc: Global, places: &[PlaceOf], count: usize) -> Result<Vec<usize>, NoMemory> {
+    let mut counts = vec![in alloc; 0usize; count]?;
+    for one in places {
+        if let Some(own) = counts.get_mut(one.number) {
+            *own = own.saturating_add(1);
+        }
+    }
+    Ok(counts)
+}
+
+/// A list with room for each of so many places, and no more.
+fn with_room(alloc: Global, counts: &[usize]) -> Result<Vec<Vec<Place>>, NoMemory> {
+    let mut found = Vec::with_capacity(alloc, counts.len())?;
+    for count in counts {
+        found.push(Vec::with_capacity(alloc, *count)?)?;
+    }
     Ok(found)
 }
 
@@ -152,16 +173,13 @@ fn place_in(alloc: Global, name: &str, place: TextPlace) -> Result<Place, NoMemo
     })
 }
 
-/// Adds these places to what is found, in order.
+/// Adds these places to what is found.
 fn add_places(places: Vec<PlaceOf>, found: &mut [Vec<Place>]) -> Result<(), NoMemory> {
     for one in places {
         let PlaceOf { number, place } = one;
         if let Some(own) = found.get_mut(number) {
             own.push(place)?;
         }
-    }
-    for own in found.iter_mut() {
-        in_order(own)?;
     }
     Ok(())
 }

@@ -236,7 +236,8 @@ fn name_on<'a>(byte: u8, more: &'a [u8], name: &'a [u8]) -> &'a [u8]
     if byte == b'/' { more } else { name }
 }
 
-fn split_byte(bytes: &[u8]) -> Option<(u8, &[u8])>
+/// The first byte, and those behind it.
+pub(crate) fn split_byte(bytes: &[u8]) -> Option<(u8, &[u8])>
     ensures { MatchOption result (bytes.now ≡ []) (λ x. bytes.now ≡ x.0 ∷ x.1.now) }
 {
     match bytes.split_first() {
