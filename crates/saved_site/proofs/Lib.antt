@@ -6,3 +6,4 @@ pub mod PageByPage
 pub mod Printing
 pub mod Says
 pub mod Sound
+pub mod WindowsBytes

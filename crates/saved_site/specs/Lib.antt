@@ -5,3 +5,4 @@ pub mod Pieces
 pub mod Places
 pub mod Printed
 pub mod Texts
+pub mod Windows

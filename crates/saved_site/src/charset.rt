@@ -1,6 +1,7 @@
 //! The encoding of a document.
-ghost use Rattle.std.specs.Prelude.{◌≡◌, ◌≤◌, ◌<◌, length, true, IsAscii, IfOk, IfSome};
+ghost use Rattle.std.specs.Prelude.{◌≡◌, ◌≢◌, ℕ, ◌≤◌, ◌<◌, length, true, IsAscii, IfOk, IfSome, IsNone};
 ghost use Rattle.saved_site.specs.Places.{keeps_ascii};
+ghost use Rattle.saved_site.specs.Windows.{character_of, likely_byte};
 
 use crate::kinds::{behind_front, start_of};
 use memchr::memchr;
@@ -177,7 +178,8 @@ pub(crate) fn from_windows(alloc: Global, body: &[u8]) -> Result<Vec<u8>, AllocE
 }
 
 fn character_of(byte: u8) -> char
-    ensures { byte < 128 → result ≡ byte }
+    ensures own { byte < 128 → result ≡ byte }
+    ensures all { result ≡ character_of byte }
 {
     match byte {
         0x80..=0x9f => WINDOWS[(byte - 0x80) as usize],
@@ -185,12 +187,36 @@ fn character_of(byte: u8) -> char
     }
 }
 
+/// For each remainder of a character's number by 79, the one byte above ASCII that may stand for it.
+static LIKELY: [u8; 79] = [
+    0x91, 0x92, 0x82, 0, 0x93, 0x94, 0x84, 0x83, 0x86, 0x87, 0x95, 0, 0, 0, 0x85, 0, 0, 0, 0, 0, 0,
+    0x98, 0x8c, 0x9c, 0x89, 0, 0, 0, 0, 0x99, 0, 0, 0, 0x8b, 0x9b, 0, 0x8a, 0x9a, 0, 0, 0, 0, 0, 0,
+    0, 0, 0, 0, 0, 0, 0, 0, 0, 0, 0, 0, 0, 0, 0, 0, 0x9f, 0, 0, 0, 0, 0x8e, 0x9e, 0, 0, 0x80, 0, 0,
+    0, 0, 0x96, 0x97, 0, 0, 0x88,
+];
+
 /// The byte that stands for a character in Windows' encoding.
-pub(crate) fn windows_byte(character: char) -> Option<u8> {
-    let number = u32::from(character);
-    match number {
-        0..=0x7f | 0xa0..=0xff => u8::try_from(number).ok(),
-        _ => (0x80..=0x9f_u8).find(|byte| character_of(*byte) == character),
+#[tactic(auto, using(crate::proofs::WindowsBytes::likely))]
+pub(crate) fn windows_byte(character: char) -> Option<u8>
+    ensures byte { IfSome result (λ byte. character_of byte ≡ character) }
+    ensures none { IsNone result → (byte : ℕ) → byte < 256 → character_of byte ≢ character }
+{
+    let byte = likely_byte(character as u32);
+    if character_of(byte) == character {
+        Some(byte)
+    } else {
+        None
+    }
+}
+
+/// The one byte that may stand for the character with this number.
+fn likely_byte(number: u32) -> u8
+    ensures { result ≡ likely_byte number }
+{
+    if number < 0x100 {
+        number as u8
+    } else {
+        LIKELY[(number % 79) as usize]
     }
 }
 

@@ -1,4 +1,6 @@
 //! Links that spell a page in another way which a server takes for the same.
+ghost use Rattle.std.specs.Prelude.{◌≡◌, bytes_eq};
+
 use crate::base_href::{base_of, resolved};
 use crate::escapes::{push_query, push_respelled};
 use crate::site::{Rules, Site};
@@ -34,19 +36,39 @@ pub(crate) fn spellings(
         return Ok(found);
     }
     let base = base_of(alloc, page.url)?;
+    let mut last = Last { line: &[] };
     let mut rest = lines;
     for _ in 0..lines.len() {
         let Some((line, behind)) = next_line(page.is_plain, rest) else {
             break;
         };
         rest = behind;
-        if let Some(text) = text_of(line)
+        if !last.is_again(line)
+            && let Some(text) = text_of(line)
             && let Some(spelling) = spelling_at(alloc, site, rules, &base, text)?
         {
             found.push(spelling)?;
         }
     }
     Ok(found)
+}
+
+/// The line that was looked at last.
+#[derive(Drop)]
+struct Last<'a> {
+    line: &'a [u8],
+}
+
+impl<'a> Last<'a> {
+    /// Whether a line is that one again. It is the last one from now on.
+    fn is_again(&mut self, line: &'a [u8]) -> bool
+        ensures again { result ≡ bytes_eq self.old.line.now line.now }
+        ensures last { self.new.line.now ≡ line.now }
+    {
+        let is_again = self.line == line;
+        self.line = line;
+        is_again
+    }
 }
 
 /// The first line, or the first that has an escape or a query, and the lines behind it.
