@@ -1,5 +1,5 @@
 //! A page of a site.
-ghost use Rattle.std.specs.Prelude.{◌≡◌, true, IfSome};
+ghost use Rattle.std.specs.Prelude.{◌≡◌, false, true, IfSome, IsNone};
 ghost use Rattle.saved_site.specs.Texts.{fits};
 
 mod lines;
@@ -28,7 +28,8 @@ pub struct SitePage {
 impl SitePage {
     /// The page, where its URL stands in a line.
     pub fn new(url: CanonUrl, under: Under) -> Option<SitePage>
-        ensures { IfSome result (λ page. (page.url ≡ url) × (page.under ≡ under)) }
+        ensures page { IfSome result (λ page. (page.url ≡ url) × (page.under ≡ under)) }
+        ensures none { IsNone result → fits 5 url ≡ false }
     {
         if !fits(LINK_FRONT, url.as_str().as_bytes()) {
             return None;

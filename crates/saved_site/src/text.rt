@@ -1,5 +1,5 @@
 //! Texts that stand in one line of a saved web.
-ghost use Rattle.std.specs.Prelude.{◌≡◌, ◌≤◌, true, IfOk, IfSome};
+ghost use Rattle.std.specs.Prelude.{◌≡◌, ◌≤◌, false, true, IfOk, IfSome, IsNone};
 ghost use Rattle.std.specs.List.{list_all};
 ghost use Rattle.saved_site.specs.Texts.{fits, is_inner, is_plain};
 ghost use Rattle.std.specs.Str.{is_utf8};
@@ -86,7 +86,8 @@ impl LineText {
     /// # Errors
     /// Where a growth was refused.
     pub fn new(alloc: Global, text: &[u8]) -> Result<Option<LineText>, AllocError>
-        ensures { IfOk result (λ found. IfSome found (λ own. own ≡ text.now)) }
+        ensures text { IfOk result (λ found. IfSome found (λ own. own ≡ text.now)) }
+        ensures none { IfOk result (λ found. IsNone found → fits 6 text.now ≡ false) }
     {
         if !fits(MOVED_FRONT, text) {
             return Ok(None);
