@@ -1,8 +1,10 @@
 pub mod Behind
+pub mod Errors
 pub mod Found
 pub mod Lines
 pub mod Plain
 pub mod PageByPage
+pub mod PageLengths
 pub mod Printing
 pub mod Says
 pub mod Sound

@@ -23,6 +23,8 @@ pub(crate) struct Document {
     pub(crate) indices: Vec<usize>,
     /// The name of its encoding, where that is not known here.
     pub(crate) encoding: Option<String>,
+    /// Whether it gives its links a base, so that their lines may depend on its URL.
+    pub(crate) has_base: bool,
 }
 
 impl Document {
@@ -34,6 +36,7 @@ impl Document {
             anchors: None,
             indices: Vec::new(alloc),
             encoding: None,
+            has_base: false,
         }
     }
 }
@@ -55,6 +58,7 @@ pub(crate) fn document_at(
         counts,
         anchors,
         indices,
+        has_base,
     } = match made_text(alloc, body, charset)? {
         Some(text) => links_at(alloc, text.as_slice(), charset, url, given, found)?,
         None => links_at(alloc, without_mark(body), charset, url, given, found)?,
@@ -72,6 +76,7 @@ pub(crate) fn document_at(
         anchors,
         indices,
         encoding,
+        has_base,
     })
 }
 

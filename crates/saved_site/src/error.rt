@@ -32,12 +32,22 @@ impl fmt::Display for SiteError {
 }
 
 impl From<AllocError> for SiteError {
+    ghost use Rattle.std.specs.Prelude.{◌≡◌};
+    ghost use Rattle.saved_site.specs.declared.error.SiteError.TheVariants.{NoMemory};
+
+    ghost from_gives = { λ _ error. error ≡ NoMemory };
+
     fn from(_refused: AllocError) -> SiteError {
         SiteError::NoMemory
     }
 }
 
 impl<T: Drop> From<AllocFailed<T>> for SiteError {
+    ghost use Rattle.std.specs.Prelude.{◌≡◌};
+    ghost use Rattle.saved_site.specs.declared.error.SiteError.TheVariants.{NoMemory};
+
+    ghost from_gives = { λ _ error. error ≡ NoMemory };
+
     fn from(_refused: AllocFailed<T>) -> SiteError {
         SiteError::NoMemory
     }

@@ -1,6 +1,7 @@
 //! Which file a page of a site is made of.
-ghost use Rattle.std.specs.Prelude.{◌≡◌, length, slice_get, string_bytes};
+ghost use Rattle.std.specs.Prelude.{◌≡◌, IfErr, length, slice_get, string_bytes};
 ghost use Rattle.std.specs.Option.{option_map};
+ghost use Rattle.saved_site.specs.Errors.{IsOfFiles};
 ghost use Rattle.saved_site.specs.Files.{name_at, page_file, page_of, pages_of};
 
 use crate::error::SiteError;
@@ -26,7 +27,9 @@ impl<'a> SiteFiles<'a> {
     ///
     /// # Errors
     /// `BadBase`, `NoFiles`; `NoMemory` where a growth was refused.
-    pub fn new(alloc: Global, input: SiteNames<'a>) -> Result<SiteFiles<'a>, SiteError> {
+    pub fn new(alloc: Global, input: SiteNames<'a>) -> Result<SiteFiles<'a>, SiteError>
+        ensures { IfErr result IsOfFiles }
+    {
         let SiteNames {
             names,
             base,

@@ -17,6 +17,7 @@ mod indices;
 mod kinds;
 mod link_lines;
 mod make;
+mod making;
 mod notes;
 mod on_disk;
 mod page;

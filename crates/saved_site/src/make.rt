@@ -53,6 +53,10 @@ impl Given<'_> {
 pub(crate) struct Made {
     /// The number of its task.
     pub(crate) number: usize,
+    /// Which page of the site it is.
+    pub(crate) entry: usize,
+    /// How many bytes stand under every other spelling of that page too, at least.
+    pub(crate) repeated: usize,
     pub(crate) url: CanonUrl,
     /// The page, unless its URL is too long.
     pub(crate) page: Option<SitePage>,
@@ -147,10 +151,17 @@ fn linked_page(
         anchors,
         indices,
         encoding,
+        has_base,
     } = document;
     let notes = document_notes(alloc, task, counts, encoding)?;
-    let found = found_spellings(alloc, given, task, links.as_bytes())?;
+    let found = if differs_in_query(given, task) {
+        Vec::new(alloc)
+    } else {
+        found_spellings(alloc, given, task, links.as_bytes())?
+    };
+    let length = links.as_bytes().len();
     let mut made = Made::new(task, Under::Links(links), found, counts, notes)?;
+    made.repeated = if has_base { 0 } else { length };
     made.anchors = anchors;
     made.indices = indices;
     Ok(made)
@@ -173,6 +184,23 @@ fn document_notes(
         notes.push(Note::at(alloc, Left::LongLinks, &task.url)?)?;
     }
     Ok(notes)
+}
+
+/// Whether a URL differs from that of the site's page in its query alone: links of both lead to the same pages, whose spellings
+/// are found by that page.
+fn differs_in_query(given: Given<'_>, task: &Task) -> bool {
+    match given.site.entries.get(task.entry) {
+        Some(entry) => !task.is_plain
+            && before_query(entry.url.as_str()) == before_query(task.url.as_str()),
+        None => false,
+    }
+}
+
+fn before_query(url: &str) -> &str {
+    match url.split_once('?') {
+        Some((front, _)) => front,
+        None => url,
+    }
 }
 
 fn found_spellings(
@@ -259,6 +287,8 @@ impl Made {
         }
         Ok(Made {
             number: 0,
+            entry: task.entry,
+            repeated: 0,
             url: task.url.clone()?,
             page,
             spellings,
@@ -267,5 +297,13 @@ impl Made {
             indices: Vec::new(alloc),
             notes,
         })
+    }
+
+    /// How many bytes its page has in a web, at least.
+    pub(crate) fn byte_count(&self) -> usize {
+        match &self.page {
+            Some(page) => page.byte_count(),
+            None => 0,
+        }
     }
 }

@@ -1,6 +1,7 @@
 //! The saved web of a folder, whose files the calling thread reads.
 ghost use Rattle.std.specs.IoError.{error_kind};
-ghost use Rattle.std.specs.Prelude.{◌≡◌, IfOk, alloc_error};
+ghost use Rattle.std.specs.Prelude.{◌≡◌, IfErr, IfOk, alloc_error};
+ghost use Rattle.saved_site.specs.Errors.{IsOfFiles, IsOfWeb};
 ghost use Rattle.saved_site.specs.Meaning.{IsSiteWeb};
 
 use crate::batch::Batch;
@@ -69,6 +70,7 @@ pub fn folder_web<R: Files + Threads + Sync>(
 ///
 /// # Errors
 /// Those of `site_web`. Where a file cannot be read, its page has no links, and that is told.
+#[tactic(auto, using(crate::proofs::Errors::web_of_files))]
 pub fn folder_web_of<R: Files + Threads + Sync>(
     rt: &R,
     alloc: Global,
@@ -76,10 +78,12 @@ pub fn folder_web_of<R: Files + Threads + Sync>(
     input: SiteNames<'_>,
     told: Vec<Note>,
 ) -> Result<Web, SiteError>
-    ensures { IfOk result (λ web. IsSiteWeb web.bytes.items) }
+    ensures web { IfOk result (λ web. IsSiteWeb web.bytes.items) }
+    ensures error { IfErr result IsOfFiles }
 {
     let files = SiteFiles::new(alloc, input)?;
-    folder_files_web(rt, alloc, folder, &files, input.seeds, told)
+    let web = folder_files_web(rt, alloc, folder, &files, input.seeds, told)?;
+    Ok(web)
 }
 
 /// The same of a site whose files are below a folder. Its seeds are those of `SiteNames`.
@@ -94,7 +98,8 @@ pub fn folder_files_web<R: Files + Threads + Sync>(
     seeds: &[String],
     told: Vec<Note>,
 ) -> Result<Web, SiteError>
-    ensures { IfOk result (λ web. IsSiteWeb web.bytes.items) }
+    ensures web { IfOk result (λ web. IsSiteWeb web.bytes.items) }
+    ensures error { IfErr result IsOfWeb }
 {
     let contents = OnDisk { rt, alloc, folder };
     web_of(rt, alloc, files, seeds, told, &contents)

@@ -1,5 +1,6 @@
 //! The pages of a site, by the names of its files.
-ghost use Rattle.std.specs.Prelude.{◌≡◌, string_bytes};
+ghost use Rattle.std.specs.Prelude.{◌≡◌, IfErr, string_bytes};
+ghost use Rattle.saved_site.specs.Errors.{IsOfFiles};
 
 use crate::error::SiteError;
 use crate::escapes::{push_name, push_query, push_respelled};
@@ -58,6 +59,8 @@ pub(crate) struct Site {
     pub(crate) origin: String,
     /// The URL of the top, with a slash at its end.
     top: String,
+    /// The same as that of a page.
+    top_url: CanonUrl,
     pub(crate) entries: Vec<Entry>,
 }
 
@@ -69,7 +72,9 @@ impl Site {
         names: &[String],
         rules: &Rules,
         notes: &mut Vec<Note>,
-    ) -> Result<Site, SiteError> {
+    ) -> Result<Site, SiteError>
+        ensures { IfErr result IsOfFiles }
+    {
         if !names.iter().any(|name| !name.as_str().ends_with('/')) {
             return Err(SiteError::NoFiles);
         }
@@ -82,10 +87,12 @@ impl Site {
         }
         site.entries
             .sort_by(|a: &Entry, b: &Entry| a.url.as_str().cmp(b.url.as_str()))?;
-        site.without_doubles(names, notes)
+        Ok(site.without_doubles(names, notes)?)
     }
 
-    fn at(alloc: Global, base: &str) -> Result<Site, SiteError> {
+    fn at(alloc: Global, base: &str) -> Result<Site, SiteError>
+        ensures { IfErr result IsOfFiles }
+    {
         let page = url_at(alloc, base)?;
         let Some((origin, path)) = split_origin(page.as_str()) else {
             return Err(SiteError::BadBase);
@@ -96,15 +103,19 @@ impl Site {
         let mut top = String::from_str(alloc, origin)?;
         push_respelled(alloc, path.trim_end_matches('/'), &mut top)?;
         top.push('/')?;
+        let top_url = url_at(alloc, top.as_str())?;
         Ok(Site {
             origin: String::from_str(alloc, origin)?,
             top,
+            top_url,
             entries: Vec::new(alloc),
         })
     }
 
     /// Adds the pages of a file: its own, and its folder's where it is an index file.
-    fn add_file_pages(&mut self, index: usize, name: &str, rules: &Rules) -> Result<(), SiteError> {
+    fn add_file_pages(&mut self, index: usize, name: &str, rules: &Rules) -> Result<(), SiteError>
+        ensures { IfErr result IsOfFiles }
+    {
         if name.ends_with('/') {
             return Ok(());
         }
@@ -121,7 +132,9 @@ impl Site {
     }
 
     /// Adds the page of a folder without its slash, which is moved to the folder with it.
-    fn add_folder(&mut self, name: &str) -> Result<(), SiteError> {
+    fn add_folder(&mut self, name: &str) -> Result<(), SiteError>
+        ensures { IfErr result IsOfFiles }
+    {
         let Some(folder) = name.strip_suffix("/") else {
             return Ok(());
         };
@@ -141,17 +154,20 @@ impl Site {
         Ok(url)
     }
 
-    fn add(&mut self, url: &str, source: Source) -> Result<(), SiteError> {
+    fn add(&mut self, url: &str, source: Source) -> Result<(), SiteError>
+        ensures { IfErr result IsOfFiles }
+    {
         let url = url_at(*self.top.allocator(), url)?;
         self.entries.push(Entry { url, source })?;
         Ok(())
     }
 
     /// The first page of each URL; a file that has no page by this is told.
-    fn without_doubles(self, names: &[String], notes: &mut Vec<Note>) -> Result<Site, SiteError> {
+    fn without_doubles(self, names: &[String], notes: &mut Vec<Note>) -> Result<Site, AllocError> {
         let Site {
             origin,
             top,
+            top_url,
             entries,
         } = self;
         let mut kept: Vec<Entry> = Vec::new(*top.allocator());
@@ -165,13 +181,14 @@ impl Site {
         Ok(Site {
             origin,
             top,
+            top_url,
             entries: kept,
         })
     }
 
     /// The URL of the top as that of a page.
-    pub(crate) fn top_url(&self) -> Result<CanonUrl, SiteError> {
-        url_at(*self.top.allocator(), self.top.as_str())
+    pub(crate) fn top_url(&self) -> &CanonUrl {
+        &self.top_url
     }
 
     /// The URL of the top.
@@ -191,7 +208,9 @@ impl Site {
 }
 
 /// The canonical URL of a text.
-fn url_at(alloc: Global, text: &str) -> Result<CanonUrl, SiteError> {
+fn url_at(alloc: Global, text: &str) -> Result<CanonUrl, SiteError>
+    ensures { IfErr result IsOfFiles }
+{
     match canonical(alloc, text) {
         Ok(url) => Ok(url),
         Err(KeyError::NoMemory) => Err(SiteError::NoMemory),
@@ -207,7 +226,7 @@ fn is_double(kept: &[Entry], entry: &Entry) -> bool {
     }
 }
 
-fn tell_double(entry: &Entry, names: &[String], notes: &mut Vec<Note>) -> Result<(), SiteError> {
+fn tell_double(entry: &Entry, names: &[String], notes: &mut Vec<Note>) -> Result<(), AllocError> {
     if let Source::File(index) = &entry.source
         && let Some(name) = names.get(*index)
     {

@@ -78,6 +78,7 @@ pub(crate) fn links_at(
     let lines = texts.take_lines();
     let indices = texts.take_indices();
     let counts = texts.counts;
+    let has_base = !matches!(texts.given, Given::None);
     let anchors = if rules.anchors {
         Some(anchors_of(alloc, ids.into_texts(), found, given.site, texts, url)?)
     } else {
@@ -88,6 +89,7 @@ pub(crate) fn links_at(
         counts,
         anchors,
         indices,
+        has_base,
     })
 }
 
@@ -143,6 +145,7 @@ pub(crate) struct Read {
     pub(crate) counts: LinkCounts,
     pub(crate) anchors: Option<Anchors>,
     pub(crate) indices: Vec<usize>,
+    pub(crate) has_base: bool,
 }
 
 impl Texts {

@@ -1,5 +1,6 @@
 //! The saved web of a site, made round by round.
-ghost use Rattle.std.specs.Prelude.{IfOk};
+ghost use Rattle.std.specs.Prelude.{IfErr, IfOk};
+ghost use Rattle.saved_site.specs.Errors.{IsOfFiles, IsOfWeb};
 ghost use Rattle.saved_site.specs.Meaning.{IsSiteWeb};
 ghost use Rattle.saved_site.specs.Printed.{HasPrinted};
 
@@ -8,21 +9,21 @@ use crate::batch::Batch;
 use crate::error::SiteError;
 use crate::files::SiteFiles;
 use crate::make::{Given, Made, Task, taken};
+use crate::making::Making;
 use crate::notes::Note;
 use crate::page::SitePage;
 use crate::printer::Printer;
 use crate::site::Rules;
-use crate::tasks::{first_tasks, new_tasks, seed_tasks};
+use crate::tasks::first_tasks;
 use crate::texts::LinkCounts;
 use crawl_keys::CanonUrl;
 use std::alloc::{AllocError, Global};
-use std::collections::BTreeSet;
 use std::sync::atomic::AtomicUsize;
 use std::thread::Threads;
 use std::{io, thread};
 
 /// The most bytes of a web, which a crawl takes.
-const WEB_LIMIT: usize = 1 << 30;
+pub(crate) const WEB_LIMIT: usize = 1 << 30;
 
 /// A saved web that was made.
 #[derive(Drop)]
@@ -79,16 +80,19 @@ pub struct SiteNames<'a> {
 ///
 /// # Errors
 /// `BadBase`, `NoFiles`, `TooLarge`; `NoMemory` where a growth was refused.
+#[tactic(auto, using(crate::proofs::Errors::web_of_files))]
 pub fn site_web<R: Threads + Sync>(
     rt: &R,
     alloc: Global,
     input: SiteNames<'_>,
     bodies: &[Vec<u8>],
 ) -> Result<Web, SiteError>
-    ensures { IfOk result (λ web. IsSiteWeb web.bytes.items) }
+    ensures web { IfOk result (λ web. IsSiteWeb web.bytes.items) }
+    ensures error { IfErr result IsOfFiles }
 {
     let files = SiteFiles::new(alloc, input)?;
-    files_web(rt, alloc, &files, input.seeds, bodies)
+    let web = files_web(rt, alloc, &files, input.seeds, bodies)?;
+    Ok(web)
 }
 
 /// The saved web of a site whose files have these bytes, in the order of their names. Its seeds are those of `SiteNames`.
@@ -102,7 +106,8 @@ pub fn files_web<R: Threads + Sync>(
     seeds: &[String],
     bodies: &[Vec<u8>],
 ) -> Result<Web, SiteError>
-    ensures { IfOk result (λ web. IsSiteWeb web.bytes.items) }
+    ensures web { IfOk result (λ web. IsSiteWeb web.bytes.items) }
+    ensures error { IfErr result IsOfWeb }
 {
     let contents = InMemory { bodies };
     web_of(rt, alloc, files, seeds, Vec::new(alloc), &contents)
@@ -141,19 +146,6 @@ impl Contents for InMemory<'_> {
     }
 }
 
-/// What is made so far.
-#[derive(Drop)]
-struct Making {
-    /// The pages that did not come in the order of their URLs.
-    late: Vec<SitePage>,
-    summary: Summary,
-    notes: Vec<Note>,
-    anchors: Vec<PageAnchors>,
-    places: Vec<LinkPlaces>,
-    /// Room for the lines of a page.
-    room: Vec<u8>,
-}
-
 /// The saved web of a site whose files are read, and what was told of their names before.
 pub(crate) fn web_of<R: Threads + Sync, C: Contents>(
     rt: &R,
@@ -163,9 +155,10 @@ pub(crate) fn web_of<R: Threads + Sync, C: Contents>(
     told: Vec<Note>,
     contents: &C,
 ) -> Result<Web, SiteError>
-    ensures { IfOk result (λ web. IsSiteWeb web.bytes.items) }
+    ensures web { IfOk result (λ web. IsSiteWeb web.bytes.items) }
+    ensures error { IfErr result IsOfWeb }
 {
-    let mut making = Making::new(alloc, told);
+    let mut making = Making::new(alloc, files.given(), told)?;
     files.tell_doubles(&mut making.notes)?;
     let web = make_all(rt, alloc, files.given(), seeds, contents, &mut making)?;
     finish(web, making)
@@ -173,7 +166,8 @@ pub(crate) fn web_of<R: Threads + Sync, C: Contents>(
 
 fn finish(web: Printer, making: Making) -> Result<Web, SiteError>
     requires { HasPrinted web }
-    ensures { IfOk result (λ web. IsSiteWeb web.bytes.items) }
+    ensures web { IfOk result (λ web. IsSiteWeb web.bytes.items) }
+    ensures error { IfErr result IsOfWeb }
 {
     let Making {
         mut late,
@@ -210,13 +204,13 @@ fn make_all<R: Threads + Sync, C: Contents>(
     contents: &C,
     making: &mut Making,
 ) -> Result<Printer, SiteError>
-    ensures { IfOk result HasPrinted }
+    ensures web { IfOk result HasPrinted }
+    ensures error { IfErr result IsOfWeb }
 {
     let mut web = Printer::new(alloc)?;
     let mut tasks = first_tasks(alloc, given)?;
-    let mut known = BTreeSet::new(alloc);
-    let mut more = seed_tasks(alloc, given, seeds, &mut known)?;
-    making.summary.spellings = more.len() as u64;
+    making.ahead.add_seeds(given, seeds)?;
+    let mut more = making.next_tasks()?;
     tasks.append(&mut more)?;
     'rounds: for _ in 0..u64::MAX {
         if tasks.is_empty() {
@@ -224,8 +218,7 @@ fn make_all<R: Threads + Sync, C: Contents>(
         }
         let (made, more) = make_round(rt, given, tasks.as_slice(), contents, making, web)?;
         web = more;
-        tasks = new_tasks(alloc, made.as_slice(), &mut known)?;
-        making.summary.spellings = making.summary.spellings.saturating_add(tasks.len() as u64);
+        tasks = making.next_tasks()?;
         making.keep(made)?;
     }
     Ok(web)
@@ -248,7 +241,8 @@ fn make_round<R: Threads + Sync, C: Contents>(
     web: Printer,
 ) -> Result<(Vec<Made>, Printer), SiteError>
     requires { HasPrinted web }
-    ensures { IfOk result (λ made. HasPrinted made.1) }
+    ensures web { IfOk result (λ made. HasPrinted made.1) }
+    ensures error { IfErr result IsOfWeb }
 {
     let mut web = web;
     let alloc = *making.notes.allocator();
@@ -264,6 +258,7 @@ fn make_round<R: Threads + Sync, C: Contents>(
         making.notes.append(&mut batches.full.take_unread())?;
         let (front, behind) = rest.split_at(batches.full.count().max(1).min(rest.len()));
         let (mut made, next) = make_batch(rt, alloc, given, (front, behind), contents, batches)?;
+        making.count(made.as_mut_slice())?;
         web = printed(
             web,
             made.as_mut_slice(),
@@ -289,7 +284,7 @@ fn make_batch<R: Threads + Sync, C: Contents>(
     tasks: (&[Task], &[Task]),
     contents: &C,
     batches: Batches,
-) -> Result<(Vec<Made>, Batches), SiteError> {
+) -> Result<(Vec<Made>, Batches), AllocError> {
     let Batches { full, spare } = batches;
     let (front, behind) = tasks;
     let (made, next) = thread::join(
@@ -357,58 +352,6 @@ fn longest_first(alloc: Global, count: usize, batch: &Batch) -> Result<Vec<usize
     Ok(order)
 }
 
-impl Making {
-    /// Nothing yet but what was told before.
-    fn new(alloc: Global, told: Vec<Note>) -> Making {
-        Making {
-            late: Vec::new(alloc),
-            summary: Summary::default(),
-            notes: told,
-            anchors: Vec::new(alloc),
-            places: Vec::new(alloc),
-            room: Vec::new(alloc),
-        }
-    }
-
-    /// Keeps pages that are made.
-    fn keep(&mut self, made: Vec<Made>) -> Result<(), SiteError> {
-        for one in made {
-            self.keep_page(one)?;
-        }
-        Ok(())
-    }
-
-    fn keep_page(&mut self, made: Made) -> Result<(), SiteError> {
-        let Made {
-            url,
-            page,
-            counts,
-            anchors,
-            indices,
-            mut notes,
-            ..
-        } = made;
-        self.notes.append(&mut notes)?;
-        if let Some(page) = page {
-            self.summary.add(&page, counts);
-            self.late.push(page)?;
-        }
-        self.keep_places(&url, indices)?;
-        if let Some(anchors) = anchors {
-            self.anchors.push(PageAnchors { url, anchors })?;
-        }
-        Ok(())
-    }
-
-    fn keep_places(&mut self, url: &CanonUrl, indices: Vec<usize>) -> Result<(), SiteError> {
-        if !indices.is_empty() {
-            let url = url.clone()?;
-            self.places.push(LinkPlaces { url, indices })?;
-        }
-        Ok(())
-    }
-}
-
 /// The web with those of the pages whose URLs are behind all before. They are taken, and counted.
 fn printed(
     web: Printer,
@@ -448,7 +391,7 @@ fn printed_one(
 }
 
 impl Summary {
-    fn add(&mut self, page: &SitePage, counts: LinkCounts) {
+    pub(crate) fn add(&mut self, page: &SitePage, counts: LinkCounts) {
         self.pages = self.pages.saturating_add(1);
         self.moved = self.moved.saturating_add(u64::from(page.is_moved()));
         self.links.add(counts);

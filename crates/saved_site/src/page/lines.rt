@@ -1,5 +1,5 @@
 //! The lines of a page.
-ghost use Rattle.std.specs.Prelude.{◌≡◌, ◌++◌, true, Ok, OnOk};
+ghost use Rattle.std.specs.Prelude.{◌≡◌, ◌<◌, ◌≤◌, ◌^◌, ◌++◌, true, Ok, OnOk, length};
 ghost use Rattle.crawl_keys.specs.CanonicalText.{canonical};
 ghost use Rattle.saved_site.specs.Pages.{page_text, under_text, fits_under, IsPage};
 ghost use Rattle.saved_site.specs.Texts.{page_line, moved_line};
@@ -7,6 +7,12 @@ ghost use Rattle.saved_site.specs.Texts.{page_line, moved_line};
 use super::{SitePage, Under};
 use crawl_keys::CanonUrl;
 use std::alloc::AllocError;
+
+/// How many bytes of the line of a page stand around its URL.
+const PAGE_AROUND: usize = 6;
+
+/// How many bytes of the line of a redirect stand around its text.
+const MOVED_AROUND: usize = 7;
 
 impl SitePage {
     /// Appends its lines.
@@ -19,6 +25,16 @@ impl SitePage {
     {
         print_url(&self.url, web)?;
         self.under.print(web)
+    }
+
+    /// How many bytes its lines have, as far as they can be counted.
+    #[tactic(auto, using(crate::proofs::PageLengths::page_length))]
+    pub(crate) fn byte_count(&self) -> usize
+        ensures most { result ≤ length (page_text self.now) }
+        ensures all { length (page_text self.now) < 2 ^ 64 → result ≡ length (page_text self.now) }
+    {
+        let own = self.url.as_str().len().saturating_add(PAGE_AROUND);
+        own.saturating_add(self.under.byte_count())
     }
 }
 
@@ -41,6 +57,16 @@ impl Under {
         match self {
             Under::Links(links) => web.extend_from_slice(links.as_bytes()),
             Under::Moved(text) => print_moved(text.as_bytes(), web),
+        }
+    }
+
+    #[tactic(auto, using(crate::proofs::PageLengths::moved_length))]
+    fn byte_count(&self) -> usize
+        ensures { result ≡ length (under_text self.now) }
+    {
+        match self {
+            Under::Links(links) => links.as_bytes().len(),
+            Under::Moved(text) => text.as_bytes().len() + MOVED_AROUND,
         }
     }
 }
