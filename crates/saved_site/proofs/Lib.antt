@@ -1,4 +1,5 @@
 pub mod Behind
+pub mod Blocks
 pub mod Errors
 pub mod Found
 pub mod Lines

@@ -55,15 +55,11 @@ last_is from (first ∷ urls) url = last_is first urls url
 
 -- ---- what is behind the header
 
-abbrev header : List ℕ
+abbrev pub header : List ℕ
 header = codes "savedweb 2" ++ 10 ∷ []
 
-body_whole : (bytes : List ℕ) (urls : List (List ℕ)) (counts : List ℕ) → (p : IsPrinted bytes urls counts) → bytes ≡ header ++ p.body
+pub body_whole : (bytes : List ℕ) (urls : List (List ℕ)) (counts : List ℕ) → (p : IsPrinted bytes urls counts) → bytes ≡ header ++ p.body
 body_whole bytes urls counts p = p.whole ∙ sym (append_assoc (codes "savedweb 2") (10 ∷ []) p.body)
-
-pub has_header : (bytes : List ℕ) (urls : List (List ℕ)) (counts : List ℕ) → IsPrinted bytes urls counts → 11 ≤ length bytes
-has_header bytes urls counts p =
-    let eleven : length header ≡ 11 = refl in omega (arith, eleven, ap length (body_whole bytes urls counts p), length-append header p.body)
 
 pub body_texts : (bytes : List ℕ) (urls : List (List ℕ)) (counts : List ℕ) → IsPrinted bytes urls counts → AreTexts urls counts (drop 11 bytes)
 body_texts bytes urls counts p =

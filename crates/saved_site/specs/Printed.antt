@@ -2,6 +2,7 @@
 use Rattle.std.specs.Prelude.{◌≡◌, ℕ, ◌≤◌, true, List, [], ◌∷◌, ◌++◌, codes, drop, length, take}
 use Rattle.saved_site.specs.Pages.{page_text, is_behind, IsPage}
 use Rattle.saved_site.specs.declared.page.SitePage.{SitePage}
+use Rattle.saved_site.specs.declared.printer.Block.{Block}
 use Rattle.saved_site.specs.declared.printer.Printer.{Printer}
 
 -- the text is that of a page at the URL
@@ -39,3 +40,6 @@ pub record IsPrinted (bytes : List ℕ) (urls : List (List ℕ)) (counts : List 
 -- the same of a printer
 abbrev pub HasPrinted : Printer → Type 0
 HasPrinted printer = IsPrinted printer.bytes.items printer.urls.items printer.counts.items
+
+abbrev pub HasTexts : Block → Type 0
+HasTexts block = AreTexts block.urls.items block.counts.items block.bytes.items

@@ -1,8 +1,8 @@
 //! A saved web that is printed page by page.
-ghost use Rattle.std.specs.Prelude.{◌≡◌, ◌≤◌, ◌<◌, ◌++◌, ◌∷◌, [], IfOk, IfSome, drop, length, take};
+ghost use Rattle.std.specs.Prelude.{◌≡◌, ◌≤◌, ◌<◌, ◌^◌, ◌++◌, ◌∷◌, [], IfOk, IfSome, drop, length, sum, take};
 ghost use Rattle.saved_site.specs.Meaning.{IsSiteWeb};
 ghost use Rattle.saved_site.specs.Pages.{is_behind};
-ghost use Rattle.saved_site.specs.Printed.{AreTexts, HasPrinted, IsPageText, last_url};
+ghost use Rattle.saved_site.specs.Printed.{AreTexts, HasPrinted, HasTexts, IsPageText, last_url};
 
 use crate::page::SitePage;
 use crate::print::{header, is_behind, url_bytes};
@@ -11,6 +11,9 @@ use std::alloc::{AllocError, Global};
 
 /// How many bytes stand before the first page.
 const HEADER: usize = 11;
+
+/// About how many bytes are cut off a web at once.
+const BLOCK: usize = 1 << 20;
 
 /// A saved web of pages whose URLs ascend, to which further ones are appended.
 #[derive(Drop)]
@@ -77,8 +80,8 @@ impl Printer {
         })
     }
 
-    /// The same with these pages, which ascend, among its own.
-    #[tactic(auto, using(crate::proofs::PageByPage::has_header, crate::proofs::PageByPage::body_texts))]
+    /// The same with these pages, which ascend, among its own. What comes behind the first of them is cut off block by block and
+    /// appended again, so that the web is not there twice.
     pub(crate) fn with_pages(self, pages: &[SitePage]) -> Result<Printer, AllocError>
         requires { HasPrinted self }
         ensures { IfOk result HasPrinted }
@@ -86,14 +89,45 @@ impl Printer {
         if pages.is_empty() {
             return Ok(self);
         }
-        let alloc = *self.bytes.allocator();
-        merged(
-            alloc,
-            self.urls.as_slice(),
-            self.counts.as_slice(),
-            behind_header(self.bytes.as_slice()),
-            pages,
-        )
+        if self.urls.is_empty() {
+            let mut room = Vec::new(*self.bytes.allocator());
+            return pushed_all(self, pages, &mut room);
+        }
+        let (front, block) = self.cut()?;
+        let (before, behind) = pages.split_at(block.count_below(pages));
+        let printer = front.with_pages(before)?;
+        merged(printer, &block, behind)
+    }
+
+    /// The web without its last texts, and these.
+    #[tactic(auto, using(crate::proofs::Blocks::as_many, crate::proofs::Blocks::cut_front, crate::proofs::Blocks::cut_back, crate::proofs::Blocks::cut_within))]
+    fn cut(self) -> Result<(Printer, Block), AllocError>
+        requires printed { HasPrinted self }
+        requires some { 0 < length self.urls.items }
+        ensures front { IfOk result (λ parts. HasPrinted parts.0) }
+        ensures block { IfOk result (λ parts. HasTexts parts.1) }
+        ensures fewer { IfOk result (λ parts. length parts.0.urls.items < length self.urls.items) }
+    {
+        let Printer {
+            mut bytes,
+            mut urls,
+            mut counts,
+        } = self;
+        let kept = kept_count(counts.as_slice());
+        let (front, _) = counts.as_slice().split_at(kept);
+        let at = HEADER + sum_of(front);
+        let block = Block {
+            urls: urls.split_off(kept)?,
+            counts: counts.split_off(kept)?,
+            bytes: bytes.split_off(at)?,
+        };
+        bytes.shrink_to_fit();
+        let web = Printer {
+            bytes,
+            urls,
+            counts,
+        };
+        Ok((web, block))
     }
 
     /// Its bytes.
@@ -117,30 +151,60 @@ fn last_of(urls: &[CanonUrl]) -> &[u8]
     }
 }
 
-fn behind_header(bytes: &[u8]) -> &[u8]
-    requires { 11 ≤ length bytes.now }
-    ensures { result.now ≡ drop 11 bytes.now }
-{
-    bytes.split_at(HEADER).1
+/// The texts of pages at these URLs, one behind the other, and how many bytes each has.
+#[derive(Drop)]
+pub(crate) struct Block {
+    urls: Vec<CanonUrl>,
+    counts: Vec<usize>,
+    bytes: Vec<u8>,
 }
 
-/// A saved web of the texts of pages at these URLs, which have so many bytes each, and of these pages, which ascend.
-fn merged(
-    alloc: Global,
-    urls: &[CanonUrl],
-    counts: &[usize],
-    texts: &[u8],
-    pages: &[SitePage],
-) -> Result<Printer, AllocError>
-    requires { AreTexts urls.now counts.now texts.now }
+impl Block {
+    /// How many of the pages, which ascend, come before all of its texts.
+    fn count_below(&self, pages: &[SitePage]) -> usize
+        ensures { result ≤ length pages.now }
+    {
+        match self.urls.first() {
+            Some(url) => count_below(url, pages),
+            None => 0,
+        }
+    }
+}
+
+/// How many texts with these counts stand before the last block of them.
+fn kept_count(counts: &[usize]) -> usize
+    requires { 0 < length counts.now }
+    ensures { result < length counts.now }
+{
+    let mut cut: usize = 0;
+    for index in (1..counts.len()).rev() {
+        cut = cut.saturating_add(counts[index]);
+        if BLOCK <= cut {
+            return index;
+        }
+    }
+    0
+}
+
+fn sum_of(counts: &[usize]) -> usize
+    requires { sum counts.now < 2 ^ 64 }
+    ensures { result ≡ sum counts.now }
+{
+    counts.iter().sum()
+}
+
+/// The web with the texts of a block, which come behind it, and with these pages, which ascend.
+fn merged(printer: Printer, block: &Block, pages: &[SitePage]) -> Result<Printer, AllocError>
+    requires printed { HasPrinted printer }
+    requires texts { HasTexts block.now }
     ensures { IfOk result HasPrinted }
 {
-    let mut printer = Printer::new(alloc)?;
-    let mut room = Vec::new(alloc);
+    let mut room = Vec::new(*printer.bytes.allocator());
+    let mut printer = printer;
     let mut late = pages;
-    let mut urls = urls;
-    let mut counts = counts;
-    let mut texts = texts;
+    let mut urls = block.urls.as_slice();
+    let mut counts = block.counts.as_slice();
+    let mut texts = block.bytes.as_slice();
     'texts: while let Some(first) = first_of(urls, counts, texts) {
         let (front, back) = late.split_at(count_below(first.url, late));
         printer = pushed_all(printer, front, &mut room)?;
