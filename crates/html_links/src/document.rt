@@ -257,29 +257,31 @@ pub fn tags<'a>(alloc: Global, bytes: &'a [u8]) -> Result<Vec<StartTagAt<'a>>, A
             return Ok(tags);
         };
         match next_markup(opened) {
-            Markup::Start(name, more) => match read_tag(alloc, more)? {
-                Some(found) => {
-                    let TagAt {
-                        attributes,
-                        self_closing,
-                        rest: last,
-                    } = found;
-                    tags.push(StartTagAt {
-                        name,
-                        attributes,
-                        self_closing,
-                    })?;
-                    match after_element(name, last) {
-                        Some(left) => rest = left,
-                        None => return Ok(tags),
-                    }
-                }
-                None => return Ok(tags),
-            },
-            Markup::End(_, more) => match after_tag(more) {
-                Some(last) => rest = last,
-                None => return Ok(tags),
-            },
+            Markup::Start(name, more) => {
+                let Some(found) = read_tag(alloc, more)? else {
+                    return Ok(tags);
+                };
+                let TagAt {
+                    attributes,
+                    self_closing,
+                    rest: last,
+                } = found;
+                tags.push(StartTagAt {
+                    name,
+                    attributes,
+                    self_closing,
+                })?;
+                let Some(left) = after_element(name, last) else {
+                    return Ok(tags);
+                };
+                rest = left;
+            }
+            Markup::End(_, more) => {
+                let Some(last) = after_tag(more) else {
+                    return Ok(tags);
+                };
+                rest = last;
+            }
             Markup::Other(more) => rest = more,
             Markup::Unfinished => return Ok(tags),
         }

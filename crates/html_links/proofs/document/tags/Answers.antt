@@ -24,40 +24,40 @@ markup-smaller c =
     let a : length c.in-Some.opened.now < length c.markup.rest.now = cut_shorter (λ c. not (c == 60)) c.markup.rest.now c.in-Some.opened.now 60 c.in-Some.ensures.1 in
     omega (arith, c.in-Other.ensures.leaves)
 
-pub returns-in-None-after_tag : goal.returns-in-None-after_tag
-returns-in-None-after_tag c =
+pub returns-in_default-after_tag : goal.returns-in_default-after_tag
+returns-in_default-after_tag c =
     nothing_more (map start_tag_at c.markup.tags.items) (tags_of c.args.bytes.now) c.markup.rest.now c.markup.invariant
-    (read_open_end_tag c.markup.rest.now c.in-Some.opened.now _ c.in-End.more.now c.in-Some.ensures.1 c.in-End.ensures.reads c.in-None-after_tag.ensures)
+    (read_open_end_tag c.markup.rest.now c.in-Some.opened.now _ c.in-End.more.now c.in-Some.ensures.1 c.in-End.ensures.reads c.in_default-after_tag.ensures)
 
-pub markup-preserved-in-Some-after_tag : goal.markup-preserved-in-Some-after_tag
-markup-preserved-in-Some-after_tag c =
+pub markup-preserved-in-End : goal.markup-preserved-in-End
+markup-preserved-in-End c =
     goes_on (map start_tag_at c.markup.tags.items) (tags_of c.args.bytes.now) c.markup.rest.now c.in-Some-after_tag.last.now c.markup.invariant
     (read_end_tag c.markup.rest.now c.in-Some.opened.now _ c.in-End.more.now c.in-Some-after_tag.last.now c.in-Some.ensures.1 c.in-End.ensures.reads c.in-Some-after_tag.ensures)
 
-pub markup-smaller-in-Some-after_tag : goal.markup-smaller-in-Some-after_tag
-markup-smaller-in-Some-after_tag c =
+pub markup-smaller-in-End : goal.markup-smaller-in-End
+markup-smaller-in-End c =
     end_less c.markup.rest.now c.in-Some.opened.now c.in-End.more.now c.in-Some-after_tag.last.now c.in-Some.ensures.1 c.in-End.ensures.leaves c.in-Some-after_tag.ensures
 
-pub returns-in-None : goal.returns-in-None
-returns-in-None c =
+pub returns-in_default-2 : goal.returns-in_default-2
+returns-in_default-2 c =
     nothing_more (map start_tag_at c.markup.tags.items) (tags_of c.args.bytes.now) c.markup.rest.now c.markup.invariant
-    (read_open_start_tag c.markup.rest.now c.in-Some.opened.now _ c.in-Start.more.now c.in-Some.ensures.1 c.in-Start.ensures.reads (ap tag_at (sym c.in-None.is) ∙ c.in_ok-found-in-Start.ensures))
+    (read_open_start_tag c.markup.rest.now c.in-Some.opened.now _ c.in-Start.more.now c.in-Some.ensures.1 c.in-Start.ensures.reads (ap tag_at (sym c.in_default-2.is) ∙ c.in_ok-found-in-Start.ensures))
 
-pub markup-smaller-in-Some-after_element : goal.markup-smaller-in-Some-after_element
-markup-smaller-in-Some-after_element c =
+pub markup-smaller-in-Start : goal.markup-smaller-in-Start
+markup-smaller-in-Start c =
     let less : length c.in-Some-2.found.rest.now < length c.markup.rest.now =
     start_less c.markup.rest.now c.in-Some.opened.now c.in-Start.more.now _ c.in-Some.ensures.1 c.in-Start.ensures.leaves (ap tag_at (sym c.in-Some-2.is) ∙ c.in_ok-found-in-Start.ensures) in
     omega (arith, c.in-Some-after_element.ensures.leaves)
 
-pub markup-preserved-in-Some-after_element : goal.markup-preserved-in-Some-after_element
-markup-preserved-in-Some-after_element c =
-    one_more c.markup.tags.items c.push.new.self.items _ (tags_of c.args.bytes.now) _ c.markup.rest.now c.markup.invariant c.in_ok-push-in-Some-2.ensures.items
+pub markup-preserved-in-Start : goal.markup-preserved-in-Start
+markup-preserved-in-Start c =
+    one_more c.markup.tags.items c.push.new.self.items _ (tags_of c.args.bytes.now) _ c.markup.rest.now c.markup.invariant c.in_ok-push-in-Start.ensures.items
     (read_start_tag c.markup.rest.now c.in-Some.opened.now (map lower c.in-Start.name.now) c.in-Start.more.now _ c.in-Some.ensures.1 c.in-Start.ensures.reads (ap tag_at (sym c.in-Some-2.is) ∙ c.in_ok-found-in-Start.ensures)
     ∙ ap (λ more. start_tag_at (record { name = c.in-Start.name; attributes = c.in-Some-2.found.attributes; self_closing = c.in-Some-2.found.self_closing }) ∷ more) c.in-Some-after_element.ensures.reads)
 
-pub returns-in-None-after_element : goal.returns-in-None-after_element
-returns-in-None-after_element c =
+pub returns-in_default-after_element : goal.returns-in_default-after_element
+returns-in_default-after_element c =
     last_one (map start_tag_at c.push.new.self.items) (tags_of c.args.bytes.now) _
-    (one_more c.markup.tags.items c.push.new.self.items _ (tags_of c.args.bytes.now) _ c.markup.rest.now c.markup.invariant c.in_ok-push-in-Some-2.ensures.items
+    (one_more c.markup.tags.items c.push.new.self.items _ (tags_of c.args.bytes.now) _ c.markup.rest.now c.markup.invariant c.in_ok-push-in-Start.ensures.items
     (read_start_tag c.markup.rest.now c.in-Some.opened.now (map lower c.in-Start.name.now) c.in-Start.more.now _ c.in-Some.ensures.1 c.in-Start.ensures.reads (ap tag_at (sym c.in-Some-2.is) ∙ c.in_ok-found-in-Start.ensures)))
-    c.in-None-after_element.ensures.reads
+    c.in_default-after_element.ensures.reads
