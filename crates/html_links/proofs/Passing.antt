@@ -1,5 +1,5 @@
 -- What a reader of links passes has none.
-use Rattle.std.proofs.Common.{◌≡◌, ◌∙◌, ◌<◌, ◌≤◌, sym, ap, refl, arith, ℕ, Bool, true, false, not, cond, ◌&&◌, ◌||◌, List, [], ◌∷◌, ◌++◌, length, map, Option, None, Some}
+use Rattle.std.proofs.Common.{◌≡◌, ◌∙◌, ◌<◌, ◌≤◌, sym, ap, refl, arith, ℕ, Bool, true, false, not, cond, ◌&&◌, List, [], ◌∷◌, ◌++◌, length, map, Option, None, Some}
 use Rattle.std.specs.Prelude.{codes}
 use Rattle.std.specs.Str.{bytes_eq}
 use Rattle.html_links.specs.declared.element.Element.TheVariants as element
@@ -16,7 +16,7 @@ use Rattle.html_links.specs.Seen.{Seen, Sees, seen_of, seen_with, seen_in}
 use Rattle.html_links.specs.Links.{links_in, ids_in, base_in, value_links, anchors_with}
 use Rattle.html_links.specs.Passed.{is_absent, name_nothing, styled_in, Has, Finds}
 use Rattle.html_links.proofs.Documents.{to_markup}
-use Rattle.html_links.proofs.Telling.{other_name}
+use Rattle.html_links.proofs.Telling.{other_name, neither, otherwise, no_text}
 use Rattle.html_links.proofs.Seeing.{seen_start, text_less}
 
 -- the name of no element that names documents, nor of one with text
@@ -27,14 +27,6 @@ not_so false e = refl
 
 usual_not : (name : List ℕ) → is_usual name ≡ true → (text : List ℕ) → may_be LENGTHS text ≡ true → bytes_eq (map lower name) text ≡ false
 usual_not name usual text may = other_name LENGTHS name text (not_so (may_be LENGTHS name) usual) may
-
-neither : (a b : Bool) → a ≡ false → b ≡ false → (a || b) ≡ false
-neither true b p q = absurd (cc)
-neither false b p q = q
-
-otherwise : {A : Type 0} (b : Bool) (x y z : A) → b ≡ false → y ≡ z → cond b x y ≡ z
-otherwise true x y z isnt later = absurd (cc)
-otherwise false x y z isnt later = later
 
 pub usual_element : (name : List ℕ) → is_usual name ≡ true → element_of (map lower name) ≡ element.Other
 usual_element name usual =
@@ -53,13 +45,7 @@ usual_element name usual =
     (otherwise _ element.Video _ _ (unlike (codes "video") refl) refl)))))))))
 
 pub usual_content : (name : List ℕ) → is_usual name ≡ true → content_of (map lower name) ≡ content.Markup
-usual_content name usual =
-    let unlike = usual_not name usual in
-    otherwise _ content.Raw _ _
-    (neither _ _ (neither _ _ (neither _ _ (neither _ _ (neither _ _ (neither _ _ (unlike (codes "title") refl) (unlike (codes "textarea") refl)) (unlike (codes "style") refl)) (unlike (codes "xmp") refl)) (unlike (codes "iframe") refl))
-    (unlike (codes "noembed") refl)) (unlike (codes "noframes") refl))
-    (otherwise _ content.Script _ _ (unlike (codes "script") refl)
-    (otherwise _ content.Plain _ _ (unlike (codes "plaintext") refl) refl))
+usual_content name usual = no_text LENGTHS name (refl, refl, refl, refl, refl, refl, refl, refl, refl) (not_so (may_be LENGTHS name) usual)
 
 -- such a tag as it is seen
 

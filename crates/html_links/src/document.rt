@@ -8,6 +8,7 @@ ghost use Rattle.html_links.specs.Markup.{in_tag_name, led_front, led_behind, st
 
 use crate::bytes::{Class, LAST_MARK, behind_byte, class_of, parts, split_quoted};
 use crate::comments::after_comment;
+use crate::lengths::may_be;
 use crate::raw_text::{after_raw_text, same_name};
 use crate::script::after_script;
 use crate::tag::{AttributeAt, Piece, TagAt, next_piece, read_tag};
@@ -184,6 +185,12 @@ fn after_pieces(bytes: &[u8]) -> Option<&[u8]>
     }
 }
 
+/// The lengths of the names of elements whose content is text.
+static TEXTS: [u16; 32] = [
+    0x0, 0x0, 0x0, 0x0, 0x0, 0x0, 0x0, 0x0, 0x0, 0x20, 0x0, 0x0, 0x0, 0x0, 0xc0, 0x0, 0x100, 0x0,
+    0x0, 0x30, 0x90, 0x0, 0x0, 0x0, 0x4, 0x0, 0x0, 0x0, 0x0, 0x0, 0x0, 0x0,
+];
+
 fn is_raw(name: &[u8]) -> bool
     ensures { result ≡ is_raw (map lower name.now) }
 {
@@ -238,6 +245,9 @@ pub(crate) fn after_element<'a>(name: &[u8], bytes: &'a [u8]) -> Option<&'a [u8]
     ensures reads { read (behind_tag false (map lower name.now)) bytes.now ≡ read_rest result }
     ensures leaves { RestLeaves result bytes.now }
 {
+    if !may_be(&TEXTS, name) {
+        return Some(bytes);
+    }
     match content_of(name) {
         Content::Raw => after_raw(name, bytes),
         Content::Script => after_whole_script(bytes),

@@ -1,7 +1,14 @@
-use Rattle.std.proofs.Common.{◌∙◌, map}
+use Rattle.std.proofs.Common.{◌∙◌, map, refl, sym}
 use Rattle.html_links.specs.Tags.{lower}
 use Rattle.html_links.proofs.Documents.{raw_named, to_raw, to_script, to_plain, to_markup}
+use Rattle.html_links.specs.declared.document.TheConstants.{TEXTS}
+use Rattle.html_links.proofs.Telling.{no_text}
 use Rattle.html_links.proofs.document.after_element.Goals as goal
+
+pub returns-then-not-may_be-clause-reads : goal.returns-then-not-may_be-clause-reads
+returns-then-not-may_be-clause-reads c =
+    to_markup (map lower c.args.name.now) c.args.bytes.now
+    (sym (no_text TEXTS c.args.name.now (refl, refl, refl, refl, refl, refl, refl, refl, refl) (sym c.may_be.ensures ∙ c.if-not-may_be.true)))
 
 pub after_raw-requires : goal.after_raw-requires
 after_raw-requires c = raw_named c.args.name.now c.in-Raw.ensures
