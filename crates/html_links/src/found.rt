@@ -55,7 +55,7 @@ impl<'a> Values<'a> {
     }
 
     #[inline(always)]
-    fn clear(&mut self)
+    pub(crate) fn clear(&mut self)
         ensures { values_at self.new ≡ no_values }
     {
         self.first = None;

@@ -6,7 +6,7 @@ ghost use Rattle.html_links.specs.Values.{values_at, values_in, tag_values};
 ghost use Rattle.html_links.specs.Seen.{SeesTag, LeavesTag, seen_in};
 ghost use Rattle.html_links.specs.Passed.{Finds};
 
-use crate::bytes::split_quoted;
+use crate::bytes::{behind_byte, split_quoted};
 use crate::document::{Markup, after_element, after_tag, next_markup};
 use crate::element::{Element, element_of, is_usual};
 use crate::found::{Values, values_in};
@@ -62,9 +62,23 @@ pub(crate) fn next_tag<'a>(bytes: &'a [u8], values: &mut Values<'a>) -> Option<N
     }
 }
 
-/// Finds the values of a tag whose element names no documents, from behind its name; answers what is behind the tag.
-#[inline(never)]
+/// Finds the values of a tag whose element names no documents, from behind its name; answers what is behind the tag. Many such
+/// tags have none.
+#[inline(always)]
 fn usual_values<'a>(bytes: &'a [u8], values: &mut Values<'a>) -> Option<&'a [u8]>
+    ensures { tag_values (values_at values.new) result ≡ values_in (wanted_of Element.Other) (tag_of bytes.now) }
+{
+    match behind_byte(b'>', bytes) {
+        Some(last) => {
+            values.clear();
+            Some(last)
+        }
+        None => some_values(bytes, values),
+    }
+}
+
+#[inline(never)]
+fn some_values<'a>(bytes: &'a [u8], values: &mut Values<'a>) -> Option<&'a [u8]>
     ensures { tag_values (values_at values.new) result ≡ values_in (wanted_of Element.Other) (tag_of bytes.now) }
 {
     values_in(Element::Other, bytes, values)
