@@ -59,6 +59,8 @@ pub struct RecentUrls {
     slots: Vec<Slot>,
     /// How many were put out since the table has its size.
     put_out: usize,
+    /// How many that came since then had been accepted before, so that a larger table may have known them.
+    missed: usize,
 }
 
 impl RecentUrls {
@@ -68,6 +70,7 @@ impl RecentUrls {
         RecentUrls {
             slots: Vec::new(alloc),
             put_out: 0,
+            missed: 0,
         }
     }
 
@@ -137,18 +140,28 @@ impl RecentUrls {
         hashed
     }
 
-    /// Remembers the URL, where there is room for it.
-    pub fn remember(&mut self, alloc: Global, url: &CanonUrl)
+    /// Remembers the URL, where there is room for it. The table grows where URLs come again that it does not remember: of a web
+    /// whose URLs come once it stays small.
+    pub fn remember(&mut self, alloc: Global, url: &CanonUrl, again: bool)
         ensures { (workers : ℕ) (log : List Logged) → Knows workers log self.old → HasLine workers log url.now → Knows workers log self.new }
     {
-        let slots = self.slots.len();
-        if self.put_out >= slots / 16 && slots < MOST_SLOTS {
-            self.grow(alloc, FEWEST_SLOTS.max(2 * slots));
-        }
+        self.missed = self.missed.saturating_add(usize::from(again));
+        self.grow_where_missed(alloc);
         if let Ok(copy) = url.copy() {
             let mark = mark_of(url);
             self.put(Slot::Taken { mark, url: copy });
         }
+    }
+
+    // Grows where enough were put out, and enough of those that came since had been accepted before.
+    fn grow_where_missed(&mut self, alloc: Global)
+        ensures { (workers : ℕ) (log : List Logged) → Knows workers log self.old → Knows workers log self.new }
+    {
+        let slots = self.slots.len();
+        if self.put_out < slots / 16 || self.missed < slots / 64 || slots >= MOST_SLOTS {
+            return;
+        }
+        self.grow(alloc, FEWEST_SLOTS.max(2 * slots));
     }
 
     // Puts a URL into the first of its slots, and what was there into the second.
@@ -178,6 +191,7 @@ impl RecentUrls {
         };
         let mut old = mem::replace(&mut self.slots, slots);
         self.put_out = 0;
+        self.missed = 0;
         while let Some(slot) = old.pop() {
             self.put(slot);
         }

@@ -11,7 +11,7 @@ ghost use Rattle.crawl_workers.specs.Turn.{CountsLinks, Finds, Goes, Loses, Same
 use crate::losses::{Loss, loss_of};
 use crate::output::WorkerOutput;
 use crate::recent::READ_AT_ONCE;
-use crawl_frontier::{BusyWorker, ClosedWorker, Frontier, Name, OfferError, Turn, Worker};
+use crawl_frontier::{BusyWorker, ClosedWorker, Frontier, Name, Offer, OfferError, Turn, Worker};
 use crawl_keys::CanonUrl;
 use crawl_web::{Links, Page, SessionFetch};
 use std::alloc::Global;
@@ -51,8 +51,8 @@ fn is_refused<K: Name, R: Wait>(
         return false;
     }
     match busy.offer_shared(rt, frontier, url) {
-        Ok(_) => {
-            output.recent.remember(output.alloc, url);
+        Ok(answer) => {
+            output.recent.remember(output.alloc, url, is_seen(&answer));
             false
         }
         Err(OfferError::Filtered) => false,
@@ -61,6 +61,11 @@ fn is_refused<K: Name, R: Wait>(
             true
         }
     }
+}
+
+// Whether the URL had been accepted before.
+fn is_seen(answer: &Offer) -> bool {
+    matches!(answer, Offer::Seen)
 }
 
 // Offers all links, in order, and counts those that are lost.

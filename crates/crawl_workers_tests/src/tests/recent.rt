@@ -11,37 +11,38 @@ fn numbered(alloc: Global, number: u32) -> Option<CanonUrl> {
     canonical(alloc, text.as_str()).ok()
 }
 
-// Remembers the URL if it is not known, and answers whether it was not.
-fn remember(alloc: Global, recent: &mut RecentUrls, number: u32) -> Option<bool> {
+// Remembers the URL if it is not known, and answers whether it was not. In later rounds it comes again.
+fn remember(alloc: Global, recent: &mut RecentUrls, number: u32, again: bool) -> Option<bool> {
     let mut url = numbered(alloc, number)?;
     if recent.has(&mut url) {
         return Some(false);
     }
-    recent.remember(alloc, &url);
+    recent.remember(alloc, &url, again);
     Some(true)
 }
 
 // Remembers each of the URLs that is not known, and answers how many those were.
-fn remember_unknown(alloc: Global, recent: &mut RecentUrls) -> Option<u32> {
+fn remember_unknown(alloc: Global, recent: &mut RecentUrls, again: bool) -> Option<u32> {
     let mut unknown = 0u32;
     for number in 0..URLS {
-        if remember(alloc, recent, number)? {
+        if remember(alloc, recent, number, again)? {
             unknown = unknown.saturating_add(1);
         }
     }
     Some(unknown)
 }
 
-// None is known before it was remembered. After two rounds at most a sixth has to be told again: the table grows until few come
-// into the slots of others. A body of `remember` that forgets everything meets its clause too.
+// None is known before it was remembered. Of the first round, in which none comes again, fewer than half are: the table is small.
+// After two rounds at most a quarter has to be told again, and then a sixth: it grows until few come into the slots of others.
+// A body of `remember` that forgets everything meets its clause too.
 fn remembers(alloc: Global) -> Option<bool> {
     let mut recent = RecentUrls::new(alloc);
-    let first = remember_unknown(alloc, &mut recent)?;
-    let second = remember_unknown(alloc, &mut recent)?;
-    let third = remember_unknown(alloc, &mut recent)?;
-    let fourth = remember_unknown(alloc, &mut recent)?;
-    let few = URLS / 6;
-    Some(first == URLS && second <= URLS && third <= few && fourth <= few)
+    let first = remember_unknown(alloc, &mut recent, false)?;
+    let second = remember_unknown(alloc, &mut recent, true)?;
+    let third = remember_unknown(alloc, &mut recent, true)?;
+    let fourth = remember_unknown(alloc, &mut recent, true)?;
+    let few = second > URLS / 2 && third <= URLS / 4 && fourth <= URLS / 6;
+    Some(first == URLS && second <= URLS && few)
 }
 
 #[test]

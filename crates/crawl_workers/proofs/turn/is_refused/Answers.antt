@@ -11,12 +11,12 @@ returns-then-has_marked-clause-counts g c = counts_none _ _ refl refl refl
 
 pub returns-in-Ok-clause-line : goal.returns-in-Ok-clause-line
 returns-in-Ok-clause-line g c = λ _ _ _.
-    subst (HasLine g.K.Name.workers c.offer_shared.new.self.worker.book.log) c.has_marked.ensures.url (offer_line g.K.Name.workers _ _ c.has_marked.new.url _ c.in-Ok.field-0 c.in-Ok.ensures.books)
+    subst (HasLine g.K.Name.workers c.offer_shared.new.self.worker.book.log) c.has_marked.ensures.url (offer_line g.K.Name.workers _ _ c.has_marked.new.url _ c.in-Ok.answer c.in-Ok.ensures.books)
 
 pub returns-in-Ok-clause-recent : goal.returns-in-Ok-clause-recent
 returns-in-Ok-clause-recent g c = λ known.
     let log = c.offer_shared.new.self.worker.book.log in
-    let line = offer_line g.K.Name.workers _ _ c.has_marked.new.url _ c.in-Ok.field-0 c.in-Ok.ensures.books in
+    let line = offer_line g.K.Name.workers _ _ c.has_marked.new.url _ c.in-Ok.answer c.in-Ok.ensures.books in
     c.remember.ensures g.K.Name.workers log
     (knows_on g.K.Name.workers _ _ c.args.output.now.recent (offer_grows g.K.Name.workers _ _ c.has_marked.new.url _ _ c.offer_shared.ensures.books) known)
     (subst (HasLine g.K.Name.workers log) (sym c.offer_shared.ensures.url) line)
@@ -38,7 +38,7 @@ returns-then-has_marked-clause-told g c = λ known.
 pub returns-in-Ok-clause-told : goal.returns-in-Ok-clause-told
 returns-in-Ok-clause-told g c = λ _.
     let is = c.in-Ok.ensures in
-    told_offer g.K.Name.workers (allows g.K.Name.filter) _ _ c.has_marked.new.url c.args.url.now (Ok c.in-Ok.field-0) _ _ c.has_marked.ensures.url is.books is.words is.filtered is.entry is.same refl
+    told_offer g.K.Name.workers (allows g.K.Name.filter) _ _ c.has_marked.new.url c.args.url.now (Ok c.in-Ok.answer) _ _ c.has_marked.ensures.url is.books is.words is.filtered is.entry is.same refl
 
 pub returns-in-Err-Filtered-clause-told : goal.returns-in-Err-Filtered-clause-told
 returns-in-Err-Filtered-clause-told g c = λ _.
