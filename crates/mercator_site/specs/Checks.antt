@@ -18,6 +18,7 @@ use Rattle.saved_site.specs.declared.files.SiteFiles.{SiteFiles}
 use Rattle.site_check.specs.Ignored.{AreUnused, parts_in}
 use Rattle.site_check.specs.Names.{AreNamed}
 use Rattle.site_check.specs.Told.{rows_in, way_of}
+use Rattle.site_check.specs.declared.check.Checked.{Checked}
 
 -- the findings in a form, and what is told beside them
 abbrev pub printed_check : CheckForm → Bool → Told → Findings → List ℕ
@@ -55,6 +56,18 @@ AreOthersAsked false top pages None = ⊤
 -- the rows of what is told beside findings
 abbrev pub other_rows : Told → Option (List Row)
 other_rows told = option_map (λ urls. map row_of urls.now) told.external
+
+-- the text tells what a check found and these rows of other hosts, and whether something is broken
+pub record IsReport (checked : Checked) (others : Option (List Row)) (asks : Asks) (broken : Bool) (text : List ℕ) : Type 0 where
+  pub found : Findings
+  pub rows : found.broken.now ≡ checked.broken.items
+  pub ways : found.redirects.now ≡ checked.redirects.items
+  pub unused : found.unused_ignores.now ≡ checked.unused_ignores.items
+  pub is_broken : broken ≡ not (length checked.broken.items == 0)
+  pub told : Told
+  pub unreached : told.unreached ≡ asks.unreached
+  pub others_told : other_rows told ≡ others
+  pub written : text ≡ printed_check asks.form asks.all told found
 
 -- the text tells the missing and the moved pages of such a crawl, each with how many pages link to it, and the entries that stand
 -- for nothing; it tells that something is broken where there is such a row

@@ -3,6 +3,7 @@ use Rattle.std.specs.Prelude.{◌≡◌, ℕ, Bool, false, List, Option}
 use Rattle.std.specs.Io.KnownBytes.{Appends}
 use Rattle.mercator_site.specs.Asks.{asks_of}
 use Rattle.mercator_site.specs.Checks.{IsSiteCheck}
+use Rattle.mercator_site.specs.Faults.{IsSiteIncomplete}
 use Rattle.mercator_site.specs.declared.asked.CheckAsked.{CheckAsked}
 use Rattle.mercator_site.specs.declared.asked.SitePlan.{SitePlan}
 use Rattle.mercator_site.specs.declared.asked.SitePlan.TheVariants as asks
@@ -25,3 +26,21 @@ pub record GainsCheck (asked : CheckAsked) (broken : Bool) (old new : Option (Li
 abbrev pub GainsPlan : SitePlan → Bool → Option (List ℕ) → Option (List ℕ) → Type 0
 GainsPlan (asks.Site asked) broken old new = (broken ≡ false) × GainsWeb old new
 GainsPlan (asks.Check asked) broken old new = GainsCheck asked broken old new
+
+-- there is a report of such a check
+pub record HasReport (asked : CheckAsked) : Type 0 where
+  pub broken : Bool
+  pub text : List ℕ
+  pub front : List ℕ
+  pub entries : List (List ℕ)
+  pub told : IsSiteCheck (asks_of asked front entries) broken text
+
+-- there is a text that a command writes
+abbrev pub HasText : SitePlan → Type 0
+HasText (asks.Site asked) = (text : List ℕ) × IsSiteWeb text
+HasText (asks.Check asked) = HasReport asked
+
+-- a check alone crawls, and its crawl is incomplete
+abbrev pub IsIncomplete : SitePlan → Type 0
+IsIncomplete (asks.Site asked) = ⊥
+IsIncomplete (asks.Check asked) = IsSiteIncomplete asked

@@ -2,3 +2,4 @@ pub mod Asks
 pub mod Checks
 pub mod Ends
 pub mod External
+pub mod Faults

@@ -1,10 +1,11 @@
 //! A check of a site, from its files to the report.
-ghost use Rattle.std.specs.Prelude.{◌≡◌, ◌∷◌, [], IfOk, map, string_bytes, Ok};
+ghost use Rattle.std.specs.Prelude.{◌≡◌, ◌∷◌, [], IfErr, IfOk, map, string_bytes, Ok};
 ghost use Rattle.std.specs.Option.{option_map};
 ghost use Rattle.crawl_keys.specs.CanonicalText.{canonical};
 ghost use Rattle.mercator_site.specs.Asks.{asks_in};
-ghost use Rattle.mercator_site.specs.Checks.{AreOthersAsked, IsCheck, IsSiteCheck, IsTopCrawl};
+ghost use Rattle.mercator_site.specs.Checks.{AreOthersAsked, IsCheck, IsReport, IsSiteCheck, IsTopCrawl};
 ghost use Rattle.mercator_site.specs.External.{row_of};
+ghost use Rattle.mercator_site.specs.Faults.{IsTopIncomplete, status_of};
 
 use crate::asked::CheckForm;
 use crate::bodies::{Files, InMemory};
@@ -17,9 +18,9 @@ use crawl_keys::{CanonUrl, Filter, KeyError, canonical};
 use crawl_limits::PENDING_LIMIT;
 use crawl_web::PageResult;
 use mercator::{CrawlSettings, Crawled, Fault, Mode, crawl_saved_web};
-use saved_site::{Rules, SiteFiles, SiteNames, Web, files_web};
-use site_check::{Asked, Bodies, check_site};
-use std::alloc::Global;
+use saved_site::{LinkPlaces, PageAnchors, Rules, SiteFiles, SiteNames, Web, files_web};
+use site_check::{Asked, Bodies, Checked, check_site};
+use std::alloc::{AllocError, Global};
 use std::mem::forget;
 use std::sync::Wait;
 use std::thread::Threads;
@@ -93,7 +94,8 @@ pub fn report_of_site<R: Threads + Wait + Sync, B: Bodies>(
     bodies: &mut B,
     settings: CheckSettings<'_>,
 ) -> Result<CheckReport, SiteFault>
-    ensures { IfOk result (λ report. IsCheck (string_bytes files.now.site.top) web.bytes.items (asks_in settings.entry) report.is_broken report.text.items) }
+    ensures done { IfOk result (λ report. IsCheck (string_bytes files.now.site.top) web.bytes.items (asks_in settings.entry) report.is_broken report.text.items) }
+    ensures incomplete { IfErr result (λ fault. status_of fault ≡ 2 → IsTopIncomplete (string_bytes files.now.site.top) web.bytes.items (map string_bytes settings.entry.seeds.now) settings.entry.workers) }
 {
     let Web {
         bytes,
@@ -111,24 +113,50 @@ pub fn report_of_site<R: Threads + Wait + Sync, B: Bodies>(
     )?;
     drop(bytes);
     let others = others_asked(alloc, settings.external, files.top(), found.result.pages())?;
-    let told = Told {
-        unreached: settings.unreached,
-        external: slice_of(&others),
-    };
-    let asked = Asked {
-        front: settings.front,
-        ignores: settings.ignores,
-        anchors: anchors.as_slice(),
-        places: places.as_slice(),
-        unreached: settings.unreached,
-    };
+    let asked = asked_of(settings, anchors.as_slice(), places.as_slice());
     let checked = check_site(rt, alloc, found.result.pages(), files, bodies, asked)?;
-    let findings = checked.findings(settings.name);
-    let text = print_check(alloc, &findings, told, settings.form, settings.all)?;
+    let report = report_of(alloc, &checked, &others, settings)?;
     // The process ends soon, and gives it back at once.
     forget(found);
     forget(anchors);
     forget(places);
+    forget(checked);
+    Ok(report)
+}
+
+/// What is asked of a check by its settings and by what is known of the site's documents.
+fn asked_of<'a>(
+    settings: CheckSettings<'a>,
+    anchors: &'a [PageAnchors],
+    places: &'a [LinkPlaces],
+) -> Asked<'a>
+    ensures front { result.front.now ≡ settings.entry.front.now }
+    ensures ignores { result.ignores.now ≡ settings.entry.ignores.now }
+{
+    Asked {
+        front: settings.front,
+        ignores: settings.ignores,
+        anchors,
+        places,
+        unreached: settings.unreached,
+    }
+}
+
+/// The report of what a check found and of where links to other hosts lead.
+fn report_of(
+    alloc: Global,
+    checked: &Checked,
+    others: &Option<Vec<External>>,
+    settings: CheckSettings<'_>,
+) -> Result<CheckReport, AllocError>
+    ensures { IfOk result (λ report. IsReport checked.now (option_map (λ urls. map row_of urls.items) others.now) (asks_in settings.entry) report.is_broken report.text.items) }
+{
+    let told = Told {
+        unreached: settings.unreached,
+        external: slice_of(others),
+    };
+    let findings = checked.findings(settings.name);
+    let text = print_check(alloc, &findings, told, settings.form, settings.all)?;
     Ok(CheckReport {
         text,
         is_broken: checked.is_broken(),
@@ -144,7 +172,8 @@ fn crawl_site<R: Threads + Wait + Sync>(
     links: &[String],
     workers: u32,
 ) -> Result<Crawled, SiteFault>
-    ensures { IfOk result (λ found. IsTopCrawl top.now web.now (map string_bytes links.now) found.result) }
+    ensures found { IfOk result (λ found. IsTopCrawl top.now web.now (map string_bytes links.now) found.result) }
+    ensures incomplete { IfErr result (λ fault. status_of fault ≡ 2 → IsTopIncomplete top.now web.now (map string_bytes links.now) workers) }
 {
     let host = host_of(alloc, top)?;
     let filter = host_filter(alloc, host.host_key())?;
@@ -160,7 +189,8 @@ fn crawl_site<R: Threads + Wait + Sync>(
 }
 
 fn host_of(alloc: Global, top: &str) -> Result<CanonUrl, SiteFault>
-    ensures { IfOk result (λ url. canonical top.now ≡ Ok url) }
+    ensures canon { IfOk result (λ url. canonical top.now ≡ Ok url) }
+    ensures plain { IfErr result (λ fault. status_of fault ≡ 1) }
 {
     match canonical(alloc, top) {
         Ok(url) => Ok(url),
@@ -170,7 +200,8 @@ fn host_of(alloc: Global, top: &str) -> Result<CanonUrl, SiteFault>
 }
 
 fn host_filter(alloc: Global, host: &str) -> Result<Filter, SiteFault>
-    ensures { IfOk result (λ filter. filter ≡ host.now ∷ []) }
+    ensures within { IfOk result (λ filter. filter ≡ host.now ∷ []) }
+    ensures plain { IfErr result (λ fault. status_of fault ≡ 1) }
 {
     match Filter::new(alloc, &[host]) {
         Ok(filter) => Ok(filter),
@@ -185,7 +216,8 @@ fn others_asked(
     top: &str,
     pages: &[PageResult],
 ) -> Result<Option<Vec<External>>, SiteFault>
-    ensures { IfOk result (λ others. AreOthersAsked asked top.now pages.now (option_map (λ urls. map row_of urls.items) others)) }
+    ensures told { IfOk result (λ others. AreOthersAsked asked top.now pages.now (option_map (λ urls. map row_of urls.items) others)) }
+    ensures plain { IfErr result (λ fault. status_of fault ≡ 1) }
 {
     if !asked {
         return Ok(None);

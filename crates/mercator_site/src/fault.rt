@@ -1,8 +1,11 @@
 //! Why a command over a folder ends before it is done.
+ghost use Rattle.std.specs.Prelude.{◌≡◌, ◌⊎◌};
+ghost use Rattle.mercator_site.specs.Faults.{of_crawl, of_site, status_of};
+ghost use Rattle.mercator_site.specs.declared.fault.SiteFault.TheVariants as wrong;
+
 use mercator::Fault;
 use saved_site::SiteError;
 use std::alloc::{AllocError, AllocFailed};
-use std::fmt;
 
 /// Why a command over a folder ends before it is done.
 #[derive(Clone, Copy, Debug, PartialEq, Eq)]
@@ -29,7 +32,10 @@ pub enum SiteFault {
 
 impl SiteFault {
     /// The status that tells this fault: 2 where a crawl is incomplete, else 1.
-    pub fn status(self) -> u8 {
+    pub fn status(self) -> u8
+        ensures status { result ≡ status_of self }
+        ensures unfinished { (result ≡ 1) ⊎ (result ≡ 2) }
+    {
         match self {
             SiteFault::Crawl(fault) => fault.status(),
             _ => 1,
@@ -38,18 +44,24 @@ impl SiteFault {
 }
 
 impl From<AllocError> for SiteFault {
+    ghost from_gives = { λ _ fault. fault ≡ wrong.NoMemory };
+
     fn from(_refused: AllocError) -> SiteFault {
         SiteFault::NoMemory
     }
 }
 
 impl<T: Drop> From<AllocFailed<T>> for SiteFault {
+    ghost from_gives = { λ _ fault. fault ≡ wrong.NoMemory };
+
     fn from(_refused: AllocFailed<T>) -> SiteFault {
         SiteFault::NoMemory
     }
 }
 
 impl From<SiteError> for SiteFault {
+    ghost from_gives = { λ error fault. (fault ≡ of_site error) × (status_of fault ≡ 1) };
+
     fn from(error: SiteError) -> SiteFault {
         match error {
             SiteError::BadBase => SiteFault::BadBase,
@@ -62,35 +74,12 @@ impl From<SiteError> for SiteFault {
 }
 
 impl From<Fault> for SiteFault {
+    ghost from_gives = { λ why fault. fault ≡ of_crawl why };
+
     fn from(fault: Fault) -> SiteFault {
         match fault {
             Fault::NoMemory => SiteFault::NoMemory,
             _ => SiteFault::Crawl(fault),
-        }
-    }
-}
-
-/// A fault as a person reads it, with the name that it speaks of.
-#[derive(Clone, Copy)]
-pub(crate) struct SiteFaultText<'a> {
-    pub(crate) name: &'a str,
-    pub(crate) fault: SiteFault,
-}
-
-impl fmt::Display for SiteFaultText<'_> {
-    fn fmt<W: fmt::Write>(&self, f: &mut fmt::Formatter<W>) -> fmt::Result {
-        let name = self.name;
-        match self.fault {
-            SiteFault::CannotReadFolder | SiteFault::CannotReadKnown => {
-                write!(f, "cannot read {name}")
-            }
-            SiteFault::BadBase => f.write_str("BASE: no http or https URL without a query"),
-            SiteFault::NoFiles => write!(f, "{name}: no files"),
-            SiteFault::BadSeed => f.write_str("LINK: no http or https URL of the host of BASE"),
-            SiteFault::TooLarge => write!(f, "{name}: more than 1073741824 bytes of links"),
-            SiteFault::Crawl(_) => f.write_str("incomplete"),
-            SiteFault::CannotWrite => f.write_str("cannot write"),
-            SiteFault::NoMemory => f.write_str("out of memory"),
         }
     }
 }

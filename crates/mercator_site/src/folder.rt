@@ -1,7 +1,8 @@
 //! The commands over a folder, from its files to their texts.
-ghost use Rattle.std.specs.Prelude.{◌≡◌, ℕ, List, IfOk, map, string_bytes};
+ghost use Rattle.std.specs.Prelude.{◌≡◌, ℕ, List, IfErr, IfOk, map, string_bytes};
 ghost use Rattle.mercator_site.specs.Asks.{asks_in, asks_of};
 ghost use Rattle.mercator_site.specs.Checks.{IsSiteCheck};
+ghost use Rattle.mercator_site.specs.Faults.{IsSiteIncomplete, status_of};
 ghost use Rattle.saved_site.specs.Meaning.{IsSiteWeb};
 
 use crate::asked::{CheckAsked, SiteAsked};
@@ -50,7 +51,8 @@ pub fn web_of_folder<R: Files + Threads + Sync, E: Write>(
     asked: &SiteAsked,
     err: &mut E,
 ) -> Result<Vec<u8>, SiteFault>
-    ensures { IfOk result (λ text. IsSiteWeb text.items) }
+    ensures web { IfOk result (λ text. IsSiteWeb text.items) }
+    ensures plain { IfErr result (λ fault. status_of fault ≡ 1) }
 {
     let rules = rules_of(alloc, asked)?;
     let web = folder_web(
@@ -75,7 +77,8 @@ pub fn report_of_folder<R: Files + Threads + Wait + Sync, E: Write>(
     asked: &CheckAsked,
     err: &mut E,
 ) -> Result<CheckReport, SiteFault>
-    ensures { IfOk result (λ report. (front : List ℕ) × (entries : List (List ℕ)) × IsSiteCheck (asks_of asked.now front entries) report.is_broken report.text.items) }
+    ensures done { IfOk result (λ report. (front : List ℕ) × (entries : List (List ℕ)) × IsSiteCheck (asks_of asked.now front entries) report.is_broken report.text.items) }
+    ensures incomplete { IfErr result (λ fault. status_of fault ≡ 2 → IsSiteIncomplete asked.now) }
 {
     let known = known_entries(rt, alloc, &asked.known)?;
     let rules = check_rules(alloc, asked)?;
@@ -98,7 +101,8 @@ fn report_of_names<R: Files + Threads + Wait + Sync, E: Write>(
     known: &[String],
     err: &mut E,
 ) -> Result<CheckReport, SiteFault>
-    ensures { IfOk result (λ report. (front : List ℕ) × (entries : List (List ℕ)) × IsSiteCheck (asks_of asked.now front entries) report.is_broken report.text.items) }
+    ensures done { IfOk result (λ report. (front : List ℕ) × (entries : List (List ℕ)) × IsSiteCheck (asks_of asked.now front entries) report.is_broken report.text.items) }
+    ensures incomplete { IfErr result (λ fault. status_of fault ≡ 2 → IsSiteIncomplete asked.now) }
 {
     let folder = asked.site.folder.as_str();
     let files = SiteFiles::new(alloc, input)?;
@@ -112,7 +116,8 @@ fn report_of_names<R: Files + Threads + Wait + Sync, E: Write>(
 
 /// How the check is made and told: without BASE the folder names the site, and what is behind the top's URL is told.
 fn settings_of<'a>(asked: &'a CheckAsked, top: &'a str, known: &'a [String]) -> CheckSettings<'a>
-    ensures { asks_in result ≡ asks_of asked.now result.front.now (map string_bytes known.now) }
+    ensures asks { asks_in result ≡ asks_of asked.now result.front.now (map string_bytes known.now) }
+    ensures workers { result.workers ≡ asked.now.workers }
 {
     CheckSettings {
         workers: asked.workers,
@@ -136,7 +141,9 @@ fn known_entries<R: Files>(
     rt: &R,
     alloc: Global,
     known: &Option<String>,
-) -> Result<Vec<String>, SiteFault> {
+) -> Result<Vec<String>, SiteFault>
+    ensures { IfErr result (λ fault. status_of fault ≡ 1) }
+{
     let Some(file) = known else {
         return Ok(Vec::new(alloc));
     };

@@ -1,6 +1,7 @@
 //! The commands over a folder as the program runs them.
-ghost use Rattle.std.specs.Prelude.{◌≡◌, ◌≤◌, ◌⊎◌, true, false, IfOk};
-ghost use Rattle.mercator_site.specs.Ends.{GainsCheck, GainsPlan};
+ghost use Rattle.std.specs.Prelude.{◌≡◌, ◌≤◌, ◌⊎◌, true, false, IfErr, IfOk};
+ghost use Rattle.mercator_site.specs.Ends.{GainsCheck, GainsPlan, HasReport, HasText, IsIncomplete};
+ghost use Rattle.mercator_site.specs.Faults.{IsSiteIncomplete, status_of};
 
 use crate::asked::{CheckAsked, SitePlan, site_plan};
 use crate::fault::SiteFault;
@@ -105,21 +106,20 @@ pub fn run_site_plan<R: Files + Threads + Wait + Sync, O: Write, E: Write>(
     ensures done { result ≡ 0 → GainsPlan plan.now false (O.contents out.old) (O.contents out.new) }
     // Something is broken: it gained the report that tells so.
     ensures broken { result ≡ 4 → GainsPlan plan.now true (O.contents out.old) (O.contents out.new) }
+    ensures statuses { (result ≤ 2) ⊎ (result ≡ 4) }
+    // A fault: nothing is written, or a text could not be written whole.
+    ensures fault { result ≡ 1 → (out.new ≡ out.old) ⊎ HasText plan.now }
+    // Only the crawl of a check is incomplete, and nothing is written then.
+    ensures incomplete { result ≡ 2 → IsIncomplete plan.now }
+    ensures unreported { result ≡ 2 → out.new ≡ out.old }
 {
     match run(rt, alloc, plan, out, err) {
         Ok(is_broken) => if is_broken { BROKEN } else { 0 },
         Err(fault) => {
             tell_fault(alloc, err, told_name(plan, fault), fault);
-            status_of(fault)
+            fault.status()
         }
     }
-}
-
-/// The status of a fault, which is none of those of a command that is done.
-fn status_of(fault: SiteFault) -> u8
-    ensures { (result ≡ 1) ⊎ (result ≡ 2) }
-{
-    if fault.status() == 2 { 2 } else { 1 }
 }
 
 fn run<R: Files + Threads + Wait + Sync, O: Write, E: Write>(
@@ -129,7 +129,9 @@ fn run<R: Files + Threads + Wait + Sync, O: Write, E: Write>(
     out: &mut O,
     err: &mut E,
 ) -> Result<bool, SiteFault>
-    ensures { IfOk result (λ broken. GainsPlan plan.now broken (O.contents out.old) (O.contents out.new)) }
+    ensures done { IfOk result (λ broken. GainsPlan plan.now broken (O.contents out.old) (O.contents out.new)) }
+    ensures fault { IfErr result (λ _. (out.new ≡ out.old) ⊎ HasText plan.now) }
+    ensures incomplete { IfErr result (λ fault. status_of fault ≡ 2 → IsIncomplete plan.now × (out.new ≡ out.old)) }
 {
     match plan {
         SitePlan::Site(asked) => {
@@ -148,7 +150,9 @@ fn run_check<R: Files + Threads + Wait + Sync, O: Write, E: Write>(
     out: &mut O,
     err: &mut E,
 ) -> Result<bool, SiteFault>
-    ensures { IfOk result (λ broken. GainsCheck asked.now broken (O.contents out.old) (O.contents out.new)) }
+    ensures done { IfOk result (λ broken. GainsCheck asked.now broken (O.contents out.old) (O.contents out.new)) }
+    ensures fault { IfErr result (λ _. (out.new ≡ out.old) ⊎ HasReport asked.now) }
+    ensures incomplete { IfErr result (λ fault. status_of fault ≡ 2 → IsSiteIncomplete asked.now × (out.new ≡ out.old)) }
 {
     let report = report_of_folder(rt, alloc, asked, err)?;
     write_text(out, report.text.as_slice())?;

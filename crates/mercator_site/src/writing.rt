@@ -1,9 +1,10 @@
 //! What a command writes: its text to the output, and lines to the writer for faults.
-ghost use Rattle.std.specs.Prelude.{OnOk};
+ghost use Rattle.std.specs.Prelude.{◌≡◌, IfErr, IfOk, OnOk, string_bytes};
 ghost use Rattle.std.specs.Io.KnownBytes.{Appends};
+ghost use Rattle.mercator_site.specs.Faults.{name_line, site_line, status_of};
 
-use crate::fault::{SiteFault, SiteFaultText};
-use mercator::fault_line;
+use crate::fault::SiteFault;
+use mercator::{Fault, fault_line};
 use saved_site::Note;
 use std::alloc::{AllocError, Global};
 use std::io::Write;
@@ -13,7 +14,8 @@ use std::io::Write;
 /// # Errors
 /// `CannotWrite`.
 pub(crate) fn write_text<O: Write>(out: &mut O, text: &[u8]) -> Result<(), SiteFault>
-    ensures { OnOk result (Appends (O.contents out.old) (O.contents out.new) text.now) }
+    ensures gained { OnOk result (Appends (O.contents out.old) (O.contents out.new) text.now) }
+    ensures plain { IfErr result (λ fault. status_of fault ≡ 1) }
 {
     if out.write_all(text).is_err() || out.flush().is_err() {
         return Err(SiteFault::CannotWrite);
@@ -46,10 +48,32 @@ pub(crate) fn tell_fault<E: Write>(alloc: Global, err: &mut E, name: &str, fault
     }
 }
 
-fn line_of(alloc: Global, name: &str, fault: SiteFault) -> Result<String, AllocError> {
-    if let SiteFault::Crawl(fault) = fault {
-        return fault_line(alloc, name, fault);
+/// The line of a fault, with the name that it speaks of.
+fn line_of(alloc: Global, name: &str, fault: SiteFault) -> Result<String, AllocError>
+    ensures { IfOk result (λ line. string_bytes line ≡ site_line name.now fault) }
+{
+    match fault {
+        SiteFault::CannotReadFolder | SiteFault::CannotReadKnown => {
+            fault_line(alloc, name, Fault::CannotRead)
+        }
+        SiteFault::BadBase => name_line(alloc, "BASE", "no http or https URL without a query"),
+        SiteFault::NoFiles => name_line(alloc, name, "no files"),
+        SiteFault::BadSeed => name_line(alloc, "LINK", "no http or https URL of the host of BASE"),
+        SiteFault::TooLarge => name_line(alloc, name, "more than 1073741824 bytes of links"),
+        SiteFault::Crawl(fault) => fault_line(alloc, name, fault),
+        SiteFault::CannotWrite => fault_line(alloc, name, Fault::CannotWrite),
+        SiteFault::NoMemory => fault_line(alloc, name, Fault::NoMemory),
     }
-    let text = SiteFaultText { name, fault };
-    format!(in alloc; "mercator: {text}\n")
+}
+
+/// The line that tells these words of what has this name.
+fn name_line(alloc: Global, name: &str, words: &str) -> Result<String, AllocError>
+    ensures { IfOk result (λ line. string_bytes line ≡ name_line name.now words.now) }
+{
+    let mut line = String::from_str(alloc, "mercator: ")?;
+    line.push_str(name)?;
+    line.push_str(": ")?;
+    line.push_str(words)?;
+    line.push_str("\n")?;
+    Ok(line)
 }

@@ -1,0 +1,15 @@
+use Rattle.std.proofs.Common.{refl}
+use Rattle.mercator_site.proofs.check.report_of.Goals as goal
+
+pub returns : goal.returns
+returns c = record {
+  found = c.findings-findings.result;
+  rows = c.findings-findings.ensures.broken;
+  ways = c.findings-findings.ensures.redirects;
+  unused = c.findings-findings.ensures.unused_ignores;
+  is_broken = c.is_broken.ensures;
+  told = record { unreached = c.args.settings.unreached; external = c.slice_of.result };
+  unreached = refl;
+  others_told = c.slice_of.ensures;
+  written = c.in_ok-text.ensures;
+}

@@ -1,0 +1,66 @@
+-- Why a command over a folder ends before it is done.
+use Rattle.std.specs.Prelude.{◌≡◌, ℕ, List, [], ◌∷◌, ◌++◌, codes, map, string_bytes, Ok}
+use Rattle.crawl_keys.specs.CanonicalText.{canonical, resolve}
+use Rattle.mercator.specs.FaultText.{fault_line}
+use Rattle.mercator.specs.Faults.{status_of_fault}
+use Rattle.mercator.specs.WebCrawl.{IsRefused}
+use Rattle.mercator.specs.declared.commands.fault.Fault.{Fault}
+use Rattle.mercator.specs.declared.commands.fault.Fault.TheVariants as ended
+use Rattle.mercator_site.specs.Checks.{starts}
+use Rattle.mercator_site.specs.declared.asked.CheckAsked.{CheckAsked}
+use Rattle.mercator_site.specs.declared.fault.SiteFault.{SiteFault}
+use Rattle.mercator_site.specs.declared.fault.SiteFault.TheVariants as wrong
+use Rattle.saved_site.specs.Meaning.{IsSiteWeb}
+use Rattle.saved_site.specs.declared.error.SiteError.{SiteError}
+use Rattle.saved_site.specs.declared.error.SiteError.TheVariants as unmade
+
+-- the fault that each refusal of a part leads to
+abbrev pub of_site : SiteError → SiteFault
+of_site unmade.BadBase = wrong.BadBase
+of_site unmade.NoFiles = wrong.NoFiles
+of_site unmade.TooLarge = wrong.TooLarge
+of_site unmade.NoMemory = wrong.NoMemory
+of_site (unmade.Io why) = wrong.CannotReadFolder
+
+abbrev pub of_crawl : Fault → SiteFault
+of_crawl ended.NoMemory = wrong.NoMemory
+of_crawl why = wrong.Crawl why
+
+-- the status of a fault: 2 where a crawl is incomplete, else 1
+abbrev pub status_of : SiteFault → ℕ
+status_of (wrong.Crawl why) = status_of_fault why
+status_of fault = 1
+
+-- the line that tells these words of what has this name
+abbrev pub name_line : List ℕ → List ℕ → List ℕ
+name_line name words = codes "mercator: " ++ name ++ codes ": " ++ words ++ 10 ∷ []
+
+-- the line that tells a fault, with the name that it speaks of
+abbrev pub site_line : List ℕ → SiteFault → List ℕ
+site_line name wrong.CannotReadFolder = fault_line name ended.CannotRead
+site_line name wrong.CannotReadKnown = fault_line name ended.CannotRead
+site_line name wrong.BadBase = name_line (codes "BASE") (codes "no http or https URL without a query")
+site_line name wrong.NoFiles = name_line name (codes "no files")
+site_line name wrong.BadSeed = name_line (codes "LINK") (codes "no http or https URL of the host of BASE")
+site_line name wrong.TooLarge = name_line name (codes "more than 1073741824 bytes of links")
+site_line name (wrong.Crawl why) = fault_line name why
+site_line name wrong.CannotWrite = fault_line name ended.CannotWrite
+site_line name wrong.NoMemory = fault_line name ended.NoMemory
+
+-- a crawl of the web by so many workers, from the starts on the site's top, is incomplete
+pub record IsTopIncomplete (top web : List ℕ) (links : List (List ℕ)) (workers : ℕ) : Type 0 where
+  pub url : List ℕ
+  pub canon : canonical top ≡ Ok url
+  pub begun : List (List ℕ)
+  pub resolved : map (resolve url) (starts links) ≡ map Ok begun
+  pub max : ℕ
+  pub why : Fault
+  pub incomplete : status_of_fault why ≡ 2
+  pub refused : IsRefused workers max web [] begun why
+
+-- one of the saved web of a site is, as a check makes it
+pub record IsSiteIncomplete (asked : CheckAsked) : Type 0 where
+  pub top : List ℕ
+  pub web : List ℕ
+  pub made : IsSiteWeb web
+  pub crawl : IsTopIncomplete top web (map string_bytes asked.seeds.items) asked.workers
