@@ -66,8 +66,12 @@ pub struct Checked {
 impl Checked {
     /// What is told of the site with this name.
     pub fn findings<'a>(&'a self, base: &'a str) -> Findings<'a>
+        ensures base { result.base.now ≡ base.now }
+        ensures totals { result.totals ≡ self.now.totals }
         ensures broken { result.broken.now ≡ self.now.broken.items }
+        ensures worst { result.worst.now ≡ self.now.worst.items }
         ensures redirects { result.redirects.now ≡ self.now.redirects.items }
+        ensures unreached { result.unreached.now ≡ self.now.unreached.items }
         ensures unused_ignores { result.unused_ignores.now ≡ self.now.unused_ignores.items }
     {
         Findings {
