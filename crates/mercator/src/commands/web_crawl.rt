@@ -17,7 +17,7 @@ use crate::commands::platform::Platform;
 use crate::crawling::{CrawlSettings, Crawled, Mode, Observe, crawl_watched, crawl_with};
 use crawl_keys::{CanonUrl, canonical};
 use crawl_sources::read_seeds;
-use crawl_web::{SavedWeb, WebError, report_text};
+use crawl_web::{SavedWeb, WebError, WebInThreads, report_text};
 use std::alloc::Global;
 use std::sync::Wait;
 use std::thread::Threads;
@@ -81,7 +81,8 @@ pub fn crawl_saved_web<R: Threads + Wait + Sync>(
     ensures mode { IfErr result (ComesOf settings.now.mode) }
 {
     let (web, urls) = read_site(rt, alloc, settings, bytes, listed, seeds)?;
-    let found = crawl_with(rt, alloc, &web, settings, &urls)?;
+    let source = WebInThreads::new(rt, &web, has_threads(settings));
+    let found = crawl_with(rt, alloc, &source, settings, &urls)?;
     Ok(found)
 }
 
@@ -109,7 +110,8 @@ pub(in crate::commands) fn crawl_with_web<'a, R: Threads + Wait + Sync, L, V: Ob
     if urls.is_empty() {
         return Err(Failure::from(Fault::NoSeed));
     }
-    let found = crawl_watched(rt, alloc, &web, platform.observer, settings, &urls)?;
+    let source = WebInThreads::new(rt, &web, has_threads(settings));
+    let found = crawl_watched(rt, alloc, &source, platform.observer, settings, &urls)?;
     Ok((web, found))
 }
 
@@ -145,11 +147,16 @@ fn web_of<'a, R: Threads + Sync>(
     ensures pages { IfOk result (λ web. (url : List ℕ) → page_at web url ≡ page_of (lines bytes.now) url) }
     ensures fault { IfErr result (λ told. IsWebRefusal (lines bytes.now) told) }
 {
-    if settings.workers > 1 && matches!(settings.mode, Mode::Threads) {
+    if has_threads(settings) {
         SavedWeb::read_in_threads(rt, alloc, bytes)
     } else {
         SavedWeb::read(alloc, bytes)
     }
+}
+
+/// Whether several workers crawl by threads: then threads read the web too, and find the links of its long pages.
+fn has_threads(settings: &CrawlSettings<'_>) -> bool {
+    settings.workers > 1 && matches!(settings.mode, Mode::Threads)
 }
 
 /// The seeds' canonical URLs.
