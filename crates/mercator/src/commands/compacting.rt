@@ -1,5 +1,5 @@
 //! The shortest log of a session, in a new file.
-ghost use Rattle.std.specs.Prelude.{◌≡◌, ◌≤◌, ℕ, List, [], true, length, Option, IfOk, IfErr, IsErr, OnOk, string_bytes};
+ghost use Rattle.std.specs.Prelude.{◌≡◌, ◌≤◌, ℕ, List, [], true, length, Option, IfOk, IfErr, IsErr, IsOk, OnOk, string_bytes};
 ghost use Rattle.std.specs.Io.KnownBytes.{Appends};
 ghost use Rattle.mercator.specs.Compaction.{Compacted, IsCompacted};
 ghost use Rattle.mercator.specs.Faults.{status_of_fault};
@@ -54,7 +54,8 @@ pub fn compact_log<R: Files, L: LockFile<R::File>, V>(
 /// How a compaction ends that was written so, and then synced.
 fn finish(written: Result<(), Fault>, synced: io::Result<()>) -> Result<(), Fault>
     requires { IfErr written IsLogFault }
-    ensures { IfErr result IsLogFault }
+    ensures done { IfOk result (λ _. IsOk written × IsOk synced) }
+    ensures fault { IfErr result IsLogFault }
 {
     written?;
     match synced {

@@ -22,7 +22,8 @@ pub fn no_losses() -> Losses
 
 /// Whether nothing was lost.
 pub fn are_none(losses: &Losses) -> bool
-    ensures { result ≡ true → all_losses losses.now ≡ 0 }
+    ensures none { result ≡ true → all_losses losses.now ≡ 0 }
+    ensures some { all_losses losses.now ≡ 0 → result ≡ true }
 {
     losses.failed == 0
         && losses.unkept == 0

@@ -45,7 +45,8 @@ pub struct WatchedSession<S> {
 impl<'f, 'o, F: SessionFetch, V: Observe> Watched<'f, 'o, F, V> {
     /// The source as this observer watches it, where there is one.
     pub fn new(source: &'f F, observer: Option<&'o V>) -> Watched<'f, 'o, F, V>
-        ensures { result.source.now ≡ source.now }
+        ensures source { result.source.now ≡ source.now }
+        ensures observer { result.observer ≡ observer.entry }
     {
         Watched {
             source,
