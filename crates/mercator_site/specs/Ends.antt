@@ -1,5 +1,5 @@
 -- What the output gains of a command over a folder.
-use Rattle.std.specs.Prelude.{◌≡◌, ℕ, Bool, false, List, Option}
+use Rattle.std.specs.Prelude.{◌≡◌, ℕ, Bool, false, if◌then◌else◌, List, [], Option, None}
 use Rattle.std.specs.Io.KnownBytes.{Appends}
 use Rattle.mercator_site.specs.Asks.{asks_of}
 use Rattle.mercator_site.specs.Checks.{IsSiteCheck}
@@ -15,12 +15,19 @@ pub record GainsWeb (old new : Option (List ℕ)) : Type 0 where
   pub told : IsSiteWeb text
   pub gained : Appends old new text
 
--- the report of a check of a folder, which tells whether something is broken. Nothing is known of a folder's files by its name
-pub record GainsCheck (asked : CheckAsked) (broken : Bool) (old new : Option (List ℕ)) : Type 0 where
-  pub text : List ℕ
+-- the report of a check of a folder, of whose files nothing is known by its name. The top is left out at the front of each URL
+-- where no BASE is given, and no entry is known where no file of them is
+pub record IsFolderCheck (asked : CheckAsked) (broken : Bool) (text : List ℕ) : Type 0 where
   pub front : List ℕ
   pub entries : List (List ℕ)
   pub told : IsSiteCheck (asks_of asked front entries) broken text
+  pub fronted : front ≡ (if asked.paths then told.top else [])
+  pub known : asked.known ≡ None → entries ≡ []
+
+-- such a report, which tells whether something is broken
+pub record GainsCheck (asked : CheckAsked) (broken : Bool) (old new : Option (List ℕ)) : Type 0 where
+  pub text : List ℕ
+  pub told : IsFolderCheck asked broken text
   pub gained : Appends old new text
 
 abbrev pub GainsPlan : SitePlan → Bool → Option (List ℕ) → Option (List ℕ) → Type 0
@@ -31,9 +38,7 @@ GainsPlan (asks.Check asked) broken old new = GainsCheck asked broken old new
 pub record HasReport (asked : CheckAsked) : Type 0 where
   pub broken : Bool
   pub text : List ℕ
-  pub front : List ℕ
-  pub entries : List (List ℕ)
-  pub told : IsSiteCheck (asks_of asked front entries) broken text
+  pub told : IsFolderCheck asked broken text
 
 -- there is a text that a command writes
 abbrev pub HasText : SitePlan → Type 0

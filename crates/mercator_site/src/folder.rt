@@ -1,7 +1,8 @@
 //! The commands over a folder, from its files to their texts.
-ghost use Rattle.std.specs.Prelude.{◌≡◌, ℕ, List, IfErr, IfOk, map, string_bytes};
+ghost use Rattle.std.specs.Prelude.{◌≡◌, ℕ, List, [], None, IfErr, IfOk, if◌then◌else◌, map, string_bytes};
 ghost use Rattle.mercator_site.specs.Asks.{asks_in, asks_of};
 ghost use Rattle.mercator_site.specs.Checks.{IsSiteCheck};
+ghost use Rattle.mercator_site.specs.Ends.{IsFolderCheck};
 ghost use Rattle.mercator_site.specs.Faults.{IsSiteIncomplete, status_of};
 ghost use Rattle.saved_site.specs.Meaning.{IsSiteWeb};
 
@@ -78,6 +79,7 @@ pub fn report_of_folder<R: Files + Threads + Wait + Sync, E: Write>(
     err: &mut E,
 ) -> Result<CheckReport, SiteFault>
     ensures done { IfOk result (λ report. (front : List ℕ) × (entries : List (List ℕ)) × IsSiteCheck (asks_of asked.now front entries) report.is_broken report.text.items) }
+    ensures folder { IfOk result (λ report. IsFolderCheck asked.now report.is_broken report.text.items) }
     ensures incomplete { IfErr result (λ fault. status_of fault ≡ 2 → IsSiteIncomplete asked.now) }
 {
     let known = known_entries(rt, alloc, &asked.known)?;
@@ -102,6 +104,7 @@ fn report_of_names<R: Files + Threads + Wait + Sync, E: Write>(
     err: &mut E,
 ) -> Result<CheckReport, SiteFault>
     ensures done { IfOk result (λ report. (front : List ℕ) × (entries : List (List ℕ)) × IsSiteCheck (asks_of asked.now front entries) report.is_broken report.text.items) }
+    ensures folder { (asked.now.known ≡ None → known.now ≡ []) → IfOk result (λ report. IsFolderCheck asked.now report.is_broken report.text.items) }
     ensures incomplete { IfErr result (λ fault. status_of fault ≡ 2 → IsSiteIncomplete asked.now) }
 {
     let folder = asked.site.folder.as_str();
@@ -118,6 +121,7 @@ fn report_of_names<R: Files + Threads + Wait + Sync, E: Write>(
 fn settings_of<'a>(asked: &'a CheckAsked, top: &'a str, known: &'a [String]) -> CheckSettings<'a>
     ensures asks { asks_in result ≡ asks_of asked.now result.front.now (map string_bytes known.now) }
     ensures workers { result.workers ≡ asked.now.workers }
+    ensures front { result.front.now ≡ (if asked.now.paths then top.now else []) }
 {
     CheckSettings {
         workers: asked.workers,
@@ -126,7 +130,7 @@ fn settings_of<'a>(asked: &'a CheckAsked, top: &'a str, known: &'a [String]) -> 
         } else {
             top
         },
-        front: if asked.paths { top } else { "" },
+        front: front_of(asked.paths, top),
         ignores: known,
         unreached: asked.unreached,
         external: asked.external,
@@ -136,13 +140,21 @@ fn settings_of<'a>(asked: &'a CheckAsked, top: &'a str, known: &'a [String]) -> 
     }
 }
 
+/// What is left out at the front of each URL.
+fn front_of(paths: bool, top: &str) -> &str
+    ensures { result.now ≡ (if paths then top.now else []) }
+{
+    if paths { top } else { "" }
+}
+
 /// The entries of the file of what is known to be broken; none where there is no such file.
 fn known_entries<R: Files>(
     rt: &R,
     alloc: Global,
     known: &Option<String>,
 ) -> Result<Vec<String>, SiteFault>
-    ensures { IfErr result (λ fault. status_of fault ≡ 1) }
+    ensures none { known.now ≡ None → IfOk result (λ entries. entries.items ≡ []) }
+    ensures plain { IfErr result (λ fault. status_of fault ≡ 1) }
 {
     let Some(file) = known else {
         return Ok(Vec::new(alloc));

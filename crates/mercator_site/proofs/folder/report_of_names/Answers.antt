@@ -1,6 +1,8 @@
-use Rattle.std.proofs.Common.{map, string_bytes, ap, subst}
+use Rattle.std.proofs.Common.{ℕ, List, [], map, string_bytes, ap, subst, ◌∙◌}
+use Rattle.std.specs.Bool.{if◌then◌else◌}
 use Rattle.std.proofs.lemmas.Result.{err_from_is_err_and}
 use Rattle.mercator_site.specs.Asks.{Asks}
+use Rattle.mercator_site.specs.Checks.{IsCheck}
 use Rattle.mercator_site.specs.Faults.{IsTopIncomplete}
 use Rattle.mercator_site.proofs.folder.report_of_names.Goals as goal
 
@@ -19,3 +21,22 @@ returns-in_err-report-clause-incomplete g c =
           subst (λ n. IsTopIncomplete top web (map string_bytes c.args.asked.now.seeds.items) n) c.settings_of-settings.ensures.workers
           (subst (λ links. IsTopIncomplete top web links c.settings_of-settings.result.workers) seeds (c.in_err-report.ensures.incomplete two));
     })
+
+pub returns-clause-folder : goal.returns-clause-folder
+returns-clause-folder g c = λ none_known.
+    let top = string_bytes c.in_ok-files.files.site.top in
+    let web = c.in_ok-web.web.bytes.items in
+    let report = c.in_ok-report.report in
+    let paths = c.args.asked.now.paths in
+    record {
+      front = c.settings_of-settings.result.front.now;
+      entries = map string_bytes c.args.known.now;
+      told = record {
+        top = top;
+        web = web;
+        made = c.in_ok-web.ensures;
+        checked = subst (λ (a : Asks). IsCheck top web a report.is_broken report.text.items) c.settings_of-settings.ensures.asks c.in_ok-report.ensures.done;
+      };
+      fronted = c.settings_of-settings.ensures.front ∙ ap (λ (t : List ℕ). if paths then t else []) c.top.ensures;
+      known = λ none. ap (map string_bytes) (none_known none);
+    }

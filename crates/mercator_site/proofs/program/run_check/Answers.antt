@@ -4,7 +4,6 @@ use Rattle.mercator_site.proofs.program.run_check.Goals as goal
 
 pub returns-in_err-write_text-clause-fault : goal.returns-in_err-write_text-clause-fault
 returns-in_err-write_text-clause-fault g c =
-    let done = c.in_ok-report.ensures.done in
     let r = c.from_residual-in_err-write_text in
     let same = err_from_is_err_and r.result r.ensures.1 in
     rw same.1
@@ -12,9 +11,7 @@ returns-in_err-write_text-clause-fault g c =
     (record {
       broken = c.in_ok-report.report.is_broken;
       text = c.in_ok-report.report.text.items;
-      front = done.0;
-      entries = done.1;
-      told = done.2;
+      told = c.in_ok-report.ensures.folder;
     }))
 
 pub returns-in_err-report-clause-incomplete : goal.returns-in_err-report-clause-incomplete
