@@ -16,7 +16,7 @@ returns-in_err-report-clause-incomplete g c =
     rw (same.1, same.2) (λ two. record {
       top = top;
       web = web;
-      made = c.in_ok-web.ensures;
+      made = c.in_ok-web.ensures.web;
       crawl =
           subst (λ n. IsTopIncomplete top web (map string_bytes c.args.asked.now.seeds.items) n) c.settings_of-settings.ensures.workers
           (subst (λ links. IsTopIncomplete top web links c.settings_of-settings.result.workers) seeds (c.in_err-report.ensures.incomplete two));
@@ -34,7 +34,7 @@ returns-clause-folder g c = λ none_known.
       told = record {
         top = top;
         web = web;
-        made = c.in_ok-web.ensures;
+        made = c.in_ok-web.ensures.web;
         checked = subst (λ (a : Asks). IsCheck top web a report.is_broken report.text.items) c.settings_of-settings.ensures.asks c.in_ok-report.ensures.done;
       };
       fronted = c.settings_of-settings.ensures.front ∙ ap (λ (t : List ℕ). if paths then t else []) c.top.ensures;
