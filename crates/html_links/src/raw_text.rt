@@ -42,10 +42,11 @@ fn ends_name(bytes: &[u8]) -> bool
     }
 }
 
+/// Whether the names are the same in any case. Most that are have the same case, which is seen at once.
 pub(crate) fn same_name(found: &[u8], name: &[u8]) -> bool
     ensures { result ≡ same_name found.now name.now }
 {
-    found.eq_ignore_ascii_case(name)
+    found == name || found.eq_ignore_ascii_case(name)
 }
 
 fn is_end(found: &[u8], rest: &[u8], name: &[u8]) -> bool
