@@ -327,6 +327,25 @@ pub read_equals : (bytes zs more : List ℕ) → BeginsName bytes → zs ≡ beh
 read_equals bytes zs more begins skipped is all =
     read_name bytes begins all ∙ ap (run AfterName _) (sym skipped ∙ is) ∙ skip_before_value _ more
 
+-- an `="` just behind a name
+
+stays : (bytes rest more : List ℕ) → rest ≡ name_behind bytes → rest ≡ 61 ∷ 34 ∷ more → rest ≡ behind is_space (name_behind bytes)
+stays bytes rest more cut is = is ∙ sym (ap (behind is_space) is) ∙ ap (behind is_space) cut
+
+pub read_quote : (bytes name rest more : List ℕ) → BeginsName bytes → name ≡ name_front bytes → rest ≡ name_behind bytes → rest ≡ 61 ∷ 34 ∷ more → (all : List Attribute) →
+    run BeforeName all bytes ≡ run BeforeValue (record { name = map lower name; value = [] } ∷ all) (34 ∷ more)
+read_quote bytes name rest more begins named cut is all =
+    read_equals bytes rest (34 ∷ more) begins (stays bytes rest more cut is) is all
+    ∙ ap (λ (n : List ℕ). run BeforeValue (record { name = map lower n; value = [] } ∷ all) (34 ∷ more)) (sym named)
+
+pub quote_shorter : (bytes rest more left : List ℕ) → BeginsName bytes → rest ≡ name_behind bytes → rest ≡ 61 ∷ 34 ∷ more → 34 ∷ left ≡ behind (before 34) more → length left < length bytes
+quote_shorter bytes rest more left begins cut is quoted =
+    let a : length left < length (34 ∷ more) + 1 = quoted_shorter (before 34) (34 ∷ more) 34 34 more left refl quoted in
+    let b : length rest ≡ length (61 ∷ 34 ∷ more) = ap length is in
+    let c : length rest ≡ length (behind is_space (name_behind bytes)) = ap length (stays bytes rest more cut is) in
+    let d : length (behind is_space (name_behind bytes)) < length bytes = name_shorter bytes begins in
+    omega arith
+
 pub read_bare : (bytes zs : List ℕ) → BeginsName bytes → zs ≡ behind is_space (name_behind bytes) → Stopped is_space zs → Stopped (λ c. c == 61) zs → (all : List Attribute) →
     run BeforeName all bytes ≡ run BeforeName (record { name = map lower (name_front bytes); value = [] } ∷ all) zs
 read_bare bytes zs begins skipped space equals all =

@@ -1,5 +1,5 @@
 //! A start tag from behind its name.
-ghost use Rattle.std.specs.Prelude.{◌≡◌, ◌+◌, length, IfOk};
+ghost use Rattle.std.specs.Prelude.{◌≡◌, ◌∷◌, ◌+◌, length, IfOk, IfSome};
 ghost use Rattle.html_links.specs.Tags.{tag_of};
 ghost use Rattle.html_links.specs.Shown.{is_space, BeginsName, Stopped, tag_at, Reads, ReadsValue, Leaves};
 
@@ -32,6 +32,17 @@ pub(crate) enum Piece<'a> {
     Unfinished,
 }
 
+/// What is behind an `="`, with which most values begin.
+#[inline(always)]
+fn behind_quote(bytes: &[u8]) -> Option<&[u8]>
+    ensures { IfSome result (λ more. bytes.now ≡ 61 ∷ 34 ∷ more.now) }
+{
+    match bytes {
+        [b'=', b'"', more @ ..] => Some(more),
+        _ => None,
+    }
+}
+
 /// An attribute whose name begins here.
 #[inline(always)]
 fn attribute(bytes: &[u8]) -> Piece<'_>
@@ -40,6 +51,12 @@ fn attribute(bytes: &[u8]) -> Piece<'_>
     ensures leaves { Leaves result (length bytes.now) }
 {
     let (name, rest) = split_name(bytes);
+    if let Some(quoted) = behind_quote(rest) {
+        return match split_quoted(b'"', quoted) {
+            Some((value, last)) => Piece::Attribute(AttributeAt { name, value }, last),
+            None => Piece::Unfinished,
+        };
+    }
     let rest = skip_space(rest);
     match behind_byte(b'=', rest) {
         Some(more) => value(name, skip_space(more)),
