@@ -12,6 +12,7 @@ pub mod Passing
 pub mod Wanting
 pub mod Scripts
 pub mod Decoding
+pub mod Marking
 pub mod Sources
 pub mod Linking
 pub mod Refreshing

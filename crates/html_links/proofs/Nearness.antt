@@ -16,12 +16,12 @@ first_is p v n long few =
       | inr some ↦ cond-false _ _ _ (ne_eqb _ _ some) ∙ trailing_mask_l p 64 v (omega arith) (omega arith)
     ]
 
-prefix_same : (p q : ℕ → Bool) → ((x : ℕ) → p x ≡ q x) → (xs : List ℕ) → prefix_len p xs ≡ prefix_len q xs
+pub prefix_same : (p q : ℕ → Bool) → ((x : ℕ) → p x ≡ q x) → (xs : List ℕ) → prefix_len p xs ≡ prefix_len q xs
 prefix_same p q same [] = refl
 prefix_same p q same (x ∷ xs) = ap (λ (b : Bool). cond b (1 + prefix_len p xs) 0) (same x) ∙ ap (λ (n : ℕ). cond (q x) (1 + n) 0) (prefix_same p q same xs)
 
 -- a lane that is as the byte is all ones
-abbrev lane : ℕ → ℕ → ℕ
+abbrev pub lane : ℕ → ℕ → ℕ
 lane byte x = cond (eqb x byte) 255 0
 
 top_lane : (b : Bool) → top 7 (cond b 255 0) ≡ b
@@ -40,7 +40,7 @@ near_place byte bytes z r room found lanes =
     ∙ prefix_same (λ (x : ℕ). not (top 7 (lane byte x))) (λ (x : ℕ). not (is_byte byte x)) (λ (x : ℕ). ap not (top_lane (eqb x byte))) (take 32 bytes)
 
 -- no byte before the first passes
-passes_none : (test : ℕ → Bool) (bytes : List ℕ) (n k : ℕ) → k < position_or_len test (take n bytes) → k < n → test (get_or bytes k 0) ≡ false
+pub passes_none : (test : ℕ → Bool) (bytes : List ℕ) (n k : ℕ) → k < position_or_len test (take n bytes) → k < n → test (get_or bytes k 0) ≡ false
 passes_none test bytes n k before inside =
     subst (λ (x : ℕ). test x ≡ false) (get_or-take n bytes k 0 inside) (not-true _ (prefix_len_passes (λ (x : ℕ). not (test x)) (take n bytes) k 0 before))
 

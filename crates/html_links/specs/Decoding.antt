@@ -6,6 +6,10 @@ use Rattle.html_links.specs.declared.references.Decoded.TheVariants as decoded
 use Rattle.html_links.specs.Names.{meaning_text}
 use Rattle.html_links.specs.References.{State, Text, read}
 
+-- an `&` or a NUL
+abbrev pub is_mark : ℕ → Bool
+is_mark c = c == 38 || c == 0
+
 -- neither an `&` nor a NUL
 abbrev pub is_plain : ℕ → Bool
 is_plain c = not (c == 38 || c == 0)

@@ -1,16 +1,20 @@
 //! Character references in the values of attributes.
-ghost use Rattle.std.specs.Prelude.{◌≡◌, ◌==◌, ◌≤◌, ◌<◌, ◌∷◌, ◌++◌, [], length, OnOk, MatchOption, false};
-ghost use Rattle.std.specs.List.{take_while};
+ghost use Rattle.std.specs.Prelude.{◌≡◌, ◌==◌, ◌≤◌, ◌<◌, ◌∷◌, ◌++◌, [], length, take, OnOk, MatchOption, false};
+ghost use Rattle.std.specs.List.{take_while, position_or_len};
 ghost use Rattle.std.specs.Char.{is_ascii_alphanumeric, encode_utf8};
 ghost use Rattle.html_links.specs.Names.{meaning_text, texts_at};
 ghost use Rattle.html_links.specs.Shown.{front, behind, Stopped};
 ghost use Rattle.html_links.specs.References.{Text, Reference, Name, Hash, Start, Number, read, text_of, character_of, number_after, digit_in, or_itself};
-ghost use Rattle.html_links.specs.Decoding.{is_plain, in_base, decoded_text, Decodes};
+ghost use Rattle.html_links.specs.Decoding.{is_mark, is_plain, in_base, decoded_text, Decodes};
 
 use crate::bytes::{behind_byte, parts};
 use crate::names::{Meaning, named};
 use memchr::memchr2;
 use std::alloc::AllocError;
+use std::simd::prelude::*;
+
+/// How many bytes of a value are looked at together.
+const LANES: usize = 16;
 
 /// What an `&` and the bytes behind it mean: the `&` with some of them, a character, or a name's text.
 #[derive(Clone, Copy)]
@@ -20,14 +24,43 @@ pub(crate) enum Decoded<'a> {
     Named(Meaning),
 }
 
-/// Whether the value is not its own text: it has an `&` or a NUL.
+/// Whether the value is not its own text: it has an `&` or a NUL. The last bytes are looked at with some before them.
 pub(crate) fn is_coded(value: &[u8]) -> bool
+    ensures { result ≡ false → text_of value.now ≡ value.now }
+{
+    if value.len() < LANES {
+        return has_mark(value);
+    }
+    let last = value.len() - LANES;
+    let mut at = 0;
+    'marks: while at < last {
+        if is_marked(&value[at..]) {
+            return true;
+        }
+        at += LANES;
+    }
+    is_marked(&value[last..])
+}
+
+/// The same of any value, however short.
+fn has_mark(value: &[u8]) -> bool
     ensures { result ≡ false → text_of value.now ≡ value.now }
 {
     match memchr2(b'&', 0, value) {
         Some(_) => true,
         None => false,
     }
+}
+
+/// Whether an `&` or a NUL is among the first bytes.
+#[inline(always)]
+fn is_marked(bytes: &[u8]) -> bool
+    requires { LANES ≤ length bytes.now }
+    ensures { result ≡ false → position_or_len is_mark (take LANES bytes.now) ≡ LANES }
+{
+    let lanes = u8x16::from_slice(bytes);
+    let marks = lanes.simd_eq(u8x16::splat(b'&')) | lanes.simd_eq(u8x16::splat(0));
+    marks.to_bitmask() != 0
 }
 
 /// What stands before the first `&` or NUL, and what begins with it.

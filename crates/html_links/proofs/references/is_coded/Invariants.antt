@@ -1,0 +1,10 @@
+use Rattle.std.proofs.Common.{◌≡◌, ◌<◌, ◌-◌, ℕ, false, get_or, length}
+use Rattle.html_links.specs.Decoding.{is_mark}
+use Rattle.html_links.proofs.references.is_coded.Given as goal
+
+-- no mark is behind it
+abbrev pub invariant-marks : goal.invariant-marks
+invariant-marks l = (k : ℕ) → k < l.at → is_mark (get_or l.value k 0) ≡ false
+
+abbrev pub decreases-marks : goal.decreases-marks
+decreases-marks l = length l.value - l.at
