@@ -42,18 +42,6 @@ part() {
     all_failed=$((all_failed + failed))
 }
 
-# gigabytes: the memory that is free, or that the control group may take, in GB.
-gigabytes() {
-    { awk '/^MemAvailable:/ { print int($2 / 1000000) }' /proc/meminfo
-      awk '/^[0-9]+$/ { print int($1 / 1000000000) }' /sys/fs/cgroup/memory.max 2> /dev/null; } | sort -n | head -n 1
-}
-
-# A proof takes 4.3 GB at most. `rt ci` reckons with twice as much, and lets processors wait for it.
-if [ -z "${RT_JOBS:-}" ] && [ "$(gigabytes)" -ge $((5 * $(nproc))) ]; then
-    RT_JOBS=$(nproc)
-    export RT_JOBS
-fi
-
 part rt ci
 part tests/cases.py
 part tests/drawn.py
