@@ -1,5 +1,6 @@
 -- The runs that the code cuts by a length are `front` and `behind`.
 use Rattle.std.proofs.Common.{◌≡◌, ℕ, zero, suc, ◌+◌, ◌-◌, ◌==◌, ⊎_elim, slice_index, subst, Option, Bool, true, false, not, cond, List, [], ◌∷◌, length, take, drop, get_or, Some, None, refl, ap, sym, ◌∙◌, arith}
+use Rattle.std.specs.Prelude.{MatchOption, IfSome}
 use Rattle.std.specs.List.{prefix_len, position_or_len, take_while}
 use Rattle.std.proofs.lemmas.List.Folds.{length-prefix_len}
 use Rattle.std.proofs.lemmas.List.Sums.{position_or_len_is}
@@ -12,6 +13,10 @@ use Rattle.html_links.specs.Shown.{front, behind, in_name, BeginsName, name_fron
 refuted : (b : Bool) → (b ≡ true → ⊥) → b ≡ false
 refuted true never = absurd (never refl)
 refuted false never = refl
+
+pub if_some : {T : Type 0} (o : Option T) (P : Type 0) (Q : T → Type 0) → MatchOption o P Q → IfSome o Q
+if_some None P Q is = tt
+if_some (Some x) P Q is = is
 
 front_at : (b : Bool) (c : ℕ) (rest tail : List ℕ) (n : ℕ) → tail ≡ take n rest → cond b (c ∷ tail) [] ≡ take (cond b (1 + n) 0) (c ∷ rest)
 front_at true c rest tail n e = let more : 1 + n ≡ suc n = omega arith in rw more (ap (λ t. c ∷ t) e)

@@ -1,6 +1,6 @@
 -- The comment states: those after `<` do as those without it, and a run without a dash is one jump.
-use Rattle.std.proofs.Common.{◌≡◌, ℕ, ◌<◌, ◌≤◌, ◌==◌, Bool, true, false, not, cond, List, [], ◌∷◌, length, Option, None, refl, ap, sym, ◌∙◌, arith}
-use Rattle.html_links.specs.Comments.{Mark, Dash, Greater, Bang, Less, Plain, mark_of, State, Comment, LessThan, LessThanBang, LessThanBangDash, LessThanBangDashDash, EndDash, End, EndBang, step, follow, run}
+use Rattle.std.proofs.Common.{◌≡◌, ℕ, zero, suc, ◌+◌, ◌-◌, ◌<◌, ◌≤◌, ◌==◌, Bool, true, false, not, cond, List, [], ◌∷◌, length, drop, Option, None, Some, option_map, refl, ap, sym, ◌∙◌, arith}
+use Rattle.html_links.specs.Comments.{Mark, Dash, Greater, Bang, Less, Plain, mark_of, State, Start, Comment, LessThan, LessThanBang, LessThanBangDash, LessThanBangDashDash, EndDash, End, EndBang, Next, Go, Emit, step, follow, run, comment_rest}
 use Rattle.html_links.specs.Shown.{behind, Stopped}
 use Rattle.html_links.proofs.Jumps.{shorter}
 
@@ -146,3 +146,45 @@ left_behind bytes dashed more is skipped =
     let b : length more ≡ length (behind (λ c. c == 45) dashed) = ap length skipped in
     let le : length (behind (λ c. c == 45) dashed) ≤ length dashed = shorter (λ c. c == 45) dashed in
     omega arith
+
+-- what is behind a comment is the end of its bytes
+
+comment_less_at : (next : Next) (rest left : List ℕ) → ((s : State) → run s rest ≡ Some left → length left < length rest) →
+    follow next (λ s. run s rest) rest ≡ Some left → length left < length rest + 1
+comment_less_at (Go s) rest left later e = omega (arith, later s e)
+comment_less_at Emit rest left later e = let same : rest ≡ left = cc in let l : length rest ≡ length left = ap length same in omega arith
+
+pub comment_less : (s : State) (bytes left : List ℕ) → run s bytes ≡ Some left → length left < length bytes
+comment_less s [] left e = absurd (cc)
+comment_less s (c ∷ rest) left e =
+    let less : length left < length rest + 1 = comment_less_at (step s (mark_of c)) rest left (λ s e. comment_less s rest left e) e in omega arith
+
+comment_end_at : (next : Next) (c : ℕ) (rest left : List ℕ) → ((s : State) → run s rest ≡ Some left → drop (length rest - length left) rest ≡ left) →
+    ((s : State) → run s rest ≡ Some left → length left < length rest) → follow next (λ s. run s rest) rest ≡ Some left → drop (length (c ∷ rest) - length left) (c ∷ rest) ≡ left
+comment_end_at (Go s) c rest left later less e =
+    let within : length left < length rest = less s e in
+    let more : length (c ∷ rest) - length left ≡ suc (length rest - length left) = omega arith in
+    ap (λ n. drop n (c ∷ rest)) more ∙ later s e
+comment_end_at Emit c rest left later less e =
+    let same : rest ≡ left = cc in
+    let l : length rest ≡ length left = ap length same in
+    let one : length (c ∷ rest) - length left ≡ suc zero = omega arith in
+    ap (λ n. drop n (c ∷ rest)) one ∙ same
+
+comment_end : (s : State) (bytes left : List ℕ) → run s bytes ≡ Some left → drop (length bytes - length left) bytes ≡ left
+comment_end s [] left e = absurd (cc)
+comment_end s (c ∷ rest) left e = comment_end_at (step s (mark_of c)) c rest left (λ s e. comment_end s rest left e) (λ s e. comment_less s rest left e) e
+
+end_at_left : (o : Option (List ℕ)) (bytes : List ℕ) (left : ℕ) → ((rest : List ℕ) → o ≡ Some rest → drop (length bytes - length rest) bytes ≡ rest) → Some left ≡ option_map length o →
+    Some (drop (length bytes - left) bytes) ≡ o
+end_at_left None bytes left ends e = absurd (cc)
+end_at_left (Some rest) bytes left ends e =
+    let same : left ≡ length rest = cc in
+    ap (λ n. Some (drop (length bytes - n) bytes)) same ∙ ap Some (ends rest refl)
+
+pub behind_left : (bytes : List ℕ) (left : ℕ) → Some left ≡ option_map length (comment_rest bytes) → Some (drop (length bytes - left) bytes) ≡ comment_rest bytes
+behind_left bytes left e = end_at_left (comment_rest bytes) bytes left (λ rest is. comment_end Start bytes rest is) e
+
+pub no_left : (o : Option (List ℕ)) → None ≡ option_map length o → None ≡ o
+no_left None e = refl
+no_left (Some rest) e = absurd (cc)

@@ -26,6 +26,7 @@ use Rattle.std.specs.Borrow.{Bor}
 use Rattle.html_links.specs.Comments.{bytes_at, comment_rest}
 use Rattle.html_links.proofs.Cuts.{front_cut, behind_cut, tail_front, tail_behind}
 use Rattle.html_links.proofs.Jumps.{stopped, shorter}
+use Rattle.html_links.proofs.Dashing.{comment_less}
 
 pub led_cut : (test : ℕ → Bool) (bytes : List ℕ) (n : ℕ) → 0 < length bytes → n ≡ length (take_while test (take (length bytes - 1) (drop 1 bytes))) →
     (take (1 + n) bytes ≡ led_front test bytes) × (drop (1 + n) bytes ≡ led_behind test bytes)
@@ -167,16 +168,6 @@ read_comment bytes dashed text r one two ends =
     ap (read MarkupDeclaration) one ∙ ap (read MarkupDash) two ∙ in_comment comments.Start text ∙ ap comment_then (sym ends) ∙ bytes_read r
 
 -- what is behind has fewer bytes
-
-comment_less_at : (next : comments.Next) (rest left : List ℕ) → ((s : comments.State) → comments.run s rest ≡ Some left → length left < length rest) →
-    comments.follow next (λ s. comments.run s rest) rest ≡ Some left → length left < length rest + 1
-comment_less_at (comments.Go s) rest left later e = omega (arith, later s e)
-comment_less_at comments.Emit rest left later e = let same : rest ≡ left = cc in let l : length rest ≡ length left = ap length same in omega arith
-
-comment_less : (s : comments.State) (bytes left : List ℕ) → comments.run s bytes ≡ Some left → length left < length bytes
-comment_less s [] left e = absurd (cc)
-comment_less s (c ∷ rest) left e =
-    let less : length left < length rest + 1 = comment_less_at (comments.step s (mark_of c)) rest left (λ s e. comment_less s rest left e) e in omega arith
 
 pub comment_leaves : (r : Option (Bor (List ℕ))) (bytes dashed text : List ℕ) → bytes ≡ 45 ∷ dashed → dashed ≡ 45 ∷ text → bytes_at r ≡ comment_rest text → RestLeaves r bytes
 comment_leaves None bytes dashed text one two ends = tt

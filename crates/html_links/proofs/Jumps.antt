@@ -1,5 +1,5 @@
 -- The machine over runs of bytes: a run on which it stays in a state is one jump.
-use Rattle.std.proofs.Common.{◌≡◌, ℕ, ◌+◌, ◌<◌, ◌≤◌, ◌==◌, Bool, true, false, not, cond, List, [], ◌∷◌, ◌++◌, length, map, reverse, Option, None, Some, refl, ap, sym, ◌∙◌, arith, append_assoc, append-nil, subst}
+use Rattle.std.proofs.Common.{◌≡◌, ℕ, ◌+◌, ◌<◌, ◌≤◌, ◌==◌, Bool, true, false, not, cond, List, [], ◌∷◌, ◌++◌, length, map, reverse, Option, None, Some, refl, ap, sym, ◌∙◌, arith, append_assoc, append-nil, subst, codes}
 use Rattle.html_links.specs.declared.bytes.Class.{Class}
 use Rattle.html_links.specs.declared.bytes.Class.TheVariants.{Space, Slash, Greater, Equals, Quote, Apostrophe, Other}
 use Rattle.html_links.specs.Tags.{Attribute, State, BeforeName, Name, AfterName, BeforeValue, DoubleQuoted, SingleQuoted, Unquoted, AfterQuoted, SelfClosing, Go, Tag, step, start, to_name, to_value, lower, class_of, run, follow}
@@ -233,7 +233,7 @@ single_stays : (k : Class) (c : ℕ) (all : List Attribute) → (k ≡ Apostroph
 single_stays Apostrophe c all quote = absurd (quote refl)
 single_stays _ c all quote = refl
 
-abbrev before : ℕ → ℕ → Bool
+abbrev pub before : ℕ → ℕ → Bool
 before quote c = not (c == quote)
 
 double_jump : (name : List ℕ) (all : List Attribute) (bytes : List ℕ) →
@@ -338,12 +338,33 @@ read_quote bytes name rest more begins named cut is all =
     read_equals bytes rest (34 ∷ more) begins (stays bytes rest more cut is) is all
     ∙ ap (λ (n : List ℕ). run BeforeValue (record { name = map lower n; value = [] } ∷ all) (34 ∷ more)) (sym named)
 
-pub quote_shorter : (bytes rest more left : List ℕ) → BeginsName bytes → rest ≡ name_behind bytes → rest ≡ 61 ∷ 34 ∷ more → 34 ∷ left ≡ behind (before 34) more → length left < length bytes
-quote_shorter bytes rest more left begins cut is quoted =
-    let a : length left < length (34 ∷ more) + 1 = quoted_shorter (before 34) (34 ∷ more) 34 34 more left refl quoted in
+pub quote_within : (bytes rest more : List ℕ) → BeginsName bytes → rest ≡ name_behind bytes → rest ≡ 61 ∷ 34 ∷ more → length more ≤ length bytes
+quote_within bytes rest more begins cut is =
     let b : length rest ≡ length (61 ∷ 34 ∷ more) = ap length is in
     let c : length rest ≡ length (behind is_space (name_behind bytes)) = ap length (stays bytes rest more cut is) in
     let d : length (behind is_space (name_behind bytes)) < length bytes = name_shorter bytes begins in
+    omega arith
+
+-- a `class`, up to the first quote of its value
+
+pub read_class : (bytes more : List ℕ) → bytes ≡ codes " class=" ++ 34 ∷ more → (all : List Attribute) →
+    run BeforeName all bytes ≡ run BeforeValue (record { name = map lower (codes "class"); value = [] } ∷ all) (34 ∷ more)
+read_class bytes more is all = ap (run BeforeName all) is
+
+pub class_within : (bytes more : List ℕ) → bytes ≡ codes " class=" ++ 34 ∷ more → length more ≤ length bytes
+class_within bytes more is =
+    let e : length bytes ≡ length (32 ∷ 99 ∷ 108 ∷ 97 ∷ 115 ∷ 115 ∷ 61 ∷ 34 ∷ more) = ap length is in
+    omega arith
+
+-- the same of a `href`
+
+pub read_href : (bytes more : List ℕ) → bytes ≡ codes " href=" ++ 34 ∷ more → (all : List Attribute) →
+    run BeforeName all bytes ≡ run BeforeValue (record { name = map lower (codes "href"); value = [] } ∷ all) (34 ∷ more)
+read_href bytes more is all = ap (run BeforeName all) is
+
+pub href_within : (bytes more : List ℕ) → bytes ≡ codes " href=" ++ 34 ∷ more → length more ≤ length bytes
+href_within bytes more is =
+    let e : length bytes ≡ length (32 ∷ 104 ∷ 114 ∷ 101 ∷ 102 ∷ 61 ∷ 34 ∷ more) = ap length is in
     omega arith
 
 pub read_bare : (bytes zs : List ℕ) → BeginsName bytes → zs ≡ behind is_space (name_behind bytes) → Stopped is_space zs → Stopped (λ c. c == 61) zs → (all : List Attribute) →

@@ -1,23 +1,26 @@
 -- What a reader of links passes has none.
-use Rattle.std.proofs.Common.{◌≡◌, ◌∙◌, ◌<◌, ◌≤◌, sym, ap, refl, arith, ℕ, Bool, true, false, not, cond, ◌&&◌, List, [], ◌∷◌, ◌++◌, length, map, Option, None, Some}
+use Rattle.std.proofs.Common.{◌≡◌, ◌∙◌, ◌<◌, ◌≤◌, ◌==◌, sym, ap, refl, arith, ℕ, Bool, true, false, not, cond, ◌&&◌, List, [], ◌∷◌, ◌++◌, length, map, Option, None, Some}
 use Rattle.std.specs.Prelude.{codes}
 use Rattle.std.specs.Str.{bytes_eq}
+use Rattle.std.proofs.lemmas.Slice.Eq.{bytes_eq-Decides}
 use Rattle.html_links.specs.declared.element.Element.TheVariants as element
 use Rattle.html_links.specs.declared.element.TheConstants.{LENGTHS}
 use Rattle.html_links.specs.declared.document.Content.TheVariants as content
-use Rattle.html_links.specs.declared.next_tag.NextTag.{NextTag}
+use Rattle.html_links.specs.declared.next_tag.Step.{Step}
+use Rattle.html_links.specs.declared.next_tag.Step.TheVariants as step
 use Rattle.html_links.specs.declared.reader.Form.TheVariants as form
 use Rattle.html_links.specs.Tags.{lower, tag_of, BeforeName}
 use Rattle.html_links.specs.Lengths.{may_be}
 use Rattle.html_links.specs.Elements.{element_of, wanted_of, is_usual}
-use Rattle.html_links.specs.Document.{Data, InTag, content_of, read}
+use Rattle.html_links.specs.Document.{Data, TagOpen, InTag, content_of, read}
+use Rattle.html_links.specs.Shown.{behind}
 use Rattle.html_links.specs.Values.{Values, tag_with, values_in}
-use Rattle.html_links.specs.Seen.{Seen, Sees, seen_of, seen_with, seen_in}
+use Rattle.html_links.specs.Seen.{Seen, seen_of, seen_with, seen_in}
 use Rattle.html_links.specs.Links.{links_in, ids_in, base_in, value_links, anchors_with}
-use Rattle.html_links.specs.Passed.{is_absent, name_nothing, styled_in, Has, Finds}
-use Rattle.html_links.proofs.Documents.{to_markup}
+use Rattle.html_links.specs.Passed.{is_absent, name_nothing, styled_in, Has, Steps, StepsTag}
+use Rattle.html_links.proofs.Documents.{to_markup, read_less, cut_shorter}
 use Rattle.html_links.proofs.Telling.{other_name, neither, otherwise, no_text}
-use Rattle.html_links.proofs.Seeing.{seen_start, text_less}
+use Rattle.html_links.proofs.Seeing.{seen_start}
 
 -- the name of no element that names documents, nor of one with text
 
@@ -49,12 +52,20 @@ usual_content name usual = no_text LENGTHS name (refl, refl, refl, refl, refl, r
 
 -- such a tag as it is seen
 
-pub usual_seen : (rest name more last : List ℕ) (v : Values) → is_usual name ≡ true → read Data rest ≡ read (InTag false (map lower name) BeforeName []) more →
-    Some (tag_with v last) ≡ values_in (wanted_of element.Other) (tag_of more) → seen_in rest ≡ seen_with (map lower name) element.Other v ∷ seen_in last
-usual_seen rest name more last v usual opens found =
-    ap (map seen_of) opens
-    ∙ seen_start (map lower name) more element.Other (wanted_of element.Other) v last (read Data last) (sym (usual_element name usual)) refl found
+pub usual_seen : (name more last : List ℕ) (v : Values) → is_usual name ≡ true → Some (tag_with v last) ≡ values_in (wanted_of element.Other) (tag_of more) →
+    map seen_of (read (InTag false (map lower name) BeforeName []) more) ≡ seen_with (map lower name) element.Other v ∷ seen_in last
+usual_seen name more last v usual found =
+    seen_start (map lower name) more element.Other (wanted_of element.Other) v last (read Data last) (sym (usual_element name usual)) refl found
     (to_markup (map lower name) last (sym (usual_content name usual)))
+
+-- an `a` as it is seen
+pub anchor_seen : (name more last : List ℕ) (v : Values) → bytes_eq (map lower name) (codes "a") ≡ true → Some (tag_with v last) ≡ values_in (wanted_of element.Anchor) (tag_of more) →
+    map seen_of (read (InTag false (map lower name) BeforeName []) more) ≡ seen_with (map lower name) element.Anchor v ∷ seen_in last
+anchor_seen name more last v is found =
+    let same : map lower name ≡ codes "a" = (bytes_eq-Decides (map lower name) (codes "a")).0 is in
+    let an_anchor : element_of (map lower name) ≡ element.Anchor = ap element_of same in
+    let markup : content_of (map lower name) ≡ content.Markup = ap content_of same in
+    seen_start (map lower name) more element.Anchor (wanted_of element.Anchor) v last (read Data last) (sym an_anchor) refl found (to_markup (map lower name) last (sym markup))
 
 -- tags that have what some others have
 
@@ -108,28 +119,30 @@ pub record Sought (bytes rest : List ℕ) : Type 0 where
 pub sought_all : (bytes : List ℕ) → Sought bytes bytes
 sought_all bytes = record { has = has_same (seen_in bytes) (seen_in bytes) refl; left = omega arith }
 
--- and in other bytes, with what is read before them
-pub sought_as : (bytes rest : List ℕ) (some : List Seen) → Sought bytes rest → seen_in rest ≡ some → Has (seen_in bytes) some
-sought_as bytes rest some so_far same = has_then (seen_in bytes) (seen_in rest) some so_far.has (has_same (seen_in rest) some same)
+-- and behind what is passed
+pub sought_on : (bytes rest more : List ℕ) → Sought bytes rest → Has (seen_in rest) (seen_in more) → length more < length rest → Sought bytes more
+sought_on bytes rest more so_far has less = record { has = has_then (seen_in bytes) (seen_in rest) (seen_in more) so_far.has has; left = omega (arith, so_far.left) }
 
-pub sought_on : (bytes rest more : List ℕ) → Sought bytes rest → read Data rest ≡ read Data more → length more < length rest → Sought bytes more
-sought_on bytes rest more so_far reads less = record {
-  has = sought_as bytes rest (seen_in more) so_far (ap (map seen_of) reads);
-  left = omega (arith, so_far.left);
-}
+-- bytes that are read as those behind them
+pub passes : (rest more : List ℕ) → read Data rest ≡ read Data more → Has (seen_in rest) (seen_in more)
+passes rest more reads = has_same (seen_in rest) (seen_in more) (ap (map seen_of) reads)
 
--- behind a tag that is passed
-pub sought_past : (bytes rest name more last : List ℕ) (v : Values) → Sought bytes rest → is_usual name ≡ true → name_nothing v ≡ true →
-    read Data rest ≡ read (InTag false (map lower name) BeforeName []) more → Some (tag_with v last) ≡ values_in (wanted_of element.Other) (tag_of more) → length more < length rest → Sought bytes last
-sought_past bytes rest name more last v so_far usual nothing opens found less =
-    let shorter : length last < length more = text_less (wanted_of element.Other) v last more found in
-    record {
-      has =
-          has_then (seen_in bytes) (seen_with (map lower name) element.Other v ∷ seen_in last) (seen_in last)
-          (sought_as bytes rest (seen_with (map lower name) element.Other v ∷ seen_in last) so_far (usual_seen rest name more last v usual opens found)) (passed name v (seen_in last) usual nothing);
-      left = omega (arith, so_far.left);
-    }
+-- a tag that names nothing
+pub passes_tag : (name more last : List ℕ) (v : Values) → is_usual name ≡ true → name_nothing v ≡ true → Some (tag_with v last) ≡ values_in (wanted_of element.Other) (tag_of more) →
+    Has (map seen_of (read (InTag false (map lower name) BeforeName []) more)) (seen_in last)
+passes_tag name more last v usual nothing found =
+    has_then _ (seen_with (map lower name) element.Other v ∷ seen_in last) (seen_in last) (has_same _ _ (usual_seen name more last v usual found)) (passed name v (seen_in last) usual nothing)
 
-pub finds_from : (t : Option NextTag) (v : Values) (all seen : List Seen) → Has all seen → Sees t v seen → Finds t v all
-finds_from None v all seen has is = has_then all seen [] has (has_same seen [] is)
-finds_from (Some t) v all seen has is = has_then all seen _ has (has_same seen _ is)
+-- from a start tag on, behind the `<` before it
+pub steps_from : (s : Step) (v : Values) (rest opened name more : List ℕ) → 60 ∷ opened ≡ behind (λ c. not (c == 60)) rest →
+    read TagOpen opened ≡ read (InTag false (map lower name) BeforeName []) more → length more ≤ length opened → StepsTag s v name more → Steps s v rest (seen_in rest)
+steps_from (step.Pass last) v rest opened name more cut reads le steps =
+    let a : length opened < length rest = cut_shorter (λ c. not (c == 60)) rest opened 60 cut in
+    let b : length last.now < length more = steps.1 in
+    (has_then _ _ _ (has_same (seen_in rest) _ (ap (map seen_of) (read_less rest opened cut ∙ reads))) steps.0, omega arith)
+steps_from (step.Take t) v rest opened name more cut reads le steps =
+    let a : length opened < length rest = cut_shorter (λ c. not (c == 60)) rest opened 60 cut in
+    let b : length t.rest.now < length more = steps.1 in
+    (has_then _ _ _ (has_same (seen_in rest) _ (ap (map seen_of) (read_less rest opened cut ∙ reads))) steps.0, omega arith)
+steps_from step.End v rest opened name more cut reads le steps =
+    has_then _ _ _ (has_same (seen_in rest) _ (ap (map seen_of) (read_less rest opened cut ∙ reads))) steps

@@ -1,11 +1,15 @@
 -- The values of a tag's wanted attributes, one attribute after another.
-use Rattle.std.proofs.Common.{◌≡◌, ◌∙◌, sym, ap, refl, ℕ, Bool, true, false, cond, List, [], ◌∷◌, ◌++◌, reverse, map, Option, Some}
+use Rattle.std.proofs.Common.{◌≡◌, ◌∙◌, ◌==◌, sym, ap, refl, ℕ, Bool, true, false, cond, List, [], ◌∷◌, ◌++◌, reverse, map, Option, None, Some, MatchOption, IfSome}
 use Rattle.std.specs.Prelude.{codes}
 use Rattle.std.proofs.lemmas.Grind.{reverse_onto}
 use Rattle.std.specs.Str.{bytes_eq}
-use Rattle.html_links.specs.Tags.{lower, Attribute, run, BeforeName}
-use Rattle.html_links.specs.Elements.{Wanted}
-use Rattle.html_links.specs.Values.{Values, values_of, first_named, or_named, with_attribute}
+use Rattle.std.specs.Borrow.{Bor}
+use Rattle.html_links.specs.declared.element.Element.TheVariants.{Other}
+use Rattle.html_links.specs.Tags.{lower, Attribute, run, BeforeName, tag_of}
+use Rattle.html_links.specs.Shown.{front, behind, Stopped}
+use Rattle.html_links.specs.Elements.{Wanted, wanted_of}
+use Rattle.html_links.specs.Values.{Values, values_of, first_named, or_named, with_attribute, values_in, tag_with, no_values}
+use Rattle.html_links.proofs.Jumps.{before, read_class, read_double}
 
 -- some attributes are behind it, and these are their values
 pub record Reading (bytes rest : List ℕ) (w : Wanted) (v : Values) : Type 0 where
@@ -34,3 +38,11 @@ one_more bytes rest more w v new a so_far reads with_it = record {
   reads = sym (reads so_far.all) ∙ so_far.reads;
   values = with_it ∙ ap (λ (v : Values). with_attribute v w a) so_far.values ∙ sym (values_last w (reverse so_far.all) a) ∙ ap (values_of w) (sym (reverse_onto so_far.all a []));
 }
+
+-- a tag with a `class` alone
+pub plain_class : (r : Option (Bor (List ℕ))) (bytes quoted value rest : List ℕ) → bytes ≡ codes " class=" ++ 34 ∷ quoted →
+    (value ≡ front (before 34) quoted) × (34 ∷ rest ≡ behind (before 34) quoted) → MatchOption r (Stopped (λ c. c == 62) rest) (λ more. rest ≡ 62 ∷ more.now) →
+    IfSome r (λ last. Some (tag_with no_values last.now) ≡ values_in (wanted_of Other) (tag_of bytes))
+plain_class None bytes quoted value rest is cut ends = tt
+plain_class (Some last) bytes quoted value rest is cut ends =
+    sym (ap (values_in (wanted_of Other)) (read_class bytes quoted is [] ∙ read_double (codes "class") (34 ∷ quoted) 34 quoted value rest refl refl cut [] ∙ ap (run BeforeName _) ends))

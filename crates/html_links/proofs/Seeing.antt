@@ -1,12 +1,11 @@
 -- What a reader of links sees, tag by tag.
 use Rattle.std.proofs.Common.{◌≡◌, ◌∙◌, ◌<◌, ◌≤◌, sym, ap, refl, arith, ℕ, false, List, [], ◌∷◌, length, map, Option, None, Some}
 use Rattle.html_links.specs.declared.element.Element.{Element}
-use Rattle.html_links.specs.declared.next_tag.NextTag.{NextTag}
 use Rattle.html_links.specs.Tags.{Tag, BeforeName, tag_of}
 use Rattle.html_links.specs.Document.{StartTag, InTag, behind_tag, read}
 use Rattle.html_links.specs.Elements.{Wanted, element_of, wanted_of}
 use Rattle.html_links.specs.Values.{Values, TagValues, tag_with, values_of, values_in}
-use Rattle.html_links.specs.Seen.{seen_of, seen_with, LeavesTag}
+use Rattle.html_links.specs.Seen.{seen_of, seen_with}
 use Rattle.html_links.proofs.Documents.{tag_then, in_tag, tag_less}
 
 abbrev values_from : Values → Option TagValues → Values
@@ -53,7 +52,3 @@ text_less_at (Some t) w v text bytes less e =
 
 pub text_less : (w : Wanted) (v : Values) (text bytes : List ℕ) → Some (tag_with v text) ≡ values_in w (tag_of bytes) → length text < length bytes
 text_less w v text bytes found = text_less_at (tag_of bytes) w v text bytes (λ t e. tag_less BeforeName [] bytes t e) found
-
-pub leaves_within : (t : Option NextTag) (more bytes : List ℕ) → length more ≤ length bytes → LeavesTag t more → LeavesTag t bytes
-leaves_within None more bytes le leaves = tt
-leaves_within (Some t) more bytes le leaves = omega arith

@@ -1,5 +1,5 @@
 -- Attributes whose names are not wanted.
-use Rattle.std.proofs.Common.{◌≡◌, ◌∙◌, ap, refl, true, false, cond, ℕ, Bool, List, map, Option, None, Some}
+use Rattle.std.proofs.Common.{◌≡◌, ◌∙◌, sym, ap, refl, true, false, cond, ℕ, Bool, List, map, Option, None, Some}
 use Rattle.std.specs.Prelude.{codes}
 use Rattle.std.specs.Option.{option_or}
 use Rattle.html_links.specs.declared.element.Element.{Element}
@@ -43,3 +43,16 @@ not_wanted v e name found other = λ i. record {
   id = unnamed v.id (codes "id") name found other refl i;
   name = unnamed v.name (codes "name") name found other refl i;
 }
+
+-- the `href` of an `a` is its first value alone
+pub link_taken : (v : Values) (first : Option (List ℕ)) (name value : List ℕ) → name ≡ codes "href" → first ≡ option_or v.first (Some value) →
+    record { first = first; second = v.second; third = v.third; style = v.style; id = v.id; name = v.name } ≡ with_attribute v (wanted_of element.Anchor) (record { name = map lower name; value = value })
+link_taken v first name value is taken =
+    (λ i. record {
+      first = taken i;
+      second = sym (or_none v.second) i;
+      third = sym (or_none v.third) i;
+      style = sym (or_none v.style) i;
+      id = sym (or_none v.id) i;
+      name = sym (or_none v.name) i;
+    }) ∙ sym (ap (λ n. with_attribute v (wanted_of element.Anchor) (record { name = map lower n; value = value })) is)

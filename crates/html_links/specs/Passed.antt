@@ -1,9 +1,13 @@
 -- What a reader of links finds of what is seen: it passes tags that name nothing.
-use Rattle.std.specs.Prelude.{◌≡◌, ℕ, ◌&&◌, not, Bool, true, false, if◌then◌else◌, List, [], ◌∷◌, codes, Option, None, Some}
+use Rattle.std.specs.Prelude.{◌≡◌, ◌<◌, ℕ, ◌&&◌, not, Bool, true, false, if◌then◌else◌, List, [], ◌∷◌, length, map, codes, Option, None, Some}
 use Rattle.std.specs.Str.{bytes_eq}
 use Rattle.html_links.specs.declared.next_tag.NextTag.{NextTag}
+use Rattle.html_links.specs.declared.next_tag.Step.{Step}
+use Rattle.html_links.specs.declared.next_tag.Step.TheVariants as step
+use Rattle.html_links.specs.Tags.{lower, BeforeName}
+use Rattle.html_links.specs.Document.{InTag, read}
 use Rattle.html_links.specs.Values.{Values}
-use Rattle.html_links.specs.Seen.{Seen, seen_in, seen_at}
+use Rattle.html_links.specs.Seen.{Seen, seen_of, seen_in, seen_at}
 use Rattle.html_links.specs.Links.{links_in, ids_in, base_in}
 
 abbrev pub is_absent : Option (List ℕ) → Bool
@@ -33,3 +37,13 @@ pub record Has (all some : List Seen) : Type 0 where
 abbrev pub Finds : Option NextTag → Values → List Seen → Type 0
 Finds None values seen = Has seen []
 Finds (Some t) values seen = Has seen (seen_at t values ∷ seen_in t.rest.now)
+
+-- The same at the next `<` of some bytes, which has fewer behind it.
+abbrev pub Steps : Step → Values → List ℕ → List Seen → Type 0
+Steps (step.Pass more) values bytes seen = Has seen (seen_in more.now) × (length more.now < length bytes)
+Steps (step.Take t) values bytes seen = Has seen (seen_at t values ∷ seen_in t.rest.now) × (length t.rest.now < length bytes)
+Steps step.End values bytes seen = Has seen []
+
+-- and from behind the name of a start tag
+abbrev pub StepsTag : Step → Values → List ℕ → List ℕ → Type 0
+StepsTag s values name bytes = Steps s values bytes (map seen_of (read (InTag false (map lower name) BeforeName []) bytes))

@@ -1,9 +1,9 @@
 -- What a reader of links sees of a document: of each start tag its name and element, and the values of its wanted attributes.
-use Rattle.std.specs.Prelude.{◌≡◌, ◌<◌, ℕ, List, [], ◌∷◌, length, map, false, Option, None, Some}
+use Rattle.std.specs.Prelude.{◌<◌, ℕ, List, length, map, Option, None, Some}
 use Rattle.html_links.specs.declared.element.Element.{Element}
 use Rattle.html_links.specs.declared.next_tag.NextTag.{NextTag}
-use Rattle.html_links.specs.Tags.{lower, BeforeName}
-use Rattle.html_links.specs.Document.{StartTag, InTag, read, tags_of}
+use Rattle.html_links.specs.Tags.{lower}
+use Rattle.html_links.specs.Document.{StartTag, tags_of}
 use Rattle.html_links.specs.Elements.{element_of, wanted_of}
 use Rattle.html_links.specs.Values.{Values, values_of}
 
@@ -23,14 +23,6 @@ seen_in document = map seen_of (tags_of document)
 
 abbrev pub seen_at : NextTag → Values → Seen
 seen_at t values = seen_with (map lower t.name.now) t.element values
-
--- What is said of the code: what is seen is the next tag with these values, and what is seen behind it.
-abbrev pub Sees : Option NextTag → Values → List Seen → Type 0
-Sees None values seen = seen ≡ []
-Sees (Some t) values seen = seen ≡ seen_at t values ∷ seen_in t.rest.now
-
-abbrev pub SeesTag : Option NextTag → Values → List ℕ → List ℕ → Type 0
-SeesTag t values name bytes = Sees t values (map seen_of (read (InTag false (map lower name) BeforeName []) bytes))
 
 abbrev pub LeavesTag : Option NextTag → List ℕ → Type 0
 LeavesTag None bytes = Unit {0}

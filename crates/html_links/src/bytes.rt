@@ -4,7 +4,7 @@ ghost use Rattle.std.specs.List.{take_while};
 ghost use Rattle.html_links.specs.Tags.{class_of};
 ghost use Rattle.html_links.specs.Shown.{front, behind, is_space, in_name, in_unquoted, name_front, name_behind, BeginsName, Stopped};
 
-use crate::near::near_byte;
+use crate::near::{find_byte, near_byte};
 
 /// What a byte means within a tag.
 #[derive(Clone, Copy)]
@@ -132,6 +132,17 @@ pub(crate) fn split_quoted(quote: u8, bytes: &[u8]) -> Option<(&[u8], &[u8])>
 {
     match near_byte(quote, bytes) {
         Some(end) => Some((&bytes[..end], &bytes[end + 1..])),
+        None => None,
+    }
+}
+
+/// What stands behind the first such byte, which may be far.
+#[inline(always)]
+pub(crate) fn behind_first(byte: u8, bytes: &[u8]) -> Option<&[u8]>
+    ensures { MatchOption result (behind (λ c. not (c == byte)) bytes.now ≡ []) (λ rest. byte ∷ rest.now ≡ behind (λ c. not (c == byte)) bytes.now) }
+{
+    match find_byte(byte, bytes) {
+        Some(end) => Some(&bytes[end + 1..]),
         None => None,
     }
 }

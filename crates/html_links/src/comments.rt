@@ -1,5 +1,5 @@
 //! Where a comment ends.
-ghost use Rattle.std.specs.Prelude.{◌≡◌, ◌==◌, length};
+ghost use Rattle.std.specs.Prelude.{◌≡◌, ◌≤◌, ◌==◌, length, option_map, IfSome};
 ghost use Rattle.std.specs.List.{take_while};
 ghost use Rattle.html_links.specs.Comments.{Comment, run, comment_rest, bytes_at};
 ghost use Rattle.html_links.specs.Shown.{behind, Stopped};
@@ -8,7 +8,29 @@ ghost use Rattle.html_links.specs.Dashes.{Dashed, LeavesRest};
 use crate::bytes::{behind_byte, split_quoted};
 
 /// What is behind a comment, from behind its `<!--`; nothing where the comment does not end.
+#[inline(always)]
 pub fn after_comment(bytes: &[u8]) -> Option<&[u8]>
+    ensures { bytes_at result ≡ comment_rest bytes.now }
+{
+    match comment_left(bytes) {
+        Some(left) => Some(&bytes[bytes.len() - left..]),
+        None => None,
+    }
+}
+
+/// How many bytes are behind the comment. It stands apart, with its answer in registers.
+#[inline(never)]
+fn comment_left(bytes: &[u8]) -> Option<usize>
+    ensures left { result ≡ option_map length (comment_rest bytes.now) }
+    ensures within { IfSome result (λ left. left ≤ length bytes.now) }
+{
+    match behind_comment(bytes) {
+        Some(rest) => Some(rest.len()),
+        None => None,
+    }
+}
+
+fn behind_comment(bytes: &[u8]) -> Option<&[u8]>
     ensures { bytes_at result ≡ comment_rest bytes.now }
 {
     if let Some(last) = behind_byte(b'>', bytes) {

@@ -6,7 +6,7 @@ ghost use Rattle.html_links.specs.Comments.{bytes_at};
 ghost use Rattle.html_links.specs.Document.{opening_of, read, tags_of, behind_tag, content_of, is_raw, Bogus, MarkupDeclaration, raw_content, script_content};
 ghost use Rattle.html_links.specs.Markup.{in_tag_name, led_front, led_behind, start_tag_at, read_rest, rest_of, MarkupReads, MarkupEnds, other_markup, MarkupLeaves, RestLeaves};
 
-use crate::bytes::{Class, LAST_MARK, behind_byte, class_of, parts, split_quoted};
+use crate::bytes::{Class, LAST_MARK, behind_byte, behind_first, class_of, parts, split_quoted};
 use crate::comments::after_comment;
 use crate::lengths::may_be;
 use crate::raw_text::{after_raw_text, same_name};
@@ -85,19 +85,21 @@ fn split_tag_name(bytes: &[u8]) -> (&[u8], &[u8])
     bytes.split_at(1 + tag_name_len(&bytes[1..]))
 }
 
-#[inline(never)]
+/// What is behind what is read as a comment. What is called for it and the next answers in registers, so that no tag pays for
+/// them.
+#[inline(always)]
 fn after_bogus(bytes: &[u8]) -> Option<&[u8]>
     ensures reads { read Bogus bytes.now ≡ read_rest result }
     ensures leaves { RestLeaves result bytes.now }
 {
-    match split_quoted(b'>', bytes) {
-        Some((_, rest)) => Some(rest),
+    match behind_first(b'>', bytes) {
+        Some(rest) => Some(rest),
         None => None,
     }
 }
 
 /// What is behind what begins with `<!`.
-#[inline(never)]
+#[inline(always)]
 fn after_declaration(bytes: &[u8]) -> Option<&[u8]>
     ensures reads { read MarkupDeclaration bytes.now ≡ read_rest result }
     ensures leaves { RestLeaves result bytes.now }

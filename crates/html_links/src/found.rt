@@ -1,5 +1,6 @@
 //! The attributes of a tag that are wanted.
-ghost use Rattle.std.specs.Prelude.{◌≡◌};
+ghost use Rattle.std.specs.Prelude.{◌≡◌, true, codes, Some};
+ghost use Rattle.std.specs.Option.{option_or};
 ghost use Rattle.html_links.specs.Tags.{tag_of};
 ghost use Rattle.html_links.specs.Comments.{bytes_at};
 ghost use Rattle.html_links.specs.Shown.{attribute_at};
@@ -95,6 +96,47 @@ fn take_named<'a>(value: &mut Option<&'a [u8]>, name: &[u8], attribute: Attribut
     takes
 }
 
+/// Takes a value where none is there yet; whether it did.
+#[inline(always)]
+fn take_value<'a>(value: &mut Option<&'a [u8]>, found: &'a [u8]) -> bool
+    ensures { bytes_at value.new ≡ option_or (bytes_at value.old) (Some found.now) }
+{
+    let takes = value.is_none();
+    if takes {
+        *value = Some(found);
+    }
+    takes
+}
+
+#[inline(always)]
+fn is_href(name: &[u8]) -> bool
+    ensures { result ≡ true → name.now ≡ codes "href" }
+{
+    matches!(name, [b'h', b'r', b'e', b'f'])
+}
+
+/// Whether an attribute with this name is the link of an `a` by its four letters, as most links are.
+#[inline(always)]
+fn is_link(element: Element, name: &[u8]) -> bool
+    ensures { result ≡ true → (element ≡ Element.Anchor) × (name.now ≡ codes "href") }
+{
+    match element {
+        Element::Anchor => is_href(name),
+        _ => false,
+    }
+}
+
+/// Takes the `href` of an `a`, behind which so many bytes are left.
+#[inline(always)]
+fn take_link<'a>(values: &mut Values<'a>, attribute: AttributeAt<'a>, left: usize)
+    requires { attribute.name.now ≡ codes "href" }
+    ensures { values_at values.new ≡ with_attribute (values_at values.old) (wanted_of Element.Anchor) (attribute_at attribute.entry) }
+{
+    if take_value(&mut values.first, attribute.value) {
+        values.first_left = left;
+    }
+}
+
 /// Takes the values of one attribute more, behind which so many bytes are left.
 #[inline(always)]
 fn take_attribute<'a>(
@@ -105,6 +147,10 @@ fn take_attribute<'a>(
 )
     ensures { values_at values.new ≡ with_attribute (values_at values.old) (wanted_of element) (attribute_at attribute.entry) }
 {
+    if is_link(element, attribute.name) {
+        take_link(values, attribute, left);
+        return;
+    }
     if !may_be(&LENGTHS, attribute.name) {
         return;
     }

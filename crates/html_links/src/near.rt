@@ -52,7 +52,7 @@ pub(crate) fn near_byte(byte: u8, bytes: &[u8]) -> Option<usize>
 
 /// The first index of a byte. The search stands once in the program, and its answer in registers.
 #[inline(never)]
-fn find_byte(byte: u8, bytes: &[u8]) -> Option<usize>
+pub(crate) fn find_byte(byte: u8, bytes: &[u8]) -> Option<usize>
     ensures { IsFirstByte (is_byte byte) bytes.now result }
 {
     let mut found = memchr_iter(byte, bytes);

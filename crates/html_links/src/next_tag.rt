@@ -1,15 +1,18 @@
 //! The next start tag of a document.
-ghost use Rattle.std.specs.Prelude.{◌≡◌};
-ghost use Rattle.html_links.specs.Tags.{tag_of};
-ghost use Rattle.html_links.specs.Elements.{wanted_of};
-ghost use Rattle.html_links.specs.Values.{values_at, values_in, tag_values};
-ghost use Rattle.html_links.specs.Seen.{SeesTag, LeavesTag, seen_in};
-ghost use Rattle.html_links.specs.Passed.{Finds};
+ghost use Rattle.std.specs.Prelude.{◌≡◌, ◌==◌, ◌∷◌, [], map, not, true, codes, bytes_eq, Some, IfSome, MatchOption};
+ghost use Rattle.html_links.specs.Tags.{lower, tag_of};
+ghost use Rattle.html_links.specs.Shown.{behind};
+ghost use Rattle.html_links.specs.Elements.{wanted_of, is_usual};
+ghost use Rattle.html_links.specs.Values.{values_at, values_in, tag_values, tag_with, no_values};
+ghost use Rattle.html_links.specs.Seen.{LeavesTag, seen_in};
+ghost use Rattle.html_links.specs.Passed.{Finds, Steps, StepsTag};
 
 use crate::bytes::{behind_byte, split_quoted};
 use crate::document::{Markup, after_element, after_tag, next_markup};
 use crate::element::{Element, element_of, is_usual};
 use crate::found::{Values, values_in};
+use crate::raw_text::same_name;
+use crate::tag::behind_class;
 
 /// A start tag: what is behind its name, its element, what is behind the tag, and what is behind the element where its text is
 /// raw.
@@ -22,6 +25,14 @@ pub(crate) struct NextTag<'a> {
     pub(crate) rest: &'a [u8],
 }
 
+/// What the next `<` gives: bytes to go on with where it is no tag that may name something, such a tag, or nothing more.
+#[derive(Clone, Copy)]
+enum Step<'a> {
+    Pass(&'a [u8]),
+    Take(NextTag<'a>),
+    End,
+}
+
 /// The first start tag that begins in these bytes, ends, and may name something, and its wanted values.
 #[inline(always)]
 pub(crate) fn next_tag<'a>(bytes: &'a [u8], values: &mut Values<'a>) -> Option<NextTag<'a>>
@@ -30,79 +41,148 @@ pub(crate) fn next_tag<'a>(bytes: &'a [u8], values: &mut Values<'a>) -> Option<N
 {
     let mut rest = bytes;
     'markup: loop {
-        let Some((_, opened)) = split_quoted(b'<', rest) else {
-            return None;
-        };
-        match next_markup(opened) {
-            Markup::Start(name, more) => {
-                if !is_usual(name) {
-                    return start_tag(name, more, values);
-                }
-                let Some(last) = usual_values(more, values) else {
-                    return None;
-                };
-                if !values.name_nothing() {
-                    return Some(NextTag {
-                        name,
-                        inside: more,
-                        element: Element::Other,
-                        text: last,
-                        rest: last,
-                    });
-                }
-                rest = last;
-            }
-            Markup::End(_, more) => match after_tag(more) {
-                Some(last) => rest = last,
-                None => return None,
-            },
-            Markup::Other(more) => rest = more,
-            Markup::Unfinished => return None,
+        match next_step(rest, values) {
+            Step::Pass(more) => rest = more,
+            Step::Take(tag) => return Some(tag),
+            Step::End => return None,
         }
     }
 }
 
-/// Finds the values of a tag whose element names no documents, from behind its name; answers what is behind the tag. Many such
-/// tags have none.
+/// What the first `<` in these bytes gives.
 #[inline(always)]
-fn usual_values<'a>(bytes: &'a [u8], values: &mut Values<'a>) -> Option<&'a [u8]>
-    ensures { tag_values (values_at values.new) result ≡ values_in (wanted_of Element.Other) (tag_of bytes.now) }
+fn next_step<'a>(bytes: &'a [u8], values: &mut Values<'a>) -> Step<'a>
+    ensures { Steps result (values_at values.new) bytes.now (seen_in bytes.now) }
 {
-    match behind_byte(b'>', bytes) {
-        Some(last) => {
-            values.clear();
-            Some(last)
-        }
-        None => some_values(bytes, values),
+    let Some(opened) = behind_less(bytes) else {
+        return Step::End;
+    };
+    match next_markup(opened) {
+        Markup::Start(name, more) => start_tag(name, more, values),
+        Markup::End(_, more) => match after_tag(more) {
+            Some(last) => Step::Pass(last),
+            None => Step::End,
+        },
+        Markup::Other(more) => Step::Pass(more),
+        Markup::Unfinished => Step::End,
     }
 }
 
+/// What is behind the first `<`. Tags often follow one another, which is seen without a search: what is done next need not wait
+/// for its answer.
+#[inline(always)]
+fn behind_less(bytes: &[u8]) -> Option<&[u8]>
+    ensures { MatchOption result (behind (λ c. not (c == 60)) bytes.now ≡ []) (λ opened. 60 ∷ opened.now ≡ behind (λ c. not (c == 60)) bytes.now) }
+{
+    if let Some(opened) = behind_byte(b'<', bytes) {
+        return Some(opened);
+    }
+    match split_quoted(b'<', bytes) {
+        Some((_, opened)) => Some(opened),
+        None => None,
+    }
+}
+
+/// A start tag from behind its name.
+#[inline(always)]
+fn start_tag<'a>(name: &'a [u8], bytes: &'a [u8], values: &mut Values<'a>) -> Step<'a>
+    ensures { StepsTag result (values_at values.new) name.now bytes.now }
+{
+    if is_usual(name) {
+        usual_tag(name, bytes, values)
+    } else if same_name(name, b"a") {
+        anchor_tag(name, bytes, values)
+    } else {
+        wanted_tag(name, bytes, values)
+    }
+}
+
+/// A start tag whose element names no documents and has no text.
+#[inline(always)]
+fn usual_tag<'a>(name: &'a [u8], bytes: &'a [u8], values: &mut Values<'a>) -> Step<'a>
+    requires { is_usual name.now ≡ true }
+    ensures { StepsTag result (values_at values.new) name.now bytes.now }
+{
+    if let Some(last) = after_plain(bytes) {
+        return Step::Pass(last);
+    }
+    let Some(last) = usual_values(bytes, values) else {
+        return Step::End;
+    };
+    if values.name_nothing() {
+        return Step::Pass(last);
+    }
+    Step::Take(NextTag {
+        name,
+        inside: bytes,
+        element: Element::Other,
+        text: last,
+        rest: last,
+    })
+}
+
+/// What is behind a tag without attributes, or with a `class` alone, from behind its name.
+#[inline(always)]
+fn after_plain(bytes: &[u8]) -> Option<&[u8]>
+    ensures { IfSome result (λ last. Some (tag_with no_values last.now) ≡ values_in (wanted_of Element.Other) (tag_of bytes.now)) }
+{
+    if let Some(last) = behind_byte(b'>', bytes) {
+        return Some(last);
+    }
+    let Some(quoted) = behind_class(bytes) else {
+        return None;
+    };
+    match split_quoted(b'"', quoted) {
+        Some((_, rest)) => behind_byte(b'>', rest),
+        None => None,
+    }
+}
+
+/// Finds the values of a tag whose element names no documents, from behind its name; answers what is behind the tag.
 #[inline(never)]
-fn some_values<'a>(bytes: &'a [u8], values: &mut Values<'a>) -> Option<&'a [u8]>
+fn usual_values<'a>(bytes: &'a [u8], values: &mut Values<'a>) -> Option<&'a [u8]>
     ensures { tag_values (values_at values.new) result ≡ values_in (wanted_of Element.Other) (tag_of bytes.now) }
 {
     values_in(Element::Other, bytes, values)
 }
 
-/// A start tag from behind its name. It stands apart so that the values stay in the caller's memory, written where one is found.
+/// The start tag of an `a`. It stands apart, as the next, so that the values stay in the caller's memory, written where one is
+/// found.
 #[inline(never)]
-fn start_tag<'a>(name: &'a [u8], bytes: &'a [u8], values: &mut Values<'a>) -> Option<NextTag<'a>>
-    ensures sees { SeesTag result (values_at values.new) name.now bytes.now }
-    ensures leaves { LeavesTag result bytes.now }
+fn anchor_tag<'a>(name: &'a [u8], bytes: &'a [u8], values: &mut Values<'a>) -> Step<'a>
+    requires { bytes_eq (map lower name.now) (codes "a") ≡ true }
+    ensures { StepsTag result (values_at values.new) name.now bytes.now }
+{
+    match values_in(Element::Anchor, bytes, values) {
+        Some(last) => Step::Take(NextTag {
+            name,
+            inside: bytes,
+            element: Element::Anchor,
+            text: last,
+            rest: last,
+        }),
+        None => Step::End,
+    }
+}
+
+/// The start tag of an element that may name documents or have text.
+#[inline(never)]
+fn wanted_tag<'a>(name: &'a [u8], bytes: &'a [u8], values: &mut Values<'a>) -> Step<'a>
+    ensures { StepsTag result (values_at values.new) name.now bytes.now }
 {
     let element = element_of(name);
     let Some(text) = values_in(element, bytes, values) else {
-        return None;
+        return Step::End;
     };
     match after_element(name, text) {
-        Some(rest) => Some(NextTag {
+        Some(rest) => Step::Take(NextTag {
             name,
             inside: bytes,
             element,
             text,
             rest,
         }),
-        None => Some(NextTag {
+        None => Step::Take(NextTag {
             name,
             inside: bytes,
             element,

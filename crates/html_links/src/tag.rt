@@ -1,5 +1,5 @@
 //! A start tag from behind its name.
-ghost use Rattle.std.specs.Prelude.{◌≡◌, ◌∷◌, ◌+◌, length, IfOk, IfSome};
+ghost use Rattle.std.specs.Prelude.{◌≡◌, ◌∷◌, ◌++◌, ◌+◌, length, codes, IfOk, IfSome};
 ghost use Rattle.html_links.specs.Tags.{tag_of};
 ghost use Rattle.html_links.specs.Shown.{is_space, BeginsName, Stopped, tag_at, Reads, ReadsValue, Leaves};
 
@@ -43,6 +43,34 @@ fn behind_quote(bytes: &[u8]) -> Option<&[u8]>
     }
 }
 
+/// What is behind the `class="` that most tags have right behind their name.
+#[inline(always)]
+pub(crate) fn behind_class(bytes: &[u8]) -> Option<&[u8]>
+    ensures { IfSome result (λ more. bytes.now ≡ codes " class=" ++ 34 ∷ more.now) }
+{
+    bytes.strip_prefix(b" class=\"")
+}
+
+/// What is behind the `href="` of a link.
+#[inline(always)]
+fn behind_href(bytes: &[u8]) -> Option<&[u8]>
+    ensures { IfSome result (λ more. bytes.now ≡ codes " href=" ++ 34 ∷ more.now) }
+{
+    bytes.strip_prefix(b" href=\"")
+}
+
+/// An attribute from behind the first quote of its value.
+#[inline(always)]
+fn quoted<'a>(name: &'a [u8], bytes: &'a [u8]) -> Piece<'a>
+    ensures reads { ReadsValue result name.now (34 ∷ bytes.now) }
+    ensures leaves { Leaves result (length bytes.now) }
+{
+    match split_quoted(b'"', bytes) {
+        Some((value, rest)) => Piece::Attribute(AttributeAt { name, value }, rest),
+        None => Piece::Unfinished,
+    }
+}
+
 /// An attribute whose name begins here.
 #[inline(always)]
 fn attribute(bytes: &[u8]) -> Piece<'_>
@@ -51,11 +79,8 @@ fn attribute(bytes: &[u8]) -> Piece<'_>
     ensures leaves { Leaves result (length bytes.now) }
 {
     let (name, rest) = split_name(bytes);
-    if let Some(quoted) = behind_quote(rest) {
-        return match split_quoted(b'"', quoted) {
-            Some((value, last)) => Piece::Attribute(AttributeAt { name, value }, last),
-            None => Piece::Unfinished,
-        };
+    if let Some(more) = behind_quote(rest) {
+        return quoted(name, more);
     }
     let rest = skip_space(rest);
     match behind_byte(b'=', rest) {
@@ -91,9 +116,24 @@ fn value<'a>(name: &'a [u8], bytes: &'a [u8]) -> Piece<'a>
     }
 }
 
-/// The next piece of a tag.
+/// The next piece of a tag. Most are a `class` or a `href`, which are known by their bytes together.
 #[inline(always)]
 pub(crate) fn next_piece(bytes: &[u8]) -> Piece<'_>
+    ensures reads { Reads result bytes.now }
+    ensures leaves { Leaves result (length bytes.now) }
+{
+    match behind_class(bytes) {
+        Some(more) => quoted(b"class", more),
+        None => match behind_href(bytes) {
+            Some(more) => quoted(b"href", more),
+            None => any_piece(bytes),
+        },
+    }
+}
+
+/// The next piece of a tag, whatever it is.
+#[inline(always)]
+fn any_piece(bytes: &[u8]) -> Piece<'_>
     ensures reads { Reads result bytes.now }
     ensures leaves { Leaves result (length bytes.now) }
 {

@@ -1,8 +1,16 @@
 use Rattle.std.proofs.Common.{◌∙◌, ap, sym}
 use Rattle.html_links.specs.Shown.{attribute_at}
+use Rattle.html_links.specs.Elements.{wanted_of}
 use Rattle.html_links.specs.Values.{values_at, with_attribute}
 use Rattle.html_links.proofs.Wanting.{not_wanted}
 use Rattle.html_links.proofs.found.take_attribute.Goals as goal
+
+pub take_link-requires : goal.take_link-requires
+take_link-requires c = (c.is_link.ensures c.if-is_link.true).1
+
+pub returns-then-is_link : goal.returns-then-is_link
+returns-then-is_link c =
+    c.take_link.ensures ∙ ap (λ e. with_attribute (values_at c.args.values.now) (wanted_of e) (attribute_at c.args.attribute)) (sym (c.is_link.ensures c.if-is_link.true).0)
 
 pub returns-then-not-may_be : goal.returns-then-not-may_be
 returns-then-not-may_be c =
