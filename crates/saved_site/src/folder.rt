@@ -1,224 +1,290 @@
-//! The files and folders below a folder.
-ghost use Rattle.std.specs.Prelude.{◌≡◌};
+//! What is in a folder.
+ghost use Rattle.std.specs.Prelude.{◌≡◌, alloc_error};
 ghost use Rattle.std.specs.IoError.{error_kind};
 
-use crate::error::SiteError;
 use crate::notes::{Left, Note};
-use std::alloc::Global;
+use std::alloc::{AllocError, Global};
 use std::io::{ErrorKind, Read};
 use std::rt::Files;
 use std::{fs, io};
 
-/// A folder that was entered: its own path, and the one that it was entered from.
+/// A folder that is entered.
 #[derive(Drop)]
-struct Entered {
-    real: String,
-    from: Option<usize>,
-}
-
-/// A folder that is to be read.
-#[derive(Drop)]
-struct Waiting {
+pub(crate) struct Entered {
     /// Its name below the top, with a slash at its end; nothing for the top.
-    name: String,
-    entered: usize,
+    pub(crate) name: String,
+    /// Its own path, without links.
+    pub(crate) real: String,
+    /// The one that it was entered from, by its index.
+    pub(crate) from: Option<usize>,
 }
 
-/// What a walk has.
-#[derive(Drop)]
-struct Walk {
-    /// Files and folders by their names below the top; a folder's name ends in a slash.
-    names: Vec<String>,
-    entered: Vec<Entered>,
-    waiting: Vec<Waiting>,
-    notes: Vec<Note>,
-    /// Room for the names that one call of the system gives.
-    room: Vec<u8>,
+/// One of the folders that were entered, by its index.
+#[derive(Clone, Copy)]
+pub(crate) struct Above<'a> {
+    pub(crate) entered: &'a [Entered],
+    pub(crate) index: usize,
 }
 
-/// The files and folders below a folder in the order of their names' bytes, and what was left out. Symbolic links are followed,
-/// but not back up.
-pub(crate) fn entries_below<R: Files>(
-    rt: &R,
-    alloc: Global,
-    top: &str,
-) -> Result<(Vec<String>, Vec<Note>), SiteError> {
-    let real = rt.canonicalize(alloc, top)?;
-    if !fs::metadata(rt, top)?.is_dir() {
-        return Err(SiteError::Io(io::Error::from(ErrorKind::InvalidInput)));
-    }
-    let walk = Walk::from(alloc, real.as_path().to_string_lossy())?;
-    let Walk {
-        mut names,
-        notes,
-        ..
-    } = walked(rt, top, walk)?;
-    names.sort()?;
-    Ok((names, notes))
-}
-
-/// The walk, once nothing waits.
-fn walked<R: Files>(rt: &R, top: &str, walk: Walk) -> Result<Walk, SiteError> {
-    let mut walk = walk;
-    for _ in 0..u64::MAX {
-        let Some(folder) = walk.waiting.pop() else {
-            break;
-        };
-        walk.read(rt, top, folder)?;
-    }
-    Ok(walk)
-}
-
-impl Walk {
-    /// One that begins with the top, whose own path this is.
-    fn from(alloc: Global, real: &str) -> Result<Walk, SiteError> {
-        let mut walk = Walk {
-            names: Vec::new(alloc),
-            entered: Vec::new(alloc),
-            waiting: Vec::new(alloc),
-            notes: Vec::new(alloc),
-            room: vec![in alloc; 0u8; NAMES_ROOM]?,
-        };
-        walk.enter(real, String::new(alloc), None)?;
-        Ok(walk)
-    }
-
-    fn enter(&mut self, real: &str, name: String, from: Option<usize>) -> Result<(), SiteError> {
-        let alloc = *self.names.allocator();
-        let entered = self.entered.len();
-        self.entered.push(Entered {
-            real: String::from_str(alloc, real)?,
-            from,
-        })?;
-        self.waiting.push(Waiting { name, entered })?;
-        Ok(())
-    }
-
-    fn tell(&mut self, left: Left, place: String) -> Result<(), SiteError> {
-        self.notes.push(Note { left, place })?;
-        Ok(())
-    }
-
-    /// Tells what the system did not give, unless a growth was refused for it.
-    fn tell_unread(&mut self, error: &io::Error, left: Left, place: String) -> Result<(), SiteError>
-        ensures { error_kind error.now ≡ ErrorKind.OutOfMemory → result ≡ Err SiteError.NoMemory }
-    {
-        match error.kind() {
-            ErrorKind::OutOfMemory => Err(SiteError::NoMemory),
-            _ => self.tell(left, place),
+impl Above<'_> {
+    fn name(&self) -> &str {
+        match self.entered.get(self.index) {
+            Some(folder) => folder.name.as_str(),
+            None => "",
         }
     }
 
-    /// Adds what is in a folder.
-    fn read<R: Files>(&mut self, rt: &R, top: &str, folder: Waiting) -> Result<(), SiteError> {
-        let Waiting { name, entered } = folder;
-        let alloc = *self.names.allocator();
-        let path = format!(in alloc; "{top}/{name}")?;
-        let listed = match names_in(rt, alloc, path.as_str(), self.room.as_mut_slice()) {
-            Ok(listed) => listed,
-            Err(error) if name.is_empty() => return Err(SiteError::from(error)),
-            Err(error) => return self.tell_unread(&error, Left::FolderUnread, name),
-        };
-        for own in listed.as_slice().split(|byte| *byte == 0) {
-            self.add_listed(rt, top, name.as_str(), own, entered)?;
-        }
-        Ok(())
-    }
-
-    /// Adds what a folder lists, but itself and the one above.
-    fn add_listed<R: Files>(
-        &mut self,
-        rt: &R,
-        top: &str,
-        folder: &str,
-        own: &[u8],
-        from: usize,
-    ) -> Result<(), SiteError> {
-        let alloc = *self.names.allocator();
-        if matches!(own, [] | [b'.'] | [b'.', b'.']) {
-            return Ok(());
-        }
-        let text = String::from_utf8_lossy(alloc, own)?;
-        let name = format!(in alloc; "{folder}{text}")?;
-        if is_text(own) {
-            self.add(rt, top, name, from)
-        } else {
-            self.tell(Left::NotUtf8, name)
+    fn real(&self) -> &str {
+        match self.entered.get(self.index) {
+            Some(folder) => folder.real.as_str(),
+            None => "",
         }
     }
 
-    /// Adds a file or a folder, and nothing else.
-    fn add<R: Files>(
-        &mut self,
-        rt: &R,
-        top: &str,
-        name: String,
-        from: usize,
-    ) -> Result<(), SiteError> {
-        let path = format!(in *self.names.allocator(); "{top}/{name}")?;
-        match fs::metadata(rt, path.as_str()) {
-            Ok(found) if found.is_dir() => self.add_folder(rt, path.as_str(), name, from),
-            Ok(found) if found.is_file() => Ok(self.names.push(name)?),
-            Ok(_) => self.tell(Left::NoFile, name),
-            Err(error) => self.tell_unread(&error, Left::NoFile, name),
-        }
-    }
-
-    fn add_folder<R: Files>(
-        &mut self,
-        rt: &R,
-        path: &str,
-        name: String,
-        from: usize,
-    ) -> Result<(), SiteError> {
-        let mut name = name;
-        name.push('/')?;
-        self.names.push(name.clone()?)?;
-        let real = match rt.canonicalize(*self.names.allocator(), path) {
-            Ok(real) => real,
-            Err(error) => return self.tell_unread(&error, Left::FolderUnread, name),
-        };
-        let real = real.as_path();
-        if self.is_above(real.to_string_lossy(), from) {
-            self.tell(Left::LeadsUp, name)
-        } else {
-            self.enter(real.to_string_lossy(), name, Some(from))
-        }
-    }
-
-    /// Whether a folder is one of those that another was entered through.
-    fn is_above(&self, real: &str, from: usize) -> bool {
-        let mut above = Some(from);
+    /// Whether the folder with this path of its own is this one or one of those that it was entered through.
+    fn leads_up(&self, real: &str) -> bool {
+        let mut above = Some(self.index);
         for _ in 0..=self.entered.len() {
-            let Some(entered) = above.and_then(|index| self.entered.get(index)) else {
+            let Some(folder) = above.and_then(|index| self.entered.get(index)) else {
                 return false;
             };
-            if entered.real.as_str() == real {
+            if folder.real.as_str() == real {
                 return true;
             }
-            above = entered.from;
+            above = folder.from;
         }
         false
     }
 }
 
-/// How much room is given for them: a call fails where a name has none.
-const NAMES_ROOM: usize = 1 << 16;
-
-/// The names in a folder, each ended by a NUL.
-fn names_in<R: Files>(rt: &R, alloc: Global, path: &str, room: &mut [u8]) -> io::Result<Vec<u8>> {
-    let mut folder = rt.open_dir(path)?;
-    let mut names = Vec::new(alloc);
-    for _ in 0..u64::MAX {
-        let count = folder.read(room)?;
-        if count == 0 {
-            break;
-        }
-        names.extend_from_slice(room.get(..count).unwrap_or(&[]))?;
-    }
-    Ok(names)
+/// A file or a folder.
+#[derive(Drop)]
+pub(crate) struct Named {
+    /// Its name below the top; a folder's name ends in a slash.
+    pub(crate) name: String,
+    /// Which of the folders to be entered it is, where it is one.
+    pub(crate) folder: Option<usize>,
 }
 
-fn is_text(bytes: &[u8]) -> bool {
-    str::from_utf8(bytes).is_ok()
+/// What is in a folder.
+#[derive(Drop)]
+pub(crate) struct Inside {
+    /// Which of those that were entered it is.
+    pub(crate) index: usize,
+    /// Files and folders in the order of their names, the last one first.
+    pub(crate) names: Vec<Named>,
+    /// The folders that are to be entered, as they are listed.
+    pub(crate) folders: Vec<Entered>,
+    pub(crate) notes: Vec<Note>,
+}
+
+impl Inside {
+    /// Nothing yet.
+    pub(crate) fn new(alloc: Global, index: usize) -> Inside {
+        Inside {
+            index,
+            names: Vec::new(alloc),
+            folders: Vec::new(alloc),
+            notes: Vec::new(alloc),
+        }
+    }
+
+    fn tell(&mut self, left: Left, place: String) -> Result<(), AllocError> {
+        self.notes.push(Note { left, place })?;
+        Ok(())
+    }
+
+    /// Tells what the system did not give, unless a growth was refused for it.
+    fn tell_unread(
+        &mut self,
+        error: &io::Error,
+        left: Left,
+        place: String,
+    ) -> Result<(), AllocError>
+        ensures { error_kind error.now ≡ ErrorKind.OutOfMemory → result ≡ Err alloc_error }
+    {
+        match error.kind() {
+            ErrorKind::OutOfMemory => Err(AllocError),
+            _ => self.tell(left, place),
+        }
+    }
+
+    /// Adds what is not to be entered.
+    fn push(&mut self, name: String) -> Result<(), AllocError> {
+        self.names.push(Named { name, folder: None })?;
+        Ok(())
+    }
+
+    /// Adds a folder with this path of its own, which is entered unless it leads back up.
+    fn push_folder(
+        &mut self,
+        above: Above<'_>,
+        name: String,
+        real: &str,
+    ) -> Result<(), AllocError> {
+        if above.leads_up(real) {
+            self.push(name.clone()?)?;
+            return self.tell(Left::LeadsUp, name);
+        }
+        let real = String::from_str(*self.names.allocator(), real)?;
+        let from = Some(above.index);
+        let folder = Some(self.folders.len());
+        self.names.push(Named {
+            name: name.clone()?,
+            folder,
+        })?;
+        self.folders.push(Entered { name, real, from })?;
+        Ok(())
+    }
+
+    fn sort(&mut self) -> Result<(), AllocError> {
+        self.names.sort_by(|a: &Named, b: &Named| b.name.as_str().cmp(a.name.as_str()))
+    }
+}
+
+/// Where folders are read. Several threads ask at once.
+pub(crate) trait Folders {
+    /// What is in a folder; `room` is for the names that one call of the system gives.
+    ///
+    /// # Errors
+    /// Where a growth was refused.
+    fn inside(&self, above: Above<'_>, room: &mut [u8]) -> Result<Inside, AllocError>;
+}
+
+/// The folders below one on disk. Symbolic links are followed, but not back up.
+#[derive(Drop)]
+pub(crate) struct DiskFolders<'a, R> {
+    pub(crate) rt: &'a R,
+    pub(crate) alloc: Global,
+    pub(crate) top: &'a str,
+}
+
+impl<R: Files> Folders for DiskFolders<'_, R> {
+    fn inside(&self, above: Above<'_>, room: &mut [u8]) -> Result<Inside, AllocError> {
+        match self.names_in(above.name(), room) {
+            Ok(listed) => self.listed(above, listed.as_slice()),
+            Err(error) => {
+                let mut inside = Inside::new(self.alloc, above.index);
+                let name = String::from_str(self.alloc, above.name())?;
+                inside.tell_unread(&error, Left::FolderUnread, name)?;
+                Ok(inside)
+            }
+        }
+    }
+}
+
+impl<R: Files> DiskFolders<'_, R> {
+    /// The names in a folder, each ended by a NUL.
+    pub(crate) fn names_in(&self, folder: &str, room: &mut [u8]) -> io::Result<Vec<u8>> {
+        let path = format!(in self.alloc; "{}/{folder}", self.top)?;
+        let mut folder = self.rt.open_dir(path.as_str())?;
+        let mut names = Vec::new(self.alloc);
+        for _ in 0..u64::MAX {
+            let count = folder.read(room)?;
+            if count == 0 {
+                break;
+            }
+            names.extend_from_slice(room.get(..count).unwrap_or(&[]))?;
+        }
+        Ok(names)
+    }
+
+    /// What is in a folder that lists these names.
+    pub(crate) fn listed(&self, above: Above<'_>, names: &[u8]) -> Result<Inside, AllocError> {
+        let mut inside = Inside::new(self.alloc, above.index);
+        for own in names.split(|byte| *byte == 0) {
+            self.add_listed(above, own, &mut inside)?;
+        }
+        inside.sort()?;
+        Ok(inside)
+    }
+
+    /// Adds what a folder lists, but itself and the one above.
+    fn add_listed(
+        &self,
+        above: Above<'_>,
+        own: &[u8],
+        inside: &mut Inside,
+    ) -> Result<(), AllocError> {
+        if matches!(own, [] | [b'.'] | [b'.', b'.']) {
+            return Ok(());
+        }
+        match str::from_utf8(own) {
+            Ok(own) => self.add(above, own, inside),
+            Err(_) => {
+                let text = String::from_utf8_lossy(self.alloc, own)?;
+                let name = format!(in self.alloc; "{}{text}", above.name())?;
+                inside.tell(Left::NotUtf8, name)
+            }
+        }
+    }
+
+    /// Adds a file or a folder, and nothing else.
+    fn add(&self, above: Above<'_>, own: &str, inside: &mut Inside) -> Result<(), AllocError> {
+        let name = format!(in self.alloc; "{}{own}", above.name())?;
+        let path = format!(in self.alloc; "{}/{name}", self.top)?;
+        match fs::symlink_metadata(self.rt, path.as_str()) {
+            Ok(found) if found.is_dir() => self.add_folder(above, own, name, inside),
+            Ok(found) if found.is_file() => inside.push(name),
+            Ok(found) if found.is_symlink() => self.add_linked(above, path.as_str(), name, inside),
+            Ok(_) => inside.tell(Left::NoFile, name),
+            Err(error) => inside.tell_unread(&error, Left::NoFile, name),
+        }
+    }
+
+    /// Adds a folder that is no link, so that its own path is that of the one above and its own name.
+    fn add_folder(
+        &self,
+        above: Above<'_>,
+        own: &str,
+        name: String,
+        inside: &mut Inside,
+    ) -> Result<(), AllocError> {
+        let front = above.real().trim_end_matches('/');
+        let real = format!(in self.alloc; "{front}/{own}")?;
+        inside.push_folder(above, with_slash(name)?, real.as_str())
+    }
+
+    /// Adds what a link leads to, where that is a file or a folder.
+    fn add_linked(
+        &self,
+        above: Above<'_>,
+        path: &str,
+        name: String,
+        inside: &mut Inside,
+    ) -> Result<(), AllocError> {
+        match fs::metadata(self.rt, path) {
+            Ok(found) if found.is_dir() => {
+                self.add_linked_folder(above, path, with_slash(name)?, inside)
+            }
+            Ok(found) if found.is_file() => inside.push(name),
+            Ok(_) => inside.tell(Left::NoFile, name),
+            Err(error) => inside.tell_unread(&error, Left::NoFile, name),
+        }
+    }
+
+    fn add_linked_folder(
+        &self,
+        above: Above<'_>,
+        path: &str,
+        name: String,
+        inside: &mut Inside,
+    ) -> Result<(), AllocError> {
+        match self.rt.canonicalize(self.alloc, path) {
+            Ok(real) => {
+                let real = real.as_path();
+                inside.push_folder(above, name, real.to_string_lossy())
+            }
+            Err(error) => {
+                inside.push(name.clone()?)?;
+                inside.tell_unread(&error, Left::FolderUnread, name)
+            }
+        }
+    }
+}
+
+fn with_slash(name: String) -> Result<String, AllocError> {
+    let mut name = name;
+    name.push('/')?;
+    Ok(name)
 }

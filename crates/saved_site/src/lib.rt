@@ -3,9 +3,10 @@
 
 mod anchors;
 mod base_href;
-mod batch;
+mod body;
 mod charset;
 mod cleaning;
+mod contents;
 mod document;
 mod error;
 mod escapes;
@@ -14,9 +15,11 @@ mod folder;
 mod found_links;
 mod in_query;
 mod indices;
+mod kept;
 mod kinds;
 mod link_lines;
 mod make;
+mod maker;
 mod making;
 mod notes;
 mod on_disk;
@@ -24,12 +27,14 @@ mod page;
 mod places;
 mod print;
 mod printer;
+mod rounds;
 mod site;
 mod spellings;
 mod targets;
 mod tasks;
 mod text;
 mod texts;
+mod walk;
 mod web;
 
 pub use anchors::{AnchorLink, AnchorLinks, Anchors};

@@ -1,6 +1,5 @@
 //! Pages made of the bytes of their files.
 use crate::anchors::Anchors;
-use crate::batch::Batch;
 use crate::document::{Document, document_at};
 use crate::found_links::Found;
 use crate::kinds::{is_document, kind_of};
@@ -13,7 +12,6 @@ use crate::text::LineText;
 use crate::texts::LinkCounts;
 use crawl_keys::CanonUrl;
 use std::alloc::{AllocError, Global};
-use std::sync::atomic::{AtomicUsize, Ordering};
 
 /// A page that is to be made: its URL, and which page of the site it is.
 #[derive(Drop)]
@@ -69,33 +67,8 @@ pub(crate) struct Made {
     pub(crate) notes: Vec<Note>,
 }
 
-/// The pages of the tasks that one of several threads took. Each takes the next in this order of their numbers until there is
-/// none, so that a long file keeps one thread alone.
-pub(crate) fn taken(
-    alloc: Global,
-    given: Given<'_>,
-    tasks: &[Task],
-    batch: &Batch,
-    order: &[usize],
-    next: &AtomicUsize,
-) -> Result<Vec<Made>, AllocError> {
-    let mut made = Vec::new(alloc);
-    let mut found = Found::new(alloc);
-    for _ in 0..order.len() {
-        let Some(number) = order.get(next.fetch_add(1, Ordering::SeqCst)) else {
-            break;
-        };
-        if let Some(task) = tasks.get(*number) {
-            let mut page = page_of(alloc, given, task, batch.body(*number), &mut found)?;
-            page.number = *number;
-            made.push(page)?;
-        }
-    }
-    Ok(made)
-}
-
 /// Makes a page, of the bytes of its file where it has one.
-fn page_of(
+pub(crate) fn page_of(
     alloc: Global,
     given: Given<'_>,
     task: &Task,

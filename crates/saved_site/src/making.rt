@@ -1,53 +1,41 @@
-//! What is made of a site so far, and what is to be made yet.
+//! What is to be made of a site yet, and how much is made.
 ghost use Rattle.std.specs.Prelude.{IfErr};
 ghost use Rattle.saved_site.specs.Errors.{IsOfWeb};
 
 use crate::error::SiteError;
 use crate::make::{Given, Made, Task};
-use crate::notes::Note;
-use crate::page::SitePage;
-use crate::tasks::NewTasks;
-use crate::web::{LinkPlaces, PageAnchors, Summary, WEB_LIMIT};
-use crawl_keys::CanonUrl;
+use crate::tasks::{NewTasks, first_tasks};
+use crate::web::WEB_LIMIT;
 use std::alloc::{AllocError, Global};
 
-/// What is made so far.
+/// What is to be made yet, and how much is made.
 #[derive(Drop)]
 pub(crate) struct Making {
-    /// The pages that did not come in the order of their URLs.
-    pub(crate) late: Vec<SitePage>,
-    pub(crate) summary: Summary,
-    pub(crate) notes: Vec<Note>,
-    pub(crate) anchors: Vec<PageAnchors>,
-    pub(crate) places: Vec<LinkPlaces>,
-    /// Room for the lines of a page.
-    pub(crate) room: Vec<u8>,
     /// The pages that are to be made yet.
-    pub(crate) ahead: NewTasks,
+    ahead: NewTasks,
     /// How many bytes the pages that are made have in the web.
     byte_count: usize,
+    /// How many pages are other spellings.
+    pub(crate) spellings: u64,
 }
 
 impl Making {
-    /// Nothing yet but what was told before.
+    /// Nothing is made yet. Seeds spell pages too.
     pub(crate) fn new(
         alloc: Global,
         given: Given<'_>,
-        told: Vec<Note>,
+        seeds: &[String],
     ) -> Result<Making, AllocError> {
+        let mut ahead = NewTasks::new(alloc, given)?;
+        ahead.add_seeds(given, seeds)?;
         Ok(Making {
-            late: Vec::new(alloc),
-            summary: Summary::default(),
-            notes: told,
-            anchors: Vec::new(alloc),
-            places: Vec::new(alloc),
-            room: Vec::new(alloc),
-            ahead: NewTasks::new(alloc, given)?,
+            ahead,
             byte_count: 0,
+            spellings: 0,
         })
     }
 
-    /// Counts pages that are made, and takes which others they spell. Once the web is too large none is printed.
+    /// Counts pages that are made, and takes which others they spell. Once the web is too large no more are made.
     pub(crate) fn count(&mut self, made: &mut [Made]) -> Result<(), SiteError>
         ensures { IfErr result IsOfWeb }
     {
@@ -60,6 +48,20 @@ impl Making {
         Ok(self.ahead.add_made(made)?)
     }
 
+    /// The pages of the site, and those that seeds spell otherwise.
+    pub(crate) fn first_tasks(
+        &mut self,
+        alloc: Global,
+        given: Given<'_>,
+    ) -> Result<Vec<Task>, SiteError>
+        ensures { IfErr result IsOfWeb }
+    {
+        let mut tasks = first_tasks(alloc, given)?;
+        let mut more = self.next_tasks()?;
+        tasks.append(&mut more)?;
+        Ok(tasks)
+    }
+
     /// Takes the pages that are to be made, unless the web is too large with them: then none is made.
     pub(crate) fn next_tasks(&mut self) -> Result<Vec<Task>, SiteError>
         ensures { IfErr result IsOfWeb }
@@ -68,45 +70,7 @@ impl Making {
             return Err(SiteError::TooLarge);
         }
         let tasks = self.ahead.take();
-        self.summary.spellings = self.summary.spellings.saturating_add(tasks.len() as u64);
+        self.spellings = self.spellings.saturating_add(tasks.len() as u64);
         Ok(tasks)
-    }
-
-    /// Keeps pages that are made.
-    pub(crate) fn keep(&mut self, made: Vec<Made>) -> Result<(), AllocError> {
-        for one in made {
-            self.keep_page(one)?;
-        }
-        Ok(())
-    }
-
-    fn keep_page(&mut self, made: Made) -> Result<(), AllocError> {
-        let Made {
-            url,
-            page,
-            counts,
-            anchors,
-            indices,
-            mut notes,
-            ..
-        } = made;
-        self.notes.append(&mut notes)?;
-        if let Some(page) = page {
-            self.summary.add(&page, counts);
-            self.late.push(page)?;
-        }
-        self.keep_places(&url, indices)?;
-        if let Some(anchors) = anchors {
-            self.anchors.push(PageAnchors { url, anchors })?;
-        }
-        Ok(())
-    }
-
-    fn keep_places(&mut self, url: &CanonUrl, indices: Vec<usize>) -> Result<(), AllocError> {
-        if !indices.is_empty() {
-            let url = url.clone()?;
-            self.places.push(LinkPlaces { url, indices })?;
-        }
-        Ok(())
     }
 }

@@ -1,18 +1,19 @@
-//! The saved web of a folder, whose files the calling thread reads.
+//! The saved web of a folder, whose files are read by the threads that make its pages.
 ghost use Rattle.std.specs.IoError.{error_kind};
 ghost use Rattle.std.specs.Prelude.{◌≡◌, IfErr, IfOk, alloc_error};
 ghost use Rattle.saved_site.specs.Errors.{IsOfFiles, IsOfWeb};
 ghost use Rattle.saved_site.specs.Meaning.{IsSiteWeb};
 
-use crate::batch::Batch;
+use crate::body::Body;
+use crate::contents::Contents;
 use crate::error::SiteError;
 use crate::files::SiteFiles;
-use crate::folder::entries_below;
 use crate::kinds::{Kind, START_LENGTH, is_document_start, kind_of};
 use crate::make::{Given, Task};
 use crate::notes::{Left, Note};
 use crate::site::{Rules, split_name};
-use crate::web::{Contents, SiteNames, Web, web_of};
+use crate::walk::entries_below;
+use crate::web::{SiteNames, Web, web_of};
 use std::alloc::{AllocError, Global};
 use std::fs::OpenFile;
 use std::io::{ErrorKind, Read};
@@ -33,7 +34,7 @@ pub struct FolderNames {
 ///
 /// # Errors
 /// `Io` where the folder cannot be read; `NoMemory` where a growth was refused.
-pub fn folder_names<R: Files>(
+pub fn folder_names<R: Files<File: Send, Dir: Send> + Threads + Sync>(
     rt: &R,
     alloc: Global,
     folder: &str,
@@ -47,7 +48,7 @@ pub fn folder_names<R: Files>(
 /// # Errors
 /// Those of `site_web`, and `Io` where the folder cannot be read. Where a file cannot be read, its page has no links, and that is
 /// told.
-pub fn folder_web<R: Files + Threads + Sync>(
+pub fn folder_web<R: Files<File: Send, Dir: Send> + Threads + Sync>(
     rt: &R,
     alloc: Global,
     folder: &str,
@@ -71,7 +72,7 @@ pub fn folder_web<R: Files + Threads + Sync>(
 /// # Errors
 /// Those of `site_web`. Where a file cannot be read, its page has no links, and that is told.
 #[tactic(auto, using(crate::proofs::Errors::web_of_files))]
-pub fn folder_web_of<R: Files + Threads + Sync>(
+pub fn folder_web_of<R: Files<File: Send, Dir: Send> + Threads + Sync>(
     rt: &R,
     alloc: Global,
     folder: &str,
@@ -90,7 +91,7 @@ pub fn folder_web_of<R: Files + Threads + Sync>(
 ///
 /// # Errors
 /// `TooLarge`; `NoMemory` where a growth was refused.
-pub fn folder_files_web<R: Files + Threads + Sync>(
+pub fn folder_files_web<R: Files<File: Send, Dir: Send> + Threads + Sync>(
     rt: &R,
     alloc: Global,
     folder: &str,
@@ -118,9 +119,9 @@ pub fn folder_body<R: Files>(
     let path = format!(in alloc; "{folder}/{name}")?;
     let mut file = fs::open(rt, path.as_str())?;
     let length = file.metadata()?.len();
-    let mut batch = Batch::with_room(alloc, usize::try_from(length).unwrap_or(0))?;
-    batch.read(&mut file)?;
-    Ok(batch.into_bytes())
+    let mut body = Body::with_room(alloc, usize::try_from(length).unwrap_or(0))?;
+    body.read(&mut file)?;
+    Ok(body.into_bytes())
 }
 
 /// Files below a folder, whose documents are read.
@@ -132,51 +133,42 @@ struct OnDisk<'a, R> {
 }
 
 impl<R: Files> Contents for OnDisk<'_, R> {
-    fn read(&self, given: Given<'_>, tasks: &[Task], batch: &mut Batch) -> Result<(), AllocError> {
-        for task in tasks {
-            if batch.is_full() {
-                break;
+    fn read(
+        &self,
+        given: Given<'_>,
+        task: &Task,
+        body: &mut Body,
+    ) -> Result<Option<Note>, AllocError> {
+        let Some(name) = given.name_of(task) else {
+            return Ok(None);
+        };
+        match self.read_named(given.rules, name, body) {
+            Ok(()) => Ok(None),
+            Err(error) => {
+                let left = left_by(&error)?;
+                let place = String::from_str(self.alloc, name)?;
+                Ok(Some(Note { left, place }))
             }
-            self.read_task(given, task, batch)?;
         }
-        Ok(())
     }
 }
 
 impl<R: Files> OnDisk<'_, R> {
-    /// Reads the file of a task, or notes that it cannot be read, unless a growth was refused for it.
-    fn read_task(
-        &self,
-        given: Given<'_>,
-        task: &Task,
-        batch: &mut Batch,
-    ) -> Result<(), AllocError> {
-        let begin = batch.begin();
-        if let Some(name) = given.name_of(task)
-            && let Err(error) = self.read_named(given.rules, name, batch)
-        {
-            let left = left_by(&error)?;
-            let place = String::from_str(self.alloc, name)?;
-            batch.cut(begin, Note { left, place })?;
-        }
-        batch.end_file(begin)
-    }
-
     /// Reads a file, where it may be a document.
-    fn read_named(&self, rules: &Rules, name: &str, batch: &mut Batch) -> io::Result<()> {
+    fn read_named(&self, rules: &Rules, name: &str, body: &mut Body) -> io::Result<()> {
         let (path, _) = split_name(name, rules.queries);
         match kind_of(path) {
             Kind::Other => Ok(()),
-            kind => self.read_file(name, kind, batch),
+            kind => self.read_file(name, kind, body),
         }
     }
 
-    fn read_file(&self, name: &str, kind: Kind, batch: &mut Batch) -> io::Result<()> {
+    fn read_file(&self, name: &str, kind: Kind, body: &mut Body) -> io::Result<()> {
         let path = format!(in self.alloc; "{}/{name}", self.folder)?;
         if kind == Kind::Unknown && !is_document(self.rt, path.as_str())? {
             return Ok(());
         }
-        batch.read(&mut fs::open(self.rt, path.as_str())?)
+        body.read(&mut fs::open(self.rt, path.as_str())?)
     }
 }
 

@@ -7,6 +7,7 @@ use crate::escapes::{push_name, push_query, push_respelled};
 use crate::notes::{Left, Note};
 use crawl_keys::{CanonUrl, KeyError, canonical};
 use std::alloc::{AllocError, Global};
+use std::cmp::Ordering;
 
 /// How names become pages.
 #[derive(Debug, Drop)]
@@ -79,14 +80,11 @@ impl Site {
             return Err(SiteError::NoFiles);
         }
         let mut site = Site::at(alloc, base)?;
-        for (index, name) in names.iter().enumerate() {
-            site.add_file_pages(index, name.as_str(), rules)?;
-        }
-        for name in names {
-            site.add_folder(name.as_str())?;
-        }
-        site.entries
-            .sort_by(|a: &Entry, b: &Entry| a.url.as_str().cmp(b.url.as_str()))?;
+        // Three lists in the order of names, which is nearly that of URLs: little is left to sort.
+        site.push_files(names, rules)?;
+        site.push_indices(names, rules)?;
+        site.push_folders(names)?;
+        site.entries.sort_by(|a: &Entry, b: &Entry| order_of(a, b))?;
         Ok(site.without_doubles(names, notes)?)
     }
 
@@ -112,27 +110,52 @@ impl Site {
         })
     }
 
-    /// Adds the pages of a file: its own, and its folder's where it is an index file.
-    fn add_file_pages(&mut self, index: usize, name: &str, rules: &Rules) -> Result<(), SiteError>
+    /// Adds the page of each file.
+    fn push_files(&mut self, names: &[String], rules: &Rules) -> Result<(), SiteError>
         ensures { IfErr result IsOfFiles }
     {
-        if name.ends_with('/') {
-            return Ok(());
-        }
-        let (path, query) = split_name(name, rules.queries);
-        let url = self.url_of(path, query)?;
-        self.add(url.as_str(), Source::File(index))?;
-        match path.strip_suffix(rules.index.as_str()) {
-            Some(folder) if folder.is_empty() || folder.ends_with('/') => {
-                let url = self.url_of(folder, query)?;
-                self.add(url.as_str(), Source::File(index))
+        for (index, name) in names.iter().enumerate() {
+            if let Some((path, query)) = file_path(name.as_str(), rules) {
+                self.push(path, query, index)?;
             }
-            _ => Ok(()),
         }
+        Ok(())
+    }
+
+    /// Adds the page of each folder's index file that is the folder's.
+    fn push_indices(&mut self, names: &[String], rules: &Rules) -> Result<(), SiteError>
+        ensures { IfErr result IsOfFiles }
+    {
+        for (index, name) in names.iter().enumerate() {
+            if let Some((path, query)) = file_path(name.as_str(), rules)
+                && let Some(folder) = folder_of(path, rules)
+            {
+                self.push(folder, query, index)?;
+            }
+        }
+        Ok(())
+    }
+
+    /// Adds the pages of folders without their slashes.
+    fn push_folders(&mut self, names: &[String]) -> Result<(), SiteError>
+        ensures { IfErr result IsOfFiles }
+    {
+        for name in names {
+            self.push_folder(name.as_str())?;
+        }
+        Ok(())
+    }
+
+    /// Adds the page at a path, which is made of the file with this index.
+    fn push(&mut self, path: &str, query: Option<&str>, index: usize) -> Result<(), SiteError>
+        ensures { IfErr result IsOfFiles }
+    {
+        let url = self.url_of(path, query)?;
+        self.add(url.as_str(), Source::File(index))
     }
 
     /// Adds the page of a folder without its slash, which is moved to the folder with it.
-    fn add_folder(&mut self, name: &str) -> Result<(), SiteError>
+    fn push_folder(&mut self, name: &str) -> Result<(), SiteError>
         ensures { IfErr result IsOfFiles }
     {
         let Some(folder) = name.strip_suffix("/") else {
@@ -204,6 +227,37 @@ impl Site {
             .as_slice()
             .binary_search_by(|entry| entry.url.as_str().cmp(url))
             .ok()
+    }
+}
+
+/// The path and the query of a file's name; none of a folder's.
+fn file_path<'a>(name: &'a str, rules: &Rules) -> Option<(&'a str, Option<&'a str>)> {
+    if name.ends_with('/') {
+        return None;
+    }
+    Some(split_name(name, rules.queries))
+}
+
+/// The folder whose index file has this path.
+fn folder_of<'a>(path: &'a str, rules: &Rules) -> Option<&'a str> {
+    match path.strip_suffix(rules.index.as_str()) {
+        Some(folder) if folder.is_empty() || folder.ends_with('/') => Some(folder),
+        _ => None,
+    }
+}
+
+/// The order of URLs. Of pages with one URL, that of the first file comes first.
+fn order_of(a: &Entry, b: &Entry) -> Ordering {
+    match a.url.as_str().cmp(b.url.as_str()) {
+        Ordering::Equal => rank_of(a).cmp(&rank_of(b)),
+        order => order,
+    }
+}
+
+fn rank_of(entry: &Entry) -> usize {
+    match &entry.source {
+        Source::File(index) => *index,
+        Source::Moved(_) => usize::MAX,
     }
 }
 

@@ -1,0 +1,191 @@
+//! Pages that are made by threads, each of which reads the files of those that it makes.
+use crate::body::Body;
+use crate::contents::Contents;
+use crate::found_links::Found;
+use crate::make::{Given, Made, Task, page_of};
+use crate::notes::Note;
+use std::alloc::{AllocError, Global};
+use std::sync::atomic::{AtomicUsize, Ordering};
+use std::thread;
+use std::thread::Threads;
+
+/// About how many bytes of documents and of lines are in a batch.
+const BATCH_LENGTH: usize = 1 << 24;
+
+/// Which tasks of a batch are taken by threads: the first of them, in their order.
+#[derive(Drop)]
+struct Taken {
+    count: AtomicUsize,
+    /// How many bytes were read and made for them.
+    byte_count: AtomicUsize,
+}
+
+impl Taken {
+    /// None yet.
+    fn new() -> Taken {
+        Taken {
+            count: AtomicUsize::new(0),
+            byte_count: AtomicUsize::new(0),
+        }
+    }
+
+    /// The number of the next one, unless the batch has enough.
+    fn next(&self) -> Option<usize> {
+        if self.byte_count.load(Ordering::SeqCst) > BATCH_LENGTH {
+            return None;
+        }
+        Some(self.count.fetch_add(1, Ordering::SeqCst))
+    }
+
+    /// Counts bytes.
+    fn add(&self, byte_count: usize) {
+        self.byte_count.fetch_add(byte_count, Ordering::SeqCst);
+    }
+}
+
+/// What is told of the file of the task with this number, which cannot be read.
+#[derive(Drop)]
+struct Unread {
+    number: usize,
+    note: Note,
+}
+
+/// The pages that one of several threads makes, and its room for a file and for what is found in it.
+#[derive(Drop)]
+pub(crate) struct Maker {
+    alloc: Global,
+    body: Body,
+    found: Found,
+    made: Vec<Made>,
+    unread: Vec<Unread>,
+}
+
+impl Maker {
+    fn new(alloc: Global) -> Maker {
+        Maker {
+            alloc,
+            body: Body::new(alloc),
+            found: Found::new(alloc),
+            made: Vec::new(alloc),
+            unread: Vec::new(alloc),
+        }
+    }
+
+    /// Makes the pages of the tasks that it takes, until there is none or the batch has enough. A long file keeps one thread alone.
+    fn run<C: Contents>(
+        self,
+        given: Given<'_>,
+        contents: &C,
+        tasks: &[Task],
+        taken: &Taken,
+    ) -> Result<Maker, AllocError> {
+        let mut maker = self;
+        for _ in 0..tasks.len() {
+            let Some(number) = taken.next() else {
+                break;
+            };
+            let Some(task) = tasks.get(number) else {
+                break;
+            };
+            maker.read(given, contents, number, task)?;
+            taken.add(maker.body.as_slice().len());
+            taken.add(maker.make(given, number, task)?);
+        }
+        Ok(maker)
+    }
+
+    /// Reads the file of the task with this number.
+    fn read<C: Contents>(
+        &mut self,
+        given: Given<'_>,
+        contents: &C,
+        number: usize,
+        task: &Task,
+    ) -> Result<(), AllocError> {
+        self.body.clear();
+        if let Some(note) = contents.read(given, task, &mut self.body)? {
+            self.body.clear();
+            self.unread.push(Unread { number, note })?;
+        }
+        Ok(())
+    }
+
+    /// Makes the page of the task with this number from what was read, and gives how many bytes it has in a web, at least.
+    fn make(&mut self, given: Given<'_>, number: usize, task: &Task) -> Result<usize, AllocError> {
+        let body = self.body.as_slice();
+        let mut page = page_of(self.alloc, given, task, body, &mut self.found)?;
+        page.number = number;
+        let byte_count = page.byte_count();
+        self.made.push(page)?;
+        Ok(byte_count)
+    }
+}
+
+/// Pages that were made together, in the order of their tasks, and what is told of files that cannot be read.
+#[derive(Drop)]
+pub(crate) struct Batch {
+    pub(crate) made: Vec<Made>,
+    pub(crate) notes: Vec<Note>,
+    /// Those who made the pages, whose room is used again.
+    pub(crate) makers: Vec<Maker>,
+}
+
+impl Batch {
+    /// One without pages, before so many threads make the first.
+    pub(crate) fn before(alloc: Global, threads: usize) -> Result<Batch, AllocError> {
+        let mut makers = Vec::new(alloc);
+        for _ in 0..threads {
+            makers.push(Maker::new(alloc))?;
+        }
+        Ok(Batch {
+            made: Vec::new(alloc),
+            notes: Vec::new(alloc),
+            makers,
+        })
+    }
+
+    /// What threads made.
+    fn of(alloc: Global, parts: Vec<Result<Maker, AllocError>>) -> Result<Batch, AllocError> {
+        let mut batch = Batch::before(alloc, 0)?;
+        let mut unread: Vec<Unread> = Vec::new(alloc);
+        for part in parts {
+            let mut maker = part?;
+            batch.made.append(&mut maker.made)?;
+            unread.append(&mut maker.unread)?;
+            batch.makers.push(maker)?;
+        }
+        batch
+            .made
+            .sort_by(|a: &Made, b: &Made| a.number.cmp(&b.number))?;
+        unread.sort_by(|a: &Unread, b: &Unread| a.number.cmp(&b.number))?;
+        batch.tell(unread)?;
+        Ok(batch)
+    }
+
+    fn tell(&mut self, unread: Vec<Unread>) -> Result<(), AllocError> {
+        for one in unread {
+            let Unread { note, .. } = one;
+            self.notes.push(note)?;
+        }
+        Ok(())
+    }
+}
+
+/// The pages of the first of these tasks, at least of one where there is a maker, each of which has a thread of its own.
+pub(crate) fn next_batch<R: Threads + Sync, C: Contents + Sync>(
+    rt: &R,
+    given: Given<'_>,
+    contents: &C,
+    tasks: &[Task],
+    makers: Vec<Maker>,
+) -> Result<Batch, AllocError> {
+    let alloc = *makers.allocator();
+    let taken = Taken::new();
+    let taken = &taken;
+    let parts = thread::map_vec(
+        rt,
+        makers,
+        &|maker: Maker| { maker.run(given, contents, tasks, taken) },
+    )?;
+    Batch::of(alloc, parts)
+}
