@@ -46,7 +46,7 @@ fn check_rules(alloc: Global, asked: &CheckAsked) -> Result<Rules, AllocError> {
 ///
 /// # Errors
 /// `CannotReadFolder`, `BadBase`, `NoFiles`, `TooLarge`, `NoMemory`.
-pub fn web_of_folder<R: Files + Threads + Sync, E: Write>(
+pub fn web_of_folder<R: Files<File: Send, Dir: Send> + Threads + Sync, E: Write>(
     rt: &R,
     alloc: Global,
     asked: &SiteAsked,
@@ -72,7 +72,7 @@ pub fn web_of_folder<R: Files + Threads + Sync, E: Write>(
 ///
 /// # Errors
 /// `CannotReadKnown`, `CannotReadFolder`, `BadBase`, `NoFiles`, `TooLarge`, `BadSeed`; `Crawl` where the crawl is incomplete; `NoMemory`.
-pub fn report_of_folder<R: Files + Threads + Wait + Sync, E: Write>(
+pub fn report_of_folder<R: Files<File: Send, Dir: Send> + Threads + Wait + Sync, E: Write>(
     rt: &R,
     alloc: Global,
     asked: &CheckAsked,
@@ -95,7 +95,7 @@ pub fn report_of_folder<R: Files + Threads + Wait + Sync, E: Write>(
     report_of_names(rt, alloc, asked, input, known.as_slice(), err)
 }
 
-fn report_of_names<R: Files + Threads + Wait + Sync, E: Write>(
+fn report_of_names<R: Files<File: Send, Dir: Send> + Threads + Wait + Sync, E: Write>(
     rt: &R,
     alloc: Global,
     asked: &CheckAsked,

@@ -30,7 +30,7 @@ enum Asked {
 
 /// Runs the program's words where they are those of a command over a folder, and answers its status; nothing where they are not,
 /// and then nothing is written. `colour` says whether a text for people may have it. Statuses are 0 done, 1 a fault, 2 an incomplete crawl, 3 a bad command line, 4 something is broken.
-pub fn run_site_words<R: Files + Threads + Wait + Sync, O: Write, E: Write>(
+pub fn run_site_words<R: Files<File: Send, Dir: Send> + Threads + Wait + Sync, O: Write, E: Write>(
     rt: &R,
     alloc: Global,
     words: &[String],
@@ -95,7 +95,7 @@ fn shown(alloc: Global, error: &clap::Error) -> Result<Asked, AllocError> {
 }
 
 /// Runs such a command and answers its status. What it tells is whole before any of it is written.
-pub fn run_site_plan<R: Files + Threads + Wait + Sync, O: Write, E: Write>(
+pub fn run_site_plan<R: Files<File: Send, Dir: Send> + Threads + Wait + Sync, O: Write, E: Write>(
     rt: &R,
     alloc: Global,
     plan: &SitePlan,
@@ -122,7 +122,7 @@ pub fn run_site_plan<R: Files + Threads + Wait + Sync, O: Write, E: Write>(
     }
 }
 
-fn run<R: Files + Threads + Wait + Sync, O: Write, E: Write>(
+fn run<R: Files<File: Send, Dir: Send> + Threads + Wait + Sync, O: Write, E: Write>(
     rt: &R,
     alloc: Global,
     plan: &SitePlan,
@@ -143,7 +143,7 @@ fn run<R: Files + Threads + Wait + Sync, O: Write, E: Write>(
     }
 }
 
-fn run_check<R: Files + Threads + Wait + Sync, O: Write, E: Write>(
+fn run_check<R: Files<File: Send, Dir: Send> + Threads + Wait + Sync, O: Write, E: Write>(
     rt: &R,
     alloc: Global,
     asked: &CheckAsked,
