@@ -1,3 +1,4 @@
+pub mod Ahead
 pub mod CutLines
 pub mod FirstVersion
 pub mod JoinedParts
@@ -7,6 +8,7 @@ pub mod LongPages
 pub mod PageIndex
 pub mod PageLinks
 pub mod PartPages
+pub mod PartPlaces
 pub mod PassedLines
 pub mod ReadWeb
 pub mod ReportLaws

@@ -30,10 +30,10 @@ page_there pages url k found = page_at_index pages url ∙ ap (λ o. option_and_
 pub no_page : (pages : List PageRead) (url : List ℕ) → None ≡ index_of (urls pages) url → None ≡ page_with pages url
 no_page pages url none = sym (page_at_index pages url ∙ ap (λ o. option_and_then (λ k. slice_get pages k) o) (sym none))
 
--- what is lent of the list at an index
-pub item_at : (pages : List PageRead) (k : ℕ) (o : Option (Bor PageRead)) → IsItemAt pages k o → option_map (λ page. page.now) o ≡ slice_get pages k
-item_at pages k None is = sym (slice_get_past pages k is.3)
-item_at pages k (Some page) is = sym (slice_get_read pages (length pages) k page.now refl is.3.0 is.1)
+-- what is lent of a list at an index
+pub item_at : {X : Type 0} (xs : List X) (k : ℕ) (o : Option (Bor X)) → IsItemAt xs k o → option_map (λ x. x.now) o ≡ slice_get xs k
+item_at xs k None is = sym (slice_get_past xs k is.3)
+item_at xs k (Some x) is = sym (slice_get_read xs (length xs) k x.now refl is.3.0 is.1)
 
 pub has_index_there : (pages : List PageRead) (url : List ℕ) → has pages url ≡ is_some (index_of (urls pages) url)
 has_index_there [] url = refl
@@ -45,7 +45,7 @@ has_index_there (page ∷ more) url = by_first (bytes_eq page.url url) (index_of
     by_first false (Some k) rest = rest
 
 -- the page that is found has the URL
-with_url : (pages : List PageRead) (url : List ℕ) (x : PageRead) → page_with pages url ≡ Some x → x.url ≡ url
+pub with_url : (pages : List PageRead) (url : List ℕ) (x : PageRead) → page_with pages url ≡ Some x → x.url ≡ url
 with_url [] url x found = absurd (cc)
 with_url (page ∷ more) url x found = by_first (bytes_eq page.url url) refl found (with_url more url x)
   where

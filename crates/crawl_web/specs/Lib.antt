@@ -1,3 +1,4 @@
+pub mod Ahead
 pub mod FirstLine
 pub mod KnownLinks
 pub mod KnownPages

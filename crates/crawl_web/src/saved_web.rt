@@ -7,6 +7,7 @@ ghost use Rattle.crawl_web.specs.KnownPages.{known_page, page_at};
 ghost use Rattle.crawl_web.specs.WebFaults.{IsSound, IsWebFault, IsWebRefusal};
 
 mod add;
+mod ahead;
 mod error;
 mod folder;
 mod known_link;

@@ -77,7 +77,7 @@ impl<'a> KnownPage<'a> {
     }
 
     /// The text of its URL.
-    fn url(&self) -> &str
+    pub fn url(&self) -> &str
         ensures { result.now ≡ self.now.url }
     {
         match &self.text {
@@ -103,6 +103,25 @@ impl KnownPage<'_> {
         match &self.text {
             PageText::Written(text) => text.len(),
             PageText::Made(page) => page.behind.len(),
+        }
+    }
+
+    /// How many bytes are its own, about, where this page is the next one, if any is.
+    pub fn bytes_before(&self, next: Option<&KnownPage<'_>>) -> usize {
+        let left = self.bytes_left();
+        let behind = match next {
+            Some(next) => next.bytes_left(),
+            None => 0,
+        };
+        // The next page of other bytes tells nothing.
+        if behind < left { left - behind } else { left }
+    }
+
+    /// The host of its URL, with the port.
+    pub fn host(&self) -> &str {
+        match self.url().split('/').nth(2) {
+            Some(host) => host,
+            None => "",
         }
     }
 }

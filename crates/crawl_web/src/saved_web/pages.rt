@@ -1,5 +1,6 @@
 //! The pages of a saved web, found by their URLs.
-ghost use Rattle.std.specs.Prelude.{◌≡◌, ◌==◌, ◌++◌, ◌∷◌, [], ℕ, List, true, false, not, length, IfOk, IfSome, if◌then◌else◌};
+ghost use Rattle.std.specs.Prelude.{◌≡◌, ◌==◌, ◌++◌, ◌∷◌, [], ℕ, List, true, false, not, length, map, slice_get, IfOk, IfSome, if◌then◌else◌};
+ghost use Rattle.hash_index.specs.Lists.{index_of};
 ghost use Rattle.std.specs.Option.{option_map};
 ghost use Rattle.crawl_web.specs.FirstLine.{behind_line, line_in};
 ghost use Rattle.crawl_web.specs.PageLists.{page_with, has};
@@ -64,6 +65,13 @@ impl<'a> Pages<'a> {
         self.list.is_empty()
     }
 
+    /// How many pages there are.
+    pub fn len(&self) -> usize
+        ensures { result ≡ length self.now }
+    {
+        self.list.len()
+    }
+
     /// Adds the page with this URL, which is spelled in the first line of this text, unless there is one with the URL. Tells
     /// whether it did.
     #[tactic(auto, using(crate::proofs::PageIndex::has_index_there))]
@@ -108,6 +116,37 @@ impl<'a> Pages<'a> {
             Some(index) => self.list.get(index),
             None => None,
         }
+    }
+
+    /// The index of the page with the URL.
+    pub fn find(&self, url: &CanonUrl) -> Option<usize>
+        ensures { result ≡ index_of (map (λ page. page.url) self.now) url.now }
+    {
+        if self.list.is_empty() {
+            return None;
+        }
+        self.index.find(&self.list, url)
+    }
+
+    /// The page at the index.
+    pub fn at(&self, index: usize) -> Option<&KnownPage<'a>>
+        ensures { option_map (λ page. page.now) result ≡ slice_get self.now index }
+    {
+        self.list.get(index)
+    }
+
+    /// How many bytes of the input are theirs, about.
+    pub fn bytes(&self) -> usize {
+        match self.list.first() {
+            Some(page) => page.bytes_left(),
+            None => 0,
+        }
+    }
+
+    /// The index of the first page behind so many of these bytes.
+    pub fn index_behind(&self, bytes: usize) -> usize {
+        let left = self.bytes().saturating_sub(bytes);
+        self.list.partition_point(|page| page.bytes_left() > left)
     }
 
     /// Whether some page has so many bytes, about: those up to the next page, or to the end.

@@ -1,10 +1,11 @@
-//! A saved web whose long pages are looked at by threads.
+//! A saved web whose pages are looked at by threads.
 ghost use Rattle.std.specs.Prelude.{◌≡◌, IfOk, IfErr};
 ghost use Rattle.crawl_web.specs.KnownPages.{page_at};
 
 use crate::fetch::FetchError;
 use crate::page::Page;
 use crate::saved_web::SavedWeb;
+use crate::saved_web::ahead::Ahead;
 use crate::saved_web::link_cache::LinkCache;
 use crate::saved_web::long::{LEAST, page_in_threads};
 use crate::session::SessionFetch;
@@ -12,24 +13,34 @@ use crawl_keys::CanonUrl;
 use std::alloc::Global;
 use std::thread::Threads;
 
-/// A saved web as a source of the same pages. Four threads find the links of a page that is long.
+/// A saved web as a source of the same pages. Threads find the links of all pages ahead where these have one host, and else those
+/// of a page that is long.
 #[derive(Drop)]
 pub struct WebInThreads<'w, 'a, R: Threads> {
     web: &'w SavedWeb<'a>,
     rt: &'w R,
     /// Some page is long, and may be looked at by threads.
     long: bool,
+    ahead: Ahead<'w, 'a>,
+    ghost own: { ahead ≡ web.now.pages },
 }
 
-impl<'w, 'a, R: Threads> WebInThreads<'w, 'a, R> {
+impl<'w, 'a, R: Threads + Sync> WebInThreads<'w, 'a, R> {
     /// The web, and whether threads may look at its pages.
-    pub fn new(rt: &'w R, web: &'w SavedWeb<'a>, in_threads: bool) -> WebInThreads<'w, 'a, R>
+    pub fn new(
+        rt: &'w R,
+        alloc: Global,
+        web: &'w SavedWeb<'a>,
+        in_threads: bool,
+    ) -> WebInThreads<'w, 'a, R>
         ensures { result.web.now ≡ web.now }
     {
+        let pages = &web.pages;
         WebInThreads {
             web,
             rt,
-            long: in_threads && web.pages.has_long_page(LEAST),
+            long: in_threads && pages.has_long_page(LEAST),
+            ahead: Ahead::new(rt, alloc, pages, in_threads),
         }
     }
 }
@@ -57,6 +68,9 @@ impl<'w, 'a, R: Threads> SessionFetch for WebInThreads<'w, 'a, R> {
         // It never fails of itself.
         ensures refused { IfErr result (λ e. e ≡ FetchError.NoMemory) }
     {
+        if let Some(page) = self.ahead.page(alloc, url) {
+            return Ok(page);
+        }
         if !self.long {
             return self.web.fetch_in(alloc, session, url);
         }

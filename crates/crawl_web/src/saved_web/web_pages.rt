@@ -1,5 +1,5 @@
 //! The pages of a saved web, in the parts in which they were read.
-ghost use Rattle.std.specs.Prelude.{◌≡◌, ◌++◌, ℕ, List, true, false, IfOk, IfSome};
+ghost use Rattle.std.specs.Prelude.{◌≡◌, ◌++◌, ℕ, List, Some, true, false, slice_get, IfOk, IfSome};
 ghost use Rattle.std.specs.List.{flat_map};
 ghost use Rattle.std.specs.Option.{option_map};
 ghost use Rattle.crawl_web.specs.PageLists.{page_with, has};
@@ -10,6 +10,9 @@ use crawl_keys::CanonUrl;
 use std::alloc::{AllocError, Global};
 use std::marker::Model;
 use std::thread::Threads;
+
+/// So many pages are looked at, about, to tell whether all have one host.
+const SAMPLES: usize = 1_024;
 
 /// The pages of a saved web: in one part, or in as many as threads have read, each with its own index.
 #[derive(Drop)]
@@ -49,6 +52,61 @@ impl<'a> WebPages<'a> {
         first_with(&self.parts, url)
     }
 
+    /// The index of the page with the URL.
+    pub fn find(&self, url: &CanonUrl) -> Option<usize>
+        ensures { IfSome result (λ index. slice_get self.now index ≡ page_with self.now url.now) }
+    {
+        index_with(&self.parts, url)
+    }
+
+    /// The page at the index.
+    pub fn page(&self, index: usize) -> Option<&KnownPage<'a>>
+        ensures { IfSome result (λ page. slice_get self.now index ≡ Some page.now) }
+    {
+        page_at(&self.parts, index)
+    }
+
+    /// How many bytes of the input are theirs, about.
+    pub fn bytes(&self) -> usize {
+        let mut bytes: usize = 0;
+        for part in &self.parts {
+            bytes = bytes.saturating_add(part.bytes());
+        }
+        bytes
+    }
+
+    /// The index of the first page behind so many of these bytes.
+    pub fn index_behind(&self, bytes: usize) -> usize {
+        let mut bytes = bytes;
+        let mut before: usize = 0;
+        for part in &self.parts {
+            let own = part.bytes();
+            if bytes < own {
+                return before.saturating_add(part.index_behind(bytes));
+            }
+            bytes -= own;
+            before = before.saturating_add(part.len());
+        }
+        before
+    }
+
+    /// Whether all pages have one host, as far as those tell that are looked at.
+    pub fn has_one_host(&self) -> bool {
+        let Some(first) = self.page(0) else {
+            return false;
+        };
+        let count = self.index_behind(self.bytes());
+        let step = count / SAMPLES + 1;
+        for sample in 1..SAMPLES {
+            match self.page(step.saturating_mul(sample)) {
+                Some(page) if page.host() != first.host() => return false,
+                Some(_) => {}
+                None => return true,
+            }
+        }
+        true
+    }
+
     /// Whether some page has so many bytes, about.
     pub fn has_long_page(&self, bytes: usize) -> bool {
         for part in &self.parts {
@@ -85,6 +143,34 @@ fn first_with<'p, 'a>(parts: &'p [Pages<'a>], url: &CanonUrl) -> Option<&'p Know
         if let Some(page) = part.get(url) {
             return Some(page);
         }
+    }
+    None
+}
+
+/// The index of the page with the URL among those of the parts.
+fn index_with(parts: &[Pages<'_>], url: &CanonUrl) -> Option<usize>
+    ensures { IfSome result (λ index. slice_get (flat_map (λ part. part) parts.now) index ≡ page_with (flat_map (λ part. part) parts.now) url.now) }
+{
+    let mut before: usize = 0;
+    for part in parts {
+        if let Some(index) = part.find(url) {
+            return before.checked_add(index);
+        }
+        before = before.checked_add(part.len())?;
+    }
+    None
+}
+
+/// The page at the index among those of the parts.
+fn page_at<'p, 'a>(parts: &'p [Pages<'a>], index: usize) -> Option<&'p KnownPage<'a>>
+    ensures { IfSome result (λ page. slice_get (flat_map (λ part. part) parts.now) index ≡ Some page.now) }
+{
+    let mut index = index;
+    for part in parts {
+        if index < part.len() {
+            return part.at(index);
+        }
+        index -= part.len();
     }
     None
 }
