@@ -1,7 +1,7 @@
 pub mod Behind
-pub mod Blocks
 pub mod Errors
 pub mod Found
+pub mod Gaps
 pub mod Lines
 pub mod Plain
 pub mod PageByPage

@@ -1,5 +1,5 @@
 -- A saved web that is printed page by page.
-use Rattle.std.proofs.Common.{◌≡◌, ℕ, ◌≤◌, true, List, [], ◌∷◌, ◌++◌, codes, drop, length, map, take, refl, sym, ap, subst, ◌∙◌, arith, append_assoc, le_refl, length-append, take_all, drop_of_length-le, take-append-drop, drop_at}
+use Rattle.std.proofs.Common.{◌≡◌, ℕ, ◌≤◌, true, List, [], ◌∷◌, ◌++◌, codes, drop, length, map, refl, sym, ap, subst, ◌∙◌, arith, append_assoc, le_refl, length-append, take_all, drop_of_length-le, take-append-drop}
 use Rattle.std.specs.List.{flat_map}
 use Rattle.std.specs.Str.Lines.{lines}
 use Rattle.std.proofs.lemmas.Bool.{cond-true}
@@ -60,29 +60,6 @@ header = codes "savedweb 2" ++ 10 ∷ []
 
 pub body_whole : (bytes : List ℕ) (urls : List (List ℕ)) (counts : List ℕ) → (p : IsPrinted bytes urls counts) → bytes ≡ header ++ p.body
 body_whole bytes urls counts p = p.whole ∙ sym (append_assoc (codes "savedweb 2") (10 ∷ []) p.body)
-
-pub body_texts : (bytes : List ℕ) (urls : List (List ℕ)) (counts : List ℕ) → IsPrinted bytes urls counts → AreTexts urls counts (drop 11 bytes)
-body_texts bytes urls counts p =
-    let P : List ℕ → Type 0 = λ b. AreTexts urls counts b in
-    subst P (sym (ap (drop 11) (body_whole bytes urls counts p) ∙ drop_at header p.body 11 refl)) p.texts
-
--- ---- the first text
-
-both_texts : (urls more : List (List ℕ)) (counts behind bytes url : List ℕ) (count : ℕ) → urls ≡ url ∷ more → counts ≡ count ∷ behind → AreTexts urls counts bytes → IsPageText url (take count bytes) × AreTexts more behind (drop count bytes)
-both_texts urls more counts behind bytes url count us cs all =
-    let P : List (List ℕ) → Type 0 = λ u. AreTexts u counts bytes in
-    let Q : List ℕ → Type 0 = λ c. AreTexts (url ∷ more) c bytes in
-    (subst Q cs (subst P us all)).1
-
-pub first_text : (urls more : List (List ℕ)) (counts behind bytes url text : List ℕ) (count : ℕ) → urls ≡ url ∷ more → counts ≡ count ∷ behind → text ≡ take count bytes → AreTexts urls counts bytes → IsPageText url text
-first_text urls more counts behind bytes url text count us cs is all =
-    let P : List ℕ → Type 0 = λ b. IsPageText url b in
-    subst P (sym is) (both_texts urls more counts behind bytes url count us cs all).0
-
-pub other_texts : (urls more : List (List ℕ)) (counts behind bytes url rest : List ℕ) (count : ℕ) → urls ≡ url ∷ more → counts ≡ count ∷ behind → rest ≡ drop count bytes → AreTexts urls counts bytes → AreTexts more behind rest
-other_texts urls more counts behind bytes url rest count us cs is all =
-    let P : List ℕ → Type 0 = λ b. AreTexts more behind b in
-    subst P (sym is) (both_texts urls more counts behind bytes url count us cs all).1
 
 -- ---- a page's text
 

@@ -1,8 +1,8 @@
 -- What is known of a saved web that is printed page by page.
-use Rattle.std.specs.Prelude.{◌≡◌, ℕ, ◌≤◌, true, List, [], ◌∷◌, ◌++◌, codes, drop, length, take}
+use Rattle.std.specs.Prelude.{◌≡◌, ℕ, ◌≤◌, true, List, [], ◌∷◌, ◌++◌, codes, drop, length, reverse, take}
 use Rattle.saved_site.specs.Pages.{page_text, is_behind, IsPage}
 use Rattle.saved_site.specs.declared.page.SitePage.{SitePage}
-use Rattle.saved_site.specs.declared.printer.Block.{Block}
+use Rattle.saved_site.specs.declared.printer.gap.Gap.{Gap}
 use Rattle.saved_site.specs.declared.printer.Printer.{Printer}
 
 -- the text is that of a page at the URL
@@ -41,5 +41,14 @@ pub record IsPrinted (bytes : List ℕ) (urls : List (List ℕ)) (counts : List 
 abbrev pub HasPrinted : Printer → Type 0
 HasPrinted printer = IsPrinted printer.bytes.items printer.urls.items printer.counts.items
 
-abbrev pub HasTexts : Block → Type 0
-HasTexts block = AreTexts block.urls.items block.counts.items block.bytes.items
+-- in front of a gap are a header and the texts of pages, behind it those of others, whose URLs ascend behind them, the first one last
+pub record IsParted (bytes : List ℕ) (front back : ℕ) (urls : List (List ℕ)) (counts : List ℕ) (back_urls : List (List ℕ)) (back_counts : List ℕ) : Type 0 where
+  pub order : front ≤ back
+  pub within : back ≤ length bytes
+  pub before : IsPrinted (take front bytes) urls counts
+  pub behind : AreTexts (reverse back_urls) (reverse back_counts) (drop back bytes)
+  pub up : DoAscend (last_url [] urls) (reverse back_urls)
+
+-- the same of a web with a gap
+abbrev pub HasGap : Gap → Type 0
+HasGap gap = IsParted gap.bytes.items gap.front gap.back gap.urls.items gap.counts.items gap.back_urls.items gap.back_counts.items

@@ -49,7 +49,7 @@ fn parts(pages: &[SitePage]) -> Option<(&SitePage, &[SitePage])>
     pages.split_first()
 }
 
-pub(crate) fn url_bytes(page: &SitePage) -> &[u8]
+fn url_bytes(page: &SitePage) -> &[u8]
     ensures { result.now ≡ page.now.url }
 {
     page.url().as_str().as_bytes()
