@@ -1,3 +1,4 @@
+pub mod Block
 mod Directive
 mod Plain
 mod Searched

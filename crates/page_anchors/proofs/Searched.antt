@@ -1,33 +1,85 @@
--- What a binary search found among texts that ascend.
-use Rattle.std.proofs.Common.{◌≡◌, ℕ, ◌<◌, Bool, true, List, [], ◌∷◌, length, map, get_or, Result, Ok, Err, inl, inr, refl, sym, ap, ◌∙◌, ◌||◌, arith}
+-- What a binary search found among ids that ascend.
+use Rattle.std.proofs.Common.{◌≡◌, ◌∙◌, ℕ, ◌+◌, ◌<◌, ◌≤◌, true, false, List, [], length, get_or, inl, inr, refl, sym, ap, arith}
 use Rattle.std.proofs.lemmas.Bool.{cases_lt}
+use Rattle.std.proofs.lemmas.List.{get_or_default}
 use Rattle.std.proofs.lemmas.List.Folds.{list_any_at, list_any_none}
+use Rattle.std.proofs.lemmas.List.Sorted.{searchable_from_sorted}
 use Rattle.std.proofs.lemmas.Map.Text.{is_eq-slice_cmp}
-use Rattle.std.specs.Cmp.Lexicographic.{slice_cmp}
-use Rattle.std.specs.List.{list_any}
-use Rattle.std.specs.List.Sorted.{IsBinarySearchResult, IsNonDecreasingBy, IsSearchInRange}
-use Rattle.std.specs.Ordering.{is_eq, nat_cmp, ordering_index}
-use Rattle.std.specs.Result.{is_ok}
+use Rattle.std.specs.Cmp.Lexicographic.{slice_cmp, nat_list_cmp_total}
+use Rattle.std.specs.Ordering.{is_eq, is_lt, nat_cmp, ordering_index}
 use Rattle.std.specs.Str.{bytes_eq}
+use Rattle.std.specs.declared.cmp.Ordering.{Ordering}
+use Rattle.std.specs.declared.cmp.Ordering.TheVariants.{Less, Equal, Greater}
+use Rattle.page_anchors.specs.Indicated.{has_id, DoAscend}
 
--- a test of what f gives
-any_map : {X Y : Type 0} (p : Y → Bool) (f : X → Y) (xs : List X) → list_any p (map f xs) ≡ list_any (λ x. p (f x)) xs
-any_map p f [] = refl
-any_map p f (x ∷ xs) = ap (λ b. p (f x) || b) (any_map p f xs)
+-- what is before the bounds is less than the text, and what is behind them greater
+pub record IsBetween (ids : List (List ℕ)) (text : List ℕ) (low high : ℕ) : Type 0 where
+  pub up : low ≤ high
+  pub within : high ≤ length ids
+  pub below : DoAscend ids → (k : ℕ) (d : List ℕ) → k < low → slice_cmp nat_cmp (get_or ids k d) text ≡ Less
+  pub above : DoAscend ids → (k : ℕ) (d : List ℕ) → high ≤ k → k < length ids → slice_cmp nat_cmp (get_or ids k d) text ≡ Greater
 
-any_found : {X : Type 0} (p : X → Bool) (xs : List X) (i : ℕ) → i < length xs → ((d : X) → p (get_or xs i d) ≡ true) → list_any p xs ≡ true
-any_found p [] i below at = absurd (omega (arith, below))
-any_found p (x ∷ xs) i below at = list_any_at p (x ∷ xs) i x below (at x)
+least : (o : Ordering) → ordering_index o ≤ 0 → o ≡ Less
+least Less few = refl
+least Equal few = absurd (omega (arith, few))
+least Greater few = absurd (omega (arith, few))
 
--- the answer of a search by the texts of elements
-pub search_found : {X : Type 0} (key : X → List ℕ) (xs : List X) (text : List ℕ) (answer : Result ℕ ℕ) → IsSearchInRange answer (length xs) → IsBinarySearchResult (λ y. slice_cmp nat_cmp (key y) text) xs answer → IsNonDecreasingBy (λ y. ordering_index (slice_cmp nat_cmp (key y) text)) xs → is_ok answer ≡ list_any (λ id. bytes_eq id text) (map key xs)
-search_found key xs text (Ok i) below at rises =
-    sym (any_map (λ id. bytes_eq id text) key xs ∙ any_found (λ y. bytes_eq (key y) text) xs i below (λ d. sym (is_eq-slice_cmp (key (get_or xs i d)) text) ∙ ap is_eq (at d)))
-search_found key xs text (Err i) below parts rises =
-    let parted = parts rises in
-    sym
-    (any_map (λ id. bytes_eq id text) key xs
-    ∙ list_any_none (λ y. bytes_eq (key y) text) xs
-    (λ k d within.
-    sym (is_eq-slice_cmp (key (get_or xs k d)) text)
-    ∙ elim (cases_lt k i) [ inl before ↦ ap is_eq (parted.0 k d (omega arith) before) | inr behind ↦ ap is_eq (parted.1 k d behind within) ]))
+greatest : (o : Ordering) → 2 ≤ ordering_index o → o ≡ Greater
+greatest Less many = absurd (omega (arith, many))
+greatest Equal many = absurd (omega (arith, many))
+greatest Greater many = refl
+
+rises : (ids : List (List ℕ)) (text : List ℕ) → DoAscend ids → (i j : ℕ) (d : List ℕ) → i ≤ j → j < length ids →
+    ordering_index (slice_cmp nat_cmp (get_or ids i d) text) ≤ ordering_index (slice_cmp nat_cmp (get_or ids j d) text)
+rises ids text ascend = searchable_from_sorted nat_list_cmp_total (λ (id : List ℕ). id) ids text ascend
+
+if_less : (o : Ordering) → is_lt o ≡ true → o ≡ Less
+if_less Less is = refl
+if_less Equal is = cc
+if_less Greater is = cc
+
+if_greater : (o : Ordering) → is_eq o ≡ false → is_lt o ≡ false → o ≡ Greater
+if_greater Less other not_less = cc
+if_greater Equal other not_less = cc
+if_greater Greater other not_less = refl
+
+pub half_behind : (ids : List (List ℕ)) (text id : List ℕ) (low middle high : ℕ) → IsBetween ids text low high → middle < high → id ≡ get_or ids middle [] → is_lt (slice_cmp nat_cmp id text) ≡ true →
+    IsBetween ids text (middle + 1) high
+half_behind ids text id low middle high between below is less =
+    let here : middle < length ids = omega (arith, between.within, below) in
+    let order : slice_cmp nat_cmp (get_or ids middle []) text ≡ Less = (λ i. slice_cmp nat_cmp (sym is i) text) ∙ if_less (slice_cmp nat_cmp id text) less in
+    record {
+      up = omega (arith, below);
+      within = between.within;
+      below = λ ascend k d before.
+          let at_middle : slice_cmp nat_cmp (get_or ids middle d) text ≡ Less = (λ i. slice_cmp nat_cmp (get_or_default ids middle d [] here i) text) ∙ order in
+          least (slice_cmp nat_cmp (get_or ids k d) text) (omega (arith, rises ids text ascend k middle d (omega (arith, before)) here, ap ordering_index at_middle));
+      above = between.above;
+    }
+
+pub half_before : (ids : List (List ℕ)) (text id : List ℕ) (low middle high : ℕ) → IsBetween ids text low high → low ≤ middle → middle < high → id ≡ get_or ids middle [] →
+    is_eq (slice_cmp nat_cmp id text) ≡ false → is_lt (slice_cmp nat_cmp id text) ≡ false → IsBetween ids text low middle
+half_before ids text id low middle high between from below is other not_less =
+    let here : middle < length ids = omega (arith, between.within, below) in
+    let order : slice_cmp nat_cmp (get_or ids middle []) text ≡ Greater = (λ i. slice_cmp nat_cmp (sym is i) text) ∙ if_greater (slice_cmp nat_cmp id text) other not_less in
+    record {
+      up = from;
+      within = omega (arith, here);
+      below = between.below;
+      above = λ ascend k d behind inside.
+          let at_middle : slice_cmp nat_cmp (get_or ids middle d) text ≡ Greater = (λ i. slice_cmp nat_cmp (get_or_default ids middle d [] here i) text) ∙ order in
+          greatest (slice_cmp nat_cmp (get_or ids k d) text) (omega (arith, rises ids text ascend middle k d behind inside, ap ordering_index at_middle));
+    }
+
+pub found_at : (ids : List (List ℕ)) (text id : List ℕ) (k : ℕ) → k < length ids → id ≡ get_or ids k [] → is_eq (slice_cmp nat_cmp id text) ≡ true → true ≡ has_id ids text
+found_at ids text id k below is equal =
+    let same : bytes_eq (get_or ids k []) text ≡ true = (λ i. bytes_eq (sym is i) text) ∙ sym (is_eq-slice_cmp id text) ∙ equal in
+    sym (list_any_at (λ x. bytes_eq x text) ids k [] below same)
+
+pub none_found : (ids : List (List ℕ)) (text : List ℕ) (low high : ℕ) → IsBetween ids text low high → high ≤ low → DoAscend ids → false ≡ has_id ids text
+none_found ids text low high between over ascend =
+    sym (list_any_none (λ x. bytes_eq x text) ids (λ k d below.
+    sym (is_eq-slice_cmp (get_or ids k d) text) ∙ elim (cases_lt k low) [
+      | inl before ↦ ap is_eq (between.below ascend k d before)
+      | inr behind ↦ ap is_eq (between.above ascend k d (omega (arith, over, behind)) below)
+    ]))

@@ -1,22 +1,18 @@
 -- The indicated part of a document, by the HTML Standard.
-use Rattle.std.specs.Prelude.{ℕ, ◌==◌, Bool, true, false, ◌&&◌, ◌||◌, List, [], ◌∷◌, codes, length, map, nat_eq, slice_index, if◌then◌else◌, Vec}
+use Rattle.std.specs.Prelude.{ℕ, ◌==◌, Bool, true, false, ◌&&◌, ◌||◌, List, [], ◌∷◌, codes, length, nat_eq, slice_index, if◌then◌else◌}
 use Rattle.std.specs.Cmp.Lexicographic.{slice_cmp}
 use Rattle.std.specs.List.{list_any, starts_with}
-use Rattle.std.specs.List.Sorted.{IsSortedByKey}
+use Rattle.std.specs.List.Sorted.{IsSorted}
 use Rattle.std.specs.Ordering.{nat_cmp}
 use Rattle.std.specs.Str.{bytes_eq}
 use Rattle.std.specs.Str.Lossy.{utf8_lossy}
-use Rattle.std.specs.declared.alloc.Global.{Global}
 use Rattle.percent_encoding.specs.Percent.{percent_encode, percent_decode}
 use Rattle.page_anchors.specs.declared.indicated.TheConstants.{IN_FRAGMENT}
 
 -- ---- ids
 
-abbrev pub ids_in : List (Vec ℕ Global) → List (List ℕ)
-ids_in ids = map (λ id. id.items) ids
-
-abbrev pub DoAscend : List (Vec ℕ Global) → Type 0
-DoAscend ids = IsSortedByKey (λ id. id.items) (slice_cmp nat_cmp) ids
+abbrev pub DoAscend : List (List ℕ) → Type 0
+DoAscend ids = IsSorted (slice_cmp nat_cmp) ids
 
 abbrev pub has_id : List (List ℕ) → List ℕ → Bool
 has_id ids text = list_any (λ id. bytes_eq id text) ids

@@ -2,14 +2,12 @@
 ghost use Rattle.std.specs.Prelude.{◌≡◌, IfOk, false, not};
 ghost use Rattle.std.specs.List.{list_any};
 ghost use Rattle.page_anchors.specs.Escapes.{is_escaped, is_odd};
-ghost use Rattle.page_anchors.specs.Indicated.{before_directive, begins_directive, decoded_has, has_decoded, has_fragment, has_part, ids_in, is_indicated, is_letter, is_top, DoAscend};
+ghost use Rattle.page_anchors.specs.Indicated.{before_directive, begins_directive, decoded_has, has_decoded, has_fragment, has_part, is_indicated, is_letter, is_top, DoAscend};
 
+use crate::ids::{Ids, NoMemory};
 use crate::search::has_id;
 use percent_encoding::{AsciiSet, CONTROLS, ascii_set, percent_decode, percent_encode};
-use std::alloc::{AllocError, Global};
-
-/// A growth was refused.
-pub type NoMemory = AllocError;
+use std::alloc::Global;
 
 /// What a URL's parser escapes in a fragment, besides bytes past ASCII.
 pub const IN_FRAGMENT: AsciiSet = ascii_set!(
@@ -21,8 +19,8 @@ pub const IN_FRAGMENT: AsciiSet = ascii_set!(
 ///
 /// # Errors
 /// Out of memory alone.
-pub fn is_indicated(alloc: Global, ids: &[Vec<u8>], text: &[u8]) -> Result<bool, NoMemory>
-    ensures { DoAscend ids.now → IfOk result (λ found. found ≡ is_indicated (ids_in ids.now) text.now) }
+pub fn is_indicated(alloc: Global, ids: &Ids, text: &[u8]) -> Result<bool, NoMemory>
+    ensures { DoAscend ids.now → IfOk result (λ found. found ≡ is_indicated ids.now text.now) }
 {
     if is_plain(text) {
         return Ok(has_plain(ids, text));
@@ -60,9 +58,9 @@ fn is_escaped(byte: u8) -> bool
 }
 
 /// Whether a document has the part that such a text indicates.
-fn has_plain(ids: &[Vec<u8>], text: &[u8]) -> bool
+fn has_plain(ids: &Ids, text: &[u8]) -> bool
     requires { list_any is_odd text.now ≡ false }
-    ensures { DoAscend ids.now → result ≡ is_indicated (ids_in ids.now) text.now }
+    ensures { DoAscend ids.now → result ≡ is_indicated ids.now text.now }
 {
     if text.is_empty() {
         return true;
@@ -89,15 +87,15 @@ fn begins_directive(text: &[u8]) -> bool
 }
 
 /// Whether an id is the text as a URL has it, or what its escapes stand for, or that is `top`.
-fn has_part(alloc: Global, ids: &[Vec<u8>], text: &[u8]) -> Result<bool, NoMemory>
-    ensures { DoAscend ids.now → IfOk result (λ found. found ≡ has_part (ids_in ids.now) text.now) }
+fn has_part(alloc: Global, ids: &Ids, text: &[u8]) -> Result<bool, NoMemory>
+    ensures { DoAscend ids.now → IfOk result (λ found. found ≡ has_part ids.now text.now) }
 {
     let fragment = percent_encode(text, IN_FRAGMENT).into_cow(alloc)?;
     has_fragment(alloc, ids, fragment.as_str().as_bytes())
 }
 
-fn has_fragment(alloc: Global, ids: &[Vec<u8>], fragment: &[u8]) -> Result<bool, NoMemory>
-    ensures { DoAscend ids.now → IfOk result (λ found. found ≡ has_fragment (ids_in ids.now) fragment.now) }
+fn has_fragment(alloc: Global, ids: &Ids, fragment: &[u8]) -> Result<bool, NoMemory>
+    ensures { DoAscend ids.now → IfOk result (λ found. found ≡ has_fragment ids.now fragment.now) }
 {
     if has_id(ids, fragment) {
         return Ok(true);
@@ -105,16 +103,16 @@ fn has_fragment(alloc: Global, ids: &[Vec<u8>], fragment: &[u8]) -> Result<bool,
     decoded_has(alloc, ids, fragment)
 }
 
-fn decoded_has(alloc: Global, ids: &[Vec<u8>], fragment: &[u8]) -> Result<bool, NoMemory>
-    ensures { DoAscend ids.now → IfOk result (λ found. found ≡ decoded_has (ids_in ids.now) fragment.now) }
+fn decoded_has(alloc: Global, ids: &Ids, fragment: &[u8]) -> Result<bool, NoMemory>
+    ensures { DoAscend ids.now → IfOk result (λ found. found ≡ decoded_has ids.now fragment.now) }
 {
     let decoded = percent_decode(fragment).decode_utf8_lossy(alloc)?;
     let found = has_decoded(ids, decoded.as_str().as_bytes());
     Ok(found)
 }
 
-fn has_decoded(ids: &[Vec<u8>], text: &[u8]) -> bool
-    ensures { DoAscend ids.now → result ≡ has_decoded (ids_in ids.now) text.now }
+fn has_decoded(ids: &Ids, text: &[u8]) -> bool
+    ensures { DoAscend ids.now → result ≡ has_decoded ids.now text.now }
 {
     if has_id(ids, text) {
         return true;

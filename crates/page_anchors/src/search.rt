@@ -1,20 +1,35 @@
-//! A text among texts that ascend.
+//! An id among those that ascend.
 ghost use Rattle.std.specs.Prelude.{◌≡◌};
 ghost use Rattle.std.specs.Cmp.Lexicographic.{slice_cmp};
 ghost use Rattle.std.specs.Ordering.{nat_cmp};
-ghost use Rattle.page_anchors.specs.Indicated.{has_id, ids_in, DoAscend};
+ghost use Rattle.page_anchors.specs.Indicated.{has_id, DoAscend};
 
+use crate::ids::Ids;
 use std::cmp::Ordering;
 
 /// Whether one of the ids is the text.
-pub fn has_id(ids: &[Vec<u8>], text: &[u8]) -> bool
-    ensures { DoAscend ids.now → result ≡ has_id (ids_in ids.now) text.now }
+pub fn has_id(ids: &Ids, text: &[u8]) -> bool
+    ensures { DoAscend ids.now → result ≡ has_id ids.now text.now }
 {
-    ids.binary_search_by(|id| order(id, text)).is_ok()
+    let mut low = 0;
+    let mut high = ids.len();
+    'halves: while low < high {
+        let middle = low + (high - low) / 2;
+        let found = order(ids.id(middle), text);
+        if found.is_eq() {
+            return true;
+        }
+        if found.is_lt() {
+            low = middle + 1;
+        } else {
+            high = middle;
+        }
+    }
+    false
 }
 
-fn order(id: &Vec<u8>, text: &[u8]) -> Ordering
-    ensures { result ≡ slice_cmp nat_cmp id.now.items text.now }
+fn order(id: &[u8], text: &[u8]) -> Ordering
+    ensures { result ≡ slice_cmp nat_cmp id.now text.now }
 {
-    id.as_slice().cmp(text)
+    id.cmp(text)
 }

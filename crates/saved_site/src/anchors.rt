@@ -1,58 +1,140 @@
 //! The parts of documents, and links to parts.
 use crate::cleaning::{push_without_breaks, trimmed_end};
-use crate::found_links::Found;
+use crate::found_links::{Found, Piece};
 use crate::site::Site;
 use crate::targets::{Target, Targets};
 use crate::texts::Texts;
 use crawl_keys::CanonUrl;
 use memchr::memchr;
+use page_anchors::{Ids, is_indicated};
 use std::alloc::{AllocError, Global};
 
-/// Links of a document to parts of a page. `Anchors::links_to` has them.
+/// Links of a document to parts of a page, which stand together.
 #[derive(Drop)]
 pub struct AnchorLinks {
     /// The page.
     pub to: Target,
-    begin: usize,
-    end: usize,
+    begin: u32,
+    end: u32,
 }
 
-/// A link to a part of a page. `Anchors::fragment` has its fragment.
-#[derive(Clone, Copy)]
-pub struct AnchorLink {
-    begin: usize,
-    end: usize,
-    /// The index in the document's text at which the attribute's value begins.
-    pub index: usize,
+impl AnchorLinks {
+    /// The number of the first among the document's links to parts, and that behind the last.
+    pub fn numbers(&self) -> (usize, usize) {
+        (self.begin as usize, self.end as usize)
+    }
 }
+
+/// A link to a part of a page.
+#[derive(Clone, Copy)]
+pub struct AnchorLink<'a> {
+    /// What is behind its first `#`.
+    pub fragment: &'a [u8],
+    /// The index in the document's text at which the attribute's value begins. None where that is behind 4 GiB.
+    pub index: Option<u32>,
+}
+
+/// Where the fragment of a link begins, which ends where that of the next does, and the index of its value.
+#[derive(Clone, Copy)]
+struct KeptLink {
+    fragment: u32,
+    index: u32,
+}
+
+/// In place of an index behind 4 GiB.
+const FAR: u32 = u32::MAX;
 
 /// The parts that a document has, and its links to parts of pages.
 #[derive(Drop)]
 pub struct Anchors {
     /// Each `id`, and each `name` of an `a`, in ascending order of their bytes.
-    pub ids: Vec<Vec<u8>>,
-    /// Links with a `#` that have a canonical URL; those with the same text before it stand together, in order.
+    pub ids: Ids,
+    /// Links with a `#` that have a canonical URL; those with the same text before it stand together, in order. Links to parts of
+    /// the document itself that are there are left out.
     pub groups: Vec<AnchorLinks>,
-    links: Vec<AnchorLink>,
+    links: Vec<KeptLink>,
     /// What is behind the first `#` of each of these links, one behind the other.
     fragments: Vec<u8>,
 }
 
 impl Anchors {
-    /// Its links to parts of a page.
-    pub fn links_to(&self, group: &AnchorLinks) -> &[AnchorLink] {
-        self.links
-            .as_slice()
-            .get(group.begin..group.end)
-            .unwrap_or(&[])
+    /// The link to a part with this number.
+    pub fn link(&self, number: usize) -> Option<AnchorLink<'_>> {
+        let link = self.links.get(number)?;
+        let begin = link.fragment as usize;
+        let end = match self.links.get(number.saturating_add(1)) {
+            Some(next) => next.fragment as usize,
+            None => self.fragments.len(),
+        };
+        Some(AnchorLink {
+            fragment: self.fragments.as_slice().get(begin..end).unwrap_or(&[]),
+            index: known_index(link.index),
+        })
     }
 
-    /// What is behind the first `#` of one of its links.
-    pub fn fragment(&self, link: &AnchorLink) -> &[u8] {
-        self.fragments
-            .as_slice()
-            .get(link.begin..link.end)
-            .unwrap_or(&[])
+    /// Appends links to a page, which is the document itself or not.
+    fn push_group(
+        &mut self,
+        alloc: Global,
+        found: &Found,
+        to: Target,
+        is_own: bool,
+        links: &[Numbered],
+    ) -> Result<(), AllocError> {
+        let begin = self.links.len();
+        for link in links {
+            let fragment = trimmed_end(found.text(link.fragment));
+            self.push_link(alloc, fragment, link.fragment.index, is_own)?;
+        }
+        let end = self.links.len();
+        if begin < end {
+            let begin = in_four_bytes(begin)?;
+            let end = in_four_bytes(end)?;
+            self.groups.push(AnchorLinks { to, begin, end })?;
+        }
+        Ok(())
+    }
+
+    /// Appends a link, unless the document itself has the part.
+    fn push_link(
+        &mut self,
+        alloc: Global,
+        fragment: &[u8],
+        index: usize,
+        is_own: bool,
+    ) -> Result<(), AllocError> {
+        let begin = self.fragments.len();
+        push_without_breaks(fragment, &mut self.fragments)?;
+        if is_own {
+            let clean = self.fragments.as_slice().get(begin..).unwrap_or(&[]);
+            if is_indicated(alloc, &self.ids, clean)? {
+                self.fragments.truncate(begin);
+                return Ok(());
+            }
+        }
+        let fragment = in_four_bytes(begin)?;
+        let index = u32::try_from(index).unwrap_or(FAR);
+        self.links.push(KeptLink { fragment, index })?;
+        Ok(())
+    }
+
+    /// They are kept long, and there are many.
+    fn shrink_to_fit(&mut self) {
+        self.groups.shrink_to_fit();
+        self.links.shrink_to_fit();
+        self.fragments.shrink_to_fit();
+    }
+}
+
+fn known_index(index: u32) -> Option<u32> {
+    if index == FAR { None } else { Some(index) }
+}
+
+/// A number of four bytes. Behind 4 GiB there is no room for one.
+fn in_four_bytes(number: usize) -> Result<u32, AllocError> {
+    match u32::try_from(number) {
+        Ok(number) => Ok(number),
+        Err(_) => Err(AllocError),
     }
 }
 
@@ -62,65 +144,49 @@ impl Anchors {
 /// Where a growth was refused.
 pub(crate) fn anchors_of(
     alloc: Global,
-    ids: Vec<Vec<u8>>,
+    ids: &Ids,
     found: &Found,
     site: &Site,
     texts: Texts,
     url: &CanonUrl,
 ) -> Result<Anchors, AllocError> {
-    let mut ids = ids;
-    ids.sort()?;
+    let mut anchors = Anchors {
+        ids: ids.ascending(alloc)?,
+        groups: Vec::new(alloc),
+        links: Vec::new(alloc),
+        fragments: Vec::new(alloc),
+    };
     let mut targets = Targets::new(alloc, site, texts, url)?;
-    let mut fragments = Vec::new(alloc);
-    let numbered = by_target(alloc, found, &mut targets, &mut fragments)?;
-    let mut links = Vec::with_capacity(alloc, numbered.len())?;
-    let mut groups = with_targets(
-        alloc,
-        targets.into_targets(),
-        numbered.as_slice(),
-        &mut links,
-    )?;
-    // They are kept long, and there are many.
-    ids.shrink_to_fit();
-    groups.shrink_to_fit();
-    fragments.shrink_to_fit();
-    Ok(Anchors {
-        ids,
-        groups,
-        links,
-        fragments,
-    })
-}
-
-/// A link to a part, and the number of what it leads to.
-#[derive(Clone, Copy)]
-struct Numbered {
-    number: usize,
-    link: AnchorLink,
-}
-
-/// The links to each target that there is, of links in the order of its number. They are appended.
-fn with_targets(
-    alloc: Global,
-    targets: Vec<Option<Target>>,
-    numbered: &[Numbered],
-    all: &mut Vec<AnchorLink>,
-) -> Result<Vec<AnchorLinks>, AllocError> {
-    let mut groups = Vec::new(alloc);
-    let mut rest = numbered;
-    for (number, target) in targets.into_iter().enumerate() {
+    let numbered = by_target(alloc, found, &mut targets)?;
+    let mut rest = numbered.as_slice();
+    for (number, target) in targets.into_targets().into_iter().enumerate() {
         let (own, behind) = split_number(number, rest);
         rest = behind;
         if let Some(to) = target {
-            let begin = all.len();
-            for one in own {
-                all.push(one.link)?;
-            }
-            let end = all.len();
-            groups.push(AnchorLinks { to, begin, end })?;
+            let is_own = is_at(&to, site, url);
+            anchors.push_group(alloc, found, to, is_own, own)?;
         }
     }
-    Ok(groups)
+    anchors.shrink_to_fit();
+    Ok(anchors)
+}
+
+/// Whether a link leads to this URL.
+fn is_at(to: &Target, site: &Site, url: &CanonUrl) -> bool {
+    match to {
+        Target::Page(number) => match site.entries.get(*number) {
+            Some(entry) => entry.url.as_str() == url.as_str(),
+            None => false,
+        },
+        Target::Other(other) => other.as_str() == url.as_str(),
+    }
+}
+
+/// The number of what a link leads to, and where what is behind its first `#` stands among the texts.
+#[derive(Clone, Copy)]
+struct Numbered {
+    number: usize,
+    fragment: Piece,
 }
 
 /// The first links, which have this number, and the others.
@@ -137,35 +203,16 @@ fn by_target<'t>(
     alloc: Global,
     found: &'t Found,
     targets: &mut Targets<'t>,
-    fragments: &mut Vec<u8>,
 ) -> Result<Vec<Numbered>, AllocError> {
     let mut all: Vec<Numbered> = Vec::new(alloc);
     for piece in &found.pieces {
         let text = found.text(*piece);
         if let Some(mark) = memchr(b'#', text) {
             let number = targets.number_of(&text[..mark + 1])?;
-            let link = link_to_part(text, mark, piece.index, fragments)?;
-            all.push(Numbered { number, link })?;
+            let fragment = piece.behind(mark + 1);
+            all.push(Numbered { number, fragment })?;
         }
     }
     all.sort_by(|a: &Numbered, b: &Numbered| a.number.cmp(&b.number))?;
     Ok(all)
-}
-
-/// The link with this text, in which the first `#` stands at the mark, and whose value begins at the index. Its fragment is
-/// appended.
-fn link_to_part(
-    text: &[u8],
-    mark: usize,
-    index: usize,
-    fragments: &mut Vec<u8>,
-) -> Result<AnchorLink, AllocError> {
-    let marked = trimmed_end(text.get(mark..).unwrap_or(&[]));
-    let begin = fragments.len();
-    push_without_breaks(marked.get(1..).unwrap_or(&[]), fragments)?;
-    Ok(AnchorLink {
-        begin,
-        end: fragments.len(),
-        index,
-    })
 }

@@ -20,7 +20,7 @@ pub(crate) struct Document {
     /// Its anchors, where they are wanted.
     pub(crate) anchors: Option<Anchors>,
     /// Where its links stand, where that is wanted.
-    pub(crate) indices: Vec<usize>,
+    pub(crate) indices: Vec<u32>,
     /// The name of its encoding, where that is not known here.
     pub(crate) encoding: Option<String>,
     /// Whether it gives its links a base, so that their lines may depend on its URL.

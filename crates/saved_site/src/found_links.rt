@@ -1,8 +1,9 @@
 //! What `html_links` gives of a document, as it was found.
-ghost use Rattle.std.specs.Prelude.{◌≡◌, ◌∷◌, ◌++◌, [], OnOk, map, reverse};
+ghost use Rattle.std.specs.Prelude.{◌≡◌, ◌∷◌, ◌++◌, [], OnOk, reverse};
 ghost use Rattle.saved_site.specs.Pieces.{texts_before};
 
 use html_links::{Links, PlacedLinks};
+use page_anchors::Ids;
 use std::alloc::{AllocError, Global};
 
 /// Where the text of a link stands among those of its document, and the index at which its value begins there.
@@ -11,6 +12,17 @@ pub(crate) struct Piece {
     pub(crate) begin: usize,
     pub(crate) end: usize,
     pub(crate) index: usize,
+}
+
+impl Piece {
+    /// The piece without its first bytes.
+    pub(crate) fn behind(self, count: usize) -> Piece {
+        Piece {
+            begin: self.begin.saturating_add(count),
+            end: self.end,
+            index: self.index,
+        }
+    }
 }
 
 /// The texts of a document's links, one behind the other, and the indices of their values.
@@ -74,32 +86,24 @@ fn push_piece(
     Ok(())
 }
 
-/// The ids of a document.
+/// The ids of a document, in its order.
 #[derive(Drop)]
-pub(crate) struct Ids {
-    alloc: Global,
-    texts: Vec<Vec<u8>>,
+pub(crate) struct FoundIds {
+    pub(crate) ids: Ids,
 }
 
-impl Ids {
-    pub(crate) fn new(alloc: Global) -> Ids {
-        Ids {
-            alloc,
-            texts: Vec::new(alloc),
+impl FoundIds {
+    pub(crate) fn new(alloc: Global) -> FoundIds {
+        FoundIds {
+            ids: Ids::new(alloc),
         }
     }
-
-    pub(crate) fn into_texts(self) -> Vec<Vec<u8>> {
-        let Ids { texts, .. } = self;
-        texts
-    }
 }
 
-impl Links for Ids {
-    ghost texts = { λ ids. map (λ text. text.items) ids.texts.items };
+impl Links for FoundIds {
+    ghost texts = { λ found. found.ids };
 
     fn push(&mut self, text: &[u8]) -> Result<(), AllocError> {
-        self.texts.push(Vec::from_slice(self.alloc, text)?)?;
-        Ok(())
+        self.ids.push(text)
     }
 }

@@ -12,7 +12,9 @@ pub(crate) struct Indices {
     page: Base,
     /// The index of the link whose line comes next.
     index: usize,
-    kept: Vec<usize>,
+    kept: Vec<u32>,
+    /// Whether one is behind 4 GiB, which four bytes do not tell.
+    is_far: bool,
 }
 
 impl Indices {
@@ -23,6 +25,7 @@ impl Indices {
             page: base_of(alloc, url)?,
             index: 0,
             kept: Vec::with_capacity(alloc, links)?,
+            is_far: false,
         })
     }
 
@@ -34,7 +37,7 @@ impl Indices {
     /// Keeps the index of the link with this text in its line, where that leads to a canonical URL.
     pub(crate) fn push(&mut self, text: &[u8]) -> Result<(), AllocError> {
         if self.has_url(text)? {
-            self.kept.push(self.index)?;
+            self.keep()?;
         }
         Ok(())
     }
@@ -44,8 +47,21 @@ impl Indices {
         if names_host(text) {
             self.push(text)
         } else {
-            self.kept.push(self.index)?;
-            Ok(())
+            self.keep()
+        }
+    }
+
+    /// Keeps the index of the link whose line comes next.
+    fn keep(&mut self) -> Result<(), AllocError> {
+        match u32::try_from(self.index) {
+            Ok(index) => {
+                self.kept.push(index)?;
+                Ok(())
+            }
+            Err(_) => {
+                self.is_far = true;
+                Ok(())
+            }
         }
     }
 
@@ -58,8 +74,16 @@ impl Indices {
         }
     }
 
-    pub(crate) fn into_list(self) -> Vec<usize> {
-        let Indices { kept, .. } = self;
+    /// The indices; none where one is behind 4 GiB.
+    pub(crate) fn into_list(self) -> Vec<u32> {
+        let Indices {
+            mut kept,
+            is_far,
+            ..
+        } = self;
+        if is_far {
+            kept.clear();
+        }
         kept
     }
 }

@@ -70,7 +70,7 @@ impl Beside {
         Ok(())
     }
 
-    fn push_places(&mut self, url: &CanonUrl, indices: Vec<usize>) -> Result<(), AllocError> {
+    fn push_places(&mut self, url: &CanonUrl, indices: Vec<u32>) -> Result<(), AllocError> {
         if !indices.is_empty() {
             let url = url.clone()?;
             self.places.push(LinkPlaces { url, indices })?;

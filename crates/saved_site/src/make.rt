@@ -63,7 +63,7 @@ pub(crate) struct Made {
     /// Its anchors, where they are wanted and the page is a document.
     pub(crate) anchors: Option<Anchors>,
     /// Where its links stand, where that is wanted.
-    pub(crate) indices: Vec<usize>,
+    pub(crate) indices: Vec<u32>,
     pub(crate) notes: Vec<Note>,
 }
 

@@ -8,13 +8,14 @@ use crate::charset::Charset;
 use crate::cleaning::{
     before_fragment, cut, has_breaks, is_over_lines, is_web, scheme_of, trimmed, without_breaks,
 };
-use crate::found_links::{Found, Ids};
+use crate::found_links::{Found, FoundIds};
 use crate::in_query::push_with_query;
 use crate::indices::Indices;
 use crate::link_lines::LinkLines;
 use crate::make;
 use crate::site::Rules;
 use crate::text::{LINK_FRONT, TEXT_LIMIT, fits, fits_plainly};
+use crate::web::WEB_LIMIT;
 use crawl_keys::CanonUrl;
 use html_links::{Base, read_links, read_page, read_places};
 use std::alloc::{AllocError, Global};
@@ -71,7 +72,7 @@ pub(crate) fn links_at(
     found: &mut Found,
 ) -> Result<Read, AllocError> {
     let rules = given.rules;
-    let mut ids = Ids::new(alloc);
+    let mut ids = FoundIds::new(alloc);
     found.clear();
     let base = found_in(alloc, text, rules, found, &mut ids)?;
     let mut texts = texts_of(alloc, charset, base, url, found, rules.places)?;
@@ -80,7 +81,7 @@ pub(crate) fn links_at(
     let counts = texts.counts;
     let has_base = !matches!(texts.given, Given::None);
     let anchors = if rules.anchors {
-        Some(anchors_of(alloc, ids.into_texts(), found, given.site, texts, url)?)
+        Some(anchors_of(alloc, &ids.ids, found, given.site, texts, url)?)
     } else {
         None
     };
@@ -108,8 +109,18 @@ fn texts_of(
     if places {
         texts.indices = Some(Indices::new(alloc, url, found.pieces.len())?);
     }
-    texts.push_all(found)?;
+    texts.push_all(found, byte_limit(url))?;
     Ok(texts)
+}
+
+/// With more bytes of lines under a page at this URL the web is too large. Where the URL is too long the page is not in the web,
+/// and its links spell others all the same.
+fn byte_limit(url: &CanonUrl) -> usize {
+    if fits(LINK_FRONT, url.as_str().as_bytes()) {
+        WEB_LIMIT
+    } else {
+        usize::MAX
+    }
 }
 
 /// About how many bytes the lines of these links have: each its text, five bytes before it and a line break.
@@ -127,7 +138,7 @@ fn found_in(
     text: &[u8],
     rules: &Rules,
     found: &mut Found,
-    ids: &mut Ids,
+    ids: &mut FoundIds,
 ) -> Result<Base, AllocError> {
     if rules.anchors {
         read_page(alloc, text, found, ids)
@@ -144,7 +155,7 @@ pub(crate) struct Read {
     pub(crate) lines: LinkLines,
     pub(crate) counts: LinkCounts,
     pub(crate) anchors: Option<Anchors>,
-    pub(crate) indices: Vec<usize>,
+    pub(crate) indices: Vec<u32>,
     pub(crate) has_base: bool,
 }
 
@@ -163,9 +174,12 @@ impl Texts {
         Ok(Texts::new(alloc, charset, given))
     }
 
-    /// The lines of these links.
-    fn push_all(&mut self, found: &Found) -> Result<(), AllocError> {
+    /// The lines of these links, up to that with which they have more bytes than this.
+    fn push_all(&mut self, found: &Found, limit: usize) -> Result<(), AllocError> {
         for piece in &found.pieces {
+            if self.links.as_bytes().len() > limit {
+                break;
+            }
             if let Some(indices) = &mut self.indices {
                 indices.begin_at(piece.index);
             }
@@ -175,7 +189,7 @@ impl Texts {
     }
 
     /// Where the links stand whose lines were pushed. No more are kept from then on.
-    fn take_indices(&mut self) -> Vec<usize> {
+    fn take_indices(&mut self) -> Vec<u32> {
         match self.indices.take() {
             Some(indices) => indices.into_list(),
             None => Vec::new(self.alloc),

@@ -43,7 +43,7 @@ pub struct Web {
 pub struct LinkPlaces {
     pub url: CanonUrl,
     /// The indices in the document's text at which the values of its links begin: of those that have a canonical URL, in order.
-    pub indices: Vec<usize>,
+    pub indices: Vec<u32>,
 }
 
 /// The anchors of the document at a URL.

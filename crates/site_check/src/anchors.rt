@@ -13,7 +13,7 @@ use crate::shown::shown;
 use check_report::{Broken, Kind, Place};
 use crawl_web::{NoMemory, Page, PageResult};
 use page_anchors::is_indicated;
-use saved_site::{AnchorLinks, Anchors, PageAnchors, SiteFiles, Target};
+use saved_site::{AnchorLink, AnchorLinks, Anchors, PageAnchors, SiteFiles, Target};
 use std::alloc::Global;
 use std::cmp::Ordering;
 
@@ -133,7 +133,7 @@ impl<'a> Pages<'a> {
     /// Whether a document has the part that a text behind a `#` indicates; it does where there is no such document.
     fn has_part(&self, alloc: Global, part: Part<'_>) -> Result<bool, NoMemory> {
         match self.anchors.get(part.page) {
-            Some(page) => is_indicated(alloc, page.anchors.ids.as_slice(), part.fragment),
+            Some(page) => is_indicated(alloc, &page.anchors.ids, part.fragment),
             None => Ok(true),
         }
     }
@@ -143,12 +143,12 @@ fn is_found(page: &Page) -> bool {
     matches!(page, Page::Found { .. })
 }
 
-/// A part that a document lacks, and a link to it: the number of the result that has it, and the index of its value.
+/// A part that a document lacks, and a link to it: the number of the result that has it, and the index of its value if that is known.
 #[derive(Clone, Copy)]
 pub(crate) struct Lacked<'a> {
     part: Part<'a>,
     source: usize,
-    index: usize,
+    index: Option<u32>,
 }
 
 /// Links of a result to parts of a document, by the numbers of both.
@@ -243,18 +243,33 @@ fn push_lacked<'a>(
     links: LinksTo<'a>,
     all: &mut Vec<Lacked<'a>>,
 ) -> Result<(), NoMemory> {
-    let anchors = links.anchors;
-    let page = links.page;
-    for link in anchors.links_to(links.to) {
-        let fragment = anchors.fragment(link);
-        let part = Part { page, fragment };
-        if !pages.has_part(alloc, part)? {
-            all.push(Lacked {
-                part,
-                source: links.source,
-                index: link.index,
-            })?;
+    let (begin, end) = links.to.numbers();
+    for number in begin..end {
+        if let Some(link) = links.anchors.link(number) {
+            push_link(alloc, pages, links, link, all)?;
         }
+    }
+    Ok(())
+}
+
+/// Appends a link, where it leads to a part that the document lacks.
+fn push_link<'a>(
+    alloc: Global,
+    pages: Pages<'a>,
+    links: LinksTo<'a>,
+    link: AnchorLink<'a>,
+    all: &mut Vec<Lacked<'a>>,
+) -> Result<(), NoMemory> {
+    let part = Part {
+        page: links.page,
+        fragment: link.fragment,
+    };
+    if !pages.has_part(alloc, part)? {
+        all.push(Lacked {
+            part,
+            source: links.source,
+            index: link.index,
+        })?;
     }
     Ok(())
 }
@@ -279,13 +294,22 @@ pub(crate) fn lacking<'a>(
     for lacked in &all {
         count_part(&mut lacking, *lacked, last)?;
         last = Some(*lacked);
-        leads.push(Lead {
-            source: lacked.source,
-            index: lacked.index,
-            number: before.saturating_add(lacking.len().saturating_sub(1)),
-        })?;
+        let number = before.saturating_add(lacking.len().saturating_sub(1));
+        push_lead(*lacked, number, leads)?;
     }
     Ok(lacking)
+}
+
+/// Appends a link to what has this number, where it is known where that stands.
+fn push_lead(lacked: Lacked<'_>, number: usize, leads: &mut Vec<Lead>) -> Result<(), NoMemory> {
+    if let Some(index) = lacked.index {
+        leads.push(Lead {
+            source: lacked.source,
+            index: index as usize,
+            number,
+        })?;
+    }
+    Ok(())
 }
 
 /// Counts a link behind the last one of its order: its result, where that is another or the part is.

@@ -148,7 +148,7 @@ fn number_of<'a>(numbers: &TargetNumbers<'a>, url: &'a CanonUrl) -> Option<usize
 }
 
 /// Where the links of documents stand, by their URLs.
-pub(crate) type LinkIndices<'a> = BTreeMap<HashedText<'a>, &'a [usize]>;
+pub(crate) type LinkIndices<'a> = BTreeMap<HashedText<'a>, &'a [u32]>;
 
 pub(crate) fn link_indices(
     alloc: Global,
@@ -205,7 +205,7 @@ fn push_page<'p>(
     }
 }
 
-fn indices_of<'p>(indices: &LinkIndices<'p>, url: &'p CanonUrl) -> &'p [usize]
+fn indices_of<'p>(indices: &LinkIndices<'p>, url: &'p CanonUrl) -> &'p [u32]
     ensures { result.now ≡ indices_at indices.now url.now }
 {
     match indices.get(&url.hashed()) {
@@ -219,7 +219,7 @@ fn push_leads<'p>(
     numbers: &TargetNumbers<'p>,
     source: usize,
     urls: &'p [CanonUrl],
-    indices: &[usize],
+    indices: &[u32],
     all: &mut Vec<Lead>,
 ) -> Result<(), NoMemory>
     ensures { OnOk result (all.new.items ≡ all.old.items ++ leads_at (number_at numbers.now) source urls.now indices.now) }
@@ -265,10 +265,10 @@ struct First<'p, 'i> {
     url: &'p CanonUrl,
     more: &'p [CanonUrl],
     index: usize,
-    behind: &'i [usize],
+    behind: &'i [u32],
 }
 
-fn first_link<'p, 'i>(urls: &'p [CanonUrl], indices: &'i [usize]) -> Option<First<'p, 'i>>
+fn first_link<'p, 'i>(urls: &'p [CanonUrl], indices: &'i [u32]) -> Option<First<'p, 'i>>
     ensures { MatchOption result (HasNoLink urls.now indices.now) (λ first. (urls.now ≡ first.url.now ∷ first.more.now) × (indices.now ≡ first.index ∷ first.behind.now)) }
 {
     match urls.split_first() {
@@ -276,7 +276,7 @@ fn first_link<'p, 'i>(urls: &'p [CanonUrl], indices: &'i [usize]) -> Option<Firs
             Some((index, behind)) => Some(First {
                 url,
                 more,
-                index: *index,
+                index: *index as usize,
                 behind,
             }),
             None => None,

@@ -1,16 +1,31 @@
-use Rattle.std.proofs.Common.{ℕ, Vec, Global, ◌∙◌, rules}
-use Rattle.std.proofs.lemmas.Fn.{always_returns_same}
-use Rattle.std.proofs.lemmas.List.Sorted.{searchable_from_sorted}
-use Rattle.std.specs.Cmp.Lexicographic.{slice_cmp, nat_list_cmp_total}
-use Rattle.std.specs.Ordering.{nat_cmp}
-use Rattle.page_anchors.proofs.Searched.{search_found}
+use Rattle.std.proofs.Common.{◌∙◌, ap, arith, sym}
+use Rattle.std.specs.Ordering.{is_eq, is_lt}
+use Rattle.page_anchors.proofs.Searched.{found_at, half_before, half_behind, none_found}
 use Rattle.page_anchors.proofs.search.has_id.Goals as goal
 
+pub halves-init : goal.halves-init
+halves-init c = record {
+  up = omega arith;
+  within = omega arith;
+  below = λ ascend k d none. absurd (omega (arith, none));
+  above = λ ascend k d behind below. absurd (omega (arith, behind, below, c.len-high.ensures));
+}
+
+pub halves-preserved-then-is_lt : goal.halves-preserved-then-is_lt
+halves-preserved-then-is_lt c =
+    half_behind c.args.ids.now c.args.text.now c.id.result.now c.halves.low _ c.halves.high c.halves.invariant (omega (arith, c.halves-test.true)) c.id.ensures
+    (ap is_lt (sym c.order-found.ensures) ∙ sym c.is_lt.ensures ∙ c.if-is_lt.true)
+
+pub halves-preserved : goal.halves-preserved
+halves-preserved c =
+    half_before c.args.ids.now c.args.text.now c.id.result.now c.halves.low _ c.halves.high c.halves.invariant (omega arith) (omega (arith, c.halves-test.true)) c.id.ensures
+    (ap is_eq (sym c.order-found.ensures) ∙ sym c.is_eq.ensures ∙ c.if-is_eq.false)
+    (ap is_lt (sym c.order-found.ensures) ∙ sym c.is_lt.ensures ∙ c.if-is_lt.false)
+
+pub returns-then-is_eq : goal.returns-then-is_eq
+returns-then-is_eq c = λ ascend.
+    found_at c.args.ids.now c.args.text.now c.id.result.now _ (omega (arith, c.halves-test.true, c.halves.invariant.within)) c.id.ensures
+    (ap is_eq (sym c.order-found.ensures) ∙ sym c.is_eq.ensures ∙ c.if-is_eq.true)
+
 pub returns : goal.returns
-returns c = λ ascend.
-    let text = c.args.text.now in
-    let ids = c.args.ids.now in
-    c.is_ok.ensures.value
-    ∙ search_found (λ (id : Vec ℕ Global). id.items) ids text c.binary_search_by.result c.binary_search_by.ensures.bound
-    (c.binary_search_by.ensures.position (λ (id : Vec ℕ Global). slice_cmp nat_cmp id.items text) (always_returns_same _ _ _ (λ a r g h. (search rules, search rules))))
-    (searchable_from_sorted nat_list_cmp_total (λ (id : Vec ℕ Global). id.items) ids text ascend)
+returns c = none_found c.args.ids.now c.args.text.now c.halves.low c.halves.high c.halves.invariant c.halves-test.false

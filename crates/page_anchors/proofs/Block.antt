@@ -1,0 +1,93 @@
+-- Ids in one block, and one more behind them.
+use Rattle.std.proofs.Common.{◌≡◌, ◌∙◌, ℕ, zero, suc, ◌+◌, ◌-◌, ◌<◌, ◌≤◌, List, [], ◌∷◌, ◌++◌, length, take, drop, get_or, length-append, refl, sym, ap, subst, arith}
+use Rattle.std.proofs.lemmas.List.{drop-append-le, drop_at, get_or-map, length-drop, length-map, map-append, map_more, take-append-le, take_all}
+use Rattle.std.specs.Borrow.{Bor}
+use Rattle.std.specs.Cmp.Lexicographic.{slice_cmp}
+use Rattle.std.specs.List.{slice_range}
+use Rattle.std.specs.List.Sorted.{IsSorted}
+use Rattle.std.specs.Ordering.{is_lt, nat_cmp}
+use Rattle.page_anchors.specs.Ids.{DoBound, pointed, texts_from}
+use Rattle.page_anchors.specs.Indicated.{DoAscend}
+
+-- ---- the ids
+
+pub count_of : (bytes : List ℕ) (from : ℕ) (ends : List ℕ) → length (texts_from bytes from ends) ≡ length ends
+count_of bytes from [] = refl
+count_of bytes from (end ∷ ends) = ap suc (count_of bytes end ends)
+
+-- the id with this index begins where the one before it ends
+pub id_is : (bytes : List ℕ) (from : ℕ) (ends : List ℕ) (k : ℕ) → k < length ends →
+    get_or (texts_from bytes from ends) k [] ≡ slice_range bytes (get_or (from ∷ ends) k 0) (get_or ends k 0)
+id_is bytes from [] k below = absurd (omega (arith, below))
+id_is bytes from (end ∷ ends) zero below = refl
+id_is bytes from (end ∷ ends) (suc k) below = id_is bytes end ends k (omega (arith, below))
+
+up_to : (from : ℕ) (ends : List ℕ) (count : ℕ) → DoBound from ends count → from ≤ count
+up_to from [] count bound = omega (arith, bound)
+up_to from (end ∷ ends) count bound = omega (arith, bound.0, up_to end ends count bound.1)
+
+-- where it begins and ends there are bytes
+pub id_within : (from : ℕ) (ends : List ℕ) (count k : ℕ) → DoBound from ends count → k < length ends → (get_or (from ∷ ends) k 0 ≤ get_or ends k 0) × (get_or ends k 0 ≤ count)
+id_within from [] count k bound below = absurd (omega (arith, below))
+id_within from (end ∷ ends) count zero bound below = (bound.0, up_to end ends count bound.1)
+id_within from (end ∷ ends) count (suc k) bound below = id_within end ends count k bound.1 (omega (arith, below))
+
+pub begin_before : (ends : List ℕ) (k : ℕ) → 0 < k → get_or ends (k - 1) 0 ≡ get_or (0 ∷ ends) k 0
+begin_before ends zero some = absurd (omega (arith, some))
+begin_before ends (suc k) some =
+    let before : suc k - 1 ≡ k = omega arith in ap (λ i. get_or ends i 0) before
+
+-- ---- one more
+
+pub bound_more : (from : ℕ) (ends : List ℕ) (count more : ℕ) → DoBound from ends count → count ≤ more → DoBound from (ends ++ more ∷ []) more
+bound_more from [] count more bound up = (omega (arith, bound, up), refl)
+bound_more from (end ∷ ends) count more bound up = (bound.0, bound_more end ends count more bound.1 up)
+
+-- what stands before the end is the same
+range_kept : (bytes more : List ℕ) (from end : ℕ) → from ≤ end → end ≤ length bytes → slice_range (bytes ++ more) from end ≡ slice_range bytes from end
+range_kept bytes more from end up within =
+    let begin : from ≤ length bytes = omega arith in
+    let rest : end - from ≤ length (drop from bytes) = omega (arith, length-drop from bytes) in
+    ap (take (end - from)) (drop-append-le from bytes more begin) ∙ take-append-le (end - from) (drop from bytes) more rest
+
+last_range : (bytes id : List ℕ) (from : ℕ) → from ≡ length bytes → slice_range (bytes ++ id) from (length (bytes ++ id)) ≡ id
+last_range bytes id from here =
+    let rest : drop from (bytes ++ id) ≡ id = drop_at bytes id from (sym here) in
+    let all : length id ≤ length (bytes ++ id) - from = omega (arith, length-append bytes id, here) in
+    ap (take (length (bytes ++ id) - from)) rest ∙ take_all (length (bytes ++ id) - from) id all
+
+pub ids_more : (bytes id : List ℕ) (from : ℕ) (ends : List ℕ) → DoBound from ends (length bytes) →
+    texts_from (bytes ++ id) from (ends ++ length (bytes ++ id) ∷ []) ≡ texts_from bytes from ends ++ id ∷ []
+ids_more bytes id from [] bound = ap (λ t. t ∷ []) (last_range bytes id from bound)
+ids_more bytes id from (end ∷ ends) bound =
+    let here = range_kept bytes id from end bound.0 (up_to end ends (length bytes) bound.1) in
+    ap (λ t. t ∷ texts_from (bytes ++ id) end (ends ++ length (bytes ++ id) ∷ [])) here
+    ∙ ap (λ ts. slice_range bytes from end ∷ ts) (ids_more bytes id end ends bound.1)
+
+-- what a push makes of a block
+pub ids_pushed : (bytes more id : List ℕ) (ends longer : List ℕ) → DoBound 0 ends (length bytes) → more ≡ bytes ++ id → longer ≡ ends ++ length more ∷ [] → texts_from more 0 longer ≡ texts_from bytes 0 ends ++ id ∷ []
+ids_pushed bytes more id ends longer bound is ends_are =
+    (λ i. texts_from (is i) 0 ((ends_are ∙ ap (λ b. ends ++ length b ∷ []) is) i)) ∙ ids_more bytes id 0 ends bound
+
+pub bound_pushed : (bytes more id : List ℕ) (ends longer : List ℕ) → DoBound 0 ends (length bytes) → more ≡ bytes ++ id → longer ≡ ends ++ length more ∷ [] → DoBound 0 longer (length more)
+bound_pushed bytes more id ends longer bound is ends_are =
+    let up : length bytes ≤ length more = omega (arith, ap length is, length-append bytes id) in
+    subst (λ (es : List ℕ). DoBound 0 es (length more)) (sym ends_are) (bound_more 0 ends (length bytes) (length more) bound up)
+
+-- ---- what is pointed to
+
+pub pointed_push : (ids : List (Bor (List ℕ))) (id : Bor (List ℕ)) → pointed (ids ++ id ∷ []) ≡ pointed ids ++ id.now ∷ []
+pointed_push ids id = map-append (λ (text : Bor (List ℕ)). text.now) ids (id ∷ [])
+
+pub pointed_more : (ids : List (Bor (List ℕ))) (i : ℕ) (id : Bor (List ℕ)) → i < length ids → id ≡ get_or ids i id → pointed (take (i + 1) ids) ≡ pointed (take i ids) ++ id.now ∷ []
+pointed_more ids i id below is =
+    map_more (λ (text : Bor (List ℕ)). text.now) ids i id below ∙ ap (λ (x : Bor (List ℕ)). pointed (take i ids) ++ x.now ∷ []) (sym is)
+
+pub pointed_ascend : (ids : List (Bor (List ℕ))) → IsSorted (λ x y. slice_cmp nat_cmp x.now y.now) ids → DoAscend (pointed ids)
+pointed_ascend [] up = λ k d first below. absurd (omega (arith, below))
+pointed_ascend (id ∷ ids) up = λ k d first below.
+    let all : List (Bor (List ℕ)) = id ∷ ids in
+    let within : k + 1 < length all = omega (arith, below, length-map all (λ (text : Bor (List ℕ)). text.now)) in
+    let next = get_or-map (λ (text : Bor (List ℕ)). text.now) all (k + 1) id d within in
+    let here = get_or-map (λ (text : Bor (List ℕ)). text.now) all k id d (omega (arith, within)) in
+    (λ i. is_lt (slice_cmp nat_cmp (next i) (here i))) ∙ up k id first within

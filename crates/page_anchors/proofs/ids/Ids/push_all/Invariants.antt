@@ -1,0 +1,6 @@
+use Rattle.std.proofs.Common.{◌≡◌, ◌++◌, take}
+use Rattle.page_anchors.specs.Ids.{pointed}
+use Rattle.page_anchors.proofs.ids.Ids.push_all.Given as goal
+
+abbrev pub invariant-loop-id : goal.invariant-loop-id
+invariant-loop-id l = l.self ≡ l.fn.self ++ pointed (take l.id-index l.ids)

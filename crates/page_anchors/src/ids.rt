@@ -1,0 +1,162 @@
+//! The ids of a document, in one block.
+ghost use Rattle.std.specs.Prelude.{◌≡◌, ◌∷◌, ◌++◌, ◌<◌, ◌≤◌, [], IfOk, OnErr, OnOk, get_or, length, slice_index_or};
+ghost use Rattle.std.specs.List.Sorted.{IsPermutation};
+ghost use Rattle.page_anchors.specs.Ids.{DoBound, pointed, texts_from};
+ghost use Rattle.page_anchors.specs.Indicated.{DoAscend};
+
+use std::alloc::{AllocError, Global};
+use std::marker::Model;
+
+/// A growth was refused.
+pub type NoMemory = AllocError;
+
+/// The ids of a document, in some order. Together they are shorter than 4 GiB.
+#[derive(Drop)]
+pub struct Ids {
+    /// One behind the other.
+    bytes: Vec<u8>,
+    /// Where each ends, and the next begins.
+    ends: Vec<u32>,
+}
+
+// Contracts see the ids, in order.
+impl Model for Ids {
+    ghost use Rattle.std.specs.Prelude.{ℕ, List, length};
+    ghost use Rattle.page_anchors.specs.Ids.{DoBound, texts_from};
+
+    ghost Value = { List (List ℕ) };
+
+    ghost view = { λ ids. texts_from ids.bytes.items 0 ids.ends.items };
+
+    ghost invariant = { λ ids. DoBound 0 ids.ends.items (length ids.bytes.items) };
+}
+
+impl Ids {
+    pub fn new(alloc: Global) -> Ids
+        ensures { result ≡ [] }
+    {
+        Ids {
+            bytes: Vec::new(alloc),
+            ends: Vec::new(alloc),
+        }
+    }
+
+    /// How many there are.
+    pub fn len(&self) -> usize
+        ensures { result ≡ length self.now }
+    {
+        self.ends.as_slice().len()
+    }
+
+    /// The id with this index.
+    pub fn id(&self, index: usize) -> &[u8]
+        requires { index < length self.now }
+        ensures { result.now ≡ slice_index_or self.now index [] }
+    {
+        id_at(self.bytes.as_slice(), self.ends.as_slice(), index)
+    }
+
+    /// Appends an id.
+    ///
+    /// # Errors
+    /// Where a growth was refused, or 4 GiB would be passed. All ids are gone then.
+    pub fn push(&mut self, id: &[u8]) -> Result<(), NoMemory>
+        ensures pushed { OnOk result (self.new ≡ self.old ++ id.now ∷ []) }
+        ensures gone { OnErr result (self.new ≡ []) }
+    {
+        match push_id(id, &mut self.bytes, &mut self.ends) {
+            Ok(()) => Ok(()),
+            Err(refused) => {
+                self.bytes.clear();
+                self.ends.clear();
+                Err(refused)
+            }
+        }
+    }
+
+    /// The same ids in ascending order of their bytes, in just the room that they need.
+    ///
+    /// # Errors
+    /// Where a growth was refused.
+    pub fn ascending(&self, alloc: Global) -> Result<Ids, NoMemory>
+        ensures ascend { IfOk result (λ ids. DoAscend ids) }
+        ensures same { IfOk result (λ ids. IsPermutation self.now ids) }
+    {
+        let mut ids = self.pointers(alloc)?;
+        ids.sort()?;
+        let mut sorted = Ids::with_room(alloc, ids.len(), self.bytes.len())?;
+        sorted.push_all(ids.as_slice())?;
+        Ok(sorted)
+    }
+
+    /// None, with room for so many of so many bytes together.
+    fn with_room(alloc: Global, count: usize, length: usize) -> Result<Ids, NoMemory>
+        ensures { IfOk result (λ ids. ids ≡ []) }
+    {
+        let bytes = Vec::with_capacity(alloc, length)?;
+        let ends = Vec::with_capacity(alloc, count)?;
+        Ok(Ids { bytes, ends })
+    }
+
+    fn pointers(&self, alloc: Global) -> Result<Vec<&[u8]>, NoMemory>
+        ensures { IfOk result (λ ids. pointed ids.items ≡ self.now) }
+    {
+        let count = self.len();
+        let mut ids = Vec::with_capacity(alloc, count)?;
+        for index in 0..count {
+            ids.push(self.id(index))?;
+        }
+        Ok(ids)
+    }
+
+    fn push_all(&mut self, ids: &[&[u8]]) -> Result<(), NoMemory>
+        ensures { OnOk result (self.new ≡ self.old ++ pointed ids.now) }
+    {
+        for id in ids {
+            self.push(*id)?;
+        }
+        Ok(())
+    }
+}
+
+/// The id with this index, of those in the bytes that end at these places.
+fn id_at<'b>(bytes: &'b [u8], ends: &[u32], index: usize) -> &'b [u8]
+    requires within { index < length ends.now }
+    requires bound { DoBound 0 ends.now (length bytes.now) }
+    ensures { result.now ≡ slice_index_or (texts_from bytes.now 0 ends.now) index [] }
+{
+    let begin = begin_of(ends, index);
+    let end = ends[index] as usize;
+    &bytes[begin..end]
+}
+
+/// Where the id with this index begins.
+fn begin_of(ends: &[u32], index: usize) -> usize
+    requires { index < length ends.now }
+    ensures { result ≡ get_or (0 ∷ ends.now) index 0 }
+{
+    if index == 0 {
+        return 0;
+    }
+    ends[index - 1] as usize
+}
+
+fn push_id(id: &[u8], bytes: &mut Vec<u8>, ends: &mut Vec<u32>) -> Result<(), NoMemory>
+    ensures bytes { OnOk result (bytes.new.items ≡ bytes.old.items ++ id.now) }
+    ensures ends { OnOk result (ends.new.items ≡ ends.old.items ++ length bytes.new.items ∷ []) }
+{
+    bytes.extend_from_slice(id)?;
+    let end = end_of(bytes.as_slice())?;
+    ends.push(end)?;
+    Ok(())
+}
+
+/// How many bytes there are, where that is below 4 GiB.
+fn end_of(bytes: &[u8]) -> Result<u32, NoMemory>
+    ensures { IfOk result (λ end. end ≡ length bytes.now) }
+{
+    match u32::try_from(bytes.len()) {
+        Ok(end) => Ok(end),
+        Err(_) => Err(AllocError),
+    }
+}
