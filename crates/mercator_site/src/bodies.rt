@@ -21,7 +21,7 @@ pub(crate) struct InMemory<'a> {
 }
 
 impl Bodies for InMemory<'_> {
-    fn body(&mut self, name: &str) -> Result<Option<Vec<u8>>, NoMemory> {
+    fn body(&self, name: &str) -> Result<Option<Vec<u8>>, NoMemory> {
         let Some(index) = self.files.names.iter().position(|own| own.as_str() == name) else {
             return Ok(None);
         };
@@ -41,7 +41,7 @@ pub(crate) struct OnDisk<'a, R> {
 }
 
 impl<R: rt::Files> Bodies for OnDisk<'_, R> {
-    fn body(&mut self, name: &str) -> Result<Option<Vec<u8>>, NoMemory> {
+    fn body(&self, name: &str) -> Result<Option<Vec<u8>>, NoMemory> {
         match folder_body(self.rt, self.alloc, self.folder, name) {
             Ok(body) => Ok(Some(body)),
             Err(error) if error.kind() == ErrorKind::OutOfMemory => Err(AllocError),

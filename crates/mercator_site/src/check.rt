@@ -77,8 +77,8 @@ pub fn report_of_files<R: Threads + Wait + Sync>(
     };
     let pages = SiteFiles::new(alloc, input)?;
     let web = files_web(rt, alloc, &pages, settings.seeds, files.bodies)?;
-    let mut bodies = InMemory { alloc, files };
-    report_of_site(rt, alloc, web, &pages, &mut bodies, settings)
+    let bodies = InMemory { alloc, files };
+    report_of_site(rt, alloc, web, &pages, &bodies, settings)
 }
 
 /// The report of a check of a site by its saved web: of the crawl of that web from its top or the seeds, within the top's host.
@@ -86,12 +86,12 @@ pub fn report_of_files<R: Threads + Wait + Sync>(
 ///
 /// # Errors
 /// `BadSeed`; `Crawl` where the crawl is incomplete; `NoMemory`.
-pub fn report_of_site<R: Threads + Wait + Sync, B: Bodies>(
+pub fn report_of_site<R: Threads + Wait + Sync, B: Bodies + Sync>(
     rt: &R,
     alloc: Global,
     web: Web,
     files: &SiteFiles<'_>,
-    bodies: &mut B,
+    bodies: &B,
     settings: CheckSettings<'_>,
 ) -> Result<CheckReport, SiteFault>
     ensures done { IfOk result (λ report. IsCheck (string_bytes files.now.site.top) web.bytes.items (asks_in settings.entry) report.is_broken report.text.items) }

@@ -111,9 +111,9 @@ fn report_of_names<R: Files<File: Send, Dir: Send> + Threads + Wait + Sync, E: W
     let files = SiteFiles::new(alloc, input)?;
     let web = folder_files_web(rt, alloc, folder, &files, input.seeds, Vec::new(alloc))?;
     tell_notes(alloc, err, web.notes.as_slice())?;
-    let mut bodies = OnDisk { rt, alloc, folder };
+    let bodies = OnDisk { rt, alloc, folder };
     let settings = settings_of(asked, files.top(), known);
-    let report = report_of_site(rt, alloc, web, &files, &mut bodies, settings)?;
+    let report = report_of_site(rt, alloc, web, &files, &bodies, settings)?;
     Ok(report)
 }
 

@@ -28,13 +28,13 @@ use saved_site::{LinkPlaces, PageAnchors, SiteFiles};
 use std::alloc::Global;
 use std::thread::Threads;
 
-/// Gives the bytes of a site's files.
+/// Gives the bytes of a site's files, to several threads at once.
 pub trait Bodies {
     /// The bytes of the file with this name; none where it cannot be read.
     ///
     /// # Errors
     /// Where a growth was refused.
-    fn body(&mut self, name: &str) -> Result<Option<Vec<u8>>, NoMemory>;
+    fn body(&self, name: &str) -> Result<Option<Vec<u8>>, NoMemory>;
 }
 
 /// What is asked of a check.
@@ -98,12 +98,12 @@ impl Checked {
 ///
 /// # Errors
 /// Where a growth was refused.
-pub fn check_site<'f, R: Threads + Sync, B: Bodies>(
+pub fn check_site<'f, R: Threads + Sync, B: Bodies + Sync>(
     rt: &R,
     alloc: Global,
     results: &[PageResult],
     files: &'f SiteFiles<'f>,
-    bodies: &mut B,
+    bodies: &B,
     asked: Asked<'_>,
 ) -> Result<Checked, NoMemory>
     // The rows of pages that are not there are the missing results, in order, each with how many results link to it; those that

@@ -6,9 +6,7 @@ use crawl_web::NoMemory;
 use saved_site::{TextPlace, text_places};
 use std::alloc::Global;
 use std::mem;
-
-/// About how many bytes of pages are read before they are looked at: few enough that their room is used again.
-const READ_LENGTH: usize = 1 << 22;
+use std::sync::atomic::{AtomicUsize, Ordering};
 
 /// Takes the places of what has this number.
 pub(crate) fn take_places(alloc: Global, found: &mut [Vec<Place>], number: usize) -> Vec<Place> {
@@ -53,14 +51,6 @@ fn with_room(alloc: Global, counts: &[usize]) -> Result<Vec<Vec<Place>>, NoMemor
     Ok(found)
 }
 
-/// A page that was read again, and its links that lead to what is told.
-#[derive(Drop)]
-pub(crate) struct ReadPage<'l, 'f> {
-    leads: &'l [Lead],
-    name: &'f str,
-    body: Vec<u8>,
-}
-
 /// Where a link stands, and the number of what it leads to.
 #[derive(Drop)]
 pub(crate) struct PlaceOf {
@@ -68,28 +58,19 @@ pub(crate) struct PlaceOf {
     place: Place,
 }
 
-/// Reads the first of the pages that have these links, which stand together by their pages, and answers the links of the others.
-pub(crate) fn read_some<'l, 'f, B: Bodies>(
-    alloc: Global,
-    site: Site<'_, 'f>,
-    leads: &'l [Lead],
-    bodies: &mut B,
-) -> Result<(Vec<ReadPage<'l, 'f>>, &'l [Lead]), NoMemory> {
-    let mut read = Vec::new(alloc);
-    let mut length: usize = 0;
+/// The links of each page, of links that stand together by their pages.
+pub(crate) fn by_page(alloc: Global, leads: &[Lead]) -> Result<Vec<&[Lead]>, NoMemory> {
+    let mut pages = Vec::new(alloc);
     let mut rest = leads;
     for _ in 0..leads.len() {
-        if rest.is_empty() || length > READ_LENGTH {
+        if rest.is_empty() {
             break;
         }
         let (own, more) = split_page(rest);
-        if let Some(page) = read_page(alloc, site, own, bodies)? {
-            length = length.saturating_add(page.body.len());
-            read.push(page)?;
-        }
+        pages.push(own)?;
         rest = more;
     }
-    Ok((read, rest))
+    Ok(pages)
 }
 
 /// The links of the first page, and those of the others.
@@ -104,56 +85,70 @@ fn split_page(leads: &[Lead]) -> (&[Lead], &[Lead]) {
     leads.split_at(count.min(leads.len()))
 }
 
-/// Reads the page that has these links, where it is made of a file that can be read.
-fn read_page<'l, 'f, B: Bodies>(
+/// Where the links of the pages stand that one of several threads takes. Each takes the next until there is none.
+pub(crate) fn every_place<B: Bodies>(
+    alloc: Global,
+    site: Site<'_, '_>,
+    pages: &[&[Lead]],
+    bodies: &B,
+    next: &AtomicUsize,
+) -> Result<Vec<PlaceOf>, NoMemory> {
+    let mut all = Vec::new(alloc);
+    for _ in 0..pages.len() {
+        let Some(leads) = pages.get(next.fetch_add(1, Ordering::SeqCst)) else {
+            break;
+        };
+        push_page(alloc, site, *leads, bodies, &mut all)?;
+    }
+    Ok(all)
+}
+
+/// Appends where the links of a page stand, which is read again where it is made of a file that can be read.
+fn push_page<B: Bodies>(
+    alloc: Global,
+    site: Site<'_, '_>,
+    leads: &[Lead],
+    bodies: &B,
+    all: &mut Vec<PlaceOf>,
+) -> Result<(), NoMemory> {
+    let Some(name) = name_of(alloc, site, leads)? else {
+        return Ok(());
+    };
+    match bodies.body(name)? {
+        Some(body) => push_places(alloc, leads, name, body.as_slice(), all),
+        None => Ok(()),
+    }
+}
+
+/// The name of the file of the page that has these links.
+fn name_of<'f>(
     alloc: Global,
     site: Site<'_, 'f>,
-    leads: &'l [Lead],
-    bodies: &mut B,
-) -> Result<Option<ReadPage<'l, 'f>>, NoMemory> {
+    leads: &[Lead],
+) -> Result<Option<&'f str>, NoMemory> {
     let Some(one) = leads
         .first()
         .and_then(|lead| site.pages.results.get(lead.source))
     else {
         return Ok(None);
     };
-    let Some(file) = site.files.file_of(alloc, one.url.as_str())? else {
-        return Ok(None);
-    };
-    let Some(name) = site.files.name(file) else {
-        return Ok(None);
-    };
-    match bodies.body(name)? {
-        Some(body) => Ok(Some(ReadPage { leads, name, body })),
+    match site.files.file_of(alloc, one.url.as_str())? {
+        Some(file) => Ok(site.files.name(file)),
         None => Ok(None),
     }
 }
 
-/// Where the links stand, in each page whose number leaves this rest by `of`.
-pub(crate) fn every_place(
-    alloc: Global,
-    read: &[ReadPage<'_, '_>],
-    rest: usize,
-    of: usize,
-) -> Result<Vec<PlaceOf>, NoMemory> {
-    let mut all = Vec::new(alloc);
-    for (number, page) in read.iter().enumerate() {
-        if number.checked_rem(of) == Some(rest) {
-            push_places(alloc, page, &mut all)?;
-        }
-    }
-    Ok(all)
-}
-
 fn push_places(
     alloc: Global,
-    page: &ReadPage<'_, '_>,
+    leads: &[Lead],
+    name: &str,
+    body: &[u8],
     all: &mut Vec<PlaceOf>,
 ) -> Result<(), NoMemory> {
-    let indices = indices_of(alloc, page.leads)?;
-    let places = text_places(alloc, page.body.as_slice(), indices.as_slice())?;
-    for (lead, place) in page.leads.iter().zip(places.iter()) {
-        let place = place_in(alloc, page.name, *place)?;
+    let indices = indices_of(alloc, leads)?;
+    let places = text_places(alloc, body, indices.as_slice())?;
+    for (lead, place) in leads.iter().zip(places.iter()) {
+        let place = place_in(alloc, name, *place)?;
         let number = lead.number;
         all.push(PlaceOf { number, place })?;
     }

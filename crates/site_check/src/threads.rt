@@ -5,9 +5,10 @@ ghost use Rattle.site_check.specs.Leads.{indices_at, leads_from, number_at};
 use crate::anchors::{Lacked, Pages, every_lacked, every_links};
 use crate::check::{Bodies, Site};
 use crate::leads::{Lead, Maps, leads_from};
-use crate::located::{PlaceOf, ReadPage, every_place, read_some};
+use crate::located::{PlaceOf, by_page, every_place};
 use crawl_web::{NoMemory, PageResult};
 use std::alloc::Global;
+use std::sync::atomic::AtomicUsize;
 use std::thread;
 use std::thread::{Threads, join};
 
@@ -127,46 +128,24 @@ pub(crate) fn lacked_by<'p, R: Threads + Sync>(
     joined(alloc, parts)
 }
 
-/// Where these links stand, which stand together by their pages. The caller reads pages while threads look at those read before.
-pub(crate) fn locate_by<R: Threads + Sync, B: Bodies>(
+/// Where these links stand, which stand together by their pages. Each thread reads the pages that it looks at.
+pub(crate) fn locate_by<R: Threads + Sync, B: Bodies + Sync>(
     rt: &R,
     alloc: Global,
     site: Site<'_, '_>,
     leads: &[Lead],
-    bodies: &mut B,
+    bodies: &B,
 ) -> Result<Vec<PlaceOf>, NoMemory> {
-    let count = site.files.threads().max(1);
-    let mut all = Vec::new(alloc);
-    let (mut read, mut rest) = read_some(alloc, site, leads, bodies)?;
-    for _ in 0..leads.len() {
-        if read.is_empty() {
-            break;
-        }
-        let (places, next) = join(
-            rt,
-            || places_by(rt, alloc, read.as_slice(), count),
-            || read_some(alloc, site, rest, bodies),
-        );
-        let mut places = places?;
-        all.append(&mut places)?;
-        let (more, behind) = next?;
-        read = more;
-        rest = behind;
-    }
-    Ok(all)
-}
-
-fn places_by<R: Threads + Sync>(
-    rt: &R,
-    alloc: Global,
-    read: &[ReadPage<'_, '_>],
-    count: usize,
-) -> Result<Vec<PlaceOf>, NoMemory> {
+    let pages = by_page(alloc, leads)?;
+    let pages = pages.as_slice();
+    let next = AtomicUsize::new(0);
+    let next = &next;
+    let count = site.files.threads().min(pages.len()).max(1);
     let parts = thread::map_indices(
         rt,
         alloc,
         count,
-        &|rest: usize| { every_place(alloc, read, rest, count) },
+        &|_: usize| { every_place(alloc, site, pages, bodies, next) },
     )?;
     joined(alloc, parts)
 }
