@@ -1,6 +1,6 @@
 //! The bytes of a site's files, in memory and on disk.
 use crawl_web::NoMemory;
-use saved_site::folder_body;
+use saved_site::{Body, folder_body};
 use site_check::Bodies;
 use std::alloc::{AllocError, Global};
 use std::io::ErrorKind;
@@ -16,18 +16,20 @@ pub struct Files<'a> {
 /// Gives files in memory.
 #[derive(Drop)]
 pub(crate) struct InMemory<'a> {
-    pub(crate) alloc: Global,
     pub(crate) files: Files<'a>,
 }
 
 impl Bodies for InMemory<'_> {
-    fn body(&self, name: &str) -> Result<Option<Vec<u8>>, NoMemory> {
+    fn read(&self, name: &str, body: &mut Body) -> Result<bool, NoMemory> {
         let Some(index) = self.files.names.iter().position(|own| own.as_str() == name) else {
-            return Ok(None);
+            return Ok(false);
         };
         match self.files.bodies.get(index) {
-            Some(body) => Ok(Some(Vec::from_slice(self.alloc, body.as_slice())?)),
-            None => Ok(None),
+            Some(bytes) => {
+                body.push(bytes.as_slice())?;
+                Ok(true)
+            }
+            None => Ok(false),
         }
     }
 }
@@ -41,11 +43,11 @@ pub(crate) struct OnDisk<'a, R> {
 }
 
 impl<R: rt::Files> Bodies for OnDisk<'_, R> {
-    fn body(&self, name: &str) -> Result<Option<Vec<u8>>, NoMemory> {
-        match folder_body(self.rt, self.alloc, self.folder, name) {
-            Ok(body) => Ok(Some(body)),
+    fn read(&self, name: &str, body: &mut Body) -> Result<bool, NoMemory> {
+        match folder_body(self.rt, self.alloc, self.folder, name, body) {
+            Ok(()) => Ok(true),
             Err(error) if error.kind() == ErrorKind::OutOfMemory => Err(AllocError),
-            Err(_) => Ok(None),
+            Err(_) => Ok(false),
         }
     }
 }

@@ -77,7 +77,7 @@ pub fn report_of_files<R: Threads + Wait + Sync>(
     };
     let pages = SiteFiles::new(alloc, input)?;
     let web = files_web(rt, alloc, &pages, settings.seeds, files.bodies)?;
-    let bodies = InMemory { alloc, files };
+    let bodies = InMemory { files };
     report_of_site(rt, alloc, web, &pages, &bodies, settings)
 }
 

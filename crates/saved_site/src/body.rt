@@ -11,7 +11,7 @@ const GROWTH: usize = 1 << 20;
 
 /// The bytes of a file.
 #[derive(Drop)]
-pub(crate) struct Body {
+pub struct Body {
     /// Room for them, which is used again.
     room: Vec<u8>,
     /// How much of it is used.
@@ -20,23 +20,15 @@ pub(crate) struct Body {
 
 impl Body {
     /// That of no file.
-    pub(crate) fn new(alloc: Global) -> Body {
+    pub fn new(alloc: Global) -> Body {
         Body {
             room: Vec::new(alloc),
             used: 0,
         }
     }
 
-    /// One with room for a file of about this length.
-    pub(crate) fn with_room(alloc: Global, length: usize) -> Result<Body, AllocError> {
-        let mut body = Body::new(alloc);
-        // One byte more, so that the end is met without more room.
-        body.room.resize(length.min(ROOM).saturating_add(1), 0)?;
-        Ok(body)
-    }
-
     /// Takes the bytes away. The room for them is kept, unless it is that of a long file.
-    pub(crate) fn clear(&mut self) {
+    pub fn clear(&mut self) {
         self.used = 0;
         if self.room.len() > ROOM {
             let alloc = *self.room.allocator();
@@ -44,18 +36,15 @@ impl Body {
         }
     }
 
-    pub(crate) fn as_slice(&self) -> &[u8] {
+    pub fn as_slice(&self) -> &[u8] {
         self.room.as_slice().get(..self.used).unwrap_or(&[])
     }
 
-    pub(crate) fn into_bytes(self) -> Vec<u8> {
-        let Body { mut room, used } = self;
-        room.truncate(used);
-        room
-    }
-
     /// Appends bytes.
-    pub(crate) fn push(&mut self, bytes: &[u8]) -> Result<(), AllocError> {
+    ///
+    /// # Errors
+    /// Where a growth was refused.
+    pub fn push(&mut self, bytes: &[u8]) -> Result<(), AllocError> {
         self.room.truncate(self.used);
         self.room.extend_from_slice(bytes)?;
         self.used = self.room.len();

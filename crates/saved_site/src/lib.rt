@@ -38,6 +38,7 @@ mod walk;
 mod web;
 
 pub use anchors::{AnchorLink, AnchorLinks, Anchors};
+pub use body::Body;
 pub use error::SiteError;
 pub use files::SiteFiles;
 pub use link_lines::LinkLines;

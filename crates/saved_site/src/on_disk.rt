@@ -106,7 +106,7 @@ pub fn folder_files_web<R: Files<File: Send, Dir: Send> + Threads + Sync>(
     web_of(rt, alloc, files, seeds, told, &contents)
 }
 
-/// The bytes of a file below a folder.
+/// Reads a file below a folder into a body without bytes.
 ///
 /// # Errors
 /// Where it cannot be read, or a growth was refused.
@@ -115,13 +115,10 @@ pub fn folder_body<R: Files>(
     alloc: Global,
     folder: &str,
     name: &str,
-) -> io::Result<Vec<u8>> {
+    body: &mut Body,
+) -> io::Result<()> {
     let path = format!(in alloc; "{folder}/{name}")?;
-    let mut file = fs::open(rt, path.as_str())?;
-    let length = file.metadata()?.len();
-    let mut body = Body::with_room(alloc, usize::try_from(length).unwrap_or(0))?;
-    body.read(&mut file)?;
-    Ok(body.into_bytes())
+    body.read(&mut fs::open(rt, path.as_str())?)
 }
 
 /// Files below a folder, whose documents are read.

@@ -24,17 +24,17 @@ use crate::unreached::unreached;
 use crate::worst::{place_count, worst};
 use check_report::{Broken, FileCount, Findings, Kind, Redirect, Totals};
 use crawl_web::{NoMemory, Page, PageResult};
-use saved_site::{LinkPlaces, PageAnchors, SiteFiles};
+use saved_site::{Body, LinkPlaces, PageAnchors, SiteFiles};
 use std::alloc::Global;
 use std::thread::Threads;
 
 /// Gives the bytes of a site's files, to several threads at once.
 pub trait Bodies {
-    /// The bytes of the file with this name; none where it cannot be read.
+    /// Reads the file with this name into a body without bytes, and answers whether it can be read.
     ///
     /// # Errors
     /// Where a growth was refused.
-    fn body(&self, name: &str) -> Result<Option<Vec<u8>>, NoMemory>;
+    fn read(&self, name: &str, body: &mut Body) -> Result<bool, NoMemory>;
 }
 
 /// What is asked of a check.

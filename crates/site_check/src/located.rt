@@ -3,7 +3,7 @@ use crate::check::{Bodies, Site};
 use crate::leads::Lead;
 use check_report::Place;
 use crawl_web::NoMemory;
-use saved_site::{TextPlace, text_places};
+use saved_site::{Body, TextPlace, text_places};
 use std::alloc::Global;
 use std::mem;
 use std::sync::atomic::{AtomicUsize, Ordering};
@@ -85,7 +85,8 @@ fn split_page(leads: &[Lead]) -> (&[Lead], &[Lead]) {
     leads.split_at(count.min(leads.len()))
 }
 
-/// Where the links of the pages stand that one of several threads takes. Each takes the next until there is none.
+/// Where the links of the pages stand that one of several threads takes. Each takes the next until there is none, and reads it again
+/// where it is made of a file that can be read.
 pub(crate) fn every_place<B: Bodies>(
     alloc: Global,
     site: Site<'_, '_>,
@@ -94,30 +95,19 @@ pub(crate) fn every_place<B: Bodies>(
     next: &AtomicUsize,
 ) -> Result<Vec<PlaceOf>, NoMemory> {
     let mut all = Vec::new(alloc);
+    let mut body = Body::new(alloc);
     for _ in 0..pages.len() {
         let Some(leads) = pages.get(next.fetch_add(1, Ordering::SeqCst)) else {
             break;
         };
-        push_page(alloc, site, *leads, bodies, &mut all)?;
+        if let Some(name) = name_of(alloc, site, *leads)? {
+            body.clear();
+            if bodies.read(name, &mut body)? {
+                push_places(alloc, *leads, name, body.as_slice(), &mut all)?;
+            }
+        }
     }
     Ok(all)
-}
-
-/// Appends where the links of a page stand, which is read again where it is made of a file that can be read.
-fn push_page<B: Bodies>(
-    alloc: Global,
-    site: Site<'_, '_>,
-    leads: &[Lead],
-    bodies: &B,
-    all: &mut Vec<PlaceOf>,
-) -> Result<(), NoMemory> {
-    let Some(name) = name_of(alloc, site, leads)? else {
-        return Ok(());
-    };
-    match bodies.body(name)? {
-        Some(body) => push_places(alloc, leads, name, body.as_slice(), all),
-        None => Ok(()),
-    }
 }
 
 /// The name of the file of the page that has these links.
