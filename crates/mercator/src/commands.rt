@@ -53,7 +53,7 @@ use std::io::{Read, Write};
 use std::sync::Wait;
 use std::thread::Threads;
 use tell::tell;
-pub use web_crawl::{Report, crawl_saved_web, report_of_saved_web};
+pub use web_crawl::{Report, crawl_saved_web, crawl_saved_web_in_threads, report_of_saved_web};
 pub use words::{BAD_COMMAND_LINE, PlanError, plan, whole_command};
 pub use writing::fault_line;
 use writing::{begin, end, tell_ended, tell_fault};

@@ -11,8 +11,8 @@ pub mod laws;
 pub use commands::{
     BAD_COMMAND_LINE, CrawlOptions, Fault, INPUT_LIMIT, InputLimits, LockFile, LogFault, LogPlan,
     NoLocks, Plan, PlanError, Platform, READ_LIMIT, Report, SessionPlan, Unread, crawl_saved_web,
-    fault_line, plan, read_input, report_of_saved_web, run_plan, run_words, run_words_with,
-    whole_command,
+    crawl_saved_web_in_threads, fault_line, plan, read_input, report_of_saved_web, run_plan,
+    run_words, run_words_with, whole_command,
 };
 pub use crawl_certificate::{CertError, CrawlResult, certify};
 pub use crawl_replay::{Script, ScriptError, read_script, replay_text};

@@ -80,8 +80,32 @@ pub fn crawl_saved_web<R: Threads + Wait + Sync>(
     ensures numbers { IfOk result (λ _. IsWorkers settings.now.workers × IsMaximum settings.now.max_pending) }
     ensures mode { IfErr result (ComesOf settings.now.mode) }
 {
-    let (web, urls) = read_site(rt, alloc, settings, bytes, listed, seeds)?;
-    let source = WebInThreads::new(rt, &web, has_threads(settings));
+    let in_threads = has_threads(settings);
+    let (web, urls) = read_site(rt, alloc, in_threads, bytes, listed, seeds)?;
+    let source = WebInThreads::new(rt, alloc, &web, in_threads);
+    let found = crawl_with(rt, alloc, &source, settings, &urls)?;
+    Ok(found)
+}
+
+/// As [`crawl_saved_web`], but threads read the web and find its links even where one worker crawls it.
+///
+/// # Errors
+/// Those of [`crawl_saved_web`].
+pub fn crawl_saved_web_in_threads<R: Threads + Wait + Sync>(
+    rt: &R,
+    alloc: Global,
+    bytes: &[u8],
+    listed: &[u8],
+    seeds: &[String],
+    settings: &CrawlSettings<'_>,
+) -> Result<Crawled, Fault>
+    ensures found { IfOk result (λ crawled. IsFound settings.now.workers bytes.now listed.now (map string_bytes seeds.now) settings.now.filter.now crawled) }
+    ensures refused { IfErr result (λ fault. IsRefused settings.now.workers settings.now.max_pending bytes.now listed.now (map string_bytes seeds.now) fault) }
+    ensures numbers { IfOk result (λ _. IsWorkers settings.now.workers × IsMaximum settings.now.max_pending) }
+    ensures mode { IfErr result (ComesOf settings.now.mode) }
+{
+    let (web, urls) = read_site(rt, alloc, true, bytes, listed, seeds)?;
+    let source = WebInThreads::new(rt, alloc, &web, true);
     let found = crawl_with(rt, alloc, &source, settings, &urls)?;
     Ok(found)
 }
@@ -106,12 +130,14 @@ pub(in crate::commands) fn crawl_with_web<'a, R: Threads + Wait + Sync, L, V: Ob
     ensures counted { IfErr result (λ failure. IsCountedAt settings.now.workers bytes.now listed.now (map string_bytes seeds.now) settings.now.filter.now failure.fault failure.culprit failure.losses) }
 {
     let rt = platform.rt;
-    let (web, urls) = read_site(rt, alloc, settings, bytes, listed, seeds)?;
+    let in_threads = has_threads(settings);
+    let (web, urls) = read_site(rt, alloc, in_threads, bytes, listed, seeds)?;
     if urls.is_empty() {
         return Err(Failure::from(Fault::NoSeed));
     }
-    let source = WebInThreads::new(rt, &web, has_threads(settings));
+    let source = WebInThreads::new(rt, alloc, &web, in_threads);
     let found = crawl_watched(rt, alloc, &source, platform.observer, settings, &urls)?;
+    drop(source);
     Ok((web, found))
 }
 
@@ -119,7 +145,7 @@ pub(in crate::commands) fn crawl_with_web<'a, R: Threads + Wait + Sync, L, V: Ob
 fn read_site<'a, R: Threads + Sync>(
     rt: &R,
     alloc: Global,
-    settings: &CrawlSettings<'_>,
+    in_threads: bool,
     bytes: &'a [u8],
     listed: &[u8],
     seeds: &[String],
@@ -129,32 +155,32 @@ fn read_site<'a, R: Threads + Sync>(
     ensures named { IfOk result (λ r. AreAllSeeds listed.now (map string_bytes seeds.now) r.1.items) }
     ensures unread { IfErr result (λ fault. IsUnread bytes.now listed.now (map string_bytes seeds.now) fault) }
 {
-    let web = web_of(rt, alloc, settings, bytes)?;
+    let web = web_of(rt, alloc, in_threads, bytes)?;
     let mut urls = read_seeds(alloc, listed)?;
     let mut others = seed_urls(alloc, seeds)?;
     urls.append(&mut others)?;
     Ok((web, urls))
 }
 
-/// The saved web that the bytes are, read by threads where several workers crawl it by threads.
+/// The saved web that the bytes are, read by threads where that is asked for.
 fn web_of<'a, R: Threads + Sync>(
     rt: &R,
     alloc: Global,
-    settings: &CrawlSettings<'_>,
+    in_threads: bool,
     bytes: &'a [u8],
 ) -> Result<SavedWeb<'a>, WebError>
     ensures sound { IfOk result (λ _. IsSound (lines bytes.now)) }
     ensures pages { IfOk result (λ web. (url : List ℕ) → page_at web url ≡ page_of (lines bytes.now) url) }
     ensures fault { IfErr result (λ told. IsWebRefusal (lines bytes.now) told) }
 {
-    if has_threads(settings) {
+    if in_threads {
         SavedWeb::read_in_threads(rt, alloc, bytes)
     } else {
         SavedWeb::read(alloc, bytes)
     }
 }
 
-/// Whether several workers crawl by threads: then threads read the web too, and find the links of its long pages.
+/// Whether several workers crawl by threads: then threads read the web too, and find its links.
 fn has_threads(settings: &CrawlSettings<'_>) -> bool {
     settings.workers > 1 && matches!(settings.mode, Mode::Threads)
 }

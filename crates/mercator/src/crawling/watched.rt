@@ -63,7 +63,11 @@ impl<'f, 'o, F: SessionFetch, V: Observe> SessionFetch for Watched<'f, 'o, F, V>
 
     ghost is_of = { λ watched session. F.is_of watched.source.now session.inner × (session.untold < most_untold) };
 
-    fn open_session(&self, alloc: Global, among: u32) -> WatchedSession<F::Session> {
+    fn open_session(&self, alloc: Global, among: u32) -> WatchedSession<F::Session>
+        ensures right { F.is_of self.now.source.now result.inner × (result.untold < most_untold) }
+        // Nothing of it is untold.
+        ensures fresh { result.untold ≡ 0 }
+    {
         WatchedSession {
             inner: self.source.open_session(alloc, among),
             untold: 0,
