@@ -1,5 +1,5 @@
 -- The statuses of faults.
-use Rattle.std.specs.Prelude.{◌≡◌, ◌⊎◌}
+use Rattle.std.specs.Prelude.{◌≡◌, ◌⊎◌, ◌≤◌, ℕ}
 use Rattle.std.proofs.Common.{◌∙◌, arith, refl, sym, inl, inr}
 use Rattle.crawl_keys.specs.declared.filter.error.FilterError.{FilterError}
 use Rattle.crawl_keys.specs.declared.filter.error.FilterError.TheVariants as unfiltered
@@ -57,3 +57,12 @@ filter_status unfiltered.NoMemory = refl
 -- a fault with status 1 tells no incomplete crawl
 pub not_incomplete : {P : Type 0} (fault : SiteFault) → status_of fault ≡ 1 → status_of fault ≡ 2 → P
 not_incomplete fault one two = absurd (let e : 1 ≡ 2 = sym one ∙ two in omega arith)
+
+-- a command over a folder that is run ends with no status of a bad command line
+pub at_most_four : (status : ℕ) → (status ≤ 2) ⊎ (status ≡ 4) → status ≤ 4
+at_most_four status (inl few) = omega arith
+at_most_four status (inr four) = omega arith
+
+pub not_bad : {P : Type 0} (status : ℕ) → (status ≤ 2) ⊎ (status ≡ 4) → status ≡ 3 → P
+not_bad status (inl few) three = absurd (omega arith)
+not_bad status (inr four) three = absurd (omega arith)

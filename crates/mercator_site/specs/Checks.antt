@@ -57,9 +57,10 @@ AreOthersAsked false top pages None = ⊤
 abbrev pub other_rows : Told → Option (List Row)
 other_rows told = option_map (λ urls. map row_of urls.now) told.external
 
--- the text tells what a check found and these rows of other hosts, and whether something is broken
-pub record IsReport (checked : Checked) (others : Option (List Row)) (asks : Asks) (broken : Bool) (text : List ℕ) : Type 0 where
+-- the text tells what a check of a site of this name found and these rows of other hosts, and whether something is broken
+pub record IsReport (checked : Checked) (others : Option (List Row)) (name : List ℕ) (asks : Asks) (broken : Bool) (text : List ℕ) : Type 0 where
   pub found : Findings
+  pub base : found.base.now ≡ name
   pub rows : found.broken.now ≡ checked.broken.items
   pub ways : found.redirects.now ≡ checked.redirects.items
   pub unused : found.unused_ignores.now ≡ checked.unused_ignores.items
@@ -88,9 +89,19 @@ pub record IsCheck (top web : List ℕ) (asks : Asks) (broken : Bool) (text : Li
   pub others : AreOthersAsked asks.external top pages (other_rows told)
   pub written : text ≡ printed_check asks.form asks.all told found
 
--- the same of the saved web of a site
+-- the same, where the text tells this name of the site
+pub record IsNamedCheck (name top web : List ℕ) (asks : Asks) (broken : Bool) (text : List ℕ) : Type 0 where
+  pub check : IsCheck top web asks broken text
+  pub base : check.found.base.now ≡ name
+
+-- such a check of the saved web of a site
 pub record IsSiteCheck (asks : Asks) (broken : Bool) (text : List ℕ) : Type 0 where
   pub top : List ℕ
   pub web : List ℕ
   pub made : IsSiteWeb web
   pub checked : IsCheck top web asks broken text
+
+-- the same, where the text tells this name of the site
+pub record IsNamedSiteCheck (name : List ℕ) (asks : Asks) (broken : Bool) (text : List ℕ) : Type 0 where
+  pub site : IsSiteCheck asks broken text
+  pub base : site.checked.found.base.now ≡ name

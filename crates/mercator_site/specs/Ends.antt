@@ -1,6 +1,7 @@
 -- What the output gains of a command over a folder.
-use Rattle.std.specs.Prelude.{◌≡◌, ℕ, Bool, false, if◌then◌else◌, List, [], Option, None}
+use Rattle.std.specs.Prelude.{◌≡◌, ◌||◌, ℕ, Bool, false, if◌then◌else◌, List, [], ◌∷◌, codes, Option, None, string_bytes}
 use Rattle.std.specs.Io.KnownBytes.{Appends}
+use Rattle.std.specs.Str.{bytes_eq}
 use Rattle.mercator_site.specs.Asks.{asks_of}
 use Rattle.mercator_site.specs.Checks.{IsSiteCheck}
 use Rattle.mercator_site.specs.Faults.{IsSiteIncomplete}
@@ -15,13 +16,14 @@ pub record GainsWeb (old new : Option (List ℕ)) : Type 0 where
   pub told : IsSiteWeb text
   pub gained : Appends old new text
 
--- the report of a check of a folder, of whose files nothing is known by its name. The top is left out at the front of each URL
--- where no BASE is given, and no entry is known where no file of them is
+-- the report of a check of a folder, of whose files nothing is known by its name. Where no BASE is given, the folder is the site's
+-- name, and the top is left out at the front of each URL; else the top is the name. No entry is known where no file of them is
 pub record IsFolderCheck (asked : CheckAsked) (broken : Bool) (text : List ℕ) : Type 0 where
   pub front : List ℕ
   pub entries : List (List ℕ)
   pub told : IsSiteCheck (asks_of asked front entries) broken text
   pub fronted : front ≡ (if asked.paths then told.top else [])
+  pub base : told.checked.found.base.now ≡ (if asked.paths then string_bytes asked.site.folder else told.top)
   pub known : asked.known ≡ None → entries ≡ []
 
 -- such a report, which tells whether something is broken
@@ -49,3 +51,22 @@ HasText (asks.Check asked) = HasReport asked
 abbrev pub IsIncomplete : SitePlan → Type 0
 IsIncomplete (asks.Site asked) = ⊥
 IsIncomplete (asks.Check asked) = IsSiteIncomplete asked
+
+-- ---- of words
+
+-- they begin with the name of a command over a folder
+abbrev pub are_ours : List (List ℕ) → Bool
+are_ours [] = false
+are_ours (word ∷ words) = bytes_eq word (codes "site") || bytes_eq word (codes "check")
+
+-- a text: help
+abbrev pub IsHelped : Option (List ℕ) → Option (List ℕ) → Type 0
+IsHelped old new = (text : List ℕ) × Appends old new text
+
+-- what some plan's command writes, which tells whether something is broken
+abbrev pub IsRun : Bool → Option (List ℕ) → Option (List ℕ) → Type 0
+IsRun broken old new = (plan : SitePlan) × GainsPlan plan broken old new
+
+-- some plan's crawl is incomplete
+abbrev pub IsSomeIncomplete : Type 0
+IsSomeIncomplete = (plan : SitePlan) × IsIncomplete plan

@@ -3,7 +3,7 @@ ghost use Rattle.std.specs.Prelude.{◌≡◌, ◌∷◌, [], IfErr, IfOk, map, 
 ghost use Rattle.std.specs.Option.{option_map};
 ghost use Rattle.crawl_keys.specs.CanonicalText.{canonical};
 ghost use Rattle.mercator_site.specs.Asks.{asks_in};
-ghost use Rattle.mercator_site.specs.Checks.{AreOthersAsked, IsCheck, IsReport, IsSiteCheck, IsTopCrawl};
+ghost use Rattle.mercator_site.specs.Checks.{AreOthersAsked, IsCheck, IsNamedCheck, IsNamedSiteCheck, IsReport, IsSiteCheck, IsTopCrawl};
 ghost use Rattle.mercator_site.specs.External.{row_of};
 ghost use Rattle.mercator_site.specs.Faults.{IsTopIncomplete, status_of};
 
@@ -17,7 +17,7 @@ use check_report::{External, Told};
 use crawl_keys::{CanonUrl, Filter, KeyError, canonical};
 use crawl_limits::PENDING_LIMIT;
 use crawl_web::PageResult;
-use mercator::{CrawlSettings, Crawled, Fault, Mode, crawl_saved_web};
+use mercator::{CrawlSettings, Crawled, Fault, Mode, crawl_saved_web_in_threads};
 use saved_site::{LinkPlaces, PageAnchors, Rules, SiteFiles, SiteNames, Web, files_web};
 use site_check::{Asked, Bodies, Checked, check_site};
 use std::alloc::{AllocError, Global};
@@ -67,7 +67,8 @@ pub fn report_of_files<R: Threads + Wait + Sync>(
     rules: &Rules,
     settings: CheckSettings<'_>,
 ) -> Result<CheckReport, SiteFault>
-    ensures { IfOk result (λ report. IsSiteCheck (asks_in settings.entry) report.is_broken report.text.items) }
+    ensures done { IfOk result (λ report. IsSiteCheck (asks_in settings.entry) report.is_broken report.text.items) }
+    ensures named { IfOk result (λ report. IsNamedSiteCheck settings.entry.name.now (asks_in settings.entry) report.is_broken report.text.items) }
 {
     let input = SiteNames {
         names: files.names,
@@ -95,6 +96,7 @@ pub fn report_of_site<R: Threads + Wait + Sync, B: Bodies + Sync>(
     settings: CheckSettings<'_>,
 ) -> Result<CheckReport, SiteFault>
     ensures done { IfOk result (λ report. IsCheck (string_bytes files.now.site.top) web.bytes.items (asks_in settings.entry) report.is_broken report.text.items) }
+    ensures named { IfOk result (λ report. IsNamedCheck settings.entry.name.now (string_bytes files.now.site.top) web.bytes.items (asks_in settings.entry) report.is_broken report.text.items) }
     ensures incomplete { IfErr result (λ fault. status_of fault ≡ 2 → IsTopIncomplete (string_bytes files.now.site.top) web.bytes.items (map string_bytes settings.entry.seeds.now) settings.entry.workers) }
 {
     let Web {
@@ -149,7 +151,7 @@ fn report_of(
     others: &Option<Vec<External>>,
     settings: CheckSettings<'_>,
 ) -> Result<CheckReport, AllocError>
-    ensures { IfOk result (λ report. IsReport checked.now (option_map (λ urls. map row_of urls.items) others.now) (asks_in settings.entry) report.is_broken report.text.items) }
+    ensures { IfOk result (λ report. IsReport checked.now (option_map (λ urls. map row_of urls.items) others.now) settings.entry.name.now (asks_in settings.entry) report.is_broken report.text.items) }
 {
     let told = Told {
         unreached: settings.unreached,
@@ -184,7 +186,7 @@ fn crawl_site<R: Threads + Wait + Sync>(
         mode: Mode::Threads,
         filter: &filter,
     };
-    let found = crawl_saved_web(rt, alloc, web, &[], seeds.as_slice(), &settings)?;
+    let found = crawl_saved_web_in_threads(rt, alloc, web, &[], seeds.as_slice(), &settings)?;
     Ok(found)
 }
 

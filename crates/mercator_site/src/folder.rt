@@ -122,14 +122,11 @@ fn settings_of<'a>(asked: &'a CheckAsked, top: &'a str, known: &'a [String]) -> 
     ensures asks { asks_in result ≡ asks_of asked.now result.front.now (map string_bytes known.now) }
     ensures workers { result.workers ≡ asked.now.workers }
     ensures front { result.front.now ≡ (if asked.now.paths then top.now else []) }
+    ensures name { result.name.now ≡ (if asked.now.paths then string_bytes asked.now.site.folder else top.now) }
 {
     CheckSettings {
         workers: asked.workers,
-        name: if asked.paths {
-            asked.site.folder.as_str()
-        } else {
-            top
-        },
+        name: name_of(asked, top),
         front: front_of(asked.paths, top),
         ignores: known,
         unreached: asked.unreached,
@@ -137,6 +134,17 @@ fn settings_of<'a>(asked: &'a CheckAsked, top: &'a str, known: &'a [String]) -> 
         seeds: asked.seeds.as_slice(),
         form: asked.form,
         all: asked.all,
+    }
+}
+
+/// How the site is named: by its folder where paths in it are told.
+fn name_of<'a>(asked: &'a CheckAsked, top: &'a str) -> &'a str
+    ensures { result.now ≡ (if asked.now.paths then string_bytes asked.now.site.folder else top.now) }
+{
+    if asked.paths {
+        asked.site.folder.as_str()
+    } else {
+        top
     }
 }
 

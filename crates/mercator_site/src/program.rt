@@ -1,6 +1,7 @@
 //! The commands over a folder as the program runs them.
-ghost use Rattle.std.specs.Prelude.{◌≡◌, ◌≤◌, ◌⊎◌, true, false, IfErr, IfOk};
-ghost use Rattle.mercator_site.specs.Ends.{GainsCheck, GainsPlan, HasReport, HasText, IsIncomplete};
+ghost use Rattle.std.specs.Prelude.{◌≡◌, ◌≤◌, ◌⊎◌, None, true, false, IfErr, IfOk, IfSome, is_some, map, string_bytes};
+ghost use Rattle.std.specs.Io.KnownBytes.{Appends};
+ghost use Rattle.mercator_site.specs.Ends.{GainsCheck, GainsPlan, HasReport, HasText, IsHelped, IsIncomplete, IsRun, IsSomeIncomplete, are_ours};
 ghost use Rattle.mercator_site.specs.Faults.{IsSiteIncomplete, status_of};
 
 use crate::asked::{CheckAsked, SitePlan, site_plan};
@@ -17,15 +18,15 @@ use std::thread::Threads;
 /// The status of a check that found something broken.
 pub const BROKEN: u8 = 4;
 
-/// What words ask for.
+/// What words of ours ask for.
 #[derive(Drop)]
 enum Asked {
     /// A command over a folder.
     Plan(SitePlan),
-    /// Such a command's help, with status 0, or what is wrong with its words, with status 3.
-    Shown(String, u8),
-    /// Another command.
-    Other,
+    /// Such a command's help.
+    Help(String),
+    /// What is wrong with its words; empty where they were read otherwise than they were checked.
+    Wrong(String),
 }
 
 /// Runs the program's words where they are those of a command over a folder, and answers its status; nothing where they are not,
@@ -37,11 +38,26 @@ pub fn run_site_words<R: Files<File: Send, Dir: Send> + Threads + Wait + Sync, O
     colour: bool,
     out: &mut O,
     err: &mut E,
-) -> Option<u8> {
+) -> Option<u8>
+    // Just the words of other commands are left, and then nothing is written.
+    ensures ours { is_some result ≡ are_ours (map string_bytes words.now) }
+    ensures others { result ≡ None → (out.new ≡ out.old) × (err.new ≡ err.old) }
+    ensures statuses { IfSome result (λ status. status ≤ 4) }
+
+    // Done: the output gained help, or what a command tells that found nothing broken.
+    ensures done { IfSome result (λ status. status ≡ 0 → IsHelped (O.contents out.old) (O.contents out.new) ⊎ IsRun false (O.contents out.old) (O.contents out.new)) }
+    // Something is broken: it gained the report that tells so.
+    ensures broken { IfSome result (λ status. status ≡ 4 → IsRun true (O.contents out.old) (O.contents out.new)) }
+    // Only the crawl of a check is incomplete, and nothing is written then.
+    ensures incomplete { IfSome result (λ status. status ≡ 2 → IsSomeIncomplete × (out.new ≡ out.old)) }
+    // A bad command line: nothing is written but what is wrong with it.
+    ensures bad_command { IfSome result (λ status. status ≡ 3 → out.new ≡ out.old) }
+{
+    if !is_ours(words) {
+        return None;
+    }
     match asked_of(alloc, words, colour) {
-        Ok(Asked::Plan(plan)) => Some(run_site_plan(rt, alloc, &plan, out, err)),
-        Ok(Asked::Shown(text, status)) => Some(show(text.as_bytes(), status, out, err)),
-        Ok(Asked::Other) => None,
+        Ok(asked) => Some(run_asked(rt, alloc, asked, out, err)),
         Err(_) => {
             tell_fault(alloc, err, "", SiteFault::NoMemory);
             Some(1)
@@ -49,12 +65,45 @@ pub fn run_site_words<R: Files<File: Send, Dir: Send> + Threads + Wait + Sync, O
     }
 }
 
-/// Writes help to the output, and what is wrong with words to the writer for faults.
-fn show<O: Write, E: Write>(text: &[u8], status: u8, out: &mut O, err: &mut E) -> u8 {
-    if status != 0 {
-        let _ = err.write_all(text);
-        return status;
+/// Whether the words are those of a command over a folder.
+fn is_ours(words: &[String]) -> bool
+    ensures { result ≡ are_ours (map string_bytes words.now) }
+{
+    match words.split_first() {
+        Some((word, _)) => word.as_str() == "site" || word.as_str() == "check",
+        None => false,
     }
+}
+
+/// Runs what is asked for, and answers its status.
+fn run_asked<R: Files<File: Send, Dir: Send> + Threads + Wait + Sync, O: Write, E: Write>(
+    rt: &R,
+    alloc: Global,
+    asked: Asked,
+    out: &mut O,
+    err: &mut E,
+) -> u8
+    ensures statuses { result ≤ 4 }
+    ensures done { result ≡ 0 → IsHelped (O.contents out.old) (O.contents out.new) ⊎ IsRun false (O.contents out.old) (O.contents out.new) }
+    ensures broken { result ≡ 4 → IsRun true (O.contents out.old) (O.contents out.new) }
+    ensures incomplete { result ≡ 2 → IsSomeIncomplete × (out.new ≡ out.old) }
+    ensures bad_command { result ≡ 3 → out.new ≡ out.old }
+{
+    match asked {
+        Asked::Plan(plan) => run_site_plan(rt, alloc, &plan, out, err),
+        Asked::Help(text) => show_help(text.as_bytes(), out),
+        Asked::Wrong(text) => {
+            let _ = err.write_all(text.as_bytes());
+            BAD_COMMAND_LINE
+        }
+    }
+}
+
+/// Writes help to the output, and answers the status.
+fn show_help<O: Write>(text: &[u8], out: &mut O) -> u8
+    ensures statuses { result ≤ 1 }
+    ensures shown { result ≡ 0 → Appends (O.contents out.old) (O.contents out.new) text.now }
+{
     match write_text(out, text) {
         Ok(()) => 0,
         Err(fault) => fault.status(),
@@ -63,13 +112,6 @@ fn show<O: Write, E: Write>(text: &[u8], status: u8, out: &mut O, err: &mut E) -
 
 /// What the words ask for.
 fn asked_of(alloc: Global, words: &[String], colour: bool) -> Result<Asked, AllocError> {
-    let is_ours = match words.first() {
-        Some(word) => word.as_str() == "site" || word.as_str() == "check",
-        None => false,
-    };
-    if !is_ours {
-        return Ok(Asked::Other);
-    }
     let mut named = Vec::new(alloc);
     named.push("mercator")?;
     for word in words {
@@ -78,7 +120,7 @@ fn asked_of(alloc: Global, words: &[String], colour: bool) -> Result<Asked, Allo
     match whole_command(alloc)?.try_get_matches_from(named.as_slice()) {
         Ok(matches) => match site_plan(alloc, &matches, colour)? {
             Some(plan) => Ok(Asked::Plan(plan)),
-            None => Ok(Asked::Other),
+            None => Ok(Asked::Wrong(String::new(alloc))),
         },
         Err(error) => shown(alloc, &error),
     }
@@ -86,12 +128,12 @@ fn asked_of(alloc: Global, words: &[String], colour: bool) -> Result<Asked, Allo
 
 /// What is shown for this answer of `clap`.
 fn shown(alloc: Global, error: &clap::Error) -> Result<Asked, AllocError> {
-    let status = if error.use_stderr() {
-        BAD_COMMAND_LINE
+    let text = format!(in alloc; "{error}")?;
+    if error.use_stderr() {
+        Ok(Asked::Wrong(text))
     } else {
-        0
-    };
-    Ok(Asked::Shown(format!(in alloc; "{error}")?, status))
+        Ok(Asked::Help(text))
+    }
 }
 
 /// Runs such a command and answers its status. What it tells is whole before any of it is written.

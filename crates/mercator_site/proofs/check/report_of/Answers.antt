@@ -4,6 +4,7 @@ use Rattle.mercator_site.proofs.check.report_of.Goals as goal
 pub returns : goal.returns
 returns c = record {
   found = c.findings-findings.result;
+  base = c.findings-findings.ensures.base;
   rows = c.findings-findings.ensures.broken;
   ways = c.findings-findings.ensures.redirects;
   unused = c.findings-findings.ensures.unused_ignores;

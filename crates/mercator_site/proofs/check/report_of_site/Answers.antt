@@ -57,6 +57,10 @@ returns-clause-done g c =
       written = told.written;
     }
 
+pub returns-clause-named : goal.returns-clause-named
+unfolding returns-clause-done
+returns-clause-named g c = record { check = returns-clause-done g c; base = c.in_ok-report.ensures.base }
+
 pub returns-in_err-found-clause-incomplete : goal.returns-in_err-found-clause-incomplete
 returns-in_err-found-clause-incomplete g c =
     let links = map string_bytes c.args.settings.seeds.now in

@@ -2,7 +2,7 @@ use Rattle.std.proofs.Common.{ℕ, List, [], map, string_bytes, ap, subst, ◌�
 use Rattle.std.specs.Bool.{if◌then◌else◌}
 use Rattle.std.proofs.lemmas.Result.{err_from_is_err_and}
 use Rattle.mercator_site.specs.Asks.{Asks}
-use Rattle.mercator_site.specs.Checks.{IsCheck}
+use Rattle.mercator_site.specs.Checks.{IsNamedCheck}
 use Rattle.mercator_site.specs.Faults.{IsTopIncomplete}
 use Rattle.mercator_site.proofs.folder.report_of_names.Goals as goal
 
@@ -28,6 +28,9 @@ returns-clause-folder g c = λ none_known.
     let web = c.in_ok-web.web.bytes.items in
     let report = c.in_ok-report.report in
     let paths = c.args.asked.now.paths in
+    let folder = string_bytes c.args.asked.now.site.folder in
+    let name = c.settings_of-settings.result.name.now in
+    let named = subst (λ (a : Asks). IsNamedCheck name top web a report.is_broken report.text.items) c.settings_of-settings.ensures.asks c.in_ok-report.ensures.named in
     record {
       front = c.settings_of-settings.result.front.now;
       entries = map string_bytes c.args.known.now;
@@ -35,8 +38,9 @@ returns-clause-folder g c = λ none_known.
         top = top;
         web = web;
         made = c.in_ok-web.ensures.web;
-        checked = subst (λ (a : Asks). IsCheck top web a report.is_broken report.text.items) c.settings_of-settings.ensures.asks c.in_ok-report.ensures.done;
+        checked = named.check;
       };
       fronted = c.settings_of-settings.ensures.front ∙ ap (λ (t : List ℕ). if paths then t else []) c.top.ensures;
+      base = named.base ∙ c.settings_of-settings.ensures.name ∙ ap (λ (t : List ℕ). if paths then folder else t) c.top.ensures;
       known = λ none. ap (map string_bytes) (none_known none);
     }

@@ -1,0 +1,14 @@
+use Rattle.std.proofs.Common.{ℕ, List, Result, Ok, Err, IfOk}
+use Rattle.mercator_site.specs.Asks.{Asks}
+use Rattle.mercator_site.specs.Checks.{IsNamedCheck, IsNamedSiteCheck}
+use Rattle.mercator_site.specs.declared.check.CheckReport.{CheckReport}
+use Rattle.mercator_site.specs.declared.fault.SiteFault.{SiteFault}
+use Rattle.saved_site.specs.Meaning.{IsSiteWeb}
+use Rattle.mercator_site.proofs.check.report_of_files.Goals as goal
+
+named_site : (answer : Result CheckReport SiteFault) (name top web : List ℕ) (asks : Asks) → IsSiteWeb web → IfOk answer (λ report. IsNamedCheck name top web asks report.is_broken report.text.items) → IfOk answer (λ report. IsNamedSiteCheck name asks report.is_broken report.text.items)
+named_site (Ok report) name top web asks made is = record { site = record { top = top; web = web; made = made; checked = is.check }; base = is.base }
+named_site (Err fault) name top web asks made is = tt
+
+pub returns-clause-named : goal.returns-clause-named
+returns-clause-named g c = named_site c.report_of_site.result _ _ _ _ c.in_ok-web.ensures.web c.report_of_site.ensures.named
