@@ -66,7 +66,3 @@ IsHelped old new = (text : List ℕ) × Appends old new text
 -- what some plan's command writes, which tells whether something is broken
 abbrev pub IsRun : Bool → Option (List ℕ) → Option (List ℕ) → Type 0
 IsRun broken old new = (plan : SitePlan) × GainsPlan plan broken old new
-
--- some plan's crawl is incomplete
-abbrev pub IsSomeIncomplete : Type 0
-IsSomeIncomplete = (plan : SitePlan) × IsIncomplete plan

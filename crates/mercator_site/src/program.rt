@@ -1,7 +1,7 @@
 //! The commands over a folder as the program runs them.
 ghost use Rattle.std.specs.Prelude.{◌≡◌, ◌≤◌, ◌⊎◌, None, true, false, IfErr, IfOk, IfSome, is_some, map, string_bytes};
 ghost use Rattle.std.specs.Io.KnownBytes.{Appends};
-ghost use Rattle.mercator_site.specs.Ends.{GainsCheck, GainsPlan, HasReport, HasText, IsHelped, IsIncomplete, IsRun, IsSomeIncomplete, are_ours};
+ghost use Rattle.mercator_site.specs.Ends.{GainsCheck, GainsPlan, HasReport, HasText, IsHelped, IsIncomplete, IsRun, are_ours};
 ghost use Rattle.mercator_site.specs.Faults.{IsSiteIncomplete, status_of};
 
 use crate::asked::{CheckAsked, SitePlan, site_plan};
@@ -44,12 +44,12 @@ pub fn run_site_words<R: Files<File: Send, Dir: Send> + Threads + Wait + Sync, O
     ensures others { result ≡ None → (out.new ≡ out.old) × (err.new ≡ err.old) }
     ensures statuses { IfSome result (λ status. status ≤ 4) }
 
-    // Done: the output gained help, or what a command tells that found nothing broken.
+    // Done: the output gained help, or what a command tells that found nothing broken. Which of them, `clap` alone can say.
     ensures done { IfSome result (λ status. status ≡ 0 → IsHelped (O.contents out.old) (O.contents out.new) ⊎ IsRun false (O.contents out.old) (O.contents out.new)) }
     // Something is broken: it gained the report that tells so.
     ensures broken { IfSome result (λ status. status ≡ 4 → IsRun true (O.contents out.old) (O.contents out.new)) }
-    // Only the crawl of a check is incomplete, and nothing is written then.
-    ensures incomplete { IfSome result (λ status. status ≡ 2 → IsSomeIncomplete × (out.new ≡ out.old)) }
+    // A crawl is incomplete: nothing is written.
+    ensures incomplete { IfSome result (λ status. status ≡ 2 → out.new ≡ out.old) }
     // A bad command line: nothing is written but what is wrong with it.
     ensures bad_command { IfSome result (λ status. status ≡ 3 → out.new ≡ out.old) }
 {
@@ -86,7 +86,7 @@ fn run_asked<R: Files<File: Send, Dir: Send> + Threads + Wait + Sync, O: Write, 
     ensures statuses { result ≤ 4 }
     ensures done { result ≡ 0 → IsHelped (O.contents out.old) (O.contents out.new) ⊎ IsRun false (O.contents out.old) (O.contents out.new) }
     ensures broken { result ≡ 4 → IsRun true (O.contents out.old) (O.contents out.new) }
-    ensures incomplete { result ≡ 2 → IsSomeIncomplete × (out.new ≡ out.old) }
+    ensures incomplete { result ≡ 2 → out.new ≡ out.old }
     ensures bad_command { result ≡ 3 → out.new ≡ out.old }
 {
     match asked {

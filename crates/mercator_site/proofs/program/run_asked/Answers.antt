@@ -12,7 +12,7 @@ pub returns-in-Plan-clause-broken : goal.returns-in-Plan-clause-broken
 returns-in-Plan-clause-broken g c = λ broken. (c.in-Plan.plan, c.run_site_plan.ensures.broken broken)
 
 pub returns-in-Plan-clause-incomplete : goal.returns-in-Plan-clause-incomplete
-returns-in-Plan-clause-incomplete g c = λ two. ((c.in-Plan.plan, c.run_site_plan.ensures.incomplete two), c.run_site_plan.ensures.unreported two)
+returns-in-Plan-clause-incomplete g c = λ two. c.run_site_plan.ensures.unreported two
 
 pub returns-in-Plan-clause-bad_command : goal.returns-in-Plan-clause-bad_command
 returns-in-Plan-clause-bad_command g c = λ three. not_bad c.run_site_plan.result c.run_site_plan.ensures.statuses three
