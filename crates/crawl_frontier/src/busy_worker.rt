@@ -10,7 +10,7 @@ use crate::entry::Message;
 use crate::error::OfferError;
 use crate::frontier::Frontier;
 use crate::name::Name;
-use crate::offer::{Answer, Offer, give_back, offer_beside};
+use crate::offer::{Answer, Candidate, Offer, give_back, offer_beside};
 use crate::rights::PopRight;
 use crate::worker::Worker;
 use crawl_gate::Pass;
@@ -103,16 +103,9 @@ impl<K: Name> BusyWorker<K> {
         ensures shared { IfSome result.1 (λ there. there ≡ url.now) }
     {
         let hops = u64::from(self.message.entry.hops) + 1;
-        let held = &mut self.message.unit;
-        offer_beside(
-            rt,
-            frontier,
-            held,
-            &mut self.book,
-            &mut self.pass,
-            url,
-            hops,
-        )
+        let candidate = Candidate { url, hops };
+        let (held, book, pass) = (&mut self.message.unit, &mut self.book, &mut self.pass);
+        offer_beside(rt, frontier, held, book, pass, &candidate)
     }
 
     /// As [`BusyWorker::offer`]. Where the URL was seen, `url` shares the text that the frontier keeps from then on, so

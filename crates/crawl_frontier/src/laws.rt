@@ -8,7 +8,7 @@ ghost use Rattle.crawl_frontier.specs.Rule.{SubqueueInvariant};
 
 pub use crate::rights::{PopRight, PushRight};
 pub use crate::rule::{Home, PassView, SubqueueRule};
-pub use crate::shard::{Admit, Shard};
+pub use crate::shard::{Admit, Offered, Shard};
 pub use crate::subqueue::Subqueue;
 
 /// Of a list that keeps the rule of a subqueue, as each list of an account does: URLs differ, each belongs to the

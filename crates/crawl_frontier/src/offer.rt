@@ -30,6 +30,13 @@ pub enum Offer {
     Seen,
 }
 
+/// A URL that is offered, and how many links away it is.
+#[derive(Clone, Copy)]
+pub(crate) struct Candidate<'a> {
+    pub url: &'a CanonUrl,
+    pub hops: u64,
+}
+
 /// What an offer answers, and of a URL that was seen a copy that shares the frontier's text.
 pub(crate) type Answer = (Result<Offer, OfferError>, Option<CanonUrl>);
 
@@ -53,26 +60,25 @@ pub(crate) fn give_back<K: Name>(frontier: &Frontier<K>, unit: Unit) -> Pass
 fn admit_at<K: Name, R: Wait>(
     rt: &R,
     frontier: &Frontier<K>,
-    url: &CanonUrl,
     queue: u32,
-    offered: Offered,
+    offered: &Offered<'_>,
     unit: Unit,
     told: &mut Beginning,
 ) -> Admit
-    requires queue { queue ≡ subqueue_of url.now K.workers }
+    requires queue { queue ≡ subqueue_of offered.now.url.now K.workers }
     requires within { queue < K.workers }
     requires unit { IsSeatOf K.gate unit }
     requires told { (s : QueueId) → slice_get K.queues queue ≡ Some s → told.old.list ≡ s.list }
-    ensures replies { Replies url.now offered.own offered.hops unit result }
+    ensures replies { Replies offered.now.url.now offered.now.own offered.now.hops unit result }
     ensures list { told.new.list ≡ told.old.list }
     ensures stays { Stays told.old.items told.new.items }
-    ensures index { IsTrueOf told.new.items url.now offered.id offered.hops result }
+    ensures index { IsTrueOf told.new.items offered.now.url.now offered.now.id offered.now.hops result }
 {
     let subqueue = frontier.subqueue(queue);
     for _ in rt.forever() {
         let mut shard = frontier.lock(rt, queue);
         if shard.queue() == queue {
-            return shard.admit_telling(rt, subqueue, url, offered, unit, told);
+            return shard.admit_telling(rt, subqueue, offered, unit, told);
         }
     }
     unreachable!()
@@ -82,52 +88,43 @@ fn admit_at<K: Name, R: Wait>(
 fn admit_in<K: Name, R: Wait>(
     rt: &R,
     frontier: &Frontier<K>,
-    url: &CanonUrl,
     queue: u32,
-    offered: Offered,
+    offered: &Offered<'_>,
     unit: Unit,
     told: &mut Vec<Beginning>,
 ) -> Admit
-    requires queue { queue ≡ subqueue_of url.now K.workers }
+    requires queue { queue ≡ subqueue_of offered.now.url.now K.workers }
     requires within { queue < K.workers }
     requires unit { IsSeatOf K.gate unit }
     requires len { length told.old.items ≡ K.workers }
     requires lists { ListsAre K.queues told.old.items }
-    ensures replies { Replies url.now offered.own offered.hops unit result }
-    ensures raises { Raises told.old.items told.new.items queue url.now offered.id offered.hops result }
+    ensures replies { Replies offered.now.url.now offered.now.own offered.now.hops unit result }
+    ensures raises { Raises told.old.items told.new.items queue offered.now.url.now offered.now.id offered.now.hops result }
 {
-    admit_at(
-        rt,
-        frontier,
-        url,
-        queue,
-        offered,
-        unit,
-        &mut told[queue as usize],
-    )
+    let told = &mut told[queue as usize];
+    admit_at(rt, frontier, queue, offered, unit, told)
 }
 
 // Admits the URL by the books of its part, which say what they said.
 fn admit_by<K: Name, R: Wait>(
     rt: &R,
     frontier: &Frontier<K>,
-    url: &CanonUrl,
     queue: u32,
-    offered: Offered,
+    offered: &Offered<'_>,
     unit: Unit,
     book: &mut Book,
 ) -> Admit
-    requires queue { queue ≡ subqueue_of url.now K.workers }
+    requires queue { queue ≡ subqueue_of offered.now.url.now K.workers }
     requires within { queue < K.workers }
     requires unit { IsSeatOf K.gate unit }
     requires known { Knows K.queues K.workers book.old }
-    ensures replies { Replies url.now offered.own offered.hops unit result }
+    ensures replies { Replies offered.now.url.now offered.now.own offered.now.hops unit result }
     ensures rest { (book.new.id ≡ book.old.id) × (book.new.counts ≡ book.old.counts) × (book.new.lines ≡ book.old.lines) }
     ensures same { book_of book.new ≡ book_of book.old }
     ensures known { Knows K.queues K.workers book.new }
-    ensures index { IsKnown (lists_of book.new.told.items) queue url.now offered.id offered.hops result }
+    ensures index { IsKnown (lists_of book.new.told.items) queue offered.now.url.now offered.now.id offered.now.hops result }
 {
-    admit_in(rt, frontier, url, queue, offered, unit, &mut book.told)
+    admit_in(rt, frontier, queue, offered, unit, &mut book.told)
 }
 
 /// Offers a URL with the unit that it entered by. The log has room for one line more, so nothing of the part grows
@@ -137,8 +134,7 @@ pub(crate) fn deliver<K: Name, R: Wait>(
     frontier: &Frontier<K>,
     book: &mut Book,
     pass: &mut Pass,
-    url: &CanonUrl,
-    hops: u64,
+    candidate: &Candidate<'_>,
     unit: Unit,
 ) -> Answer
     requires book { IsBook K.workers (book_of book.old) }
@@ -148,16 +144,17 @@ pub(crate) fn deliver<K: Name, R: Wait>(
     requires unit { IsSeatOf K.gate unit }
     ensures book { IsBook K.workers (book_of book.new) }
     ensures known { Knows K.queues K.workers book.new }
-    ensures books { OfferBooks K.workers (book_of book.old) (book_of book.new) url.now hops result.0 }
+    ensures books { OfferBooks K.workers (book_of book.old) (book_of book.new) candidate.now.url.now candidate.now.hops result.0 }
     ensures pass { IsSeatOf K.gate pass.new }
     ensures delivers { Delivers pass.old pass.new unit result.0 }
-    ensures shared { IfSome result.1 (λ there. there ≡ url.now) }
+    ensures shared { IfSome result.1 (λ there. there ≡ candidate.now.url.now) }
 {
+    let Candidate { url, hops } = *candidate;
     let queue = url.subqueue(frontier.workers());
     let own = book.counts[queue as usize];
     let id = book.id;
-    let offered = Offered { id, own, hops };
-    match admit_by(rt, frontier, url, queue, offered, unit, book) {
+    let offered = Offered { url, id, own, hops };
+    match admit_by(rt, frontier, queue, &offered, unit, book) {
         Admit::Admitted { number, index } => {
             frontier.subqueue(queue).ring();
             book.accept(queue, index, number);
@@ -194,8 +191,7 @@ pub(crate) fn offer_beside<K: Name, R: Wait>(
     held: &mut Unit,
     book: &mut Book,
     pass: &mut Pass,
-    url: &CanonUrl,
-    hops: u64,
+    candidate: &Candidate<'_>,
 ) -> Answer
     requires held { IsSeatOf K.gate held.old }
     requires book { IsBook K.workers (book_of book.old) }
@@ -205,12 +201,12 @@ pub(crate) fn offer_beside<K: Name, R: Wait>(
     ensures book { IsBook K.workers (book_of book.new) }
     ensures known { Knows K.queues K.workers book.new }
     ensures pass { IsSeatOf K.gate pass.new }
-    ensures books { OfferBooks K.workers (book_of book.old) (book_of book.new) url.now hops result.0 }
+    ensures books { OfferBooks K.workers (book_of book.old) (book_of book.new) candidate.now.url.now candidate.now.hops result.0 }
     ensures words { OfferWordsBeside held.old held.new pass.old pass.new result.0 }
-    ensures filtered { IsFiltered result.0 ↔ (allows K.filter url.now ≡ false) }
-    ensures shared { IfSome result.1 (λ there. there ≡ url.now) }
+    ensures filtered { IsFiltered result.0 ↔ (allows K.filter candidate.now.url.now ≡ false) }
+    ensures shared { IfSome result.1 (λ there. there ≡ candidate.now.url.now) }
 {
-    if !frontier.filter().allows(url) {
+    if !frontier.filter().allows(candidate.url) {
         return (Err(OfferError::Filtered), None);
     }
     let Ok(()) = book.ready::<K>() else {
@@ -228,5 +224,5 @@ pub(crate) fn offer_beside<K: Name, R: Wait>(
         Enter::Closed(_) => unreachable!(),
         Enter::Lost(_) => unreachable!(),
     };
-    deliver(rt, frontier, book, pass, url, hops, unit)
+    deliver(rt, frontier, book, pass, candidate, unit)
 }

@@ -11,7 +11,7 @@ use crate::book::Book;
 use crate::error::{FrontierError, OfferError};
 use crate::frontier::Frontier;
 use crate::name::Name;
-use crate::offer::{Offer, give_back, offer_beside};
+use crate::offer::{Candidate, Offer, give_back, offer_beside};
 use crate::sender::Sender;
 use crawl_gate::{Pass, Unit};
 use crawl_keys::CanonUrl;
@@ -71,7 +71,8 @@ impl<K: Name> Seeder<K> {
         ensures filtered { IsFiltered result ↔ (allows K.filter url.now ≡ false) }
     {
         let (held, book, pass) = (&mut self.opening, &mut self.book, &mut self.pass);
-        let (answer, _) = offer_beside(rt, frontier, held, book, pass, url, 0);
+        let candidate = Candidate { url, hops: 0 };
+        let (answer, _) = offer_beside(rt, frontier, held, book, pass, &candidate);
         answer
     }
 

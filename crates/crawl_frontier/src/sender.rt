@@ -11,7 +11,7 @@ use crate::book::Book;
 use crate::error::OfferError;
 use crate::frontier::Frontier;
 use crate::name::Name;
-use crate::offer::{Offer, deliver};
+use crate::offer::{Candidate, Offer, deliver};
 use crawl_gate::{Enter, Pass};
 use crawl_keys::CanonUrl;
 use std::marker::{Model, PhantomData};
@@ -118,7 +118,9 @@ impl<K: Name> Sender<K> {
             }
             Enter::Lost(_) => unreachable!(),
         };
-        let (answer, _) = deliver(rt, frontier, &mut self.book, &mut self.pass, url, 0, unit);
+        let candidate = Candidate { url, hops: 0 };
+        let (book, pass) = (&mut self.book, &mut self.pass);
+        let (answer, _) = deliver(rt, frontier, book, pass, &candidate, unit);
         answer
     }
 }

@@ -1,11 +1,12 @@
 //! What lies behind a subqueue's lock.
-ghost use Rattle.std.specs.Prelude.{◌≡◌, ◌⊎◌, ◌<◌, ◌^◌, [], IfOk, IfSome, Some, length, slice_get};
+ghost use Rattle.std.specs.Prelude.{◌≡◌, ◌⊎◌, ◌<◌, ◌≤◌, ◌^◌, [], IfOk, IfSome, Some, length, slice_get};
 ghost use Rattle.crawl_keys.specs.Assignment.{subqueue_of};
 ghost use Rattle.crawl_gate.specs.Seat.{IsSeatOf};
 ghost use Rattle.crawl_frontier.specs.Entries.{KeepsRule, count_of, entry};
 ghost use Rattle.crawl_frontier.specs.Admits.{Admits};
 ghost use Rattle.crawl_frontier.specs.Growing.{Stays};
 ghost use Rattle.crawl_frontier.specs.Known.{begins_with};
+ghost use Rattle.crawl_frontier.specs.Limits.{hops_limit};
 ghost use Rattle.crawl_frontier.specs.Offers.{IsTrueOf, Replies};
 ghost use Rattle.crawl_frontier.specs.Parts.{shard};
 ghost use Rattle.crawl_frontier.specs.Rule.{pushing, home};
@@ -94,11 +95,15 @@ pub enum Admit {
     },
 }
 
-/// Who offers a URL, as which of its own in the subqueue, and how many links away it is.
+/// A URL as its shard is offered it.
 #[derive(Clone, Copy)]
-pub(crate) struct Offered {
+pub struct Offered<'a> {
+    pub url: &'a CanonUrl,
+    /// The sender's id.
     pub id: u64,
+    /// How many of its URLs this subqueue accepted before, as the sender was told.
     pub own: u64,
+    /// How many links away the URL is.
     pub hops: u64,
 }
 
@@ -124,11 +129,13 @@ fn next_index(sent: &Vec<Entry>) -> Option<u32>
 }
 
 // What a push needs: the message's entry, and the list's.
-fn copies(url: &CanonUrl, sender: u64, number: u64, hops: u32) -> Result<(Entry, Entry), KeyError>
-    ensures { IfOk result (λ r. (r.0 ≡ entry url.now sender number hops) × (r.1 ≡ entry url.now sender number hops)) }
+fn copies(offered: &Offered<'_>) -> Result<(Entry, Entry), KeyError>
+    requires { offered.now.hops ≤ hops_limit }
+    ensures { IfOk result (λ r. (r.0 ≡ entry offered.now.url.now offered.now.id offered.now.own offered.now.hops) × (r.1 ≡ entry offered.now.url.now offered.now.id offered.now.own offered.now.hops)) }
 {
-    let sent = Entry::of_copy(url, sender, number, hops)?;
-    let listed = Entry::of_copy(url, sender, number, hops)?;
+    let Offered { url, id, own, hops } = *offered;
+    let sent = Entry::of_copy(url, id, own, hops as u32)?;
+    let listed = Entry::of_copy(url, id, own, hops as u32)?;
     Ok((sent, listed))
 }
 
@@ -177,25 +184,22 @@ impl<K: Name> Shard<K> {
         &mut self,
         rt: &R,
         subqueue: &Subqueue,
-        url: &CanonUrl,
-        sender: u64,
-        own: u64,
-        hops: u64,
+        offered: &Offered<'_>,
         unit: Unit,
     ) -> Admit
-        requires queue { subqueue_of url.now K.workers ≡ self.old.queue }
+        requires queue { subqueue_of offered.now.url.now K.workers ≡ self.old.queue }
         requires subqueue { slice_get K.queues self.old.queue ≡ Some subqueue.now }
         requires unit { IsSeatOf K.gate unit }
-        ensures { Admits self.old self.new url.now sender own hops unit result }
+        ensures { Admits self.old self.new offered.now.url.now offered.now.id offered.now.own offered.now.hops unit result }
     {
-        let found = count(&self.counts, sender);
-        if found != own {
+        let found = count(&self.counts, offered.id);
+        if found != offered.own {
             return Admit::Crossed { found, unit };
         }
-        if hops <= HOPS_LIMIT {
-            return self.send(rt, subqueue, url, sender, own, hops as u32, unit);
+        if offered.hops <= HOPS_LIMIT {
+            return self.send(rt, subqueue, offered, unit);
         }
-        let known = self.index.find(&self.sent, url);
+        let known = self.index.find(&self.sent, offered.url);
         if let Some(index) = known {
             return seen(&self.sent[index], index as u32, unit);
         }
@@ -207,22 +211,20 @@ impl<K: Name> Shard<K> {
         &mut self,
         rt: &R,
         subqueue: &Subqueue,
-        url: &CanonUrl,
-        offered: Offered,
+        offered: &Offered<'_>,
         unit: Unit,
         told: &mut Beginning,
     ) -> Admit
-        requires queue { subqueue_of url.now K.workers ≡ self.old.queue }
+        requires queue { subqueue_of offered.now.url.now K.workers ≡ self.old.queue }
         requires subqueue { slice_get K.queues self.old.queue ≡ Some subqueue.now }
         requires unit { IsSeatOf K.gate unit }
         requires told { told.old.list ≡ subqueue.now.list }
-        ensures replies { Replies url.now offered.own offered.hops unit result }
+        ensures replies { Replies offered.now.url.now offered.now.own offered.now.hops unit result }
         ensures list { told.new.list ≡ told.old.list }
         ensures stays { Stays told.old.items told.new.items }
-        ensures index { IsTrueOf told.new.items url.now offered.id offered.hops result }
+        ensures index { IsTrueOf told.new.items offered.now.url.now offered.now.id offered.now.hops result }
     {
-        let Offered { id, own, hops } = offered;
-        let admit = self.admit(rt, subqueue, url, id, own, hops, unit);
+        let admit = self.admit(rt, subqueue, offered, unit);
         self.tell(subqueue, told);
         admit
     }
@@ -244,19 +246,17 @@ impl<K: Name> Shard<K> {
         &mut self,
         rt: &R,
         subqueue: &Subqueue,
-        url: &CanonUrl,
-        sender: u64,
-        own: u64,
-        hops: u32,
+        offered: &Offered<'_>,
         unit: Unit,
     ) -> Admit
-        requires queue { subqueue_of url.now K.workers ≡ self.old.queue }
+        requires queue { subqueue_of offered.now.url.now K.workers ≡ self.old.queue }
         requires subqueue { slice_get K.queues self.old.queue ≡ Some subqueue.now }
         requires unit { IsSeatOf K.gate unit }
-        requires own { count_of sender self.old.sent ≡ own }
-        ensures { Admits self.old self.new url.now sender own hops unit result }
+        requires own { count_of offered.now.id self.old.sent ≡ offered.now.own }
+        requires near { offered.now.hops ≤ hops_limit }
+        ensures { Admits self.old self.new offered.now.url.now offered.now.id offered.now.own offered.now.hops unit result }
     {
-        let Ok(found) = self.index.find_or_insert(&self.sent, url) else {
+        let Ok(found) = self.index.find_or_insert(&self.sent, offered.url) else {
             return Admit::NoMemory { unit };
         };
         if let Some(index) = found {
@@ -265,19 +265,20 @@ impl<K: Name> Shard<K> {
         let Some(index) = next_index(&self.sent) else {
             return Admit::NoMemory { unit };
         };
-        let Ok((sent, listed)) = copies(url, sender, own, hops) else {
+        let Ok((sent, listed)) = copies(offered) else {
             return Admit::NoMemory { unit };
         };
         let Ok(()) = self.sent.reserve(1) else {
             return Admit::NoMemory { unit };
         };
-        let Ok(()) = enter_sender(&mut self.counts, sender, own) else {
+        let Offered { id, own, .. } = *offered;
+        let Ok(()) = enter_sender(&mut self.counts, id, own) else {
             return Admit::NoMemory { unit };
         };
         let message = Message { entry: sent, unit };
         match subqueue.push(rt, &mut self.right, message, &listed) {
             Ok(()) => {
-                raise(&mut self.counts, sender, own + 1);
+                raise(&mut self.counts, id, own + 1);
                 self.sent.push_reserved(listed);
                 Admit::Admitted { number: own, index }
             }

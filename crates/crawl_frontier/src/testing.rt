@@ -3,7 +3,7 @@ ghost use Rattle.std.specs.Prelude.{◌≡◌, IfSome};
 ghost use Rattle.crawl_gate.specs.Seat.{IsSeatOf};
 ghost use Rattle.crawl_keys.specs.Assignment.{subqueue_of};
 
-use crate::laws::Admit;
+use crate::laws::{Admit, Offered};
 use crate::{Frontier, Name, Worker};
 use crawl_gate::{Enter, Pass, Unit};
 use crawl_keys::CanonUrl;
@@ -51,7 +51,13 @@ fn admit_by<K: Name, R: Wait>(
     if shard.queue() != 0 {
         return None;
     }
-    Some(shard.admit(rt, subqueue, url, 9, own, hops, unit))
+    let offered = Offered {
+        url,
+        id: 9,
+        own,
+        hops,
+    };
+    Some(shard.admit(rt, subqueue, &offered, unit))
 }
 
 /// Admits a URL to subqueue 0 with hops of the caller's choice, which no offer can reach: as the one with this own number

@@ -30,7 +30,7 @@ see-requires-clause-room g c = subst (λ v. vec_len v < vec_capacity v) (sym c.i
 pub returns-in-Admitted-clause-books : goal.returns-in-Admitted-clause-books
 returns-in-Admitted-clause-books g c =
     let b = book_of c.args.book.now in
-    let url = c.args.url.now in
+    let url = c.args.candidate.now.url.now in
     let queue = c.subqueue-queue.result in
     let own = c.index-own.result.now in
     let reply = c.in-Admitted.ensures.replies in
@@ -38,7 +38,7 @@ returns-in-Admitted-clause-books g c =
     let get : slice_get b.counts queue ≡ Some own = slice_get_read b.counts (length b.counts) queue own refl (omega (arith, below, c.requires.book.len)) c.index-own.ensures in
     let at : queue ≡ subqueue_of url g.K.Name.workers = c.subqueue-queue.ensures.value ∙ ap (subqueue_of url) c.workers.ensures.0 in
     let n = c.in-Admitted.number in
-    let e = entry url b.id n c.args.hops in
+    let e = entry url b.id n c.args.candidate.now.hops in
     let after : book_of c.accept.new.self ≡ book_accepting b queue n e =
     c.accept.ensures.log e c.in-Admitted.ensures.index ∙ ap (λ (x : BookId). book_accepting x queue n e) c.in-Admitted.ensures.same in
     (at, get ∙ ap Some (sym reply.0), reply.2, after)
@@ -46,7 +46,7 @@ returns-in-Admitted-clause-books g c =
 pub returns-in-Admitted-clause-book : goal.returns-in-Admitted-clause-book
 returns-in-Admitted-clause-book g c =
     let b = book_of c.args.book.now in
-    let url = c.args.url.now in
+    let url = c.args.candidate.now.url.now in
     let queue = c.subqueue-queue.result in
     let own = c.index-own.result.now in
     let reply = c.in-Admitted.ensures.replies in
@@ -54,19 +54,19 @@ returns-in-Admitted-clause-book g c =
     let below : queue < g.K.Name.workers = omega (arith, c.subqueue-queue.ensures.below, c.workers.ensures.0) in
     let get : slice_get b.counts queue ≡ Some own = slice_get_read b.counts (length b.counts) queue own refl (omega (arith, below, is.len)) c.index-own.ensures in
     let n = c.in-Admitted.number in
-    let e = entry url b.id n c.args.hops in
+    let e = entry url b.id n c.args.candidate.now.hops in
     let after : book_of c.accept.new.self ≡ book_accepting b queue n e =
     c.accept.ensures.log e c.in-Admitted.ensures.index ∙ ap (λ (x : BookId). book_accepting x queue n e) c.in-Admitted.ensures.same in
     subst (IsBook g.K.Name.workers) (sym after) (book_accepts g.K.Name.workers b queue n e is below (get ∙ ap Some (sym reply.0)) refl refl)
 
 pub returns-in-Admitted-clause-known : goal.returns-in-Admitted-clause-known
 returns-in-Admitted-clause-known g c =
-    let e = entry c.args.url.now c.args.book.now.id c.in-Admitted.number c.args.hops in
+    let e = entry c.args.candidate.now.url.now c.args.book.now.id c.in-Admitted.number c.args.candidate.now.hops in
     c.accept.ensures.known g.K.Name.queues g.K.Name.workers e c.in-Admitted.ensures.index c.in-Admitted.ensures.known
 
 pub returns-in-Seen-clause-books : goal.returns-in-Seen-clause-books
 returns-in-Seen-clause-books g c =
-    let url = c.args.url.now in
+    let url = c.args.candidate.now.url.now in
     let at : c.subqueue-queue.result ≡ subqueue_of url g.K.Name.workers = c.subqueue-queue.ensures.value ∙ ap (subqueue_of url) c.workers.ensures.0 in
     let there = c.in-Seen.ensures.index in
     c.see.ensures.log there.0 there.1 ∙ (λ i. book_seeing (c.in-Seen.ensures.same i) (there.2 i) (at i))
@@ -87,7 +87,7 @@ returns-in-Seen-clause-known g c =
 pub returns-in-Crossed-clause-books : goal.returns-in-Crossed-clause-books
 returns-in-Crossed-clause-books g c =
     let b = book_of c.args.book.now in
-    let url = c.args.url.now in
+    let url = c.args.candidate.now.url.now in
     let queue = c.subqueue-queue.result in
     let own = c.index-own.result.now in
     let below : queue < g.K.Name.workers = omega (arith, c.subqueue-queue.ensures.below, c.workers.ensures.0) in

@@ -18,40 +18,40 @@ use Rattle.crawl_frontier.proofs.shard.Shard.send.Goals as goal
 pub overflow_add-own : goal.overflow_add-own
 overflow_add-own g c =
     let v = c.self.inside.sent in
-    let is : count_of c.args.sender v.items ≡ c.args.own = search rules in
-    omega (arith, is, count_of-le c.args.sender v.items, v.ok.0, v.ok.1, v.small)
+    let is : count_of c.args.offered.now.id v.items ≡ c.args.offered.now.own = search rules in
+    omega (arith, is, count_of-le c.args.offered.now.id v.items, v.ok.0, v.ok.1, v.small)
 
 pub index-requires : goal.index-requires
 index-requires g c =
     let es = c.self.inside.sent.items in
-    let is : index_of (map (λ e. e.url) es) c.args.url.now ≡ Some c.in-Some.index = search rules in
-    omega (arith, index_within es c.args.url.now c.in-Some.index is, c.self.inside.sent.ok.0)
+    let is : index_of (map (λ e. e.url) es) c.args.offered.now.url.now ≡ Some c.in-Some.index = search rules in
+    omega (arith, index_within es c.args.offered.now.url.now c.in-Some.index is, c.self.inside.sent.ok.0)
 
 pub overflow_cast-index : goal.overflow_cast-index
 overflow_cast-index g c =
     let es = c.self.inside.sent.items in
-    let is : index_of (map (λ e. e.url) es) c.args.url.now ≡ Some c.in-Some.index = search rules in
-    omega (arith, index_within es c.args.url.now c.in-Some.index is, c.self.invariant.5)
+    let is : index_of (map (λ e. e.url) es) c.args.offered.now.url.now ≡ Some c.in-Some.index = search rules in
+    omega (arith, index_within es c.args.offered.now.url.now c.in-Some.index is, c.self.invariant.5)
 
 pub returns-in-Some : goal.returns-in-Some
 returns-in-Some g c =
     let es = c.self.inside.sent.items in
-    let url = c.args.url.now in
+    let url = c.args.offered.now.url.now in
     let k = c.in-Some.index in
     let there = c.index.result.now in
     let is : index_of (map (λ e. e.url) es) url ≡ Some k = search rules in
     let here : slice_get es k ≡ Some there = slice_get_read es (length es) k there refl (index_within es url k is) c.index.ensures in
     let same : there.url ≡ url = url_there es url k there is here in
-    answered c.args.self.now (shard c.self.inside.queue es) url c.args.sender c.args.own c.args.hops c.args.unit there k c.seen.result c.requires.own c.self.view_is
+    answered c.args.self.now (shard c.self.inside.queue es) url c.args.offered.now.id c.args.offered.now.own c.args.offered.now.hops c.args.unit there k c.seen.result c.requires.own c.self.view_is
     (subst (λ (s : ShardId). slice_get s.sent k ≡ Some there) c.self.view_is here) same c.seen.ensures
 
 pub push-requires-clause-follows : goal.push-requires-clause-follows
 push-requires-clause-follows g c =
     let before = c.self.inside.sent.items in
-    let url = c.args.url.now in
-    let e : Entry = entry url c.args.sender c.args.own c.args.hops in
+    let url = c.args.offered.now.url.now in
+    let e : Entry = entry url c.args.offered.now.id c.args.offered.now.own c.args.offered.now.hops in
     let sent : c.in-Ok-copies.sent ≡ e = search rules in
-    let own : count_of c.args.sender before ≡ c.args.own = search rules in
+    let own : count_of c.args.offered.now.id before ≡ c.args.offered.now.own = search rules in
     let none : c.in-Ok.found ≡ None = search rules in
     let new : has_url url before ≡ false = sym (has_index before url) ∙ ap is_some (sym c.in-Ok.ensures.found ∙ none) in
     let may : MayFollow g.K.Name.workers c.self.inside.queue before e = record { new = new; here = search rules; number = sym own } in
@@ -94,12 +94,12 @@ invariant_of-self-in-Err-push g c =
 pub invariant_of-self-in-Ok-push : goal.invariant_of-self-in-Ok-push
 invariant_of-self-in-Ok-push g c =
     let before = c.self.inside.sent.items in
-    let url = c.args.url.now in
-    let e : Entry = entry url c.args.sender c.args.own c.args.hops in
+    let url = c.args.offered.now.url.now in
+    let e : Entry = entry url c.args.offered.now.id c.args.offered.now.own c.args.offered.now.hops in
     let items : c.reserve.new.self.items ≡ before = c.reserve.ensures.items in
     let listed : c.in-Ok-copies.listed ≡ e = search rules in
     let all : c.push_reserved.new.self.items ≡ before ++ e ∷ [] = c.push_reserved.ensures.items ∙ (λ i. items i ++ listed i ∷ []) in
-    let own : count_of c.args.sender before ≡ c.args.own = search rules in
+    let own : count_of c.args.offered.now.id before ≡ c.args.offered.now.own = search rules in
     let none : c.in-Ok.found ≡ None = search rules in
     let new : has_url url before ≡ false = sym (has_index before url) ∙ ap is_some (sym c.in-Ok.ensures.found ∙ none) in
     let known : IsIndexOf hash_of (map (λ e. e.url) before ++ url ∷ []) c.find_or_insert.new.self = c.in-Ok.ensures.pushed none in
@@ -111,7 +111,7 @@ invariant_of-self-in-Ok-push g c =
       pushed_item (λ e. e.url) hash_of c.find_or_insert.new.self before c.push_reserved.new.self.items e all known,
       λ id.
           c.raise.ensures id
-          ∙ (ap (λ n. cond (eqb c.args.sender id) (c.args.own + 1) n) (c.in-Ok-enter_sender.ensures.same id ∙ c.self.invariant.4 id)
+          ∙ (ap (λ n. cond (eqb c.args.offered.now.id id) (c.args.offered.now.own + 1) n) (c.in-Ok-enter_sender.ensures.same id ∙ c.self.invariant.4 id)
           ∙ (raised id before e own ∙ ap (count_of id) (sym all))),
       omega (arith, ap length all, length-append before (e ∷ []), c.in-Some-next_index.ensures.0, c.in-Some-next_index.ensures.1),
     )
@@ -119,9 +119,9 @@ invariant_of-self-in-Ok-push g c =
 pub returns-in-Ok-push : goal.returns-in-Ok-push
 returns-in-Ok-push g c =
     let v = c.self.inside.sent in
-    let url = c.args.url.now in
-    let is : count_of c.args.sender v.items ≡ c.args.own = search rules in
-    let small : c.args.own < 9223372036854775808 = omega (arith, is, count_of-le c.args.sender v.items, v.ok.0, v.ok.1, v.small) in
+    let url = c.args.offered.now.url.now in
+    let is : count_of c.args.offered.now.id v.items ≡ c.args.offered.now.own = search rules in
+    let small : c.args.offered.now.own < 9223372036854775808 = omega (arith, is, count_of-le c.args.offered.now.id v.items, v.ok.0, v.ok.1, v.small) in
     let none : c.in-Ok.found ≡ None = search rules in
     let new : has_url url v.items ≡ false = sym (has_index v.items url) ∙ ap is_some (sym c.in-Ok.ensures.found ∙ none) in (
       search rules,
