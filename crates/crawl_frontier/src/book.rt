@@ -45,7 +45,7 @@ fn all_again(
     let mut all = Vec::with_capacity(alloc, queues.len())?;
     for queue in 0..queues.len() {
         let known = queues[queue].again(&mut told[queue]);
-        all.push(known)?;
+        all.push_reserved(known);
     }
     Ok(all)
 }

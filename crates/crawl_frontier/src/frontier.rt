@@ -76,12 +76,12 @@ fn workers<K: Name>(
     ensures unit { opening.new ≡ opening.old }
     ensures workers { IfOk result (λ v. (vec_len v ≡ K.workers) × AllFresh K.gate K.workers 0 v.items) }
 {
-    let mut made = Vec::new(alloc);
+    let mut made = Vec::with_capacity(alloc, queues.len())?;
     let mut queue = 0u32;
     while let Some(right) = rights.pop_front() {
         let own = book.another::<K>(alloc, u64::from(queue), queues)?;
         let worker = Worker::new(queue, right, gate.split_unit(opening), own);
-        made.push(worker)?;
+        made.push_reserved(worker);
         queue += 1;
     }
     Ok(made)
@@ -102,6 +102,9 @@ impl<K: Name> Frontier<K> {
             (λ r. (vec_len r.1 ≡ K.workers) × AllFresh K.gate K.workers 0 r.1.items × (r.2.book ≡ fresh_book K.workers K.workers))
             (λ e. e ≡ FrontierError.NoMemory) }
     {
+        let Ok(filter) = filter.copy() else {
+            return Err(FrontierError::NoMemory);
+        };
         let Setup {
             gate,
             mut opening,
@@ -111,9 +114,6 @@ impl<K: Name> Frontier<K> {
             pop_rights,
             told,
         } = setup;
-        let Ok(filter) = filter.copy() else {
-            return Err(FrontierError::NoMemory);
-        };
         let shards = shards::<K>(alloc, push_rights)?;
         let mut book = Book::new::<K>(alloc, u64::from(count), told)?;
         let made = workers::<K>(alloc, &gate, &queues, &mut book, &mut opening, pop_rights)?;

@@ -65,16 +65,17 @@ fn subqueues(alloc: Global, gate: &Gate, workers: u32) -> Result<Made, AllocErro
     ensures { IfOk result (λ r.
         Line gate.now workers r.0.items r.1.items r.2.items workers × (vec_len r.3 ≡ workers) × ListsAre r.0.items r.3.items) }
 {
-    let mut queues = Vec::new(alloc);
-    let mut push_rights = VecDeque::new(alloc);
-    let mut pop_rights = VecDeque::new(alloc);
-    let mut told = Vec::new(alloc);
+    let count = workers as usize;
+    let mut queues = Vec::with_capacity(alloc, count)?;
+    let mut push_rights = VecDeque::with_capacity(alloc, count)?;
+    let mut pop_rights = VecDeque::with_capacity(alloc, count)?;
+    let mut told = Vec::with_capacity(alloc, count)?;
     for queue in 0..workers {
         let (subqueue, push, pop, begins) = Subqueue::new(alloc, gate, workers, queue)?;
-        queues.push(subqueue)?;
-        push_rights.push_back(push)?;
-        pop_rights.push_back(pop)?;
-        told.push(begins)?;
+        queues.push_reserved(subqueue);
+        push_rights.push_back_reserved(push);
+        pop_rights.push_back_reserved(pop);
+        told.push_reserved(begins);
     }
     Ok((queues, push_rights, pop_rights, told))
 }

@@ -1,5 +1,7 @@
 //! What lies behind a subqueue's lock.
-ghost use Rattle.std.specs.Prelude.{◌≡◌, ◌⊎◌, ◌<◌, ◌≤◌, ◌^◌, [], IfOk, IfSome, Some, length, slice_get};
+ghost use Rattle.std.specs.Prelude.{◌≡◌, ◌⊎◌, ◌<◌, ◌≤◌, ◌^◌, [], ℕ, IfOk, IfSome, IsSome, Some, length, slice_get, vec_capacity, vec_len};
+ghost use Rattle.std.specs.BTreeMap.{get};
+ghost use Rattle.std.specs.Ordering.{nat_cmp};
 ghost use Rattle.crawl_keys.specs.Assignment.{subqueue_of};
 ghost use Rattle.crawl_gate.specs.Seat.{IsSeatOf};
 ghost use Rattle.crawl_frontier.specs.Entries.{KeepsRule, count_of, entry};
@@ -10,6 +12,7 @@ ghost use Rattle.crawl_frontier.specs.Limits.{hops_limit};
 ghost use Rattle.crawl_frontier.specs.Offers.{IsTrueOf, Replies};
 ghost use Rattle.crawl_frontier.specs.Parts.{shard};
 ghost use Rattle.crawl_frontier.specs.Rule.{pushing, home};
+ghost use Rattle.crawl_frontier.specs.Tables.{count_in};
 
 use crate::accepted::AcceptedList;
 use crate::entry::{Entry, Message};
@@ -126,6 +129,25 @@ fn next_index(sent: &Vec<Entry>) -> Option<u32>
         return None;
     }
     Some(count as u32)
+}
+
+// Makes room for one entry more, of this sender, and tells the index that it will have.
+fn make_room(sent: &mut Vec<Entry>, counts: &mut Counts, id: u64, own: u64) -> Option<u32>
+    requires { count_in counts.old id ≡ own }
+    ensures sent { sent.new.items ≡ sent.old.items }
+    ensures counts { (s : ℕ) → count_in counts.new s ≡ count_in counts.old s }
+    ensures index { IfSome result (λ index. (index ≡ length sent.old.items) × (index < 4294967295)) }
+    ensures room { IfSome result (λ _. vec_len sent.new < vec_capacity sent.new) }
+    ensures there { IfSome result (λ _. IsSome (get nat_cmp counts.new id)) }
+{
+    let index = next_index(sent)?;
+    let Ok(()) = sent.reserve(1) else {
+        return None;
+    };
+    let Ok(()) = enter_sender(counts, id, own) else {
+        return None;
+    };
+    Some(index)
 }
 
 // What a push needs: the message's entry, and the list's.
@@ -262,17 +284,11 @@ impl<K: Name> Shard<K> {
         if let Some(index) = found {
             return seen(&self.sent[index], index as u32, unit);
         }
-        let Some(index) = next_index(&self.sent) else {
+        let Offered { id, own, .. } = *offered;
+        let Some(index) = make_room(&mut self.sent, &mut self.counts, id, own) else {
             return Admit::NoMemory { unit };
         };
         let Ok((sent, listed)) = copies(offered) else {
-            return Admit::NoMemory { unit };
-        };
-        let Ok(()) = self.sent.reserve(1) else {
-            return Admit::NoMemory { unit };
-        };
-        let Offered { id, own, .. } = *offered;
-        let Ok(()) = enter_sender(&mut self.counts, id, own) else {
             return Admit::NoMemory { unit };
         };
         let message = Message { entry: sent, unit };

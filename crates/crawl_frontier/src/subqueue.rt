@@ -113,9 +113,9 @@ impl Subqueue {
             × (r.3.list ≡ r.0.list)) }
     {
         let (list, mut owner) = Growing::new(alloc)?;
+        let (line, mut pass) = Line::with_rule(alloc)?;
         let known = list.tell(&mut owner);
         let told = list.tell(&mut owner);
-        let (line, mut pass) = Line::with_rule(alloc)?;
         settle::<Brand>(&line, &mut pass, gate, workers, queue);
         let other = line.another::<Divide>(&mut pass);
         Ok((

@@ -1,7 +1,6 @@
 //! The books of all parts, compared with the lists of all subqueues.
 ghost use Rattle.std.specs.Prelude.{◌≡◌, ◌<◌, ◌≤◌, ℕ, List, true, false, IfOk, length, map};
-ghost use Rattle.std.specs.Ordering.{nat_cmp};
-ghost use Rattle.std.specs.BTreeSet.{contains};
+ghost use Rattle.std.specs.BTreeSet as sets;
 ghost use Rattle.crawl_frontier.specs.declared.entry.Entry.{Entry};
 ghost use Rattle.crawl_frontier.specs.Books.{IsBook, book_of};
 ghost use Rattle.crawl_frontier.specs.Accounts.{At};
@@ -13,8 +12,8 @@ use crate::entry::Entry;
 use std::alloc::{AllocError, Global};
 use std::collections::BTreeSet;
 
-/// The ids of all parts.
-pub fn ids_of(alloc: Global, books: &[Book]) -> Result<BTreeSet<u64>, AllocError>
+// The ids of all parts.
+fn ids_of(alloc: Global, books: &[Book]) -> Result<BTreeSet<u64>, AllocError>
     ensures { IfOk result (λ ids. IdsOf (map book_of books.now) ids) }
 {
     let mut ids = BTreeSet::new(alloc);
@@ -37,8 +36,8 @@ fn senders_in(entries: &[Entry], ids: &BTreeSet<u64>) -> bool
     true
 }
 
-/// Whether each entry of each list has its sender in the set.
-pub fn all_senders_in(lists: &[AcceptedList], ids: &BTreeSet<u64>) -> bool
+// Whether each entry of each list has its sender in the set.
+fn all_senders_in(lists: &[AcceptedList], ids: &BTreeSet<u64>) -> bool
     ensures all { result ≡ true → AllAre (SendersIn ids.now) lists.now }
     ensures stranger { result ≡ false → (q : ℕ) × (es : List Entry) × At lists.now q es × Stranger ids.now es }
 {
@@ -48,6 +47,20 @@ pub fn all_senders_in(lists: &[AcceptedList], ids: &BTreeSet<u64>) -> bool
         }
     }
     true
+}
+
+/// Whether each entry of each list has its sender among the parts with these books.
+pub fn all_have_parts(
+    alloc: Global,
+    lists: &[AcceptedList],
+    books: &[Book],
+) -> Result<bool, AllocError>
+    ensures { IfOk result (λ all. (ids : sets.BTreeSet ℕ) × IdsOf (map book_of books.now) ids
+        × (all ≡ true → AllAre (SendersIn ids) lists.now)
+        × (all ≡ false → (q : ℕ) × (es : List Entry) × At lists.now q es × Stranger ids es)) }
+{
+    let ids = ids_of(alloc, books)?;
+    Ok(all_senders_in(lists, &ids))
 }
 
 // The least queue for which a count is another, where that is less.

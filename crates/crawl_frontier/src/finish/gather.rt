@@ -1,6 +1,9 @@
 //! The parts of a run, taken apart.
-ghost use Rattle.std.specs.Prelude.{◌≡◌, ◌<◌, ◌≤◌, [], IfOk, map};
+ghost use Rattle.std.specs.Prelude.{◌≡◌, ◌<◌, ◌≤◌, ℕ, List, [], true, None, Some, IfOk, is_some, map, if◌then◌else◌};
+ghost use Rattle.std.specs.BTreeMap.{get, is_at};
+ghost use Rattle.std.specs.Ordering.{nat_cmp};
 ghost use Rattle.crawl_frontier.specs.Books.{Knows, book_of};
+ghost use Rattle.crawl_frontier.specs.Parts.{WorkerId};
 ghost use Rattle.crawl_frontier.specs.Finishing.{AllAre, Gathered, Slots, Placed, IsShared};
 
 use super::settle::least_of;
@@ -12,11 +15,44 @@ use crate::sender::Sender;
 use std::alloc::{AllocError, Global};
 use std::collections::BTreeMap;
 
+// Puts a right to pop at its queue, and tells the least queue that two workers have, where that was `alone`.
+fn place(
+    rights: &mut BTreeMap<u32, PopRight>,
+    queue: u32,
+    right: PopRight,
+    alone: u32,
+) -> Result<u32, AllocError>
+    ensures updates { IfOk result (λ _. (q : ℕ) → get nat_cmp rights.new q ≡ (if is_at (nat_cmp queue) q then Some right else get nat_cmp rights.old q)) }
+    ensures below { IfOk result (λ least. least ≤ alone) }
+    ensures good { IfOk result (λ least. queue < least → get nat_cmp rights.old queue ≡ None) }
+    ensures named { IfOk result (λ least. least < alone → (least ≡ queue) × (is_some (get nat_cmp rights.old queue) ≡ true)) }
+{
+    let old = rights.insert(queue, right)?;
+    Ok(least_of(old.is_none(), queue, alone))
+}
+
+// The books of the senders beside those of the workers.
+fn add_senders<K: Name>(
+    books: &mut Vec<Book>,
+    mut senders: Vec<Sender<K>>,
+) -> Result<(), AllocError>
+    requires { AllAre (Knows K.queues K.workers) books.old.items }
+    ensures gathered { IfOk result (λ _. (closed : List WorkerId)
+        → Gathered K.workers closed senders.items [] senders.items (map book_of books.old.items)
+        → Gathered K.workers closed senders.items [] [] (map book_of books.new.items)) }
+    ensures known { IfOk result (λ _. AllAre (Knows K.queues K.workers) books.new.items) }
+{
+    while let Some(sender) = senders.pop() {
+        books.push(sender.into_book())?;
+    }
+    Ok(())
+}
+
 // The rights to pop by queue, the books of all parts, and the least queue that two workers have, or `workers`.
 pub fn gather<K: Name>(
     alloc: Global,
     mut closed: Vec<ClosedWorker<K>>,
-    mut senders: Vec<Sender<K>>,
+    senders: Vec<Sender<K>>,
     workers: u32,
 ) -> Result<(BTreeMap<u32, PopRight>, Vec<Book>, u32), AllocError>
     ensures { IfOk result (λ r.
@@ -32,12 +68,9 @@ pub fn gather<K: Name>(
     while let Some(worker) = closed.pop() {
         let queue = worker.queue();
         let (right, book) = worker.into_parts();
-        let old = rights.insert(queue, right)?;
-        alone = least_of(old.is_none(), queue, alone);
+        alone = place(&mut rights, queue, right, alone)?;
         books.push(book)?;
     }
-    while let Some(sender) = senders.pop() {
-        books.push(sender.into_book())?;
-    }
+    add_senders(&mut books, senders)?;
     Ok((rights, books, alone))
 }

@@ -123,13 +123,14 @@ pub fn settle_all<K: Name>(
     requires there { (q : ℕ) → q < K.workers → is_some (get nat_cmp rights q) ≡ true }
     ensures { IfOk result (λ r. (vec_len r.0 ≡ K.workers) × (vec_len r.1 ≡ K.workers) × AllSettle K.workers K.queues shards.items rights r.0.items r.1.items) }
 {
-    let mut lists = Vec::new(alloc);
-    let mut doubts = Vec::new(alloc);
-    for queue in 0..queues.len() as u32 {
+    let count = queues.len();
+    let mut lists = Vec::with_capacity(alloc, count)?;
+    let mut doubts = Vec::with_capacity(alloc, count)?;
+    for queue in 0..count as u32 {
         let subqueue = &queues[queue as usize];
         let (list, doubt) = settle_last(subqueue, &mut shards, &mut rights, queue);
-        lists.push(list)?;
-        doubts.push(doubt)?;
+        lists.push_reserved(list);
+        doubts.push_reserved(doubt);
     }
     Ok((lists, doubts))
 }

@@ -1,9 +1,9 @@
 //! A run that is taken apart and settled, before its books are compared.
-ghost use Rattle.std.specs.Prelude.{◌≡◌, ◌<◌, ◌≤◌, MatchResult, length};
+ghost use Rattle.std.specs.Prelude.{◌≡◌, ◌<◌, ◌≤◌, MatchResult, length, vec_len};
 ghost use Rattle.crawl_frontier.specs.Accounts.{AllKeepRule, FinishFails};
 ghost use Rattle.crawl_frontier.specs.Finishing.{CanCompare};
 
-use super::compare::{all_senders_in, ids_of};
+use super::compare::all_have_parts;
 use super::gather::gather;
 use super::settle::{all_there, first_doubt, settle_all, unlock};
 use super::tell::tell_books;
@@ -15,6 +15,9 @@ use crate::error::FinishError;
 use crate::frontier::Frontier;
 use crate::name::Name;
 use crate::sender::Sender;
+use crate::shard::Shard;
+use crate::subqueue::Subqueue;
+use std::sync::Mutex;
 
 /// What is compared.
 #[derive(Drop)]
@@ -28,13 +31,11 @@ pub struct Settled {
     pub least: u32,
 }
 
-/// A run's queues and books. An entry whose sender is no part is told before any book is looked at.
-pub fn settle_run<K: Name>(
-    frontier: Frontier<K>,
-    closed: Vec<ClosedWorker<K>>,
-    senders: Vec<Sender<K>>,
-) -> Result<Settled, FinishError>
-    ensures { MatchResult result (CanCompare K.workers closed.items senders.items) (FinishFails K.workers closed.items senders.items) }
+// What the end of a run needs of its frontier.
+fn parts_of<K: Name>(frontier: Frontier<K>) -> (u32, Vec<Subqueue>, Vec<Mutex<Shard<K>>>)
+    ensures workers { (result.0 ≡ K.workers) × (K.workers < 4294967296) }
+    ensures queues { (result.1.items ≡ K.queues) × (vec_len result.1 ≡ K.workers) }
+    ensures shards { vec_len result.2 ≡ K.workers }
 {
     let Frontier {
         gate: _,
@@ -43,6 +44,18 @@ pub fn settle_run<K: Name>(
         shards,
         filter: _,
     } = frontier;
+    (workers, queues, shards)
+}
+
+/// A run's queues and books. An entry whose sender is no part is told before any book is looked at.
+pub fn settle_run<K: Name>(
+    frontier: Frontier<K>,
+    closed: Vec<ClosedWorker<K>>,
+    senders: Vec<Sender<K>>,
+) -> Result<Settled, FinishError>
+    ensures { MatchResult result (CanCompare K.workers closed.items senders.items) (FinishFails K.workers closed.items senders.items) }
+{
+    let (workers, queues, shards) = parts_of(frontier);
     let alloc = *queues.allocator();
     let (rights, mut books, alone) = gather(alloc, closed, senders, workers)?;
     if !all_there(&rights, workers) {
@@ -51,8 +64,8 @@ pub fn settle_run<K: Name>(
     let mut shards = unlock(alloc, shards)?;
     tell_books(&queues, &mut shards, &mut books);
     let (lists, doubts) = settle_all(alloc, &queues, shards, rights)?;
-    let ids = ids_of(alloc, books.as_slice())?;
-    if !all_senders_in(lists.as_slice(), &ids) {
+    let complete = all_have_parts(alloc, lists.as_slice(), books.as_slice())?;
+    if !complete {
         return Err(FinishError::MissingPart);
     }
     let least = first_doubt(doubts.as_slice(), alone);

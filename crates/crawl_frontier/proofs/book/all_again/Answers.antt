@@ -1,4 +1,4 @@
-use Rattle.std.proofs.Common.{◌≡◌, ◌∙◌, ◌∷◌, ◌++◌, [], List, Some, slice_get, set, length, refl, sym, ap, subst, arith}
+use Rattle.std.proofs.Common.{rules, ◌≡◌, ◌∙◌, ◌∷◌, ◌++◌, [], List, Some, slice_get, set, length, refl, sym, ap, subst, arith}
 use Rattle.std.proofs.lemmas.List.{take_more, take_all}
 use Rattle.std.proofs.lemmas.Option.{slice_get_read, get_or_from_slice_get}
 use Rattle.crawl_frontier.specs.Known.{KnownList}
@@ -30,8 +30,10 @@ loop-queue-preserved c =
     let here : slice_get cur n ≡ Some t = slice_get_read cur (length cur) n t refl (omega (arith, len, c.requires.len)) c.index_mut.ensures.value in
     let before : slice_get start n ≡ Some t = subst (λ (l : List KnownList). slice_get l n ≡ Some t) i.0 here in (
       (λ k. set (i.0 k) n (c.again-known.ensures.same k)) ∙ set_same start n t before,
-      c.in_ok-push.ensures.items
+      c.push_reserved.ensures.items
           ∙ ((λ k. i.1 k ++ (c.again-known.ensures.again ∙ sym (get_or_from_slice_get start n t t before)) k ∷ []) ∙ sym (take_more start n t (omega (arith, c.requires.len)))),
+      search rules,
+      search rules,
     )
 
 pub returns-clause-again : goal.returns-clause-again

@@ -17,8 +17,9 @@ loop-right-preserved g c =
       search rules,
       search rules,
       search rules,
-      rw c.in_ok-push.ensures.items
+      rw c.push_reserved.ensures.items
           (fresh-snoc g.K.Name.gate g.K.Name.workers 0 c.loop-right.made.items w i.4 (omega (arith, at)) (book ∙ ap (λ (k : ℕ). fresh_book k g.K.Name.workers) (omega (arith, at))) (ap (λ z. z.taken) is) (ap (λ z. z.empty_pops) is) (ap (λ z. z.seat.view) is ∙ (c.split_unit.ensures.fresh ∙ ap (λ (y : GateId). fresh_view y.max_pending) c.requires.gate))),
       own.same ∙ i.5,
       own.known,
+      search rules,
     )

@@ -1,4 +1,5 @@
-use Rattle.std.proofs.Common.{◌≡◌, ◌+◌, length, vec_len}
+use Rattle.std.proofs.Common.{◌≡◌, ◌≤◌, ◌+◌, length, vec_len}
+use Rattle.std.specs.Prelude.{vec_capacity}
 use Rattle.crawl_frontier.specs.Books.{Knows, book_of}
 use Rattle.crawl_frontier.specs.FreshParts.{AllPop, AllFresh}
 use Rattle.crawl_frontier.proofs.frontier.workers.Given as goal
@@ -9,6 +10,7 @@ invariant-loop-right g l =
     × (l.queue + length l.rights.items ≡ length l.fn.rights.items) × (vec_len l.made ≡ l.queue)
     × (l.opening ≡ l.initial.opening) × AllFresh g.K.Name.gate g.K.Name.workers 0 l.made.items
     × (book_of l.book ≡ book_of l.initial.book) × Knows g.K.Name.queues g.K.Name.workers l.book
+    × (g.K.Name.workers ≤ vec_capacity l.made)
 
 abbrev pub decreases-loop-right : goal.decreases-loop-right
 decreases-loop-right g l = length l.rights.items

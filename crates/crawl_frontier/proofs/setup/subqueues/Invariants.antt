@@ -1,4 +1,6 @@
-use Rattle.std.proofs.Common.{◌≡◌, vec_len}
+use Rattle.std.proofs.Common.{◌≡◌, ◌≤◌, vec_len}
+use Rattle.std.specs.Prelude.{vec_capacity}
+use Rattle.std.specs.VecDeque.{deque_capacity}
 use Rattle.crawl_frontier.specs.FreshParts.{Line}
 use Rattle.crawl_frontier.specs.Logs.{ListsAre}
 use Rattle.crawl_frontier.proofs.setup.subqueues.Given as goal
@@ -7,3 +9,4 @@ abbrev pub invariant-loop-queue : goal.invariant-loop-queue
 invariant-loop-queue l =
     Line l.gate l.workers l.queues.items l.push_rights.items l.pop_rights.items l.queue
     × (vec_len l.told ≡ l.queue) × ListsAre l.queues.items l.told.items
+    × (l.workers ≤ vec_capacity l.queues) × (l.workers ≤ deque_capacity l.push_rights) × (l.workers ≤ deque_capacity l.pop_rights) × (l.workers ≤ vec_capacity l.told)

@@ -1,4 +1,4 @@
-use Rattle.std.proofs.Common.{◌<◌, ◌≤◌, [], map, vec_len, length}
+use Rattle.std.proofs.Common.{◌<◌, ◌≤◌, map, vec_len, length}
 use Rattle.crawl_frontier.specs.Books.{Knows, book_of}
 use Rattle.crawl_frontier.specs.Finishing.{AllAre, Slots, Placed, Gathered, IsShared}
 use Rattle.crawl_frontier.proofs.finish.gather.gather.Given as goal
@@ -14,15 +14,3 @@ invariant-loop-worker g l =
 
 abbrev pub decreases-loop-worker : goal.decreases-loop-worker
 decreases-loop-worker g l = vec_len l.closed
-
-abbrev pub invariant-loop-sender : goal.invariant-loop-sender
-invariant-loop-sender g l =
-    Slots g.K.Name.gate g.K.Name.workers g.K.Name.queues l.fn.closed.items l.rights
-    × Placed g.K.Name.gate g.K.Name.workers l.fn.closed.items 0 l.rights l.alone
-    × Gathered g.K.Name.workers l.fn.closed.items l.fn.senders.items [] l.senders.items (map book_of l.books.items)
-    × (l.alone ≤ l.workers)
-    × (l.alone < l.workers → IsShared l.fn.closed.items l.alone)
-    × AllAre (Knows g.K.Name.queues g.K.Name.workers) l.books.items
-
-abbrev pub decreases-loop-sender : goal.decreases-loop-sender
-decreases-loop-sender g l = vec_len l.senders

@@ -39,5 +39,7 @@ loop-queue-preserved g c =
       omega (arith, i.2, one, c.loop-queue.shards.ok.0, r.new.shards.ok.0),
       λ k x is. begins k x (get_before left shard x k is),
       λ q le. r.ensures.others q (omega (arith, le)) ∙ i.4 q (omega (arith, le)),
-      subst (λ (y : List (List Entry) × List (Option Doubt)). AllSettle g.K.Name.workers g.K.Name.queues shards c.args.rights y.0 y.1) (λ i. (sym c.in_ok-push.ensures.items i, sym c.in_ok-push-2.ensures.items i)) more,
+      subst (λ (y : List (List Entry) × List (Option Doubt)). AllSettle g.K.Name.workers g.K.Name.queues shards c.args.rights y.0 y.1) (λ i. (sym c.push_reserved.ensures.items i, sym c.push_reserved-in-loop-queue.ensures.items i)) more,
+      search rules,
+      search rules,
     )

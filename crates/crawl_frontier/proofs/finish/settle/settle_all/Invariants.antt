@@ -1,4 +1,5 @@
 use Rattle.std.proofs.Common.{◌≡◌, ◌≤◌, ◌+◌, ℕ, vec_len}
+use Rattle.std.specs.Prelude.{vec_capacity}
 use Rattle.std.specs.Ordering.{nat_cmp}
 use Rattle.std.specs.BTreeMap.{get}
 use Rattle.crawl_frontier.specs.Finishing.{Begins, AllSettle}
@@ -11,3 +12,4 @@ invariant-loop-queue g l =
     × Begins l.shards.items l.fn.shards.items
     × ((q : ℕ) → l.queue ≤ q → get nat_cmp l.rights q ≡ get nat_cmp l.fn.rights q)
     × AllSettle g.K.Name.workers g.K.Name.queues l.fn.shards.items l.fn.rights l.lists.items l.doubts.items
+    × (g.K.Name.workers ≤ vec_capacity l.lists) × (g.K.Name.workers ≤ vec_capacity l.doubts)

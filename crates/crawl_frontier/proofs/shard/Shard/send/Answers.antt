@@ -58,36 +58,36 @@ push-requires-clause-follows g c =
     subst (λ (v : PassView). MayFollow v.home.workers v.home.queue v.sent c.in-Ok-copies.sent) (sym c.self.invariant.0)
     (subst (MayFollow g.K.Name.workers c.self.inside.queue before) (sym sent) may)
 
-pub invariant_of-self-in_default-reserve : goal.invariant_of-self-in_default-reserve
-invariant_of-self-in_default-reserve g c =
-    let items : c.reserve.new.self.items ≡ c.self.inside.sent.items = c.reserve.ensures.items in (
+pub invariant_of-self-in_default-make_room : goal.invariant_of-self-in_default-make_room
+invariant_of-self-in_default-make_room g c =
+    let items : c.make_room.new.sent.items ≡ c.self.inside.sent.items = c.make_room.ensures.sent in (
       search (rules, c.self.invariant.0),
       c.self.invariant.1,
       subst (KeepsRule g.K.Name.workers c.self.inside.queue []) (sym items) c.self.invariant.2,
       subst (λ (es : List Entry). IsIndexOf hash_of (map (λ e. e.url) es) c.find_or_insert.new.self) (sym items) c.find_or_insert.ensures.before,
-      λ id. c.self.invariant.4 id ∙ ap (count_of id) (sym items),
+      λ id. c.make_room.ensures.counts id ∙ c.self.invariant.4 id ∙ ap (count_of id) (sym items),
       subst (λ (es : List Entry). length es < 4294967296) (sym items) c.self.invariant.5,
     )
 
-pub invariant_of-self-in_default-enter_sender : goal.invariant_of-self-in_default-enter_sender
-invariant_of-self-in_default-enter_sender g c =
-    let items : c.reserve.new.self.items ≡ c.self.inside.sent.items = c.reserve.ensures.items in (
+pub invariant_of-self-in_default-copies : goal.invariant_of-self-in_default-copies
+invariant_of-self-in_default-copies g c =
+    let items : c.make_room.new.sent.items ≡ c.self.inside.sent.items = c.make_room.ensures.sent in (
       search (rules, c.self.invariant.0),
       c.self.invariant.1,
       subst (KeepsRule g.K.Name.workers c.self.inside.queue []) (sym items) c.self.invariant.2,
       subst (λ (es : List Entry). IsIndexOf hash_of (map (λ e. e.url) es) c.find_or_insert.new.self) (sym items) c.find_or_insert.ensures.before,
-      λ id. c.enter_sender.ensures.same id ∙ c.self.invariant.4 id ∙ ap (count_of id) (sym items),
+      λ id. c.make_room.ensures.counts id ∙ c.self.invariant.4 id ∙ ap (count_of id) (sym items),
       subst (λ (es : List Entry). length es < 4294967296) (sym items) c.self.invariant.5,
     )
 
 pub invariant_of-self-in-Err-push : goal.invariant_of-self-in-Err-push
 invariant_of-self-in-Err-push g c =
-    let items : c.reserve.new.self.items ≡ c.self.inside.sent.items = c.reserve.ensures.items in (
+    let items : c.make_room.new.sent.items ≡ c.self.inside.sent.items = c.make_room.ensures.sent in (
       search (rules, c.self.invariant.0),
       search rules,
       subst (KeepsRule g.K.Name.workers c.self.inside.queue []) (sym items) c.self.invariant.2,
       subst (λ (es : List Entry). IsIndexOf hash_of (map (λ e. e.url) es) c.find_or_insert.new.self) (sym items) c.find_or_insert.ensures.before,
-      λ id. c.in-Ok-enter_sender.ensures.same id ∙ c.self.invariant.4 id ∙ ap (count_of id) (sym items),
+      λ id. c.make_room.ensures.counts id ∙ c.self.invariant.4 id ∙ ap (count_of id) (sym items),
       subst (λ (es : List Entry). length es < 4294967296) (sym items) c.self.invariant.5,
     )
 
@@ -96,7 +96,7 @@ invariant_of-self-in-Ok-push g c =
     let before = c.self.inside.sent.items in
     let url = c.args.offered.now.url.now in
     let e : Entry = entry url c.args.offered.now.id c.args.offered.now.own c.args.offered.now.hops in
-    let items : c.reserve.new.self.items ≡ before = c.reserve.ensures.items in
+    let items : c.make_room.new.sent.items ≡ before = c.make_room.ensures.sent in
     let listed : c.in-Ok-copies.listed ≡ e = search rules in
     let all : c.push_reserved.new.self.items ≡ before ++ e ∷ [] = c.push_reserved.ensures.items ∙ (λ i. items i ++ listed i ∷ []) in
     let own : count_of c.args.offered.now.id before ≡ c.args.offered.now.own = search rules in
@@ -111,9 +111,9 @@ invariant_of-self-in-Ok-push g c =
       pushed_item (λ e. e.url) hash_of c.find_or_insert.new.self before c.push_reserved.new.self.items e all known,
       λ id.
           c.raise.ensures id
-          ∙ (ap (λ n. cond (eqb c.args.offered.now.id id) (c.args.offered.now.own + 1) n) (c.in-Ok-enter_sender.ensures.same id ∙ c.self.invariant.4 id)
+          ∙ (ap (λ n. cond (eqb c.args.offered.now.id id) (c.args.offered.now.own + 1) n) (c.make_room.ensures.counts id ∙ c.self.invariant.4 id)
           ∙ (raised id before e own ∙ ap (count_of id) (sym all))),
-      omega (arith, ap length all, length-append before (e ∷ []), c.in-Some-next_index.ensures.0, c.in-Some-next_index.ensures.1),
+      omega (arith, ap length all, length-append before (e ∷ []), c.in-Some-make_room.ensures.index.0, c.in-Some-make_room.ensures.index.1),
     )
 
 pub returns-in-Ok-push : goal.returns-in-Ok-push
@@ -130,5 +130,5 @@ returns-in-Ok-push g c =
       subst (λ (es : List Entry). has_url url es ≡ false) (ap (λ (s : ShardId). s.sent) c.self.view_is) new,
       search rules,
       search rules,
-      c.in-Some-next_index.ensures.0 ∙ ap (λ (s : ShardId). length s.sent) c.self.view_is,
+      c.in-Some-make_room.ensures.index.0 ∙ ap (λ (s : ShardId). length s.sent) c.self.view_is,
     )
