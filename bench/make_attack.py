@@ -9,9 +9,12 @@ Usage: make_attack.py NAME            writes the input of that name
 What is expected is by docs/FORMATS.md and the count of what was written, not by a run of the program. `COUNT` in the
 environment is another number of pages, links or senders (the lines of 2^29 bytes and line ends then have so many).
 """
+from __future__ import annotations
+
 import os
 import string
 import sys
+from typing import Callable, Iterator, NamedTuple, Optional, Tuple
 
 BLOCK = 1 << 20  # bytes of a write
 LINE = 1 << 29  # bytes of the long line, and line ends
@@ -30,20 +33,33 @@ NAME_LETTERS = string.ascii_letters + string.digits + "-_"
 # those that stand in a path as they are
 PATH_BYTES = frozenset((string.ascii_letters + string.digits + "-_~!$&'()*+,;=:@").encode())
 
+Writer = Callable[[int], Iterator[str]]  # an input of so many pages, links, senders or bytes, in pieces
 
-def count(usual):
+
+class Attack(NamedTuple):
+    """An input, and what has to come of it."""
+
+    command: str
+    seed: str  # `-` of a script
+    status: int
+    lines: Writer
+    number: int  # what the writer is given
+    last: Optional[Callable[[int], str]]  # the last line of the output, by that number
+
+
+def count(usual: int) -> int:
     return int(os.environ.get("COUNT", usual))
 
 
-def children(page, pages):
+def children(page: int, pages: int) -> range:
     """The pages that page links to, so that all are reached from the first."""
     return range(2 * page + 1, min(2 * page + 3, pages))
 
 
-def long_line(header, start):
+def long_line(header: str, start: str) -> Writer:
     """A line that is too long by far, of so many bytes."""
 
-    def lines(size):
+    def lines(size: int) -> Iterator[str]:
         yield f"{header}\n{start}"
         yield from filled(size - len(start), "a")
         yield "\n"
@@ -51,32 +67,32 @@ def long_line(header, start):
     return lines
 
 
-def line_ends(header):
+def line_ends(header: str) -> Writer:
     """Nothing but so many ends of lines behind the header: an empty web, or a script without events."""
 
-    def lines(size):
+    def lines(size: int) -> Iterator[str]:
         yield f"{header}\n"
         yield from filled(size, "\n")
 
     return lines
 
 
-def filled(size, letter):
+def filled(size: int, letter: str) -> Iterator[str]:
     for _ in range(size // BLOCK):
         yield letter * BLOCK
     yield letter * (size % BLOCK)
 
 
-def shared_prefix(prefix, width, more_links):
+def shared_prefix(prefix: str, width: int, more_links: str) -> Tuple[Writer, str]:
     """Pages of one prefix and a name of width letters each, with relative links, the shortest texts that there are."""
 
-    def name(page):
+    def name(page: int) -> str:
         letters = ""
         for _ in range(width):
             letters, page = LETTERS[page % 32] + letters, page // 32
         return letters
 
-    def lines(pages):
+    def lines(pages: int) -> Iterator[str]:
         yield f"{WEB}\n"
         for page in range(pages):
             links = "".join(f"link {name(child)}\n" for child in children(page, pages))
@@ -85,7 +101,7 @@ def shared_prefix(prefix, width, more_links):
     return lines, prefix + "a" * width
 
 
-def prefix_of(length, filling):
+def prefix_of(length: int, filling: str) -> str:
     """A URL's text of so many bytes, to which a name of four letters is added."""
     room = length - len(SEED) - 1
     return SEED + (filling * room)[: room - room % len(filling)] + "/"
@@ -94,17 +110,17 @@ def prefix_of(length, filling):
 LONG_BASE = prefix_of(URL_LENGTH, '"')
 
 
-def word(text, place):
+def word(text: bytes, place: int) -> int:
     return int.from_bytes(text[place : place + 8], "little")
 
 
-def hash_step(state, text, place):
+def hash_step(state: int, text: bytes, place: int) -> int:
     """The two words at this place, multiplied to 128 bits whose halves are joined by xor."""
     product = (word(text, place) ^ state) * (word(text, place + 8) ^ HASH_STEP)
     return product & WORD ^ product >> 64
 
 
-def hash_of(text):
+def hash_of(text: bytes) -> int:
     """The hash of a text of at least sixteen bytes: a step for each sixteen, the last one of the last sixteen."""
     state = HASH_START + len(text) & WORD
     for place in range(0, (len(text) - 1) // 16 * 16, 16):
@@ -112,7 +128,7 @@ def hash_of(text):
     return hash_step(state, text, len(text) - 16)
 
 
-def hash_prefix(factor):
+def hash_prefix(factor: int) -> str:
     """A URL's text of 40 bytes behind which the last step of the hash has this factor.
 
     Its last eight bytes are the state that the 32 before them lead to, but for the factor's bits. The 32 are numbered until
@@ -131,7 +147,7 @@ def hash_prefix(factor):
         number += 1
 
 
-def digits(number, letters, width):
+def digits(number: int, letters: str, width: int) -> str:
     """The number with these letters for digits, the least one first."""
     text = ""
     for _ in range(width):
@@ -140,18 +156,18 @@ def digits(number, letters, width):
     return text
 
 
-def colliding(factor, name, bits):
+def colliding(factor: int, name: Callable[[int], str], bits: int) -> Tuple[Writer, str]:
     """A page that links to all others by their whole URLs, so that pages, link texts and offers all have these bits of their hash
     in common. `name` has the last eight bytes of a page's URL."""
     prefix = hash_prefix(factor)
     first = hash_of((prefix + name(0)).encode())
 
-    def url(page):
+    def url(page: int) -> str:
         text = prefix + name(page)
         assert len(text) == HASHED and (hash_of(text.encode()) ^ first) & bits == 0
         return text
 
-    def lines(pages):
+    def lines(pages: int) -> Iterator[str]:
         yield f"{WEB}\npage {url(0)}\n"
         for page in range(1, pages):
             yield f"link {url(page)}\n"
@@ -161,25 +177,25 @@ def colliding(factor, name, bits):
     return lines, url(0)
 
 
-def many_links(links):
+def many_links(links: int) -> Iterator[str]:
     yield f"{WEB}\npage {SEED}\n"
     for link in range(links):
         yield f"link {link:06}\n"
 
 
-def same_link(links):
+def same_link(links: int) -> Iterator[str]:
     yield f"{WEB}\npage {SEED}\n"
     for _ in range(links):
         yield "link a\n"
 
 
-def chain(hosts):
+def chain(hosts: int) -> Tuple[Writer, str]:
     """Each page links to the next alone; they change hosts in turn, so that among workers the crawl wanders."""
 
-    def url(page):
+    def url(page: int) -> str:
         return f"//{page % hosts}.test/{page:06}"
 
-    def lines(pages):
+    def lines(pages: int) -> Iterator[str]:
         yield f"{WEB}\n"
         for page in range(pages):
             link = f"link {url(page + 1) if hosts > 1 else f'{page + 1:06}'}\n" if page + 1 < pages else ""
@@ -188,14 +204,14 @@ def chain(hosts):
     return lines, "http:" + url(0)
 
 
-def long_base(links):
+def long_base(links: int) -> Iterator[str]:
     """A short link on a page whose URL grows to 12,000 bytes is a URL of as many: the output is a thousand times the input."""
     yield f"{WEB}\npage {LONG_BASE}\n"
     for link in range(links):
         yield f"link {link}\n"
 
 
-def many_letters(links):
+def many_letters(links: int) -> Iterator[str]:
     """Hosts of two labels of 600 letters outside of ASCII, all of which differ: Punycode looks at all of them for each, in the
     kit's `idna`, which refuses labels above 1,000 letters."""
     yield f"{WEB}\npage {SEED}\n"
@@ -204,14 +220,14 @@ def many_letters(links):
         yield f"link http://{label}.{label}.test/\n"
 
 
-def million_hosts(pages):
+def million_hosts(pages: int) -> Iterator[str]:
     yield f"{WEB}\n"
     for page in range(pages):
         links = "".join(f"link //h{child}.test/\n" for child in children(page, pages))
         yield f"page http://h{page}.test/\n{links}"
 
 
-def senders(number):
+def senders(number: int) -> Iterator[str]:
     """Each sender takes a unit, in a shuffled order, and when all hold one each admits a URL; the worker takes one URL."""
     step = 611_953  # a prime, so that the order below is one of all senders
     order = [sender * step % number for sender in range(number)]
@@ -223,37 +239,36 @@ def senders(number):
     yield "take 0\ndone 0\n"
 
 
-def found(pages):
+def found(pages: int) -> str:
     return f"total {pages} ok {pages} missing 0"
 
 
-def web(lines, seed, usual, last=found):
-    return "crawl", seed, 0, lines, count(usual), last
+def web(lines: Writer, seed: str, usual: int, last: Callable[[int], str] = found) -> Attack:
+    return Attack("crawl", seed, 0, lines, count(usual), last)
 
 
-def prefixed(length, usual, filling="p", more_links=""):
+def prefixed(length: int, usual: int, filling: str = "p", more_links: str = "") -> Attack:
     lines, seed = shared_prefix(prefix_of(length, filling), 4, more_links)
     return web(lines, seed, usual)
 
 
-def chained(hosts):
+def chained(hosts: int) -> Attack:
     lines, seed = chain(hosts)
     return web(lines, seed, MILLION)
 
 
-def collided(pages, factor, name, bits):
+def collided(pages: int, factor: int, name: Callable[[int], str], bits: int) -> Attack:
     lines, seed = colliding(factor, name, bits)
     return web(lines, seed, pages)
 
 
-def page_and_missing(links):
+def page_and_missing(links: int) -> str:
     return f"total {links + 1} ok 1 missing {links}"
 
 
-# name: command, seed, status, the writer of the lines, its count, and the last line of the output by that count
 ATTACKS = {
-    "long_line": ("crawl", SEED, 1, long_line(WEB, f"page {SEED}"), count(LINE), None),
-    "line_ends": ("crawl", SEED, 0, line_ends(WEB), count(LINE), lambda _: "total 1 ok 0 missing 1"),
+    "long_line": Attack("crawl", SEED, 1, long_line(WEB, f"page {SEED}"), count(LINE), None),
+    "line_ends": Attack("crawl", SEED, 0, line_ends(WEB), count(LINE), lambda _: "total 1 ok 0 missing 1"),
     "last_bytes": prefixed(400, 1 << 20),
     "one_target": prefixed(50, 100_000, more_links=f"link {prefix_of(50, 'p')}aaaa\n" * 3),
     "many_links": web(many_links, SEED, MILLION, page_and_missing),
@@ -268,12 +283,12 @@ ATTACKS = {
     "one_hash": collided(100_000, 0, lambda page: f"{page:08}", WORD),
     "one_bucket": collided(MILLION, 1, lambda page: "000" + digits(page, NAME_LETTERS, 5), BUCKET_BITS),
     "one_mark": collided(MILLION, 1, lambda page: digits(page, NAME_LETTERS, 4) + "0000", MARK_BITS),
-    "script_long_line": ("replay", "-", 1, long_line(SCRIPT, f"admit 1 {SEED}"), count(LINE), None),
-    "script_line_ends": ("replay", "-", 0, line_ends(SCRIPT), count(LINE), None),
+    "script_long_line": Attack("replay", "-", 1, long_line(SCRIPT, f"admit 1 {SEED}"), count(LINE), None),
+    "script_line_ends": Attack("replay", "-", 0, line_ends(SCRIPT), count(LINE), None),
     "long_base": web(long_base, LONG_BASE, 50_000, page_and_missing),
     "many_letters": web(many_letters, SEED, 3_000, page_and_missing),
     # the opening unit and those of the URLs that were not taken
-    "senders": ("replay", "-", 0, senders, count(MILLION), lambda number: f"count {number}"),
+    "senders": Attack("replay", "-", 0, senders, count(MILLION), lambda number: f"count {number}"),
 }
 
 
@@ -281,25 +296,25 @@ ATTACKS = {
 BY_BOTH = {"long_base"}
 
 
-def tell(name):
-    command, seed, status, _, number, last = ATTACKS[name]
-    print(command, seed, status, "both" if name in BY_BOTH else "input", last(number) if last else "-")
+def tell(name: str) -> None:
+    it = ATTACKS[name]
+    print(it.command, it.seed, it.status, "both" if name in BY_BOTH else "input", it.last(it.number) if it.last else "-")
 
 
-def write(name):
-    _, _, _, lines, number, _ = ATTACKS[name]
-    sys.stdout.reconfigure(encoding="utf-8")
-    batch, size = [], 0
-    for text in lines(number):
-        batch.append(text)
-        size += len(text)
-        if size >= BLOCK:
-            sys.stdout.write("".join(batch))
-            batch, size = [], 0
-    sys.stdout.write("".join(batch))
+def write(name: str) -> None:
+    it = ATTACKS[name]
+    with open(sys.stdout.fileno(), "w", encoding="utf-8", closefd=False) as out:
+        batch, size = [], 0
+        for text in it.lines(it.number):
+            batch.append(text)
+            size += len(text)
+            if size >= BLOCK:
+                out.write("".join(batch))
+                batch, size = [], 0
+        out.write("".join(batch))
 
 
-def main():
+def main() -> None:
     if sys.argv[1] == "--names":
         print("\n".join(ATTACKS))
     elif sys.argv[1] == "--told":

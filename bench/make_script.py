@@ -6,6 +6,8 @@ Usage: make_script.py LINES SENDERS WORKERS
 Seven turns in ten admit a URL (look, enter, admit, and back where the URL was seen), the others fetch one (take, done) from
 some subqueue. URL, sender, subqueue and kind of a turn are drawn from a fixed seed, so a script is the same each time.
 """
+from __future__ import annotations
+
 import random
 import sys
 
@@ -13,7 +15,7 @@ URLS = 300_000
 SEED = 20_261_122
 
 
-def admit(sender, url, seen):
+def admit(sender: int, url: int, seen: set[int]) -> list[str]:
     lines = [
         f"look {sender}",
         f"enter {sender}",
@@ -25,9 +27,10 @@ def admit(sender, url, seen):
     return lines
 
 
-def main():
+def main() -> None:
     count, senders, workers = (int(word) for word in sys.argv[1:4])
-    drawn, seen = random.Random(SEED), set()
+    drawn = random.Random(SEED)
+    seen: set[int] = set()
     lines = [f"workers {workers} max 1099511627776"]
     while len(lines) < count:
         if drawn.randrange(10) < 7:

@@ -12,9 +12,12 @@ With --links N the web has the shape of real sites: one host to 1,000 pages, and
 page's links are repeats of others on it, half of those by a fragment of their own; of the rest seven in eight are the
 navigation that all pages of its folder share, in the same texts, and the others its children and drawn pages.
 """
+from __future__ import annotations
+
 import argparse
 import random
 import sys
+from typing import Dict, Iterable, Iterator, List, Tuple
 
 HOSTS = 1_000
 SECTIONS = 20
@@ -23,21 +26,25 @@ SEED = 20_261_122
 
 ABSOLUTE, BY_HOST, BY_PATH, RELATIVE = range(4)
 
+Hosts = List[int]  # the host of each page
+PagesOf = Dict[int, List[int]]  # the pages of each host
+Navigations = Dict[Tuple[int, int], List[str]]  # the links that the pages of a host and a folder share
 
-def authority(host):
+
+def authority(host: int) -> str:
     return f"//host-{host - 1:03}.crawl.test"
 
 
-def path(page):
+def path(page: int) -> str:
     return f"/sections/{page % SECTIONS:02}/page-{page:07}.html"
 
 
-def relative(page, target):
+def relative(page: int, target: int) -> str:
     name = f"page-{target:07}.html"
     return name if page % SECTIONS == target % SECTIONS else f"../{target % SECTIONS:02}/{name}"
 
 
-def spelled(hosts, page, target, spelling):
+def spelled(hosts: Hosts, page: int, target: int, spelling: int) -> str:
     if spelling == ABSOLUTE:
         return f"http:{authority(hosts[target])}{path(target)}"
     if spelling == BY_HOST:
@@ -45,7 +52,7 @@ def spelled(hosts, page, target, spelling):
     return path(target) if spelling == BY_PATH else relative(page, target)
 
 
-def links(drawn, hosts, pages_of, page):
+def links(drawn: random.Random, hosts: Hosts, pages_of: PagesOf, page: int) -> Iterator[str]:
     children = range(2 * page + 1, min(2 * page + 3, len(hosts)))
     for target in children:
         spellings = 4 if hosts[target] == hosts[page] else 2
@@ -57,11 +64,11 @@ def links(drawn, hosts, pages_of, page):
         yield spelled(hosts, page, target, spelling)
 
 
-def most_links(wanted):
+def most_links(wanted: int) -> int:
     return 8 * wanted // 5
 
 
-def own_links(drawn, hosts, pages_of, page, count):
+def own_links(drawn: random.Random, hosts: Hosts, pages_of: PagesOf, page: int, count: int) -> Iterator[str]:
     """The page's children, and as many drawn pages as make so many links; more where the children are more."""
     for target in range(2 * page + 1, min(2 * page + 3, len(hosts))):
         yield spelled(hosts, page, target, RELATIVE if hosts[target] == hosts[page] else BY_HOST)
@@ -70,11 +77,13 @@ def own_links(drawn, hosts, pages_of, page, count):
         yield spelled(hosts, page, drawn.choice(pages_of[hosts[page]]), RELATIVE)
 
 
-def repeated(drawn, text):
+def repeated(drawn: random.Random, text: str) -> str:
     return text if drawn.randrange(2) else f"{text}#part-{drawn.randrange(10)}"
 
 
-def many_links(drawn, hosts, pages_of, page, navigations, wanted):
+def many_links(
+    drawn: random.Random, hosts: Hosts, pages_of: PagesOf, page: int, navigations: Navigations, wanted: int
+) -> List[str]:
     """Links as a real page has them: its folder's navigation, its own links, and repeats of these."""
     folder = (hosts[page], page % SECTIONS)
     if folder not in navigations:
@@ -87,12 +96,12 @@ def many_links(drawn, hosts, pages_of, page, navigations, wanted):
     return texts + [repeated(drawn, text) for text in drawn.choices(texts, k=repeats)]
 
 
-def drawn_hosts(drawn, count, most):
+def drawn_hosts(drawn: random.Random, count: int, most: int) -> Hosts:
     hosts = range(1, most + 1)
     return drawn.choices(hosts, [1 / host for host in hosts], k=count)
 
 
-def arguments():
+def arguments() -> argparse.Namespace:
     parser = argparse.ArgumentParser(description="Writes a saved web to standard output.")
     parser.add_argument("pages", metavar="PAGES", type=int)
     parser.add_argument("--links", metavar="N", type=int, help="the shape of real sites, with about N links a page; 4 or more")
@@ -102,16 +111,18 @@ def arguments():
     return parsed
 
 
-def main():
+def main() -> None:
     wanted = arguments()
     drawn = random.Random(SEED)
     hosts = drawn_hosts(drawn, wanted.pages, HOSTS if wanted.links is None else wanted.pages // 1_000 + 1)
-    pages_of, navigations = {}, {}
+    pages_of: PagesOf = {}
+    navigations: Navigations = {}
     for page, host in enumerate(hosts):
         pages_of.setdefault(host, []).append(page)
     sys.stdout.write("savedweb 1\n")
     for page, host in enumerate(hosts):
         lines = [f"page http:{authority(host)}{path(page)}\n"]
+        texts: Iterable[str]
         if wanted.links is None:
             texts = links(drawn, hosts, pages_of, page)
         else:

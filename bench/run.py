@@ -5,6 +5,8 @@ Usage: run.py SECONDS_FILE FILE PROGRAM WORD..
 
 The least time in seconds is written to SECONDS_FILE too. RUNS in the environment is another number of runs.
 """
+from __future__ import annotations
+
 import os
 import subprocess
 import sys
@@ -13,7 +15,8 @@ import time
 RUNS = int(os.environ.get("RUNS", "5"))
 
 
-def run_once(path, command):
+def run_once(path: str, command: list[str]) -> tuple[float, float]:
+    """Its seconds, and its peak memory in MiB."""
     with open(path, "rb") as script:
         start = time.monotonic()
         process = subprocess.Popen(command, stdin=script, stdout=subprocess.DEVNULL)
@@ -24,7 +27,7 @@ def run_once(path, command):
     return seconds, usage.ru_maxrss / 1024
 
 
-def main():
+def main() -> None:
     seconds_file, path, command = sys.argv[1], sys.argv[2], sys.argv[3:]
     runs = [run_once(path, command) for _ in range(RUNS)]
     seconds, peak = min(run[0] for run in runs), max(run[1] for run in runs)
