@@ -8,7 +8,8 @@ It writes a line for each URL that it has fetched: the status, how many of its l
 URL. The status is `robots` where robots.txt forbids the URL, and `failed` where there is no answer.
 
 - It keeps to robots.txt, and waits between two requests to a host: --delay seconds, or the
-  Crawl-delay of robots.txt where that is longer.
+  Crawl-delay of robots.txt where that is longer. It leaves a host alone whose robots.txt asks for
+  more than a day, or cannot be read.
 - It reads --largest bytes of a page at most, in at most SECONDS.
 - It offers where a redirect leads to, and does not follow it.
 - With --log it goes on where it was ended, by Ctrl-C, `kill -9` or a crash: give the same words.
@@ -23,16 +24,19 @@ import http.client
 import sys
 import threading
 import time
+from contextlib import closing
 from html.parser import HTMLParser
 from pathlib import Path
 from typing import Dict, List, NamedTuple, Optional, Tuple
-from urllib.parse import urljoin, urlsplit
+from urllib.parse import SplitResult, urljoin, urlsplit
 from urllib.robotparser import RobotFileParser
 
 sys.path.insert(0, str(Path(__file__).resolve().parent.parent / "clients" / "python"))
 from mercator_frontier import Frontier, FrontierError, Refusal
 
 SECONDS = 30
+DAY = 86_400
+PORTS = {"http": 80, "https": 443}
 REDIRECTS = (301, 302, 303, 307, 308)
 PAGES = ("text/html", "application/xhtml+xml")
 LINKS = {
@@ -61,7 +65,7 @@ class Links(HTMLParser):
         try:
             self.feed(text)
             self.close()
-        except AssertionError:
+        except (AssertionError, ValueError):
             pass  # at markup that the parser gives up on, so far as it came
 
     def handle_starttag(self, tag: str, attrs: List[Tuple[str, Optional[str]]]) -> None:
@@ -80,26 +84,34 @@ def joined(base: str, text: str) -> str:
         return base
 
 
+def connected(parts: SplitResult) -> http.client.HTTPConnection:
+    """A connection to the host of a URL."""
+    # Without a port `http.client` takes the end of an IPv6 address for one.
+    port = PORTS[parts.scheme] if parts.port is None else parts.port
+    if parts.scheme == "https":
+        return http.client.HTTPSConnection(parts.hostname or "", port, timeout=SECONDS)
+    return http.client.HTTPConnection(parts.hostname or "", port, timeout=SECONDS)
+
+
 def fetch(url: str, agent: str, largest: int) -> Reply:
-    parts = urlsplit(url)
-    is_secret = parts.scheme == "https"
-    connect = http.client.HTTPSConnection if is_secret else http.client.HTTPConnection
-    connection = connect(parts.hostname or "", parts.port, timeout=SECONDS)
     try:
-        target = parts.path + ("?" + parts.query if parts.query else "")
-        connection.request("GET", target, headers={"User-Agent": agent})
-        answer = connection.getresponse()
-        if answer.status in REDIRECTS:
-            return Reply(str(answer.status), answer.getheader("Location"))
-        kind = answer.headers.get_content_type()
-        if answer.status != 200 or kind not in (*PAGES, "text/plain"):
-            return Reply(str(answer.status))
-        charset = answer.headers.get_content_charset() or "utf-8"
-        return Reply("200", None, kind, body_of(answer, largest).decode(charset, "replace"))
+        parts = urlsplit(url)
+        with closing(connected(parts)) as connection:
+            target = parts.path + ("?" + parts.query if parts.query else "")
+            connection.request("GET", target, headers={"User-Agent": agent})
+            return reply_of(connection.getresponse(), largest)
     except (OSError, ValueError, LookupError, http.client.HTTPException):
         return Reply("failed")
-    finally:
-        connection.close()
+
+
+def reply_of(answer: http.client.HTTPResponse, largest: int) -> Reply:
+    if answer.status in REDIRECTS:
+        return Reply(str(answer.status), answer.getheader("Location"))
+    kind = answer.headers.get_content_type()
+    if answer.status != 200 or kind not in (*PAGES, "text/plain"):
+        return Reply(str(answer.status))
+    charset = answer.headers.get_content_charset() or "utf-8"
+    return Reply("200", None, kind, body_of(answer, largest).decode(charset, "replace"))
 
 
 def body_of(answer: http.client.HTTPResponse, largest: int) -> bytes:
@@ -127,14 +139,18 @@ class Host:
                 break
             reply = self.fetch(joined(site, reply.leads_to), 500_000)
         # No answer, or that of a broken host, may hide a robots.txt that forbids all.
-        is_hidden = reply.status == "failed" or reply.status.startswith("5")
-        text = "User-agent: *\nDisallow: /" if is_hidden else reply.text
-        self.robots.parse(text.splitlines())
-        self.delay = max(delay, float(self.robots.crawl_delay(agent) or 0))
+        self.is_shut = reply.status == "failed" or reply.status.startswith("5")
+        try:
+            self.robots.parse(reply.text.splitlines())
+            asked = int(self.robots.crawl_delay(agent) or 0)
+            self.delay = max(delay, asked)
+            self.is_shut = self.is_shut or asked > DAY
+        except ValueError:
+            self.is_shut = True
 
     def allows(self, url: str) -> bool:
         try:
-            return self.robots.can_fetch(self.agent, url)
+            return not self.is_shut and self.robots.can_fetch(self.agent, url)
         except ValueError:
             return False  # urllib cannot read the URL
 

@@ -6,6 +6,7 @@
 # It crawls the hosts within SUFFIX, and writes the status and the URL of each that it has fetched. The program is what
 # MERCATOR names, else `mercator`. DELAY is the time between two requests, in seconds; 1.
 set -euo pipefail
+export LC_ALL=C  # a page is bytes
 if [ $# -lt 2 ]; then
     echo "usage: crawl_http.sh SUFFIX SEED.." >&2
     exit 3
@@ -24,7 +25,7 @@ ask() {
 
 # links: the texts of the links of the page, as they stand.
 links() {
-    tr '\n\t' '  ' < "$page" | grep -oiE '<(a|area|link|img|script|iframe) [^>]*(href|src)="[^"]*"' \
+    tr '\n\t' '  ' < "$page" | grep -aoiE '<(a|area|link|img|script|iframe) [^>]*(href|src)="[^"]*"' \
         | sed -E 's/.*(href|src)="([^"]*)"$/\2/I; s/&amp;/\&/g' || true
 }
 
@@ -42,7 +43,7 @@ while ask "next 0"; do
         taken*) url=${answer#taken } ;;
         *) break ;;
     esac
-    told=$(curl --silent --max-time 30 --max-filesize 5000000 --user-agent crawl_http --output "$page" \
+    told=$(curl --silent --globoff --max-time 30 --max-filesize 5000000 --user-agent crawl_http --output "$page" \
         --write-out '%{http_code} %header{location}' -- "$url") || told="failed "
     echo "${told%% *} $url"
     if [[ $told == 3* ]]; then

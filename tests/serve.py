@@ -39,7 +39,7 @@ PARTS: Tuple[Callable[[Trial], None], ...] = (
     clients.client_small_pipes, clients.log_in_use,
     crawls.crawls, crawls.killed_crawls,
     crawlers.crawler, crawlers.bash_crawler, crawlers.killed_crawler, crawlers.polite_crawler,
-    crawlers.saved_documentation,
+    crawlers.hostile_hosts, crawlers.saved_documentation,
 )
 
 

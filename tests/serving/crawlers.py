@@ -4,6 +4,7 @@ from __future__ import annotations
 
 import http.client
 import http.server
+import importlib
 import re
 import shutil
 import subprocess
@@ -97,20 +98,35 @@ def crawler(trial: Trial) -> None:
         print(f"  {len(told)} URLs")
 
 
+def told_by_bash(trial: Trial, url: str) -> Dict[str, str]:
+    words = ["env", f"MERCATOR={trial.program}", "DELAY=0", str(ROOT / "examples/crawl_http.sh"), "127.0.0.1", url]
+    done = run_crawler(words)
+    told = dict(line.split(" ")[::-1] for line in done.stdout.decode().split("\n")[:-1])
+    expect(done.returncode == 0 and not done.stderr, f"status {done.returncode}: {done.stderr.decode()}")
+    expect(len(told) == done.stdout.count(b"\n"), "a URL is told twice")
+    return told
+
+
 def bash_crawler(trial: Trial) -> None:
-    """The crawler in bash, which reads no `<base>`: each URL once, those of the search among them."""
+    """The crawler in bash, which reads no `<base>`: each URL once, those of the search among them.
+
+    A page that is not UTF-8 has its links, and brackets in a URL stand for themselves.
+    """
     trial.want_link()
     if not shutil.which("curl"):
         raise Skipped("there is no curl")
     with Folder(ROOT / "examples/site") as folder:
         wanted = found_by_search(folder.url)
-        words = ["env", f"MERCATOR={trial.program}", "DELAY=0", str(ROOT / "examples/crawl_http.sh"), "127.0.0.1", folder.url]
-        done = run_crawler(words)
-        told = dict(line.split(" ")[::-1] for line in done.stdout.decode().split("\n")[:-1])
-        expect(done.returncode == 0 and not done.stderr, f"status {done.returncode}: {done.stderr.decode()}")
-        expect(len(told) == done.stdout.count(b"\n"), "a URL is told twice")
+        told = told_by_bash(trial, folder.url)
         other = {url for url in set(told) & set(wanted) if told[url] != wanted[url]}
         expect(not other and len(set(wanted) - set(told)) <= 2, f"other URLs: {other or set(told) ^ set(wanted)}")
+    odd = trial.folder / "odd"
+    odd.mkdir()
+    (odd / "index.html").write_bytes(b'caf\xe9 <a href="a[1-2].html">\n')
+    (odd / "a[1-2].html").write_bytes(b"")
+    with Folder(odd) as folder:
+        told = told_by_bash(trial, folder.url)
+        expect(told == {folder.url: "200", f"{folder.url}a[1-2].html": "200"}, f"{told}")
 
 
 def killed_crawler(trial: Trial) -> None:
@@ -194,6 +210,50 @@ def polite_crawler(trial: Trial) -> None:
     expect({agent for _, _, agent in Polite.asked} == {"bell"}, "the agent")
     times = [when for when, _, _ in Polite.asked]
     expect(all(later - earlier >= 0.19 for earlier, later in zip(times, times[1:])), f"the delay: {times}")
+
+
+class HostileHost(http.server.ThreadingHTTPServer):
+    """A host with a rule in its robots.txt, and a page with a reference that Python does not read."""
+
+    def __init__(self, rule: str) -> None:
+        super().__init__(("127.0.0.1", 0), HostileAnswer)
+        self.url = f"http://127.0.0.1:{self.server_port}/"
+        self.pages = {"/robots.txt": f"User-agent: *\n{rule}\n", "/": f'<a href=/x><a href="&#{"9" * 5_000};">'}
+        threading.Thread(target=self.serve_forever, daemon=True).start()
+
+
+class HostileAnswer(http.server.BaseHTTPRequestHandler):
+    def do_GET(self) -> None:
+        assert isinstance(self.server, HostileHost)
+        self.send_response(200)
+        self.send_header("Content-Type", "text/html; charset=utf-8" if self.path == "/" else "text/plain")
+        self.end_headers()
+        self.wfile.write(self.server.pages.get(self.path, "").encode())
+
+    def log_message(self, format: str, *words: object) -> None:
+        return
+
+
+def hostile_hosts(trial: Trial) -> None:
+    """What Python cannot read, of robots.txt, a page or a URL, ends no crawl, and hides no link before it."""
+    trial.want_link()
+    rules = (
+        "Disallow: //[", "Crawl-delay: \u00b2", "Request-rate: 1/\u00b2", "Crawl-delay: " + "9" * 400, "Crawl-delay: " + "9" * 5_000
+    )
+    shut = [HostileHost(rule) for rule in rules]
+    read = HostileHost("Disallow: /y")
+    wanted = {**{host.url: "robots" for host in shut}, read.url: "200", f"{read.url}x": "200"}
+    done = run_crawler(crawler_words(trial, "--delay", "0", "--within", "127.0.0.1", *(host.url for host in [*shut, read])))
+    for host in [*shut, read]:
+        host.shutdown()
+    told = dict(told_by_crawler(done.stdout))
+    expect(told == wanted and done.returncode == 0, f"{told}, status {done.returncode}: {done.stderr.decode()}")
+    sys.path.insert(0, str(CRAWLER.parent))
+    connected = importlib.import_module(CRAWLER.stem).connected
+    ends = {"http://[::ab]/": ("::ab", 80), "https://[::1]/": ("::1", 443), "http://a.test:0/": ("a.test", 0)}
+    for url, end in ends.items():
+        one = connected(urlsplit(url))
+        expect((one.host, one.port) == end, f"{url}: {one.host}, {one.port}")
 
 
 def saved_documentation(trial: Trial) -> None:
