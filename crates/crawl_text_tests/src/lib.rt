@@ -1,4 +1,4 @@
-//! The tests of `crawl_web`, `crawl_sources` and `crawl_replay`, by what any crate can call: pages of saved webs, reports and their sources, seeds, scripts.
+//! The tests of the crates without threads, by what any crate can call: `hash_index`, `crawl_core`, `crawl_keys`, `crawl_web`, `crawl_sources`, `crawl_session`, `html_links`, `check_report`.
 #![tactic(auto)]
 
 #[cfg(test)]

@@ -1,7 +1,7 @@
 use Rattle.std.proofs.Common.{rules, ◌≡◌, ◌*◌, ◌%◌, ℕ, List, [], ◌∷◌, ◌++◌, length, false, is_some}
 use Rattle.hash_index.proofs.Listed.{none_there}
 use Rattle.hash_index.proofs.Keeping.{pushed_item}
-use Rattle.hash_index_tests.proofs.tests.Words.add.Goals as goal
+use Rattle.crawl_text_tests.proofs.tests.indices.Words.add.Goals as goal
 
 pub invariant_of-self-2 : goal.invariant_of-self-2
 invariant_of-self-2 c =

@@ -1,3 +1,0 @@
-//! What no clause says and no command shows.
-mod start_tags;
-mod styles;
