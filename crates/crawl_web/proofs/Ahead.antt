@@ -13,6 +13,7 @@ use Rattle.crawl_web.specs.SavedWeb.{page_behind}
 use Rattle.crawl_web.specs.declared.page.Page.{Page}
 use Rattle.crawl_web.specs.declared.page.Page.TheVariants.{Found}
 use Rattle.crawl_web.specs.declared.saved_web.ahead.chunk.LinksAhead.{LinksAhead}
+use Rattle.crawl_web.specs.declared.saved_web.ahead.chunk.PageAhead.{PageAhead}
 
 -- ---- URLs by their indices
 
@@ -54,14 +55,6 @@ lead_more urls indices links i index link below is lead at =
     ∙ (λ k. lead k ++ at k ∷ [])
     ∙ sym (map_more (λ one. Some one) links i link below ∙ ap (λ one. map (λ l. Some l) (take i links) ++ Some one ∷ []) (sym is))
 
--- one link more, at the next index
-pub lead_next : (urls : List (List ℕ)) (indices : List ℕ) (links : List (List ℕ)) (i index : ℕ) (link : List ℕ) → i < length indices → index ≡ get_or indices i index → LeadTo urls (take i indices) links → slice_get urls index ≡ Some link → LeadTo urls (take (i + 1) indices) (links ++ link ∷ [])
-lead_next urls indices links i index link below is lead at =
-    map_more (λ k. slice_get urls k) indices i index below
-    ∙ ap (λ k. map (λ n. slice_get urls n) (take i indices) ++ slice_get urls k ∷ []) (sym is)
-    ∙ (λ k. lead k ++ at k ∷ [])
-    ∙ sym (map_push (λ one. Some one) links link)
-
 -- no other links are at the indices
 same_links : (xs ys : List (List ℕ)) → map (λ link. Some link) xs ≡ map (λ link. Some link) ys → xs ≡ ys
 same_links [] [] same = refl
@@ -79,20 +72,23 @@ copied_page page urls ahead links is lead =
 
 -- ---- the pages of a chunk
 
-pub still_ahead : (web : List PageRead) (first : ℕ) (pages : List (Option LinksAhead)) (old new : List (List ℕ)) → KeepIndices old new → AreAhead web first pages old → AreAhead web first pages new
-still_ahead web first pages old new keep are k ahead at =
-    let own = are k ahead at in
-    record { links = own.links; lead = lead_still old new ahead.indices.items own.links keep own.lead; page_is = own.page_is }
+pub still_ahead : (web : List PageRead) (pages : List PageAhead) (old new : List (List ℕ)) → KeepIndices old new → AreAhead web pages old → AreAhead web pages new
+still_ahead web pages old new keep are k page at =
+    let own = are k page at in
+    record { links = own.links; lead = lead_still old new page.links.indices.items own.links keep own.lead; page_is = own.page_is }
 
 -- one page more
-pub more_ahead : (web : List PageRead) (first index : ℕ) (pages longer : List (Option LinksAhead)) (links : Option LinksAhead) (urls : List (List ℕ)) → longer ≡ pages ++ links ∷ [] → index ≡ first + length pages → AreAhead web first pages urls → IfSome links (IsAhead (shown_page (slice_get web index)) urls) → AreAhead web first longer urls
-more_ahead web first index pages longer links urls is next are own k ahead at =
-    elim (push_cases pages links k (Some ahead) (sym (ap (λ l. slice_get l k) is) ∙ at)) [
-      | inl before ↦ are k ahead before.1
-      | inr last ↦
-          let there : IsAhead (shown_page (slice_get web index)) urls ahead = subst (λ (o : Option LinksAhead). IfSome o (IsAhead (shown_page (slice_get web index)) urls)) last.1 own in
-          subst (λ n. IsAhead (shown_page (slice_get web n)) urls ahead) (next ∙ ap (λ n. first + n) (sym last.0)) there
+pub more_ahead : (web : List PageRead) (pages longer : List PageAhead) (page : PageAhead) (urls : List (List ℕ)) → longer ≡ pages ++ page ∷ [] → AreAhead web pages urls → IsAhead (shown_page (slice_get web page.index)) urls page.links → AreAhead web longer urls
+more_ahead web pages longer page urls is are own k other at =
+    elim (push_cases pages page k other (sym (ap (λ l. slice_get l k) is) ∙ at)) [
+      | inl before ↦ are k other before.1
+      | inr last ↦ subst (λ (one : PageAhead). IsAhead (shown_page (slice_get web one.index)) urls one.links) last.1 own
     ]
+
+-- the page that was found by its index
+pub ahead_at : (web : List PageRead) (pages : List PageAhead) (urls : List (List ℕ)) (k index : ℕ) (page : PageAhead) → AreAhead web pages urls → slice_get pages k ≡ Some page → page.index ≡ index → IsAhead (shown_page (slice_get web index)) urls page.links
+ahead_at web pages urls k index page are at is =
+    subst (λ n. IsAhead (shown_page (slice_get web n)) urls page.links) is (are k page at)
 
 -- ---- the page at a URL
 

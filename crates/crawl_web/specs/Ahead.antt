@@ -7,6 +7,7 @@ use Rattle.crawl_web.specs.declared.page.Page.{Page}
 use Rattle.crawl_web.specs.declared.page.Page.TheVariants.{Found, Missing}
 use Rattle.crawl_web.specs.declared.saved_web.ahead.chunk.Chunk.{Chunk}
 use Rattle.crawl_web.specs.declared.saved_web.ahead.chunk.LinksAhead.{LinksAhead}
+use Rattle.crawl_web.specs.declared.saved_web.ahead.chunk.PageAhead.{PageAhead}
 
 -- the page that was read, or none
 abbrev pub shown_page : Option PageRead → Page
@@ -27,10 +28,10 @@ pub record IsAhead (page : Page) (urls : List (List ℕ)) (ahead : LinksAhead) :
   pub lead : LeadTo urls ahead.indices.items links
   pub page_is : page ≡ Found links ahead.skipped
 
--- where the links of a page are known, it is the page that the web has there
-abbrev pub AreAhead : List PageRead → ℕ → List (Option LinksAhead) → List (List ℕ) → Type 0
-AreAhead web first pages urls =
-    (k : ℕ) (ahead : LinksAhead) → slice_get pages k ≡ Some (Some ahead) → IsAhead (shown_page (slice_get web (first + k))) urls ahead
+-- the pages with these links are those that the web has there
+abbrev pub AreAhead : List PageRead → List PageAhead → List (List ℕ) → Type 0
+AreAhead web pages urls =
+    (k : ℕ) (page : PageAhead) → slice_get pages k ≡ Some page → IsAhead (shown_page (slice_get web page.index)) urls page.links
 
 abbrev pub IsChunk : List PageRead → Chunk → Type 0
-IsChunk web chunk = AreAhead web chunk.first chunk.pages.items chunk.urls
+IsChunk web chunk = AreAhead web chunk.pages.items chunk.urls

@@ -19,8 +19,11 @@ use std::thread::Threads;
 /// A web with fewer bytes than this is not worth a thread.
 const LEAST: usize = 1 << 19;
 
-/// The pages are cut into so many chunks.
-const CHUNKS: usize = 16;
+/// So many threads find links, each those of a chunk.
+const CHUNKS: usize = 4;
+
+/// The pages are cut into so many blocks, which the chunks have in turn: pages that cost much lie together.
+const BLOCKS: usize = 64;
 
 /// The pages of a web, and the links of most of them, or of none.
 #[derive(Drop)]
@@ -98,18 +101,8 @@ fn chunks_of<R: Threads + Sync>(
         rt,
         alloc,
         CHUNKS,
-        &|number: usize| { chunk_at(alloc, web, number) },
+        &|number: usize| { Chunk::new(alloc, web, number) },
     )
-}
-
-/// The links of a chunk: all have as many bytes, about.
-fn chunk_at(alloc: Global, web: &WebPages<'_>, number: usize) -> Chunk
-    ensures { IsChunk web.now result }
-{
-    let bytes = web.bytes();
-    let first = web.index_behind(bytes.saturating_mul(number) / CHUNKS);
-    let end = web.index_behind(bytes.saturating_mul(number.saturating_add(1)) / CHUNKS);
-    Chunk::new(alloc, web, first, end)
 }
 
 /// The page of the web at the index; nothing where no chunk has its links, or there is no room.

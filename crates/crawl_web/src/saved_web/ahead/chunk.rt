@@ -6,8 +6,8 @@ ghost use Rattle.crawl_web.specs.declared.page.Page.{Page};
 
 use crate::fetch::FetchError;
 use crate::page::{Links, Page};
-use crate::saved_web::ahead::CHUNKS;
 use crate::saved_web::ahead::url_list::UrlList;
+use crate::saved_web::ahead::{BLOCKS, CHUNKS};
 use crate::saved_web::known_page::KnownPage;
 use crate::saved_web::link_cache::LinkCache;
 use crate::saved_web::links::page_behind;
@@ -16,14 +16,20 @@ use crate::saved_web::web_pages::WebPages;
 use crawl_keys::{Base, CanonUrl};
 use std::alloc::{AllocError, Global};
 
-/// Pages of a web that follow one another, and the links of most of them.
+/// Some pages of a web, and the links of most of them.
 #[derive(Drop)]
 pub struct Chunk {
-    /// The index of the first page.
-    first: usize,
-    /// The links of each page, where they were found.
-    pages: Vec<Option<LinksAhead>>,
+    /// In the order of the web.
+    pages: Vec<PageAhead>,
     urls: UrlList,
+}
+
+/// A page whose links were found.
+#[derive(Drop)]
+struct PageAhead {
+    /// Its index among the pages of the web.
+    index: usize,
+    links: LinksAhead,
 }
 
 /// The links of a page.
@@ -36,18 +42,18 @@ struct LinksAhead {
 }
 
 impl Chunk {
-    /// The links of the pages from this index up to that, as far as there is room.
-    pub fn new(alloc: Global, web: &WebPages<'_>, first: usize, end: usize) -> Chunk
+    /// The links of the pages in this block, and in each that is so many chunks behind, as far as there is room.
+    pub fn new(alloc: Global, web: &WebPages<'_>, first: usize) -> Chunk
         ensures { IsChunk web.now result }
     {
         let mut cache = LinkCache::new(alloc, CHUNKS as u32);
         let mut chunk = Chunk {
-            first,
             pages: Vec::new(alloc),
             urls: UrlList::new(alloc),
         };
-        for index in first..end {
-            match chunk.add_page(alloc, web, index, &mut cache) {
+        for round in 0..BLOCKS / CHUNKS {
+            let block = first.saturating_add(round * CHUNKS);
+            match chunk.add_block(alloc, web, block, &mut cache) {
                 Ok(()) => {}
                 Err(_) => return chunk,
             }
@@ -55,7 +61,27 @@ impl Chunk {
         chunk
     }
 
-    /// Finds the links of the page at the index, which is the next.
+    /// Finds the links of the pages of a block: all have as many bytes, about.
+    fn add_block<'a>(
+        &mut self,
+        alloc: Global,
+        web: &WebPages<'a>,
+        block: usize,
+        cache: &mut LinkCache<'a>,
+    ) -> Result<(), FetchError>
+        requires { IsChunk web.now self.old }
+        ensures { IsChunk web.now self.new }
+    {
+        let bytes = web.bytes();
+        let first = web.index_behind(bytes.saturating_mul(block) / BLOCKS);
+        let end = web.index_behind(bytes.saturating_mul(block.saturating_add(1)) / BLOCKS);
+        for index in first..end {
+            self.add_page(alloc, web, index, cache)?;
+        }
+        Ok(())
+    }
+
+    /// Finds the links of the page at the index, which comes behind the others.
     fn add_page<'a>(
         &mut self,
         alloc: Global,
@@ -63,13 +89,13 @@ impl Chunk {
         index: usize,
         cache: &mut LinkCache<'a>,
     ) -> Result<(), FetchError>
-        requires next { index ≡ self.old.first + length self.old.pages.items }
-        requires chunk { IsChunk web.now self.old }
-        ensures next { IfOk result (λ _. index + 1 ≡ self.new.first + length self.new.pages.items) }
-        ensures chunk { IsChunk web.now self.new }
+        requires { IsChunk web.now self.old }
+        ensures { IsChunk web.now self.new }
     {
-        let links = links_at(alloc, web, index, cache, &mut self.urls)?;
-        self.pages.push(links)?;
+        let Some(links) = links_at(alloc, web, index, cache, &mut self.urls)? else {
+            return Ok(());
+        };
+        self.pages.push(PageAhead { index, links })?;
         Ok(())
     }
 
@@ -77,10 +103,10 @@ impl Chunk {
     pub fn page(&self, alloc: Global, index: usize) -> Option<Page>
         ensures { (web : List PageRead) → IsChunk web self.now → IfSome result (λ page. page ≡ shown_page (slice_get web index)) }
     {
-        let number = index.checked_sub(self.first)?;
+        let number = self.pages.partition_point(|page| page.index < index);
         match self.pages.get(number) {
-            Some(Some(links)) => links.page(alloc, &self.urls),
-            Some(None) | None => None,
+            Some(page) if page.index == index => page.links.page(alloc, &self.urls),
+            Some(_) | None => None,
         }
     }
 }
