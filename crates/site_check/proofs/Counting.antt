@@ -1,8 +1,15 @@
 -- What is counted for a result.
-use Rattle.std.proofs.Common.{◌≡◌, ℕ, Bool, List, Option, Some, subst, ap}
+use Rattle.std.proofs.Common.{◌≡◌, ◌∙◌, ◌+◌, ◌<◌, ◌^◌, ◌++◌, ℕ, Bool, List, Option, Some, length, map, slice_get, subst, sym, ap, arith, length-append}
+use Rattle.std.proofs.lemmas.List.{length-map}
+use Rattle.std.proofs.lemmas.List.Elements.{filter-append}
+use Rattle.std.proofs.lemmas.List.Sums.{count_by-le-length, length-filter}
+use Rattle.std.proofs.lemmas.Option.{slice_get-map, slice_get_within}
+use Rattle.std.specs.Option.{option_map}
 use Rattle.crawl_web.specs.declared.page.PageResult.{PageResult}
+use Rattle.crawl_sources.specs.Sources.{links_to, sources_of}
 use Rattle.crawl_sources.specs.Tallies.{Count, IsCount, IsTally}
-use Rattle.site_check.specs.Broken.{Linked, linked}
+use Rattle.site_check.specs.Broken.{Linked, linked, linked_at}
+use Rattle.site_check.specs.declared.linked.Linked as code
 
 abbrev pub with_pages : PageResult → ℕ → Linked
 with_pages r n = record { result = r; pages = n }
@@ -11,3 +18,23 @@ pub linked_counted : (all : Bool) (results : List PageResult) (r : PageResult) (
 linked_counted all results r o c is k =
     let kept : IsCount all results r.url c = subst (IsTally all results r.url) is k in
     ap (with_pages r) kept.count
+
+-- what is counted in some results and in those behind them fits where all of these do
+pub sources_fit : (front back : List PageResult) (url : List ℕ) → length front + length back < 2 ^ 64 → length (sources_of front url) + length (sources_of back url) < 2 ^ 64
+sources_fit front back url fits =
+    omega (arith, length-filter (links_to url) front, length-filter (links_to url) back, count_by-le-length (links_to url) front, count_by-le-length (links_to url) back)
+
+-- and is what is counted in all of them
+pub linked_more : (front back : List PageResult) (r : PageResult) → with_pages r (length (sources_of front r.url) + length (sources_of back r.url)) ≡ linked (front ++ back) r
+linked_more front back r =
+    ap (with_pages r) (sym (ap length (filter-append (links_to r.url) front back) ∙ length-append (sources_of front r.url) (sources_of back r.url)))
+
+-- the count that stands at an index
+pub pages_there : (list : List code.Linked) (results told : List PageResult) → map linked_at list ≡ map (linked results) told → (k : ℕ) (one : PageResult) → slice_get told k ≡ Some one → option_map linked_at (slice_get list k) ≡ Some (linked results one)
+pages_there list results told same k one is =
+    sym (slice_get-map linked_at list k) ∙ ap (λ xs. slice_get xs k) same ∙ slice_get-map (linked results) told k ∙ ap (option_map (linked results)) is
+
+-- there is one at each index at which there is a result
+pub within_counts : (list : List code.Linked) (results told : List PageResult) → map linked_at list ≡ map (linked results) told → (k : ℕ) (one : PageResult) → slice_get told k ≡ Some one → k < length list
+within_counts list results told same k one is =
+    omega (arith, slice_get_within told k one is, length-map list linked_at, length-map told (linked results), ap length same)

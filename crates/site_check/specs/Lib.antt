@@ -4,3 +4,4 @@ pub mod Leads
 pub mod Names
 pub mod Parts
 pub mod Told
+pub mod Totals

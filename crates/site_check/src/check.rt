@@ -10,6 +10,7 @@ ghost use Rattle.site_check.specs.Leads.{indices_in, leads_from, number_in, targ
 ghost use Rattle.site_check.specs.Names.{AreNamed};
 ghost use Rattle.site_check.specs.Parts.{part_text};
 ghost use Rattle.site_check.specs.Told.{rows_in, way_of};
+ghost use Rattle.site_check.specs.Totals.{totals_of};
 
 use crate::anchors::{LackedParts, Pages, ToldPart, documents_of, lacking, part_rows, told_parts};
 use crate::ignored::unused;
@@ -20,10 +21,11 @@ use crate::names::{Named, names_of};
 use crate::rows::{broken_rows, redirect_rows};
 use crate::shown::shown;
 use crate::threads::{lacked_by, leads_by, locate_by};
+use crate::totals::totals_of;
 use crate::unreached::unreached;
-use crate::worst::{place_count, worst};
-use check_report::{Broken, FileCount, Findings, Kind, Redirect, Totals};
-use crawl_web::{NoMemory, Page, PageResult};
+use crate::worst::worst;
+use check_report::{Broken, FileCount, Findings, Redirect, Totals};
+use crawl_web::{NoMemory, PageResult};
 use saved_site::{Body, LinkPlaces, PageAnchors, SiteFiles};
 use std::alloc::Global;
 use std::thread::Threads;
@@ -115,10 +117,12 @@ pub fn check_site<'f, R: Threads + Sync, B: Bodies + Sync>(
     ensures names { IfOk result (λ checked. AreNamed asked.entry.front.now files.now checked.broken.items) }
     // The entries that are told stand for no page that is not there, and for no part that a page lacks.
     ensures ignores { IfOk result (λ checked. AreUnused asked.entry.front.now (map string_bytes asked.entry.ignores.now) results.now (parts_in checked.broken.items) (map string_bytes checked.unused_ignores.items)) }
+    // The totals count the results' pages and links, and the rows.
+    ensures totals { IfOk result (λ checked. checked.totals ≡ totals_of results.now checked.broken.items checked.redirects.items) }
 {
     let documents = documents_of(alloc, files, asked.anchors)?;
     let site = site_of(results, files, asked, documents.as_slice());
-    let linked = linked_results(alloc, results)?;
+    let linked = linked_results(rt, alloc, results, files.threads())?;
     let all = linked.as_slice();
     let sought = sought_by(rt, alloc, asked, site, all)?;
     let places = locate_by(rt, alloc, site, sought.leads.as_slice(), bodies)?;
@@ -139,7 +143,8 @@ fn site_of<'p, 'f>(
     asked: Asked<'p>,
     documents: &'p [Option<usize>],
 ) -> Site<'p, 'f>
-    ensures { result.files.now ≡ files.now }
+    ensures files { result.files.now ≡ files.now }
+    ensures results { result.pages.results.now ≡ results.now }
 {
     Site {
         pages: Pages {
@@ -207,6 +212,7 @@ fn told(
     ensures redirects { IfOk result (λ checked. map way_of checked.redirects.items ≡ flat_map (ways_with asked.entry.front.now) (map linked_at linked.now)) }
     ensures names { IfOk result (λ checked. AreNamed asked.entry.front.now site.entry.files.now checked.broken.items) }
     ensures ignores { IfOk result (λ checked. (results : List PageResult) → missing_texts asked.entry.front.now results ≡ flat_map (text_at asked.entry.front.now) (map result_at linked.now) → AreUnused asked.entry.front.now (map string_bytes asked.entry.ignores.now) results (parts_in checked.broken.items) (map string_bytes checked.unused_ignores.items)) }
+    ensures totals { IfOk result (λ checked. checked.totals ≡ totals_of site.entry.pages.results.now checked.broken.items checked.redirects.items) }
 {
     let results = site.pages.results;
     let parts = told_parts(alloc, asked.front, site.pages, &sought.lacking)?;
@@ -317,32 +323,4 @@ fn missing_texts<'a>(
         }
     }
     Ok(texts)
-}
-
-fn totals_of(results: &[PageResult], broken: &[Broken], redirects: &[Redirect]) -> Totals {
-    let mut pages: u64 = 0;
-    let mut all: u64 = 0;
-    for result in results {
-        if let Page::Found { links, skipped } = &result.page {
-            pages = pages.saturating_add(1);
-            let count = (links.as_slice().len() as u64).saturating_add(*skipped);
-            all = all.saturating_add(count);
-        }
-    }
-    Totals {
-        pages,
-        links: all,
-        broken_links: place_count(broken),
-        broken_urls: count_of(broken, false),
-        broken_anchors: count_of(broken, true),
-        moved: redirects.len() as u64,
-    }
-}
-
-/// How many of the rows are those of parts, or of pages.
-fn count_of(broken: &[Broken], parts: bool) -> u64 {
-    broken
-        .iter()
-        .filter(|one| matches!(one.kind, Kind::NoAnchor) == parts)
-        .count() as u64
 }

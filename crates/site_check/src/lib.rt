@@ -11,6 +11,7 @@ mod names;
 mod rows;
 mod shown;
 mod threads;
+mod totals;
 mod unreached;
 mod worst;
 

@@ -93,12 +93,3 @@ fn told(alloc: Global, counts: &[Count<'_>]) -> Result<Vec<FileCount>, NoMemory>
     }
     Ok(told)
 }
-
-/// How many places the links of these have.
-pub(crate) fn place_count(broken: &[Broken]) -> u64 {
-    let mut count: u64 = 0;
-    for one in broken {
-        count = count.saturating_add(one.places.len() as u64);
-    }
-    count
-}

@@ -3,6 +3,7 @@ use Rattle.std.specs.List.{flat_map}
 use Rattle.saved_site.specs.declared.files.SiteFiles.{SiteFiles}
 use Rattle.site_check.specs.Broken.{linked_at, rows_with, ways_with}
 use Rattle.site_check.specs.Names.{AreNamed}
+use Rattle.site_check.specs.Totals.{totals_of}
 use Rattle.site_check.proofs.AllRows.{rows_of_all, texts_of_all, ways_of_all}
 use Rattle.site_check.proofs.check.check_site.Goals as goal
 
@@ -24,9 +25,14 @@ returns-clause-redirects g c =
 pub returns-clause-names : goal.returns-clause-names
 returns-clause-names g c =
     let P : SiteFiles → Type 0 = λ files. AreNamed c.args.asked.front.now files c.in_ok-checked.checked.broken.items in
-    subst P c.site_of-site.ensures c.in_ok-checked.ensures.names
+    subst P c.site_of-site.ensures.files c.in_ok-checked.ensures.names
 
 pub returns-clause-ignores : goal.returns-clause-ignores
 returns-clause-ignores g c =
     c.in_ok-checked.ensures.ignores c.args.results.now
     (texts_of_all c.args.asked.front.now c.args.results.now c.as_slice-all.result.now (ap (map linked_at) c.as_slice-all.ensures.value ∙ c.in_ok-linked.ensures))
+
+pub returns-clause-totals : goal.returns-clause-totals
+returns-clause-totals g c =
+    let checked = c.in_ok-checked.checked in
+    c.in_ok-checked.ensures.totals ∙ ap (λ results. totals_of results checked.broken.items checked.redirects.items) c.site_of-site.ensures.results

@@ -1,0 +1,9 @@
+use Rattle.std.proofs.Common.{◌≡◌, ◌+◌, ◌<◌, ◌^◌, ◌++◌, List, length, map, take}
+use Rattle.crawl_sources.specs.Tallies.{pointed}
+use Rattle.crawl_web.specs.declared.page.PageResult.{PageResult}
+use Rattle.site_check.specs.Broken.{linked, linked_at}
+use Rattle.site_check.proofs.linked.sums.Given as goal
+
+abbrev pub invariant-loop-index : goal.invariant-loop-index
+invariant-loop-index l =
+    (front back : List PageResult) → length front + length back < 2 ^ 64 → map linked_at l.first ≡ map (linked front) (pointed l.unfound) → map linked_at l.second ≡ map (linked back) (pointed l.unfound) → map linked_at l.all.items ≡ map (linked (front ++ back)) (pointed (take l.index l.unfound))

@@ -1,0 +1,6 @@
+use Rattle.std.proofs.Common.{◌≡◌, ◌≤◌, count_by, take, not}
+use Rattle.site_check.specs.Totals.{is_part}
+use Rattle.site_check.proofs.totals.url_count.Given as goal
+
+abbrev pub invariant-loop-one : goal.invariant-loop-one
+invariant-loop-one l = (l.count ≡ count_by (λ r. not (is_part r.kind)) (take l.one-index l.broken)) × (l.count ≤ l.one-index)
