@@ -112,24 +112,6 @@ names_more pages n name old new within is e =
 
 -- ---- what is told of a name
 
--- just one page has it
-pub one_known : (pages found : List PageFile) (known : Option Namesakes) (number : ℕ) → known ≡ Some (One number) → IsKnown pages found known →
-    (page : PageFile) × (found ≡ page ∷ []) × (slice_get pages number ≡ Some page)
-one_known pages found None number e is = absurd (cc)
-one_known pages found (Some Several) number e is = absurd (cc)
-one_known pages [] (Some (One n)) number e is = absurd is
-one_known pages (page ∷ []) (Some (One n)) number e is = let same : n ≡ number = cc in (page, refl, ap (slice_get pages) (sym same) ∙ is)
-one_known pages (page ∷ other ∷ more) (Some (One n)) number e is = absurd is
-
--- several have it
-pub several_known : (front : List ℕ) (files : SiteFiles) (places : List Place) (pages found : List PageFile) (known : Option Namesakes) → known ≡ Some Several → IsKnown pages found known →
-    None ≡ only_told front files places found
-several_known front files places pages found None e is = absurd (cc)
-several_known front files places pages found (Some (One n)) e is = absurd (cc)
-several_known front files places pages [] (Some Several) e is = refl
-several_known front files places pages (page ∷ []) (Some Several) e is = absurd is
-several_known front files places pages (page ∷ other ∷ more) (Some Several) e is = refl
-
 -- none has it
 pub none_known : (front : List ℕ) (files : SiteFiles) (places : List Place) (pages found : List PageFile) (known : Option Namesakes) → known ≡ None → IsKnown pages found known →
     None ≡ only_told front files places found
