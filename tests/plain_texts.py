@@ -3,8 +3,8 @@
 
 For each plain text one byte is put in, taken out or changed, at each kind of place, by one of each class. The answer must be
 the same by both ways: of an absolute text and the text with a space before it, which takes the parser; of a link by
-`Base::resolve` and by `resolve`, which always parses. Wants crates/crawl_keys_vectors/out/crawl_keys_vectors, as `rt run` of
-that crate leaves it.
+`Base::resolve` and by `resolve`, which always parses. Wants crates/library_calls/out/library_calls, as `rt run` of that crate
+leaves it.
 
 Usage: plain_texts.py [--count N] [--seed N]; 100000 texts and seed 1 where none is given
 """
@@ -16,7 +16,7 @@ import sys
 import tempfile
 from typing import List
 
-PROGRAM = os.path.join(os.path.dirname(os.path.abspath(__file__)), "../crates/crawl_keys_vectors/out/crawl_keys_vectors")
+PROGRAM = os.path.join(os.path.dirname(os.path.abspath(__file__)), "../crates/library_calls/out/library_calls")
 
 # One or more bytes of each class that the scan or the parser tells apart. A line feed would end a vector's line in the
 # output, so the tab stands for what the parser strips.
@@ -101,7 +101,7 @@ def ask(lines: List[str]) -> List[str]:
     with tempfile.TemporaryDirectory() as folder:
         with open(os.path.join(folder, "vectors.txt"), "w") as vectors:
             vectors.writelines(line + "\n" for line in lines)
-        done = subprocess.run([PROGRAM], cwd=folder, stdout=subprocess.PIPE, check=True)
+        done = subprocess.run([PROGRAM, "vectors"], cwd=folder, stdout=subprocess.PIPE, check=True)
     told = done.stdout.decode().split("\n")[:-2]
     return [line.rsplit(" => ", 1)[1].removesuffix(", and not ") for line in told]
 

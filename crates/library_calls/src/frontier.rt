@@ -19,13 +19,24 @@ const REPEATS: u32 = 5;
 // More than are ever pending.
 const MAX_PENDING: u64 = 1 << 40;
 
-/// How often the work of this name offers each URL, if there is such work.
-pub fn rounds(name: &str) -> Option<u32> {
-    match name {
-        "urls" => Some(0),
-        "new" => Some(1),
-        "seen" | "taken" => Some(1 + REPEATS),
-        _ => None,
+/// How often each URL is offered, and whether all are then taken.
+#[derive(Clone, Copy)]
+pub struct Plan {
+    rounds: u32,
+    takes: bool,
+}
+
+impl Plan {
+    /// That of the work of this name, if there is such work.
+    pub fn of(name: &str) -> Option<Plan> {
+        let rounds = match name {
+            "urls" => 0,
+            "new" => 1,
+            "seen" | "taken" => 1 + REPEATS,
+            _ => return None,
+        };
+        let takes = name == "taken";
+        Some(Plan { rounds, takes })
     }
 }
 
@@ -35,14 +46,13 @@ pub fn done<R: Threads + Wait + Sync>(
     alloc: Global,
     count: u32,
     threads: u32,
-    rounds: u32,
-    takes: bool,
+    plan: Plan,
 ) -> Option<(u64, u64, u64)> {
     let urls = urls(alloc, count)?;
-    if rounds == 0 {
+    if plan.rounds == 0 {
         return Some((0, 0, 0));
     }
-    over(rt, alloc, threads, urls.as_slice(), rounds, takes)
+    over(rt, alloc, threads, urls.as_slice(), plan)
 }
 
 /// URLs of 56 bytes.
@@ -68,11 +78,10 @@ fn over<R: Threads + Wait + Sync>(
     alloc: Global,
     threads: u32,
     urls: &[CanonUrl],
-    rounds: u32,
-    takes: bool,
+    plan: Plan,
 ) -> Option<(u64, u64, u64)> {
     match Filter::new(alloc, &[]) {
-        Ok(filter) => within(rt, alloc, &filter, threads, urls, rounds, takes),
+        Ok(filter) => within(rt, alloc, &filter, threads, urls, plan),
         Err(_) => None,
     }
 }
@@ -83,11 +92,10 @@ fn within<R: Threads + Wait + Sync>(
     filter: &Filter,
     threads: u32,
     urls: &[CanonUrl],
-    rounds: u32,
-    takes: bool,
+    plan: Plan,
 ) -> Option<(u64, u64, u64)> {
     match Setup::new(alloc, threads, MAX_PENDING) {
-        Ok(setup) => run::<Brand, R>(rt, alloc, setup, filter, urls, rounds, takes),
+        Ok(setup) => run::<Brand, R>(rt, alloc, setup, filter, urls, plan),
         Err(_) => None,
     }
 }
@@ -98,8 +106,7 @@ fn run<K: Name + Send + Sync, R: Threads + Wait + Sync>(
     setup: Setup,
     filter: &Filter,
     urls: &[CanonUrl],
-    rounds: u32,
-    takes: bool,
+    plan: Plan,
 ) -> Option<(u64, u64, u64)>
     requires gate { setup.gate ≡ K.gate }
     requires workers { setup.workers ≡ K.workers }
@@ -107,27 +114,14 @@ fn run<K: Name + Send + Sync, R: Threads + Wait + Sync>(
     requires filter { filter.now ≡ K.filter }
 {
     match Frontier::<K>::new(alloc, setup, filter) {
-        Ok((frontier, workers, seeder)) => {
-            run_on(rt, alloc, &frontier, workers, seeder, urls, rounds, takes)
+        Ok((frontier, workers, mut seeder)) => {
+            let offered = offer(rt, alloc, &frontier, &mut seeder, urls, plan.rounds);
+            let taken = end(rt, &frontier, workers, seeder, plan);
+            let (accepted, seen) = offered?;
+            Some((accepted, seen, taken?))
         }
         Err(_) => None,
     }
-}
-
-fn run_on<K: Name + Send + Sync, R: Threads + Wait + Sync>(
-    rt: &R,
-    alloc: Global,
-    frontier: &Frontier<K>,
-    workers: Vec<Worker<K>>,
-    mut seeder: Seeder<K>,
-    urls: &[CanonUrl],
-    rounds: u32,
-    takes: bool,
-) -> Option<(u64, u64, u64)> {
-    let offered = offer(rt, alloc, frontier, &mut seeder, urls, rounds);
-    let taken = end(rt, frontier, workers, seeder, takes);
-    let (accepted, seen) = offered?;
-    Some((accepted, seen, taken?))
 }
 
 // Ends the seeding and takes all URLs, where that is asked for.
@@ -136,9 +130,9 @@ fn end<K: Name + Send + Sync, R: Threads + Wait + Sync>(
     frontier: &Frontier<K>,
     workers: Vec<Worker<K>>,
     seeder: Seeder<K>,
-    takes: bool,
+    plan: Plan,
 ) -> Option<u64> {
-    if !takes {
+    if !plan.takes {
         return Some(0);
     }
     let _sender = seeder.end(frontier);

@@ -1,6 +1,6 @@
 //! Calls that no command makes, for tests and benchmarks: `library_calls WORK COUNT THREADS ..` does each piece of work and
-//! prints what came of it. `calls` makes those that standard input has, and `crawler` crawls a small web; what follows is
-//! work to measure.
+//! prints what came of it. `vectors` asks for those of a table, `calls` makes the calls that standard input has, and `crawler`
+//! crawls a small web; what follows is work to measure.
 //!
 //! Of `crawl_keys`, with how many bytes came out: `texts` (makes the texts of URLs), `canonical` (and canonicalises each),
 //! `spelled` and `plain` (the same of URLs that are canonical as they are), `links` (makes the texts of links), `joined` (and
@@ -14,6 +14,7 @@
 
 mod calls;
 mod crawler;
+mod escape;
 mod filters;
 mod frontier;
 mod hands;
@@ -22,17 +23,22 @@ mod notes;
 mod running;
 mod threads;
 mod urls;
+mod vectors;
 mod words;
 
+use frontier::Plan;
 use std::alloc::Global;
-use std::io;
 use std::process::ExitCode;
 use std::sync::Wait;
 use std::thread::Threads;
+use std::{fs, io};
 use words::{number, word};
 
 /// How many pieces of work there are at most.
 const MOST: usize = 8;
+
+/// The table of vectors, in the folder that the program runs in.
+const VECTORS: &str = "vectors.txt";
 
 fn main(rt: HostRuntime) -> ExitCode {
     for piece in 0..MOST {
@@ -40,6 +46,12 @@ fn main(rt: HostRuntime) -> ExitCode {
         let name = word(&rt, 3 * piece + 1, &mut room);
         if name.is_empty() && piece > 0 {
             return ExitCode::SUCCESS;
+        }
+        if name == "vectors" {
+            if let Ok(table) = fs::read_to_string(&rt, VECTORS) {
+                vectors::run(&rt, rt.alloc(), &table);
+            }
+            continue;
         }
         if name == "calls" {
             if let Ok(text) = io::read_to_string(rt.alloc(), rt.reader()) {
@@ -69,11 +81,11 @@ fn done<R: Print + Threads + Wait + Sync>(
     threads: Option<u32>,
 ) -> Option<()> {
     let count = count?;
-    match frontier::rounds(name) {
+    match Plan::of(name) {
         None => tell_bytes(rt, name, count, keys::done(alloc, name, count)?),
-        Some(rounds) => {
+        Some(plan) => {
             let threads = threads?;
-            let found = frontier::done(rt, alloc, count, threads, rounds, name == "taken")?;
+            let found = frontier::done(rt, alloc, count, threads, plan)?;
             tell_urls(rt, name, count, threads, found);
         }
     }
