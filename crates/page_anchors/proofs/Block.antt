@@ -32,11 +32,6 @@ id_within from [] count k bound below = absurd (omega (arith, below))
 id_within from (end ∷ ends) count zero bound below = (bound.0, up_to end ends count bound.1)
 id_within from (end ∷ ends) count (suc k) bound below = id_within end ends count k bound.1 (omega (arith, below))
 
-pub begin_before : (ends : List ℕ) (k : ℕ) → 0 < k → get_or ends (k - 1) 0 ≡ get_or (0 ∷ ends) k 0
-begin_before ends zero some = absurd (omega (arith, some))
-begin_before ends (suc k) some =
-    let before : suc k - 1 ≡ k = omega arith in ap (λ i. get_or ends i 0) before
-
 -- ---- one more
 
 pub bound_more : (from : ℕ) (ends : List ℕ) (count more : ℕ) → DoBound from ends count → count ≤ more → DoBound from (ends ++ more ∷ []) more
