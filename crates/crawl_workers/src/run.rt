@@ -51,15 +51,7 @@ pub fn run_worker_in<K: Name, F: SessionFetch, R: Wait>(
     let backoff = Backoff::new();
     let mut spins = 0;
     for _ in rt.forever() {
-        match turn(
-            rt,
-            alloc,
-            frontier,
-            worker,
-            fetcher,
-            &mut session,
-            &mut output,
-        ) {
+        match turn(rt, frontier, worker, fetcher, &mut session, &mut output) {
             Step::Worked(next) => {
                 worker = next;
                 backoff.reset();

@@ -51,7 +51,6 @@ fn run_after<K: Name, F: SessionFetch, R: Wait>(
 // the ends come in the order of the workers, and each level joins the one thread that it started.
 fn run_all<K: Name + Send + Sync, F: SessionFetch + Sync, R: Threads + Wait + Sync>(
     rt: &R,
-    alloc: Global,
     frontier: &Frontier<K>,
     mut workers: Vec<Worker<K>>,
     fetcher: &F,
@@ -68,6 +67,7 @@ fn run_all<K: Name + Send + Sync, F: SessionFetch + Sync, R: Threads + Wait + Sy
         let _ = started.set(rt, true);
         return Ok(ends);
     };
+    let alloc = *ends.allocator();
     thread::scope(
         thread::scope_env(),
         rt,
@@ -88,7 +88,7 @@ fn run_all<K: Name + Send + Sync, F: SessionFetch + Sync, R: Threads + Wait + Sy
                 let _ = started.set(rt, false);
                 return Err(RunError::NoThread);
             };
-            let others = run_all(rt, alloc, frontier, workers, fetcher, started, ends);
+            let others = run_all(rt, frontier, workers, fetcher, started, ends);
             let end = child.join(rt);
             let mut ends = others?;
             // A thread gives up only where another could not be started, which `others` has told already.
@@ -146,5 +146,5 @@ pub fn run_threads_in<K: Name + Send + Sync, F: SessionFetch + Sync, R: Threads 
 {
     let ends = room_for(alloc, workers.len())?;
     let started = OnceLock::new();
-    run_all(rt, alloc, frontier, workers, fetcher, &started, ends)
+    run_all(rt, frontier, workers, fetcher, &started, ends)
 }

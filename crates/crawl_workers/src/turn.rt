@@ -14,7 +14,6 @@ use crate::recent::READ_AT_ONCE;
 use crawl_frontier::{BusyWorker, ClosedWorker, Frontier, Name, Offer, OfferError, Turn, Worker};
 use crawl_keys::CanonUrl;
 use crawl_web::{Links, Page, SessionFetch};
-use std::alloc::Global;
 use std::sync::Wait;
 
 /// What a worker did in a turn.
@@ -138,7 +137,6 @@ fn offer_page<K: Name, R: Wait>(
 // Fetches the URL, offers the links of its page, and keeps the result.
 fn work<K: Name, F: SessionFetch, R: Wait>(
     rt: &R,
-    alloc: Global,
     frontier: &Frontier<K>,
     busy: &mut BusyWorker<K>,
     fetcher: &F,
@@ -153,7 +151,7 @@ fn work<K: Name, F: SessionFetch, R: Wait>(
     ensures recent { Knows K.workers busy.old.worker.book.log output.old.recent → Knows K.workers busy.new.worker.book.log output.new.recent }
     ensures told { Knows K.workers busy.old.worker.book.log output.old.recent → TellsUrl K.workers (allows K.filter) (F.meaning fetcher.now) busy.old busy.new output.old output.new }
 {
-    let Ok(page) = fetcher.fetch_in(alloc, session, busy.url()) else {
+    let Ok(page) = fetcher.fetch_in(output.alloc, session, busy.url()) else {
         output.lose(Loss::Failed);
         return;
     };
@@ -164,7 +162,6 @@ fn work<K: Name, F: SessionFetch, R: Wait>(
 /// A turn of a worker. A URL that is lost is still done, so that the gate can close.
 pub(crate) fn turn<K: Name, F: SessionFetch, R: Wait>(
     rt: &R,
-    alloc: Global,
     frontier: &Frontier<K>,
     worker: Worker<K>,
     fetcher: &F,
@@ -178,7 +175,7 @@ pub(crate) fn turn<K: Name, F: SessionFetch, R: Wait>(
 {
     match worker.next(rt, frontier) {
         Turn::Busy(mut busy) => {
-            work(rt, alloc, frontier, &mut busy, fetcher, session, output);
+            work(rt, frontier, &mut busy, fetcher, session, output);
             Step::Worked(busy.done(frontier))
         }
         Turn::Idle(worker, _) => Step::Waits(worker),

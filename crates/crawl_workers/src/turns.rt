@@ -28,7 +28,6 @@ pub(crate) enum Runner<K: Name> {
 // A turn, if the worker has not ended. Answers whether it goes on.
 fn advance<K: Name, F: SessionFetch, R: Wait>(
     rt: &R,
-    alloc: Global,
     frontier: &Frontier<K>,
     runner: &mut Runner<K>,
     fetcher: &F,
@@ -41,7 +40,7 @@ fn advance<K: Name, F: SessionFetch, R: Wait>(
 {
     match mem::replace(runner, Runner::Moved) {
         Runner::Going(worker, mut output) => {
-            match turn(rt, alloc, frontier, worker, fetcher, session, &mut output) {
+            match turn(rt, frontier, worker, fetcher, session, &mut output) {
                 Step::Worked(worker) => {
                     *runner = Runner::Going(worker, output);
                     true
@@ -67,7 +66,6 @@ fn advance<K: Name, F: SessionFetch, R: Wait>(
 // A turn of each, in order. Answers whether one goes on.
 fn round<K: Name, F: SessionFetch, R: Wait>(
     rt: &R,
-    alloc: Global,
     frontier: &Frontier<K>,
     runners: &mut [Runner<K>],
     fetcher: &F,
@@ -81,7 +79,7 @@ fn round<K: Name, F: SessionFetch, R: Wait>(
 {
     let mut going = false;
     for i in 0..runners.len() {
-        if advance(rt, alloc, frontier, &mut runners[i], fetcher, session) {
+        if advance(rt, frontier, &mut runners[i], fetcher, session) {
             going = true;
         }
     }
@@ -91,7 +89,6 @@ fn round<K: Name, F: SessionFetch, R: Wait>(
 // Rounds until each has ended.
 fn rounds<K: Name, F: SessionFetch, R: Wait>(
     rt: &R,
-    alloc: Global,
     frontier: &Frontier<K>,
     runners: &mut [Runner<K>],
     fetcher: &F,
@@ -102,7 +99,7 @@ fn rounds<K: Name, F: SessionFetch, R: Wait>(
     ensures len { length runners.new ≡ length runners.old }
 {
     for _ in rt.forever() {
-        if !round(rt, alloc, frontier, runners, fetcher, session) {
+        if !round(rt, frontier, runners, fetcher, session) {
             return;
         }
     }
@@ -192,13 +189,6 @@ pub fn run_turns_in<K: Name, F: SessionFetch, R: Wait>(
     };
     let mut runners = runners_of(alloc, workers, runners);
     let mut session = fetcher.open_session(alloc, 1);
-    rounds(
-        rt,
-        alloc,
-        frontier,
-        runners.as_mut_slice(),
-        fetcher,
-        &mut session,
-    );
+    rounds(rt, frontier, runners.as_mut_slice(), fetcher, &mut session);
     Ok(ends_of(runners, ends))
 }
