@@ -189,6 +189,28 @@ got=0
 expect "help on a full device" 1 "" "mercator: cannot write"
 
 got=0
+"$program" check --help > /dev/full 2> "$scratch/err" || got=$?
+expect "a command's help on a full device" 1 "" "mercator: cannot write"
+
+# A log is no standard output or error, where these were closed at the start.
+got=0
+echo 'offer http://a.test/' | "$program" serve --log "$scratch/closed.log" >&- 2> "$scratch/err" || got=$?
+cp "$scratch/closed.log" "$scratch/out"
+expect "a log with standard output closed" 1 $'workers 4 max 1048576\noffer http://a.test/' "mercator: cannot write"
+
+got=0
+printf 'torn' >> "$scratch/closed.log"
+echo 'next 3' | "$program" serve --log "$scratch/closed.log" > "$scratch/out" 2>&- || got=$?
+tail -n +2 "$scratch/closed.log" >> "$scratch/out"
+: > "$scratch/err"
+expect "a log with standard error closed" 0 $'taken http://a.test/\noffer http://a.test/\nnext 3' ""
+
+got=0
+: > "$scratch/out"
+"$program" serve --log "$scratch/closed.log" <&- > "$scratch/out" 2> "$scratch/err" || got=$?
+expect "a log with standard input closed" 1 "" "mercator: cannot read -"
+
+got=0
 : > "$scratch/err"
 "$program" key mailto:x > "$scratch/out" 2> /dev/full || got=$?
 expect "a fault that a full device refuses" 1 "" ""

@@ -7,12 +7,14 @@ use mercator::{BAD_COMMAND_LINE, Fault, Platform, run_words_with};
 use mercator_site::run_site_words;
 use progress::Progress;
 use std::env::VarError;
+use std::fs::{self, Files};
 use std::io::{ErrorKind, IsTerminal, Write};
 use std::process::ExitCode;
 use std::rt::Env;
 use std::{env, io};
 
 fn main(rt: HostRuntime) -> ExitCode {
+    let _held = (held(&rt), held(&rt), held(&rt));
     let words = match words(&rt) {
         Ok(words) => words,
         Err(error) => return ExitCode::from(without_words(&mut rt.stderr(), &error)),
@@ -37,6 +39,12 @@ fn main(rt: HostRuntime) -> ExitCode {
         &mut io::writer(&rt),
         &mut rt.stderr(),
     ))
+}
+
+/// A descriptor in place of a standard one that was closed at the start, else one more. Without it a log that is opened later could
+/// be standard output. It is a folder's, so that reads and writes there fail; `None` where it cannot be opened.
+fn held<R: Files>(rt: &R) -> Option<R::File> {
+    fs::open(rt, "/").ok()
 }
 
 /// The platform that a runtime is, with this observer.
