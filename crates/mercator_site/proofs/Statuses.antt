@@ -1,15 +1,12 @@
 -- The statuses of faults.
 use Rattle.std.specs.Prelude.{◌≡◌, ◌⊎◌, ◌≤◌, ℕ}
-use Rattle.std.proofs.Common.{◌∙◌, arith, refl, sym, inl, inr}
-use Rattle.crawl_keys.specs.declared.filter.error.FilterError.{FilterError}
-use Rattle.crawl_keys.specs.declared.filter.error.FilterError.TheVariants as unfiltered
-use Rattle.mercator.specs.Faults.{of_filter, status_of_fault}
+use Rattle.std.proofs.Common.{arith, refl, inl, inr}
+use Rattle.mercator.specs.Faults.{status_of_fault}
 use Rattle.mercator.specs.declared.commands.fault.Fault.{Fault}
 use Rattle.mercator.specs.declared.commands.fault.Fault.TheVariants as ended
 use Rattle.mercator.specs.declared.crawling.error.CrawlError.{CrawlError}
 use Rattle.mercator.specs.declared.crawling.error.CrawlError.TheVariants as uncrawled
 use Rattle.mercator_site.specs.Faults.{of_crawl, status_of}
-use Rattle.mercator_site.specs.declared.fault.SiteFault.{SiteFault}
 
 crawl_unfinished : (error : CrawlError) → (status_of_fault (ended.Crawl error) ≡ 1) ⊎ (status_of_fault (ended.Crawl error) ≡ 2)
 crawl_unfinished (uncrawled.Frontier error) = inl refl
@@ -49,14 +46,6 @@ crawl_status ended.BadSuffix = refl
 crawl_status ended.CannotWrite = refl
 crawl_status (ended.Log why) = refl
 crawl_status ended.NoMemory = refl
-
-pub filter_status : (refusal : FilterError) → status_of (of_crawl (of_filter refusal)) ≡ 1
-filter_status (unfiltered.BadSuffix index) = refl
-filter_status unfiltered.NoMemory = refl
-
--- a fault with status 1 tells no incomplete crawl
-pub not_incomplete : {P : Type 0} (fault : SiteFault) → status_of fault ≡ 1 → status_of fault ≡ 2 → P
-not_incomplete fault one two = absurd (let e : 1 ≡ 2 = sym one ∙ two in omega arith)
 
 -- a command over a folder that is run ends with no status of a bad command line
 pub at_most_four : (status : ℕ) → (status ≤ 2) ⊎ (status ≡ 4) → status ≤ 4

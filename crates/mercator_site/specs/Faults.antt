@@ -40,6 +40,7 @@ abbrev pub site_line : List ℕ → SiteFault → List ℕ
 site_line name wrong.CannotReadFolder = fault_line name ended.CannotRead
 site_line name wrong.CannotReadKnown = fault_line name ended.CannotRead
 site_line name wrong.BadBase = name_line (codes "BASE") (codes "no http or https URL without a query")
+site_line name wrong.BadHost = name_line (codes "BASE") (codes "its host is not letters, digits, - and . alone")
 site_line name wrong.NoFiles = name_line name (codes "no files")
 site_line name wrong.BadSeed = name_line (codes "LINK") (codes "no http or https URL of the host of BASE")
 site_line name wrong.TooLarge = name_line name (codes "more than 1073741824 bytes of links")

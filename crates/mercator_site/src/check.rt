@@ -14,10 +14,10 @@ use crate::fault::SiteFault;
 use crate::print::print_check;
 use crate::start::starts;
 use check_report::{External, Told};
-use crawl_keys::{CanonUrl, Filter, KeyError, canonical};
+use crawl_keys::{CanonUrl, Filter, FilterError, KeyError, canonical};
 use crawl_limits::PENDING_LIMIT;
 use crawl_web::PageResult;
-use mercator::{CrawlSettings, Crawled, Fault, Mode, crawl_saved_web_in_threads};
+use mercator::{CrawlSettings, Crawled, Mode, crawl_saved_web_in_threads};
 use saved_site::{LinkPlaces, PageAnchors, Rules, SiteFiles, SiteNames, Web, files_web};
 use site_check::{Asked, Bodies, Checked, check_site};
 use std::alloc::{AllocError, Global};
@@ -58,7 +58,7 @@ pub struct CheckReport {
 /// The report of a check of the site whose files have these names and bytes.
 ///
 /// # Errors
-/// `BadBase`, `NoFiles`, `TooLarge`, `BadSeed`; `Crawl` where the crawl is incomplete; `NoMemory`.
+/// `BadBase`, `NoFiles`, `TooLarge`, `BadHost`, `BadSeed`; `Crawl` where the crawl is incomplete; `NoMemory`.
 pub fn report_of_files<R: Threads + Wait + Sync>(
     rt: &R,
     alloc: Global,
@@ -86,7 +86,7 @@ pub fn report_of_files<R: Threads + Wait + Sync>(
 /// The web's bytes are gone before pages are looked for in what was found.
 ///
 /// # Errors
-/// `BadSeed`; `Crawl` where the crawl is incomplete; `NoMemory`.
+/// `BadHost`, `BadSeed`; `Crawl` where the crawl is incomplete; `NoMemory`.
 pub fn report_of_site<R: Threads + Wait + Sync, B: Bodies + Sync>(
     rt: &R,
     alloc: Global,
@@ -207,7 +207,8 @@ fn host_filter(alloc: Global, host: &str) -> Result<Filter, SiteFault>
 {
     match Filter::new(alloc, &[host]) {
         Ok(filter) => Ok(filter),
-        Err(refused) => Err(SiteFault::from(Fault::from(refused))),
+        Err(FilterError::BadSuffix(_)) => Err(SiteFault::BadHost),
+        Err(FilterError::NoMemory) => Err(SiteFault::NoMemory),
     }
 }
 

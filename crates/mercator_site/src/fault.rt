@@ -16,6 +16,8 @@ pub enum SiteFault {
     CannotReadKnown,
     /// The URL of the top is no http or https URL without a query.
     BadBase,
+    /// The host of the top is none that a filter takes.
+    BadHost,
     /// The folder has no file.
     NoFiles,
     /// A seed leads to no http or https URL of the top's host.

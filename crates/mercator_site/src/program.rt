@@ -91,7 +91,7 @@ fn run_asked<R: Files<File: Send, Dir: Send> + Threads + Wait + Sync, O: Write, 
 {
     match asked {
         Asked::Plan(plan) => run_site_plan(rt, alloc, &plan, out, err),
-        Asked::Help(text) => show_help(text.as_bytes(), out),
+        Asked::Help(text) => show_help(alloc, text.as_bytes(), out, err),
         Asked::Wrong(text) => {
             let _ = err.write_all(text.as_bytes());
             BAD_COMMAND_LINE
@@ -99,14 +99,17 @@ fn run_asked<R: Files<File: Send, Dir: Send> + Threads + Wait + Sync, O: Write, 
     }
 }
 
-/// Writes help to the output, and answers the status.
-fn show_help<O: Write>(text: &[u8], out: &mut O) -> u8
+/// Writes help to the output, and answers the status; that it cannot be written is told to `err`.
+fn show_help<O: Write, E: Write>(alloc: Global, text: &[u8], out: &mut O, err: &mut E) -> u8
     ensures statuses { result ≤ 1 }
     ensures shown { result ≡ 0 → Appends (O.contents out.old) (O.contents out.new) text.now }
 {
     match write_text(out, text) {
         Ok(()) => 0,
-        Err(fault) => fault.status(),
+        Err(fault) => {
+            tell_fault(alloc, err, "", fault);
+            fault.status()
+        }
     }
 }
 

@@ -57,6 +57,11 @@ fn line_of(alloc: Global, name: &str, fault: SiteFault) -> Result<String, AllocE
             fault_line(alloc, name, Fault::CannotRead)
         }
         SiteFault::BadBase => name_line(alloc, "BASE", "no http or https URL without a query"),
+        SiteFault::BadHost => name_line(
+            alloc,
+            "BASE",
+            "its host is not letters, digits, - and . alone",
+        ),
         SiteFault::NoFiles => name_line(alloc, name, "no files"),
         SiteFault::BadSeed => name_line(alloc, "LINK", "no http or https URL of the host of BASE"),
         SiteFault::TooLarge => name_line(alloc, name, "more than 1073741824 bytes of links"),
