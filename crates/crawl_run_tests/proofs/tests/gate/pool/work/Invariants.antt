@@ -1,0 +1,6 @@
+use Rattle.crawl_gate.specs.Seat.{IsSeatOf}
+use Rattle.crawl_run_tests.proofs.tests.gate.pool.work.Given as goal
+
+abbrev pub invariant-loop : goal.invariant-loop
+invariant-loop g l =
+    (goal.iterator-loop g).can_next l.iterator' × (goal.iterator-loop g).is_finite l.iterator' × IsSeatOf l.gate l.pass

@@ -1,0 +1,6 @@
+//! What no clause says: that certificates are given, and that each fault is the one that is meant.
+mod accounts;
+mod faults;
+mod messages;
+mod tables;
+mod walks;

@@ -1,0 +1,81 @@
+//! A crawl of a saved web on one thread, turn by turn.
+ghost use Rattle.std.specs.Prelude.{◌≡◌};
+
+use crate::tests::certificate::tables::Group;
+use crate::tests::runs::seeded;
+use crawl_frontier::{Account, Frontier, Name, Sender, Setup};
+use crawl_keys::{CanonUrl, Filter, canonical};
+use crawl_web::{PageResult, SavedWeb};
+use crawl_workers::{WorkerEnd, run_turns};
+use std::alloc::Global;
+use std::marker::Brand;
+use std::sync::Wait;
+
+// More URLs than any of the runs has at once.
+const MAX_PENDING: u64 = 30_000;
+
+// What a run left.
+#[derive(Drop)]
+pub struct Run {
+    pub account: Account,
+    pub results: Vec<PageResult>,
+}
+
+// The URLs of these texts, where they have one.
+pub fn urls_of(alloc: Global, texts: &[&str]) -> Vec<CanonUrl> {
+    let mut urls = Vec::new(alloc);
+    for text in texts {
+        if let Ok(url) = canonical(alloc, text) {
+            let _ = urls.push(url);
+        }
+    }
+    urls
+}
+
+// The account of the run, with what all workers found.
+fn finished<K: Name>(
+    alloc: Global,
+    frontier: Frontier<K>,
+    sender: Sender<K>,
+    ends: Vec<WorkerEnd<K>>,
+) -> Option<Run> {
+    let (mut closed, mut results) = (Vec::new(alloc), Vec::new(alloc));
+    for end in ends {
+        let mut found = end.results;
+        let _ = results.append(&mut found);
+        let _ = closed.push(end.closed);
+    }
+    let mut senders = Vec::new(alloc);
+    let _ = senders.push(sender);
+    match frontier.finish(closed, senders) {
+        Ok(account) => Some(Run { account, results }),
+        Err(_) => None,
+    }
+}
+
+fn crawl<K: Name, R: Wait>(
+    rt: &R,
+    alloc: Global,
+    setup: Setup,
+    filter: &Filter,
+    seeds: &[&str],
+    web: &SavedWeb,
+) -> Option<Run>
+    requires gate { setup.gate ≡ K.gate }
+    requires workers { setup.workers ≡ K.workers }
+    requires queues { setup.queues ≡ K.queues }
+    requires filter { filter.now ≡ K.filter }
+{
+    let (frontier, workers, seeder) = Frontier::<K>::new(alloc, setup, filter).ok()?;
+    let sender = seeded(rt, alloc, &frontier, seeder, seeds);
+    let ends = run_turns(rt, alloc, &frontier, workers, web).unwrap_or(Vec::new(alloc));
+    finished(alloc, frontier, sender, ends)
+}
+
+// The group's run over the web.
+pub fn run_of<R: Wait>(rt: &R, alloc: Global, group: &Group, web: &str) -> Option<Run> {
+    let web = SavedWeb::read(alloc, web.as_bytes()).ok()?;
+    let filter = Filter::new(alloc, group.within).ok()?;
+    let setup = Setup::new(alloc, group.workers, MAX_PENDING).ok()?;
+    crawl::<Brand, R>(rt, alloc, setup, &filter, group.seeds, &web)
+}

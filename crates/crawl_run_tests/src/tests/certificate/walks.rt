@@ -1,0 +1,63 @@
+//! That the walk by threads sees each link that made an entry, so that none is looked up.
+use crate::tests::certificate::accounts::{Run, run_of};
+use crate::tests::certificate::tables::{PAGES, WORKERS, many_hosts};
+use crawl_certificate::testing::seen_linked;
+use std::alloc::Global;
+use std::test::Fail;
+use std::thread::Threads;
+
+// Page n links to pages 2n + 1 and 2n + 2, to itself and to the page before, in twenty hosts.
+fn web_of_many_hosts(alloc: Global) -> Result<String, Fail> {
+    let mut text = String::from_str(alloc, "savedweb 1\n")?;
+    for page in 0..PAGES {
+        text.push_str(&format!(in alloc; "page {}\n", url_of(alloc, page)?)?)?;
+        for to in [2 * page + 1, 2 * page + 2, page, page.saturating_sub(1)] {
+            if to < PAGES {
+                text.push_str(&format!(in alloc; "link {}\n", url_of(alloc, to)?)?)?;
+            }
+        }
+    }
+    Ok(text)
+}
+
+fn url_of(alloc: Global, page: u32) -> Result<String, Fail> {
+    Ok(format!(in alloc; "http://h{}.test/p{page}", page % 20)?)
+}
+
+fn is_marked(marks: &[bool], index: usize) -> bool {
+    match marks.get(index) {
+        Some(mark) => *mark,
+        None => false,
+    }
+}
+
+// Whether there are so many pages, and every entry with hops is seen to be linked.
+fn is_all_seen<R: Threads + Sync>(rt: &R, alloc: Global, run: &Run) -> bool {
+    let Ok(Some(marks)) = seen_linked(rt, alloc, &run.account, &run.results) else {
+        return false;
+    };
+    let mut index: usize = 0;
+    for queue in 0..run.account.workers() {
+        for entry in run.account.queue(queue) {
+            if entry.hops > 0 && !is_marked(&marks, index) {
+                return false;
+            }
+            index = index.saturating_add(1);
+        }
+    }
+    index == PAGES as usize
+}
+
+#[test]
+fn links_seen_by_threads(rt: HostRuntime) -> Result<(), Fail> {
+    let text = web_of_many_hosts(rt.alloc())?;
+    for workers in WORKERS {
+        let group = many_hosts(workers);
+        let seen = match run_of(&rt, rt.alloc(), &group, &text) {
+            Some(run) => is_all_seen(&rt, rt.alloc(), &run),
+            None => false,
+        };
+        assert!(rt; seen, "{workers} workers");
+    }
+    Ok(())
+}

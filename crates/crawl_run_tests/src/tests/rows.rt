@@ -1,0 +1,200 @@
+//! The worked rows: what workers lose, and what they find, in order.
+use crate::tests::runs::{Found, How, Run};
+use crate::tests::sources::{Counting, Fails, OneMoved};
+use crawl_keys::canonical;
+use crawl_web::SavedWeb;
+use std::alloc::Global;
+use std::sync::Wait;
+use std::sync::atomic::AtomicU64;
+use std::thread::Threads;
+
+const A: &str = "http://a.test/";
+
+const B: &str = "http://b.test/";
+
+const PATH_1: &str = "http://a.test/1";
+
+const PATH_2: &str = "http://a.test/2";
+
+const NO_PAGES: &str = "savedweb 1";
+
+const TWO_LINKS: &str = "savedweb 1\npage http://a.test/\nlink 1\nlink 2\n";
+
+const SAME_LINK: &str = "savedweb 1\npage http://a.test/\nlink 1\nlink 1\n";
+
+const THREE_LINKS: &str = "savedweb 1\npage http://a.test/\nlink 1\nlink 2\nlink 3\n";
+
+const OTHER_HOST: &str = "savedweb 1\npage http://a.test/\nlink http://b.test/\nlink 1\n";
+
+// Runs of a saved web, by each of some calls, what they lose, and the URLs of their results by the places of the workers.
+struct Row {
+    name: &'static str,
+    web: &'static str,
+    fails: Fails,
+    workers: u32,
+    max_pending: u64,
+    suffixes: &'static [&'static str],
+    hows: &'static [How],
+    lost: u64,
+    urls: &'static [&'static str],
+}
+
+const ONE_WORKER: &[How] = &[How::Turns, How::Alone, How::Threads];
+
+// One worker begins at a.test. Of two, who begin at both hosts, the first has b.test, and the second a.test.
+static ROWS: [Row; 8] = [
+    Row {
+        name: "full_gate_loses_link, with room for two",
+        web: TWO_LINKS,
+        fails: Fails::None,
+        workers: 1,
+        max_pending: 2,
+        suffixes: &[],
+        hows: ONE_WORKER,
+        lost: 1,
+        urls: &[A, PATH_1],
+    },
+    Row {
+        name: "full_gate_loses_link, with room for three",
+        web: TWO_LINKS,
+        fails: Fails::None,
+        workers: 1,
+        max_pending: 3,
+        suffixes: &[],
+        hows: ONE_WORKER,
+        lost: 0,
+        urls: &[A, PATH_1, PATH_2],
+    },
+    // It goes on after a link that was refused, and counts each.
+    Row {
+        name: "two_links_lost",
+        web: THREE_LINKS,
+        fails: Fails::None,
+        workers: 1,
+        max_pending: 2,
+        suffixes: &[],
+        hows: ONE_WORKER,
+        lost: 2,
+        urls: &[A, PATH_1],
+    },
+    // A link that was offered before on the same page is remembered: it is not offered at the full gate, which would lose it.
+    Row {
+        name: "a_link_twice_is_not_lost",
+        web: SAME_LINK,
+        fails: Fails::None,
+        workers: 1,
+        max_pending: 2,
+        suffixes: &[],
+        hows: ONE_WORKER,
+        lost: 0,
+        urls: &[A, PATH_1],
+    },
+    Row {
+        name: "filtered_links_are_not_lost",
+        web: OTHER_HOST,
+        fails: Fails::None,
+        workers: 1,
+        max_pending: 9,
+        suffixes: &["a.test"],
+        hows: ONE_WORKER,
+        lost: 0,
+        urls: &[A, PATH_1],
+    },
+    // A worker that lost every URL would meet all clauses: it is the other rows that it fails.
+    Row {
+        name: "failing_fetcher",
+        web: NO_PAGES,
+        fails: Fails::All,
+        workers: 1,
+        max_pending: 9,
+        suffixes: &[],
+        hows: ONE_WORKER,
+        lost: 1,
+        urls: &[],
+    },
+    // The fetch that waits for another one ends well only where two workers fetch at once, here by `run_threads` and by
+    // `run_worker` in two threads. Workers that run in turn on one thread meet every clause of `run_threads` too.
+    Row {
+        name: "workers_run_together, two_workers_wait_for_each_other",
+        web: NO_PAGES,
+        fails: Fails::Lonely,
+        workers: 2,
+        max_pending: 9,
+        suffixes: &[],
+        hows: &[How::Threads, How::Pair],
+        lost: 0,
+        urls: &[B, A],
+    },
+    Row {
+        name: "workers_run_together, in turn",
+        web: NO_PAGES,
+        fails: Fails::Lonely,
+        workers: 2,
+        max_pending: 9,
+        suffixes: &[],
+        hows: &[How::Turns],
+        lost: 1,
+        urls: &[A],
+    },
+];
+
+impl Row {
+    fn run(&self, how: How) -> Run<'static> {
+        Run {
+            workers: self.workers,
+            max_pending: self.max_pending,
+            suffixes: self.suffixes,
+            seeds: if self.workers == 1 { &[A] } else { &[A, B] },
+            how,
+            urls: self.urls,
+        }
+    }
+
+    fn found<R: Threads + Wait + Sync>(&self, rt: &R, alloc: Global, how: How) -> Option<Found> {
+        let source = Counting {
+            web: SavedWeb::read(alloc, self.web.as_bytes()).ok()?,
+            begun: AtomicU64::new(0),
+            fails: self.fails,
+        };
+        self.run(how).found(rt, alloc, &source)
+    }
+
+    fn holds<R: Threads + Wait + Sync>(&self, rt: &R, alloc: Global) -> bool {
+        let count = self.urls.len();
+        for how in self.hows {
+            if self.found(rt, alloc, *how) != Some((self.lost, count, count)) {
+                return false;
+            }
+        }
+        true
+    }
+}
+
+#[test]
+fn rows_of_workers(rt: HostRuntime) {
+    for row in ROWS.iter() {
+        assert!(rt; row.holds(&rt, rt.alloc()), "{}", row.name);
+    }
+}
+
+// What a worker finds in a source of one page that has moved.
+fn found_of_moved<R: Threads + Wait + Sync>(rt: &R, alloc: Global) -> Option<Found> {
+    let source = OneMoved {
+        from: canonical(alloc, A).ok()?,
+        to: canonical(alloc, B).ok()?,
+    };
+    let run = Run {
+        workers: 1,
+        max_pending: 9,
+        suffixes: &[],
+        seeds: &[A],
+        how: How::Turns,
+        urls: &[A, B],
+    };
+    run.found(rt, alloc, &source)
+}
+
+#[test]
+fn follows_a_page_that_moved(rt: HostRuntime) {
+    assert!(rt; found_of_moved(&rt, rt.alloc()) == Some((0, 2, 2)));
+}

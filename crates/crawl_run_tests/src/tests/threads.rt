@@ -1,0 +1,107 @@
+//! Runs with few and many workers: that each URL is fetched once, and that all workers end whatever is lost.
+use crate::tests::runs::{Found, How, Run};
+use crate::tests::sources::{Counting, Fails};
+use crawl_web::SavedWeb;
+use std::alloc::Global;
+use std::sync::Wait;
+use std::sync::atomic::{AtomicU64, Ordering};
+use std::test::Fail;
+use std::thread::Threads;
+
+// What a run with room for all finds from the seed, and how many fetches it makes.
+fn fetches<R: Threads + Wait + Sync>(
+    rt: &R,
+    alloc: Global,
+    web: &str,
+    fails: Fails,
+    workers: u32,
+    how: How,
+) -> Option<(Found, u64)> {
+    let source = Counting {
+        web: SavedWeb::read(alloc, web.as_bytes()).ok()?,
+        begun: AtomicU64::new(0),
+        fails,
+    };
+    let run = Run {
+        workers,
+        max_pending: 1_000_000,
+        suffixes: &[],
+        seeds: &["http://a.test/"],
+        how,
+        urls: &[],
+    };
+    let found = run.found(rt, alloc, &source)?;
+    Some((found, source.begun.load(Ordering::SeqCst)))
+}
+
+const RING: &str = "savedweb 1
+page http://a.test/
+link http://b.test/
+link #top
+link mailto:x@a.test
+page http://b.test/
+link //c.test
+link /
+page http://c.test/
+link http://A.test:80
+link gone
+";
+
+// The URLs of results differ, and the page of each is that of its URL: so four fetches for four results are one of each.
+#[test]
+fn each_url_of_the_ring_is_fetched_once(rt: HostRuntime) {
+    for workers in [1, 2, 3, 64, 512] {
+        for how in [How::Turns, How::Threads] {
+            let found = fetches(&rt, rt.alloc(), RING, Fails::None, workers, how);
+            assert!(rt; found == Some(((0, 4, 0), 4)), "{workers} workers");
+        }
+    }
+}
+
+const PAGES: usize = 300;
+
+// A page on each of many hosts: the first links to page 0, page n to the pages 3n + 1 to 3n + 3.
+fn tree(alloc: Global) -> Result<String, Fail> {
+    let mut text = String::from_str(
+        alloc,
+        "savedweb 1\npage http://a.test/\nlink http://h0.test\n",
+    )?;
+    for page in 0..PAGES {
+        let (one, two, three) = (3 * page + 1, 3 * page + 2, 3 * page + 3);
+        let lines = format!(in alloc;
+            "page http://h{page}.test\nlink http://h{one}.test\nlink http://h{two}.test\nlink http://h{three}.test\n"
+        )?;
+        text.push_str(&lines)?;
+    }
+    Ok(text)
+}
+
+// Whether a run on the tree, in which every third fetch fails, loses these fetches and nothing else.
+fn loses_each_third<R: Threads + Wait + Sync>(
+    rt: &R,
+    alloc: Global,
+    text: &str,
+    workers: u32,
+) -> bool {
+    match fetches(rt, alloc, text, Fails::EachThird, workers, How::Threads) {
+        Some(((lost, results, _), fetched)) => {
+            lost == fetched / 3 && results as u64 == fetched - fetched / 3
+        }
+        None => false,
+    }
+}
+
+// A URL that is lost is done all the same, so all workers end; and what is not found is lost, each once.
+#[test]
+fn workers_end_whatever_is_lost(rt: HostRuntime) -> Result<(), Fail> {
+    let text = tree(rt.alloc())?;
+    for workers in [1, 4, 64] {
+        for _ in 0..10 {
+            assert!(rt;
+                loses_each_third(&rt, rt.alloc(), &text, workers),
+                "{workers} workers"
+            );
+        }
+    }
+    Ok(())
+}

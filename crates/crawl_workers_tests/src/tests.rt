@@ -1,9 +1,0 @@
-//! What no clause says: that calls succeed and end, that workers run together, and how much they lose.
-mod ahead;
-mod losses;
-mod recent;
-mod rows;
-mod runs;
-mod sessions;
-mod sources;
-mod threads;
