@@ -1,4 +1,5 @@
 pub mod Behind
+pub mod BelowTop
 pub mod Errors
 pub mod Found
 pub mod Gaps
@@ -8,5 +9,6 @@ pub mod PageByPage
 pub mod PageLengths
 pub mod Printing
 pub mod Says
+pub mod Slashes
 pub mod Sound
 pub mod WindowsBytes

@@ -6,12 +6,15 @@ use Rattle.std.proofs.lemmas.Bool.{cond-true}
 use Rattle.std.proofs.lemmas.List.{take-append-le, drop-append-le}
 use Rattle.crawl_web.specs.WebFaults.{IsSound}
 use Rattle.crawl_web.specs.SavedWeb.{page_of}
+use Rattle.saved_site.proofs.BelowTop.{none_outside, one_more}
 use Rattle.saved_site.proofs.Found.{web_at}
 use Rattle.saved_site.proofs.Sound.{AllPages, web_sound}
+use Rattle.saved_site.specs.Below.{IsWebBelow, is_below}
 use Rattle.saved_site.specs.Meaning.{IsSiteWeb, page_in}
 use Rattle.saved_site.specs.Pages.{page_text, web_text, is_behind, ascending_behind, AscendsBehind, IsPage}
-use Rattle.saved_site.specs.Printed.{IsPageText, AreTexts, last_url, DoAscend, IsPrinted}
+use Rattle.saved_site.specs.Printed.{AreBelow, IsPageText, AreTexts, HasPrinted, HasTexts, last_url, DoAscend, IsPrinted}
 use Rattle.saved_site.specs.declared.page.SitePage.{SitePage}
+use Rattle.saved_site.specs.declared.printer.Printer.{Printer}
 
 -- ---- one text more
 
@@ -47,6 +50,32 @@ printed_push bytes urls counts url text p behind is = record {
 
 pub printed_none : (bytes : List ℕ) → bytes ≡ web_text [] → IsPrinted bytes [] []
 printed_none bytes is = record { body = []; whole = is; texts = refl; up = tt }
+
+-- ---- a printer
+
+pub none_printed : (top : List ℕ) (printer : Printer) → printer.bytes.items ≡ web_text [] → printer.urls.items ≡ [] → printer.counts.items ≡ [] → HasPrinted top printer
+none_printed top printer is urls counts =
+    let U : List (List ℕ) → Type 0 = λ u. IsPrinted printer.bytes.items u [] in
+    let C : List ℕ → Type 0 = λ c. IsPrinted printer.bytes.items printer.urls.items c in
+    let B : List (List ℕ) → Type 0 = λ u. AreBelow top u in
+    record { printed = subst C (sym counts) (subst U (sym urls) (printed_none printer.bytes.items is)); below = subst B (sym urls) refl }
+
+pub pushed : (top : List ℕ) (old new : Printer) (url text : List ℕ) → HasPrinted top old → is_behind (last_url [] old.urls.items) url ≡ true → is_below top url ≡ true → IsPageText url text → new.bytes.items ≡ old.bytes.items ++ text → new.urls.items ≡ old.urls.items ++ url ∷ [] → new.counts.items ≡ old.counts.items ++ length text ∷ [] → HasPrinted top new
+pushed top old new url text p behind below is bytes urls counts =
+    let more = printed_push old.bytes.items old.urls.items old.counts.items url text p.printed behind is in
+    let P : List ℕ → Type 0 = λ b. IsPrinted b (old.urls.items ++ url ∷ []) (old.counts.items ++ length text ∷ []) in
+    let U : List (List ℕ) → Type 0 = λ u. IsPrinted new.bytes.items u (old.counts.items ++ length text ∷ []) in
+    let C : List ℕ → Type 0 = λ c. IsPrinted new.bytes.items new.urls.items c in
+    let B : List (List ℕ) → Type 0 = λ u. AreBelow top u in
+    record {
+      printed = subst C (sym counts) (subst U (sym urls) (subst P (sym bytes) more));
+      below = subst B (sym urls) (one_more top old.urls.items url p.below below);
+    }
+
+-- one that is the web of these pages
+pub all_printed : (top : List ℕ) (printer : Printer) (urls : List (List ℕ)) → HasTexts printer → printer.urls.items ≡ urls → AreBelow top urls → HasPrinted top printer
+all_printed top printer urls texts is below =
+    let B : List (List ℕ) → Type 0 = λ u. AreBelow top u in record { printed = texts; below = subst B (sym is) below }
 
 -- the last of some URLs
 pub last_is : (from : List ℕ) (urls : List (List ℕ)) (url : List ℕ) → last_url from (urls ++ url ∷ []) ≡ url
@@ -118,4 +147,14 @@ printed_web bytes urls counts p =
           ap (λ (b : List ℕ). page_of (lines b) url) text
           ∙ web_at m.pages url m.all
           ∙ ap (λ (ps : List SitePage). page_in ps url) (sym taken);
+    }
+
+pub printed_below : (top bytes : List ℕ) (urls : List (List ℕ)) (counts : List ℕ) → IsPrinted bytes urls counts → AreBelow top urls → IsWebBelow top bytes
+printed_below top bytes urls counts p below =
+    let m = made urls counts p.body p.texts in
+    let text : bytes ≡ web_text m.pages = p.whole ∙ ap (λ (b : List ℕ). codes "savedweb 2" ++ 10 ∷ b) m.text in
+    let B : List (List ℕ) → Type 0 = λ u. AreBelow top u in
+    let all = subst B (sym m.there) below in
+    record {
+      none = λ url out. ap (λ (b : List ℕ). page_of (lines b) url) text ∙ web_at m.pages url m.all ∙ none_outside top m.pages url all out;
     }

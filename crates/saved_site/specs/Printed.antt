@@ -1,5 +1,7 @@
 -- What is known of a saved web that is printed page by page.
 use Rattle.std.specs.Prelude.{◌≡◌, ℕ, ◌≤◌, true, List, [], ◌∷◌, ◌++◌, codes, drop, length, reverse, take}
+use Rattle.std.specs.List.{list_all}
+use Rattle.saved_site.specs.Below.{is_below}
 use Rattle.saved_site.specs.Pages.{page_text, is_behind, IsPage}
 use Rattle.saved_site.specs.declared.page.SitePage.{SitePage}
 use Rattle.saved_site.specs.declared.printer.gap.Gap.{Gap}
@@ -38,8 +40,17 @@ pub record IsPrinted (bytes : List ℕ) (urls : List (List ℕ)) (counts : List 
   pub up : DoAscend [] urls
 
 -- the same of a printer
-abbrev pub HasPrinted : Printer → Type 0
-HasPrinted printer = IsPrinted printer.bytes.items printer.urls.items printer.counts.items
+abbrev pub HasTexts : Printer → Type 0
+HasTexts printer = IsPrinted printer.bytes.items printer.urls.items printer.counts.items
+
+-- all URLs lie below the top
+abbrev pub AreBelow : List ℕ → List (List ℕ) → Type 0
+AreBelow top urls = list_all (is_below top) urls ≡ true
+
+-- the same of a printer all of whose pages lie below the top
+pub record HasPrinted (top : List ℕ) (printer : Printer) : Type 0 where
+  pub printed : HasTexts printer
+  pub below : AreBelow top printer.urls.items
 
 -- in front of a gap are a header and the texts of pages, behind it those of others, whose URLs ascend behind them, the first one last
 pub record IsParted (bytes : List ℕ) (front back : ℕ) (urls : List (List ℕ)) (counts : List ℕ) (back_urls : List (List ℕ)) (back_counts : List ℕ) : Type 0 where
@@ -52,3 +63,7 @@ pub record IsParted (bytes : List ℕ) (front back : ℕ) (urls : List (List ℕ
 -- the same of a web with a gap
 abbrev pub HasGap : Gap → Type 0
 HasGap gap = IsParted gap.bytes.items gap.front gap.back gap.urls.items gap.counts.items gap.back_urls.items gap.back_counts.items
+
+-- the URLs of its pages
+abbrev pub urls_of : Gap → List (List ℕ)
+urls_of gap = gap.urls.items ++ reverse gap.back_urls.items

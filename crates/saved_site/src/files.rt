@@ -1,6 +1,7 @@
 //! Which file a page of a site is made of.
-ghost use Rattle.std.specs.Prelude.{◌≡◌, IfErr, length, slice_get, string_bytes};
+ghost use Rattle.std.specs.Prelude.{◌≡◌, IfErr, IfOk, length, slice_get, string_bytes};
 ghost use Rattle.std.specs.Option.{option_map};
+ghost use Rattle.saved_site.specs.Below.{IsTop};
 ghost use Rattle.saved_site.specs.Errors.{IsOfFiles};
 ghost use Rattle.saved_site.specs.Files.{name_at, page_file, page_of, pages_of};
 
@@ -28,7 +29,8 @@ impl<'a> SiteFiles<'a> {
     /// # Errors
     /// `BadBase`, `NoFiles`; `NoMemory` where a growth was refused.
     pub fn new(alloc: Global, input: SiteNames<'a>) -> Result<SiteFiles<'a>, SiteError>
-        ensures { IfErr result IsOfFiles }
+        ensures error { IfErr result IsOfFiles }
+        ensures top { IfOk result (λ files. IsTop input.entry.base.now (string_bytes files.site.top)) }
     {
         let SiteNames {
             names,
@@ -47,9 +49,12 @@ impl<'a> SiteFiles<'a> {
     }
 
     /// What its pages are made by.
-    pub(crate) fn given(&self) -> Given<'_> {
+    pub(crate) fn given(&self) -> Given<'_>
+        ensures { result.top.now ≡ string_bytes self.now.site.top }
+    {
         Given {
             site: &self.site,
+            top: self.site.top(),
             names: self.names,
             rules: self.rules,
         }

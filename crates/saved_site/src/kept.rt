@@ -108,9 +108,9 @@ pub(crate) struct Kept {
 
 impl Kept {
     /// The same with these pages: those whose URLs are behind all before are printed.
-    pub(crate) fn push_all(self, pages: Vec<Made>) -> Result<Kept, AllocError>
-        requires { HasPrinted self.web }
-        ensures { IfOk result (λ kept. HasPrinted kept.web) }
+    pub(crate) fn push_all(self, top: &str, pages: Vec<Made>) -> Result<Kept, AllocError>
+        requires { HasPrinted top.now self.web }
+        ensures { IfOk result (λ kept. HasPrinted top.now kept.web) }
     {
         let Kept {
             mut web,
@@ -118,7 +118,7 @@ impl Kept {
         } = self;
         'pages: for page in pages {
             let mut page = page;
-            web = printed_one(web, &mut page, &mut beside)?;
+            web = printed_one(web, top, &mut page, &mut beside)?;
             beside.push(page)?;
         }
         Ok(Kept { web, beside })
@@ -126,9 +126,14 @@ impl Kept {
 }
 
 /// The web with a page whose URL is behind all before. The page is taken then, and counted.
-fn printed_one(web: Printer, one: &mut Made, beside: &mut Beside) -> Result<Printer, AllocError>
-    requires { HasPrinted web }
-    ensures { IfOk result HasPrinted }
+fn printed_one(
+    web: Printer,
+    top: &str,
+    one: &mut Made,
+    beside: &mut Beside,
+) -> Result<Printer, AllocError>
+    requires { HasPrinted top.now web }
+    ensures { IfOk result (HasPrinted top.now) }
 {
     if !web.takes(&one.url) {
         return Ok(web);
@@ -136,7 +141,7 @@ fn printed_one(web: Printer, one: &mut Made, beside: &mut Beside) -> Result<Prin
     match one.page.take() {
         Some(page) => {
             beside.summary.add(&page, one.counts);
-            web.push(&page, &mut beside.room)
+            web.push(top, &page, &mut beside.room)
         }
         None => Ok(web),
     }

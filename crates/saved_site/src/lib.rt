@@ -3,6 +3,7 @@
 
 mod anchors;
 mod base_href;
+mod below;
 mod body;
 mod charset;
 mod cleaning;

@@ -26,6 +26,8 @@ pub(crate) struct Task {
 #[derive(Clone, Copy)]
 pub(crate) struct Given<'a> {
     pub(crate) site: &'a Site,
+    /// The URL of the site's top.
+    pub(crate) top: &'a str,
     pub(crate) names: &'a [String],
     pub(crate) rules: &'a Rules,
 }

@@ -1,6 +1,7 @@
 //! The saved web of a folder, whose files are read by the threads that make its pages.
 ghost use Rattle.std.specs.IoError.{error_kind};
-ghost use Rattle.std.specs.Prelude.{◌≡◌, IfErr, IfOk, alloc_error};
+ghost use Rattle.std.specs.Prelude.{◌≡◌, IfErr, IfOk, alloc_error, string_bytes};
+ghost use Rattle.saved_site.specs.Below.{IsWebAt, IsWebBelow};
 ghost use Rattle.saved_site.specs.Errors.{IsOfFiles, IsOfWeb};
 ghost use Rattle.saved_site.specs.Meaning.{IsSiteWeb};
 
@@ -55,7 +56,8 @@ pub fn folder_web<R: Files<File: Send, Dir: Send> + Threads + Sync>(
     base: &str,
     rules: &Rules,
 ) -> Result<Web, SiteError>
-    ensures { IfOk result (λ web. IsSiteWeb web.bytes.items) }
+    ensures web { IfOk result (λ web. IsSiteWeb web.bytes.items) }
+    ensures below { IfOk result (λ web. IsWebAt base.now web.bytes.items) }
 {
     let FolderNames { names, notes } = folder_names(rt, alloc, folder)?;
     let input = SiteNames {
@@ -80,6 +82,7 @@ pub fn folder_web_of<R: Files<File: Send, Dir: Send> + Threads + Sync>(
     told: Vec<Note>,
 ) -> Result<Web, SiteError>
     ensures web { IfOk result (λ web. IsSiteWeb web.bytes.items) }
+    ensures below { IfOk result (λ web. IsWebAt input.entry.base.now web.bytes.items) }
     ensures error { IfErr result IsOfFiles }
 {
     let files = SiteFiles::new(alloc, input)?;
@@ -100,6 +103,7 @@ pub fn folder_files_web<R: Files<File: Send, Dir: Send> + Threads + Sync>(
     told: Vec<Note>,
 ) -> Result<Web, SiteError>
     ensures web { IfOk result (λ web. IsSiteWeb web.bytes.items) }
+    ensures below { IfOk result (λ web. IsWebBelow (string_bytes files.now.site.top) web.bytes.items) }
     ensures error { IfErr result IsOfWeb }
 {
     let contents = OnDisk { rt, alloc, folder };

@@ -22,8 +22,8 @@ pub(crate) fn make_all<R: Threads + Sync, C: Contents + Sync>(
     making: Making,
     before: Kept,
 ) -> Result<Kept, SiteError>
-    requires { HasPrinted before.web }
-    ensures web { IfOk result (λ kept. HasPrinted kept.web) }
+    requires { HasPrinted given.top.now before.web }
+    ensures web { IfOk result (λ kept. HasPrinted given.entry.top.now kept.web) }
     ensures error { IfErr result IsOfWeb }
 {
     let mut making = making;
@@ -50,13 +50,13 @@ fn make_round<R: Threads + Sync, C: Contents + Sync>(
     making: &mut Making,
     before: Kept,
 ) -> Result<Kept, SiteError>
-    requires { HasPrinted before.web }
-    ensures web { IfOk result (λ kept. HasPrinted kept.web) }
+    requires { HasPrinted given.top.now before.web }
+    ensures web { IfOk result (λ kept. HasPrinted given.entry.top.now kept.web) }
     ensures error { IfErr result IsOfWeb }
 {
     let (last, kept) = make_batches(rt, given, contents, tasks, making, before)?;
     let Batch { made, .. } = last;
-    let mut kept = kept.push_all(made)?;
+    let mut kept = kept.push_all(given.top, made)?;
     kept.beside.end_round()?;
     Ok(kept)
 }
@@ -71,8 +71,8 @@ fn make_batches<R: Threads + Sync, C: Contents + Sync>(
     making: &mut Making,
     before: Kept,
 ) -> Result<(Batch, Kept), SiteError>
-    requires { HasPrinted before.web }
-    ensures web { IfOk result (λ both. HasPrinted both.1.web) }
+    requires { HasPrinted given.top.now before.web }
+    ensures web { IfOk result (λ both. HasPrinted given.entry.top.now both.1.web) }
     ensures error { IfErr result IsOfWeb }
 {
     let mut kept = before;
@@ -102,14 +102,15 @@ fn make_batch<R: Threads + Sync, C: Contents + Sync>(
     batch: Batch,
     before: Kept,
 ) -> Result<(Batch, Kept), AllocError>
-    requires { HasPrinted before.web }
-    ensures { IfOk result (λ both. HasPrinted both.1.web) }
+    requires { HasPrinted given.top.now before.web }
+    ensures { IfOk result (λ both. HasPrinted given.entry.top.now both.1.web) }
 {
     let Batch { made, makers, .. } = batch;
+    let top = given.top;
     let (next, kept) = thread::join(
         rt,
         move || next_batch(rt, given, contents, tasks, makers),
-        move || before.push_all(made),
+        move || before.push_all(top, made),
     );
     let next = next?;
     let kept = kept?;

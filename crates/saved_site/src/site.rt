@@ -1,7 +1,12 @@
 //! The pages of a site, by the names of its files.
-ghost use Rattle.std.specs.Prelude.{◌≡◌, IfErr, string_bytes};
+ghost use Rattle.std.specs.Prelude.{◌≡◌, ◌++◌, ◌∷◌, ℕ, List, [], IfErr, IfOk, Ok, false, string_bytes, true};
+ghost use Rattle.std.specs.List.{list_any};
+ghost use Rattle.crawl_keys.specs.CanonicalText.{canonical};
+ghost use Rattle.percent_encoding.specs.Percent.{percent_decode};
+ghost use Rattle.saved_site.specs.Below.{IsTop, is_mark, without_slashes};
 ghost use Rattle.saved_site.specs.Errors.{IsOfFiles};
 
+use crate::below::is_slashed;
 use crate::error::SiteError;
 use crate::escapes::{push_name, push_query, push_respelled};
 use crate::notes::{Left, Note};
@@ -74,34 +79,41 @@ impl Site {
         rules: &Rules,
         notes: &mut Vec<Note>,
     ) -> Result<Site, SiteError>
-        ensures { IfErr result IsOfFiles }
+        ensures error { IfErr result IsOfFiles }
+        ensures top { IfOk result (λ site. IsTop base.now (string_bytes site.top)) }
     {
         if !names.iter().any(|name| !name.as_str().ends_with('/')) {
             return Err(SiteError::NoFiles);
         }
-        let mut site = Site::at(alloc, base)?;
-        // Three lists in the order of names, which is nearly that of URLs: little is left to sort.
-        site.push_files(names, rules)?;
-        site.push_indices(names, rules)?;
-        site.push_folders(names)?;
-        site.entries.sort_by(|a: &Entry, b: &Entry| order_of(a, b))?;
-        Ok(site.without_doubles(names, notes)?)
+        let site = Site::at(alloc, base)?;
+        let entries = site.entries_of(names, rules)?;
+        let Site {
+            origin,
+            top,
+            top_url,
+            ..
+        } = site;
+        Ok(Site {
+            origin,
+            top,
+            top_url,
+            entries: without_doubles(entries, names, notes)?,
+        })
     }
 
+    /// One without pages, whose top has this URL.
     fn at(alloc: Global, base: &str) -> Result<Site, SiteError>
-        ensures { IfErr result IsOfFiles }
+        ensures error { IfErr result IsOfFiles }
+        ensures top { IfOk result (λ site. IsTop base.now (string_bytes site.top)) }
     {
         let page = url_at(alloc, base)?;
         let Some((origin, path)) = split_origin(page.as_str()) else {
             return Err(SiteError::BadBase);
         };
-        if path.contains('?') {
-            return Err(SiteError::BadBase);
-        }
         let mut top = String::from_str(alloc, origin)?;
         push_respelled(alloc, path.trim_end_matches('/'), &mut top)?;
         top.push('/')?;
-        let top_url = url_at(alloc, top.as_str())?;
+        let top_url = top_at(alloc, &page, top.as_str())?;
         Ok(Site {
             origin: String::from_str(alloc, origin)?,
             top,
@@ -110,52 +122,81 @@ impl Site {
         })
     }
 
+    /// The pages of files with these names, in the order of their URLs.
+    fn entries_of(&self, names: &[String], rules: &Rules) -> Result<Vec<Entry>, SiteError>
+        ensures { IfErr result IsOfFiles }
+    {
+        // Three lists in the order of names, which is nearly that of URLs: little is left to sort.
+        let mut entries = Vec::new(*self.top.allocator());
+        self.push_files(names, rules, &mut entries)?;
+        self.push_indices(names, rules, &mut entries)?;
+        self.push_folders(names, &mut entries)?;
+        entries.sort_by(|a: &Entry, b: &Entry| order_of(a, b))?;
+        Ok(entries)
+    }
+
     /// Adds the page of each file.
-    fn push_files(&mut self, names: &[String], rules: &Rules) -> Result<(), SiteError>
+    fn push_files(
+        &self,
+        names: &[String],
+        rules: &Rules,
+        entries: &mut Vec<Entry>,
+    ) -> Result<(), SiteError>
         ensures { IfErr result IsOfFiles }
     {
         for (index, name) in names.iter().enumerate() {
             if let Some((path, query)) = file_path(name.as_str(), rules) {
-                self.push(path, query, index)?;
+                self.push(path, query, index, entries)?;
             }
         }
         Ok(())
     }
 
     /// Adds the page of each folder's index file that is the folder's.
-    fn push_indices(&mut self, names: &[String], rules: &Rules) -> Result<(), SiteError>
+    fn push_indices(
+        &self,
+        names: &[String],
+        rules: &Rules,
+        entries: &mut Vec<Entry>,
+    ) -> Result<(), SiteError>
         ensures { IfErr result IsOfFiles }
     {
         for (index, name) in names.iter().enumerate() {
             if let Some((path, query)) = file_path(name.as_str(), rules)
                 && let Some(folder) = folder_of(path, rules)
             {
-                self.push(folder, query, index)?;
+                self.push(folder, query, index, entries)?;
             }
         }
         Ok(())
     }
 
     /// Adds the pages of folders without their slashes.
-    fn push_folders(&mut self, names: &[String]) -> Result<(), SiteError>
+    fn push_folders(&self, names: &[String], entries: &mut Vec<Entry>) -> Result<(), SiteError>
         ensures { IfErr result IsOfFiles }
     {
         for name in names {
-            self.push_folder(name.as_str())?;
+            self.push_folder(name.as_str(), entries)?;
         }
         Ok(())
     }
 
     /// Adds the page at a path, which is made of the file with this index.
-    fn push(&mut self, path: &str, query: Option<&str>, index: usize) -> Result<(), SiteError>
+    fn push(
+        &self,
+        path: &str,
+        query: Option<&str>,
+        index: usize,
+        entries: &mut Vec<Entry>,
+    ) -> Result<(), SiteError>
         ensures { IfErr result IsOfFiles }
     {
         let url = self.url_of(path, query)?;
-        self.add(url.as_str(), Source::File(index))
+        add(url.as_str(), Source::File(index), entries)
     }
 
     /// Adds the page of a folder without its slash, which is moved to the folder with it.
-    fn push_folder(&mut self, name: &str) -> Result<(), SiteError>
+    fn push_folder(&self, name: &str, entries: &mut Vec<Entry>) -> Result<(), SiteError>
         ensures { IfErr result IsOfFiles }
     {
         let Some(folder) = name.strip_suffix("/") else {
@@ -163,7 +204,7 @@ impl Site {
         };
         let url = self.url_of(folder, None)?;
         let target = self.url_of(name, None)?;
-        self.add(url.as_str(), Source::Moved(target))
+        add(url.as_str(), Source::Moved(target), entries)
     }
 
     /// The URL of a path below the top, with a query.
@@ -175,38 +216,6 @@ impl Site {
             push_query(alloc, query, &mut url)?;
         }
         Ok(url)
-    }
-
-    fn add(&mut self, url: &str, source: Source) -> Result<(), SiteError>
-        ensures { IfErr result IsOfFiles }
-    {
-        let url = url_at(*self.top.allocator(), url)?;
-        self.entries.push(Entry { url, source })?;
-        Ok(())
-    }
-
-    /// The first page of each URL; a file that has no page by this is told.
-    fn without_doubles(self, names: &[String], notes: &mut Vec<Note>) -> Result<Site, AllocError> {
-        let Site {
-            origin,
-            top,
-            top_url,
-            entries,
-        } = self;
-        let mut kept: Vec<Entry> = Vec::new(*top.allocator());
-        for entry in entries {
-            if is_double(kept.as_slice(), &entry) {
-                tell_double(&entry, names, notes)?;
-            } else {
-                kept.push(entry)?;
-            }
-        }
-        Ok(Site {
-            origin,
-            top,
-            top_url,
-            entries: kept,
-        })
     }
 
     /// The URL of the top as that of a page.
@@ -228,6 +237,31 @@ impl Site {
             .binary_search_by(|entry| entry.url.as_str().cmp(url))
             .ok()
     }
+}
+
+fn add(url: &str, source: Source, entries: &mut Vec<Entry>) -> Result<(), SiteError>
+    ensures { IfErr result IsOfFiles }
+{
+    let url = url_at(*entries.allocator(), url)?;
+    entries.push(Entry { url, source })?;
+    Ok(())
+}
+
+/// The first page of each URL; a file that has no page by this is told.
+fn without_doubles(
+    entries: Vec<Entry>,
+    names: &[String],
+    notes: &mut Vec<Note>,
+) -> Result<Vec<Entry>, AllocError> {
+    let mut kept: Vec<Entry> = Vec::new(*entries.allocator());
+    for entry in entries {
+        if is_double(kept.as_slice(), &entry) {
+            tell_double(&entry, names, notes)?;
+        } else {
+            kept.push(entry)?;
+        }
+    }
+    Ok(kept)
 }
 
 /// The path and the query of a file's name; none of a folder's.
@@ -263,13 +297,53 @@ fn rank_of(entry: &Entry) -> usize {
 
 /// The canonical URL of a text.
 fn url_at(alloc: Global, text: &str) -> Result<CanonUrl, SiteError>
-    ensures { IfErr result IsOfFiles }
+    ensures error { IfErr result IsOfFiles }
+    ensures url { IfOk result (λ url. canonical text.now ≡ Ok url) }
 {
     match canonical(alloc, text) {
         Ok(url) => Ok(url),
         Err(KeyError::NoMemory) => Err(SiteError::NoMemory),
         Err(_) => Err(SiteError::BadBase),
     }
+}
+
+/// The URL of the top with this text of a site at a URL, which has no query.
+fn top_at(alloc: Global, page: &CanonUrl, text: &str) -> Result<CanonUrl, SiteError>
+    ensures error { IfErr result IsOfFiles }
+    ensures top { IfOk result (λ _. (base : List ℕ) → canonical base ≡ Ok page.now → IsTop base text.now) }
+{
+    let url = url_at(alloc, text)?;
+    let is_top = is_top(alloc, page.as_str(), &url, text)?;
+    if is_top {
+        Ok(url)
+    } else {
+        Err(SiteError::BadBase)
+    }
+}
+
+/// Whether a text is its own URL, and with its escapes read another one, which has no query, with one slash at its end. It is, where
+/// it was made of that URL; it is looked at since it is promised.
+fn is_top(alloc: Global, page: &str, url: &CanonUrl, text: &str) -> Result<bool, AllocError>
+    ensures own { IfOk result (λ is. is ≡ true → url.now ≡ text.now) }
+    ensures plain { IfOk result (λ is. is ≡ true → list_any is_mark page.now ≡ false) }
+    ensures slashed { IfOk result (λ is. is ≡ true → percent_decode text.now ≡ percent_decode (without_slashes page.now) ++ 47 ∷ []) }
+{
+    if !is_same(url, text) || has_query(page) {
+        return Ok(false);
+    }
+    is_slashed(alloc, page, text)
+}
+
+fn has_query(url: &str) -> bool
+    ensures { result ≡ list_any is_mark url.now }
+{
+    url.as_bytes().contains(&b'?')
+}
+
+fn is_same(url: &CanonUrl, text: &str) -> bool
+    ensures { result ≡ true → url.now ≡ text.now }
+{
+    url.as_str() == text
 }
 
 /// Whether the last of the pages has the URL of this one.

@@ -1,5 +1,6 @@
 //! The saved web of a site.
-ghost use Rattle.std.specs.Prelude.{IfErr, IfOk};
+ghost use Rattle.std.specs.Prelude.{IfErr, IfOk, string_bytes};
+ghost use Rattle.saved_site.specs.Below.{IsWebAt, IsWebBelow};
 ghost use Rattle.saved_site.specs.Errors.{IsOfFiles, IsOfWeb};
 ghost use Rattle.saved_site.specs.Meaning.{IsSiteWeb};
 ghost use Rattle.saved_site.specs.Printed.{HasPrinted};
@@ -86,6 +87,7 @@ pub fn site_web<R: Threads + Sync>(
     bodies: &[Vec<u8>],
 ) -> Result<Web, SiteError>
     ensures web { IfOk result (λ web. IsSiteWeb web.bytes.items) }
+    ensures below { IfOk result (λ web. IsWebAt input.entry.base.now web.bytes.items) }
     ensures error { IfErr result IsOfFiles }
 {
     let files = SiteFiles::new(alloc, input)?;
@@ -105,6 +107,7 @@ pub fn files_web<R: Threads + Sync>(
     bodies: &[Vec<u8>],
 ) -> Result<Web, SiteError>
     ensures web { IfOk result (λ web. IsSiteWeb web.bytes.items) }
+    ensures below { IfOk result (λ web. IsWebBelow (string_bytes files.now.site.top) web.bytes.items) }
     ensures error { IfErr result IsOfWeb }
 {
     let contents = InMemory { bodies };
@@ -121,20 +124,23 @@ pub(crate) fn web_of<R: Threads + Sync, C: Contents + Sync>(
     contents: &C,
 ) -> Result<Web, SiteError>
     ensures web { IfOk result (λ web. IsSiteWeb web.bytes.items) }
+    ensures below { IfOk result (λ web. IsWebBelow (string_bytes files.now.site.top) web.bytes.items) }
     ensures error { IfErr result IsOfWeb }
 {
+    let given = files.given();
     let mut beside = Beside::new(alloc, told);
     files.tell_doubles(&mut beside.notes)?;
-    let making = Making::new(alloc, files.given(), seeds)?;
+    let making = Making::new(alloc, given, seeds)?;
     let web = Printer::new(alloc)?;
     let none = Kept { web, beside };
-    let kept = make_all(rt, files.given(), contents, making, none)?;
-    finish(kept)
+    let kept = make_all(rt, given, contents, making, none)?;
+    finish(given.top, kept)
 }
 
-fn finish(kept: Kept) -> Result<Web, SiteError>
-    requires { HasPrinted kept.web }
+fn finish(top: &str, kept: Kept) -> Result<Web, SiteError>
+    requires { HasPrinted top.now kept.web }
     ensures web { IfOk result (λ web. IsSiteWeb web.bytes.items) }
+    ensures below { IfOk result (λ web. IsWebBelow top.now web.bytes.items) }
     ensures error { IfErr result IsOfWeb }
 {
     let Kept { web, beside } = kept;
@@ -149,8 +155,7 @@ fn finish(kept: Kept) -> Result<Web, SiteError>
     places.sort_by(|a: &LinkPlaces, b: &LinkPlaces| a.url.as_str().cmp(b.url.as_str()))?;
     anchors.sort_by(|a: &PageAnchors, b: &PageAnchors| a.url.as_str().cmp(b.url.as_str()))?;
     late.sort_by(|a: &SitePage, b: &SitePage| a.url().as_str().cmp(b.url().as_str()))?;
-    let web = web.with_pages(late.as_slice())?;
-    let bytes = web.into_web();
+    let bytes = web.into_web(top, late.as_slice())?;
     if bytes.len() > WEB_LIMIT {
         return Err(SiteError::TooLarge);
     }

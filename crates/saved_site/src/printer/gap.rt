@@ -1,9 +1,11 @@
 //! A saved web with a gap in its room, into which pages are put.
-ghost use Rattle.std.specs.Prelude.{◌≡◌, ◌-◌, ◌≤◌, ◌<◌, ◌++◌, [], true, IfOk, OnOk, drop, length, reverse, take};
+ghost use Rattle.std.specs.Prelude.{◌≡◌, ◌-◌, ◌≤◌, ◌<◌, ◌++◌, ℕ, List, [], true, IfOk, OnOk, drop, length, reverse, take};
+ghost use Rattle.saved_site.specs.Below.{is_below};
 ghost use Rattle.saved_site.specs.Pages.{is_behind};
-ghost use Rattle.saved_site.specs.Printed.{DoAscend, HasGap, HasPrinted, IsPageText, last_url};
+ghost use Rattle.saved_site.specs.Printed.{AreBelow, DoAscend, HasGap, HasTexts, IsPageText, last_url, urls_of};
 
 use super::{Printer, last_of};
+use crate::below::is_below;
 use crate::page::SitePage;
 use crate::print::is_behind;
 use crawl_keys::CanonUrl;
@@ -26,9 +28,11 @@ pub(super) struct Gap {
 
 impl Gap {
     /// One of so many bytes behind all pages.
+    #[tactic(auto, using(crate::proofs::BelowTop::none_behind))]
     pub(super) fn open(printer: Printer, length: usize) -> Result<Gap, AllocError>
-        requires { HasPrinted printer }
-        ensures { IfOk result HasGap }
+        requires { HasTexts printer }
+        ensures gap { IfOk result HasGap }
+        ensures urls { IfOk result (λ gap. urls_of gap ≡ printer.urls.items) }
     {
         let Printer {
             mut bytes,
@@ -53,7 +57,8 @@ impl Gap {
     /// The web without the gap.
     pub(super) fn close(self) -> Result<Printer, AllocError>
         requires { HasGap self }
-        ensures { IfOk result HasPrinted }
+        ensures printed { IfOk result HasTexts }
+        ensures urls { IfOk result (λ printer. printer.urls.items ≡ urls_of self) }
     {
         let Gap {
             bytes,
@@ -77,33 +82,38 @@ impl Gap {
     }
 
     /// The same with these pages, which ascend, at their places.
-    pub(super) fn with_pages(self, pages: &[SitePage]) -> Result<Gap, AllocError>
-        requires { HasGap self }
-        ensures { IfOk result HasGap }
+    pub(super) fn with_pages(self, top: &str, pages: &[SitePage]) -> Result<Gap, AllocError>
+        requires gap { HasGap self }
+        requires below { AreBelow top.now (urls_of self) }
+        ensures gap { IfOk result HasGap }
+        ensures below { IfOk result (λ gap. AreBelow top.now (urls_of gap)) }
     {
         let mut room = Vec::new(*self.bytes.allocator());
         let mut gap = self;
         'pages: for page in pages.iter().rev() {
-            gap = gap.with_page(page, &mut room)?;
+            gap = gap.with_page(top, page, &mut room)?;
         }
         Ok(gap)
     }
 
     /// Puts a page behind the gap. The pages that come behind it are moved before.
-    fn with_page(self, page: &SitePage, room: &mut Vec<u8>) -> Result<Gap, AllocError>
-        requires { HasGap self }
-        ensures { IfOk result HasGap }
+    fn with_page(self, top: &str, page: &SitePage, room: &mut Vec<u8>) -> Result<Gap, AllocError>
+        requires gap { HasGap self }
+        requires below { AreBelow top.now (urls_of self) }
+        ensures gap { IfOk result HasGap }
+        ensures below { IfOk result (λ gap. AreBelow top.now (urls_of gap)) }
     {
         let gap = self.moved(page.url(), room)?;
         room.clear();
         page.print(room)?;
-        gap.put(page.url(), room.as_slice())
+        gap.put_below(top, page.url(), room.as_slice())
     }
 
     /// Moves the pages whose URLs are behind this one.
     fn moved(self, url: &CanonUrl, room: &mut Vec<u8>) -> Result<Gap, AllocError>
         requires { HasGap self }
-        ensures { IfOk result HasGap }
+        ensures gap { IfOk result HasGap }
+        ensures urls { IfOk result (λ gap. urls_of gap ≡ urls_of self) }
     {
         let mut gap = self;
         let count = gap.urls.len();
@@ -127,7 +137,8 @@ impl Gap {
     fn move_last(self, room: &mut Vec<u8>) -> Result<Gap, AllocError>
         requires gap { HasGap self }
         requires some { 0 < length self.urls.items }
-        ensures { IfOk result HasGap }
+        ensures gap { IfOk result HasGap }
+        ensures urls { IfOk result (λ gap. urls_of gap ≡ urls_of self) }
     {
         let Gap {
             mut bytes,
@@ -160,11 +171,28 @@ impl Gap {
         })
     }
 
+    /// Puts the lines of a page behind the gap. One that is not below the top is left out.
+    fn put_below(self, top: &str, url: &CanonUrl, text: &[u8]) -> Result<Gap, AllocError>
+        requires gap { HasGap self }
+        requires text { IsPageText url.now text.now }
+        requires below { AreBelow top.now (urls_of self) }
+        ensures gap { IfOk result HasGap }
+        ensures below { IfOk result (λ gap. AreBelow top.now (urls_of gap)) }
+    {
+        let is_below = is_below(*self.bytes.allocator(), top, url)?;
+        if is_below {
+            self.put(url, text)
+        } else {
+            Ok(self)
+        }
+    }
+
     /// Puts the lines of a page behind the gap. One that is not in order there is left out.
     fn put(self, url: &CanonUrl, text: &[u8]) -> Result<Gap, AllocError>
         requires gap { HasGap self }
         requires text { IsPageText url.now text.now }
-        ensures { IfOk result HasGap }
+        ensures gap { IfOk result HasGap }
+        ensures below { (top : List ℕ) → is_below top url.now ≡ true → AreBelow top (urls_of self) → IfOk result (λ gap. AreBelow top (urls_of gap)) }
     {
         if !self.takes(url) || self.back.saturating_sub(self.front) < text.len() {
             return Ok(self);

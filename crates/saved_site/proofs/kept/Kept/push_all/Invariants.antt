@@ -2,4 +2,4 @@ use Rattle.saved_site.specs.Printed.{HasPrinted}
 use Rattle.saved_site.proofs.kept.Kept.push_all.Given as goal
 
 abbrev pub invariant-pages : goal.invariant-pages
-invariant-pages l = HasPrinted l.web
+invariant-pages l = HasPrinted l.top l.web
