@@ -72,6 +72,29 @@ impl Body {
         Ok(())
     }
 
+    /// Reads the first bytes of a file into a body without bytes: so many, or all where there are fewer.
+    pub(crate) fn read_start<I: Read>(&mut self, input: &mut I, length: usize) -> io::Result<()> {
+        if self.room.len() < length {
+            self.grow()?;
+        }
+        for _ in 0..length {
+            let room = self
+                .room
+                .as_mut_slice()
+                .get_mut(self.used..length)
+                .unwrap_or(&mut []);
+            if room.is_empty() {
+                break;
+            }
+            let count = input.read(room)?;
+            if count == 0 {
+                break;
+            }
+            self.used = self.used.saturating_add(count);
+        }
+        Ok(())
+    }
+
     fn grow(&mut self) -> Result<(), AllocError> {
         let length = self.room.len().max(self.used);
         self.room.resize(length.saturating_add(GROWTH), 0)

@@ -16,8 +16,7 @@ use crate::site::{Rules, split_name};
 use crate::walk::entries_below;
 use crate::web::{SiteNames, Web, web_of};
 use std::alloc::{AllocError, Global};
-use std::fs::OpenFile;
-use std::io::{ErrorKind, Read};
+use std::io::ErrorKind;
 use std::rt::Files;
 use std::thread::Threads;
 use std::{fs, io};
@@ -166,10 +165,15 @@ impl<R: Files> OnDisk<'_, R> {
 
     fn read_file(&self, name: &str, kind: Kind, body: &mut Body) -> io::Result<()> {
         let path = format!(in self.alloc; "{}/{name}", self.folder)?;
-        if kind == Kind::Unknown && !is_document(self.rt, path.as_str())? {
-            return Ok(());
+        let mut file = fs::open(self.rt, path.as_str())?;
+        if kind == Kind::Unknown {
+            body.read_start(&mut file, START_LENGTH)?;
+            if !is_document_start(body.as_slice()) {
+                body.clear();
+                return Ok(());
+            }
         }
-        body.read(&mut fs::open(self.rt, path.as_str())?)
+        body.read(&mut file)
     }
 }
 
@@ -181,22 +185,4 @@ fn left_by(error: &io::Error) -> Result<Left, AllocError>
         ErrorKind::OutOfMemory => Err(AllocError),
         _ => Ok(Left::FileUnread),
     }
-}
-
-/// Whether the first bytes of a file are those of a document.
-fn is_document<R: Files>(rt: &R, path: &str) -> io::Result<bool> {
-    let mut file = fs::open(rt, path)?;
-    let mut start = [0u8; START_LENGTH];
-    let mut length = 0;
-    for _ in 0..START_LENGTH {
-        if length >= START_LENGTH {
-            break;
-        }
-        let count = file.read(&mut start[length..])?;
-        if count == 0 {
-            break;
-        }
-        length += count;
-    }
-    Ok(is_document_start(start.get(..length).unwrap_or(&[])))
 }
