@@ -20,8 +20,8 @@ use crawl_keys::{Base, CanonUrl, is_of_folder};
 use std::alloc::{AllocError, Global};
 use std::mem;
 
-/// So many texts of a page are not known to its folder before another page of it comes: of many folders there is one page.
-const FEW_TEXTS: usize = 8;
+/// So many links of a folder's first page are not known from then on: of many folders there is one page, with few links.
+const FEW_TEXTS: u64 = 8;
 
 /// A list of so many links, or fewer, has room for just these.
 const FEW_LINKS: usize = 1_024;
@@ -111,7 +111,8 @@ pub fn find_links<'a>(
     let mut rest = behind;
     while let Some((text, more)) = next_link(rest) {
         rest = more;
-        match link_on(alloc, folder, known, text)? {
+        let before = skipped.saturating_add(links.len() as u64);
+        match link_on(alloc, folder, known, text, before)? {
             Some(link) => links.push(link)?,
             None => skipped += 1,
         }
@@ -131,13 +132,14 @@ fn take_links(alloc: Global, buffer: &mut Vec<CanonUrl>) -> Result<Vec<CanonUrl>
     Ok(links)
 }
 
-/// Where a link with this text leads: what is of the folder is known to it from now on, but for the first of its first page, and
-/// what is not to this page.
+/// Where a link with this text leads, before which the page has so many: what is of the folder is known to it from now on, and what
+/// is not to this page. The first of a folder's first page are not.
 fn link_on<'a>(
     alloc: Global,
     folder: &mut Folder<'a>,
     known: &mut KnownLinks<'a>,
     text: &'a str,
+    before: u64,
 ) -> Result<Option<CanonUrl>, FetchError>
     requires { AreLinks folder.old known.old }
     ensures link { IfOk result (λ link. link ≡ link_url folder.old text.now) }
@@ -145,14 +147,16 @@ fn link_on<'a>(
     ensures known { AreLinks folder.new known.new }
     ensures refused { IfErr result (λ e. e ≡ FetchError.NoMemory) }
 {
+    if before < FEW_TEXTS && !folder.comes_again() {
+        return link_of(alloc, folder.page(), text);
+    }
     // Most texts are known as they stand, so nothing is searched for in them.
     let whole = LinkText::new(text);
     if let Some(link) = folder.find(&whole) {
         return Ok(copy_of(link)?);
     }
     let front = whole.before_fragment();
-    let many = folder.comes_again() || known.len() >= FEW_TEXTS;
-    if many && is_of_folder(front.as_str()) {
+    if is_of_folder(front.as_str()) {
         folder.link(alloc, &front)
     } else {
         known.link(alloc, folder.page(), &front)
