@@ -12,12 +12,14 @@ use Rattle.mercator_site.specs.Asks.{Asks}
 use Rattle.mercator_site.specs.External.{AreExternal, Row, row_of}
 use Rattle.mercator_site.specs.declared.asked.CheckForm.{CheckForm}
 use Rattle.mercator_site.specs.declared.asked.CheckForm.TheVariants as form
+use Rattle.saved_site.specs.Below.{IsTop, IsWebBelow}
 use Rattle.saved_site.specs.Meaning.{IsSiteWeb}
 use Rattle.site_check.specs.Broken.{broken_of, redirects_of}
 use Rattle.saved_site.specs.declared.files.SiteFiles.{SiteFiles}
 use Rattle.site_check.specs.Ignored.{AreUnused, parts_in}
 use Rattle.site_check.specs.Names.{AreNamed}
 use Rattle.site_check.specs.Told.{rows_in, way_of}
+use Rattle.site_check.specs.Totals.{totals_of}
 use Rattle.site_check.specs.declared.check.Checked.{Checked}
 
 -- the findings in a form, and what is told beside them
@@ -61,6 +63,7 @@ other_rows told = option_map (λ urls. map row_of urls.now) told.external
 pub record IsReport (checked : Checked) (others : Option (List Row)) (name : List ℕ) (asks : Asks) (broken : Bool) (text : List ℕ) : Type 0 where
   pub found : Findings
   pub base : found.base.now ≡ name
+  pub totals : found.totals ≡ checked.totals
   pub rows : found.broken.now ≡ checked.broken.items
   pub ways : found.redirects.now ≡ checked.redirects.items
   pub unused : found.unused_ignores.now ≡ checked.unused_ignores.items
@@ -71,13 +74,14 @@ pub record IsReport (checked : Checked) (others : Option (List Row)) (name : Lis
   pub written : text ≡ printed_check asks.form asks.all told found
 
 -- the text tells the missing and the moved pages of such a crawl, each with how many pages link to it, and the entries that stand
--- for nothing; it tells that something is broken where there is such a row
+-- for nothing; its totals count the pages, their links and the rows; it tells that something is broken where there is such a row
 pub record IsCheck (top web : List ℕ) (asks : Asks) (broken : Bool) (text : List ℕ) : Type 0 where
   pub pages : List PageResult
   pub crawled : IsTopCrawl top web asks.seeds pages
   pub found : Findings
   pub rows : rows_in found.broken.now ≡ broken_of asks.front asks.entries pages
   pub ways : map way_of found.redirects.now ≡ redirects_of asks.front pages
+  pub totals : found.totals ≡ totals_of pages found.broken.now found.redirects.now
   -- the names that stand beside them are those of pages of a site with this top
   pub site : SiteFiles
   pub site_top : string_bytes site.site.top ≡ top
@@ -105,3 +109,9 @@ pub record IsSiteCheck (asks : Asks) (broken : Bool) (text : List ℕ) : Type 0 
 pub record IsNamedSiteCheck (name : List ℕ) (asks : Asks) (broken : Bool) (text : List ℕ) : Type 0 where
   pub site : IsSiteCheck asks broken text
   pub base : site.checked.found.base.now ≡ name
+
+-- a check of a site whose pages lie below the top that BASE has
+pub record IsSiteCheckAt (base : List ℕ) (asks : Asks) (broken : Bool) (text : List ℕ) : Type 0 where
+  pub site : IsSiteCheck asks broken text
+  pub is_top : IsTop base site.top
+  pub below : IsWebBelow site.top site.web

@@ -3,7 +3,7 @@ ghost use Rattle.std.specs.Prelude.{◌≡◌, ◌∷◌, [], IfErr, IfOk, map, 
 ghost use Rattle.std.specs.Option.{option_map};
 ghost use Rattle.crawl_keys.specs.CanonicalText.{canonical};
 ghost use Rattle.mercator_site.specs.Asks.{asks_in};
-ghost use Rattle.mercator_site.specs.Checks.{AreOthersAsked, IsCheck, IsNamedCheck, IsNamedSiteCheck, IsReport, IsSiteCheck, IsTopCrawl};
+ghost use Rattle.mercator_site.specs.Checks.{AreOthersAsked, IsCheck, IsNamedCheck, IsNamedSiteCheck, IsReport, IsSiteCheck, IsSiteCheckAt, IsTopCrawl};
 ghost use Rattle.mercator_site.specs.External.{row_of};
 ghost use Rattle.mercator_site.specs.Faults.{IsTopIncomplete, status_of};
 
@@ -69,6 +69,7 @@ pub fn report_of_files<R: Threads + Wait + Sync>(
 ) -> Result<CheckReport, SiteFault>
     ensures done { IfOk result (λ report. IsSiteCheck (asks_in settings.entry) report.is_broken report.text.items) }
     ensures named { IfOk result (λ report. IsNamedSiteCheck settings.entry.name.now (asks_in settings.entry) report.is_broken report.text.items) }
+    ensures below { IfOk result (λ report. IsSiteCheckAt base.now (asks_in settings.entry) report.is_broken report.text.items) }
 {
     let input = SiteNames {
         names: files.names,

@@ -4,6 +4,7 @@ ghost use Rattle.mercator_site.specs.Asks.{asks_in, asks_of};
 ghost use Rattle.mercator_site.specs.Checks.{IsSiteCheck};
 ghost use Rattle.mercator_site.specs.Ends.{IsFolderCheck};
 ghost use Rattle.mercator_site.specs.Faults.{IsSiteIncomplete, status_of};
+ghost use Rattle.saved_site.specs.Below.{IsWebAt};
 ghost use Rattle.saved_site.specs.Meaning.{IsSiteWeb};
 
 use crate::asked::{CheckAsked, SiteAsked};
@@ -53,6 +54,7 @@ pub fn web_of_folder<R: Files<File: Send, Dir: Send> + Threads + Sync, E: Write>
     err: &mut E,
 ) -> Result<Vec<u8>, SiteFault>
     ensures web { IfOk result (λ text. IsSiteWeb text.items) }
+    ensures below { IfOk result (λ text. IsWebAt (string_bytes asked.now.base) text.items) }
     ensures plain { IfErr result (λ fault. status_of fault ≡ 1) }
 {
     let rules = rules_of(alloc, asked)?;
@@ -104,7 +106,7 @@ fn report_of_names<R: Files<File: Send, Dir: Send> + Threads + Wait + Sync, E: W
     err: &mut E,
 ) -> Result<CheckReport, SiteFault>
     ensures done { IfOk result (λ report. (front : List ℕ) × (entries : List (List ℕ)) × IsSiteCheck (asks_of asked.now front entries) report.is_broken report.text.items) }
-    ensures folder { (asked.now.known ≡ None → known.now ≡ []) → IfOk result (λ report. IsFolderCheck asked.now report.is_broken report.text.items) }
+    ensures folder { (asked.now.known ≡ None → known.now ≡ []) → input.entry.base.now ≡ string_bytes asked.now.site.base → IfOk result (λ report. IsFolderCheck asked.now report.is_broken report.text.items) }
     ensures incomplete { IfErr result (λ fault. status_of fault ≡ 2 → IsSiteIncomplete asked.now) }
 {
     let folder = asked.site.folder.as_str();

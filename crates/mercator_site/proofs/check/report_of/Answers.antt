@@ -5,6 +5,7 @@ pub returns : goal.returns
 returns c = record {
   found = c.findings-findings.result;
   base = c.findings-findings.ensures.base;
+  totals = c.findings-findings.ensures.totals;
   rows = c.findings-findings.ensures.broken;
   ways = c.findings-findings.ensures.redirects;
   unused = c.findings-findings.ensures.unused_ignores;

@@ -7,6 +7,7 @@ use Rattle.site_check.specs.Broken.{broken_of, redirects_of}
 use Rattle.site_check.specs.Ignored.{AreUnused, parts_in}
 use Rattle.site_check.specs.Names.{AreNamed}
 use Rattle.site_check.specs.Told.{rows_in, way_of}
+use Rattle.site_check.specs.Totals.{totals_of}
 use Rattle.mercator_site.specs.Checks.{AreOthersAsked, IsTopCrawl}
 use Rattle.mercator_site.specs.External.{row_of}
 use Rattle.mercator_site.specs.Faults.{IsTopIncomplete}
@@ -42,6 +43,9 @@ returns-clause-done g c =
           ap rows_in told.rows ∙ c.in_ok-checked.ensures.broken ∙ ap (λ f. broken_of f (map string_bytes asked.ignores.now) pages) same_front
           ∙ ap (λ es. broken_of front es pages) same_entries;
       ways = ap (map way_of) told.ways ∙ c.in_ok-checked.ensures.redirects ∙ ap (λ f. redirects_of f pages) same_front;
+      totals =
+          told.totals ∙ c.in_ok-checked.ensures.totals ∙ ap (λ bs. totals_of pages bs checked.redirects.items) (sym told.rows)
+          ∙ ap (λ ws. totals_of pages told.found.broken.now ws) (sym told.ways);
       site = c.args.files.now;
       site_top = refl;
       names = subst (λ bs. AreNamed front c.args.files.now bs) (sym told.rows) (subst (λ f. AreNamed f c.args.files.now checked.broken.items) same_front c.in_ok-checked.ensures.names);

@@ -4,6 +4,7 @@ use Rattle.std.proofs.lemmas.Result.{err_from_is_err_and}
 use Rattle.mercator_site.specs.Asks.{Asks}
 use Rattle.mercator_site.specs.Checks.{IsNamedCheck}
 use Rattle.mercator_site.specs.Faults.{IsTopIncomplete}
+use Rattle.saved_site.specs.Below.{IsTop}
 use Rattle.mercator_site.proofs.folder.report_of_names.Goals as goal
 
 pub returns-in_err-report-clause-incomplete : goal.returns-in_err-report-clause-incomplete
@@ -23,7 +24,7 @@ returns-in_err-report-clause-incomplete g c =
     })
 
 pub returns-clause-folder : goal.returns-clause-folder
-returns-clause-folder g c = λ none_known.
+returns-clause-folder g c = λ none_known based.
     let top = string_bytes c.in_ok-files.files.site.top in
     let web = c.in_ok-web.web.bytes.items in
     let report = c.in_ok-report.report in
@@ -43,4 +44,6 @@ returns-clause-folder g c = λ none_known.
       fronted = c.settings_of-settings.ensures.front ∙ ap (λ (t : List ℕ). if paths then t else []) c.top.ensures;
       base = named.base ∙ c.settings_of-settings.ensures.name ∙ ap (λ (t : List ℕ). if paths then folder else t) c.top.ensures;
       known = λ none. ap (map string_bytes) (none_known none);
+      is_top = subst (λ b. IsTop b top) based c.in_ok-files.ensures.top;
+      below = c.in_ok-web.ensures.below;
     }
