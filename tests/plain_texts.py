@@ -33,17 +33,21 @@ PAGES = [
     "http://u:p@a.test./d//e?",
 ]
 
-HOSTS = ["a.test", "www.b-1.test", "a_b.c.test", "x.y9", "localhost"]
-SCHEMES = ["http:", "https:"]
+HOSTS = ["a.test", "www.b-1.test", "a_b.c.test", "x.y9", "localhost", "A.Test", "B-1.C_D.TEST"]
+SCHEMES = ["http:", "https:", "HTTP:", "Https:"]
 OTHER_SCHEMES = ["mailto", "javascript", "tel", "data", "a", "ftp", "ws", "wss", "file", "http", "https", "httpx", "x-y"]
 PORTS = ["", "", "", ":8080", ":80", ":443", ":1", ":65535"]
 SEGMENTS = ["a", "page-1.html", "~user", "x..", "a.b", "a%20b", "-", "with:colon", "1"]
 QUERIES = ["", "", "?", "?q", "?a=b&c=d/../e", "?x?y", "?q=http://b.test//x/.y?z"]
+DOTS = [".", "..", "a/..", "./.."]
 FRAGMENTS = ["", "", "", "#", "#top", "#a?b/../c"]
 
 
 def path(draw: random.Random) -> str:
-    return "/".join(draw.choice(SEGMENTS) for _ in range(draw.randint(1, 3))) + draw.choice(["", "/"])
+    parts = [draw.choice(SEGMENTS) for _ in range(draw.randint(1, 3))]
+    if not draw.randrange(4):
+        parts.insert(draw.randint(0, len(parts)), draw.choice(DOTS))
+    return "/".join(parts) + draw.choice(["", "/"])
 
 
 def tail(draw: random.Random) -> str:
@@ -51,7 +55,8 @@ def tail(draw: random.Random) -> str:
 
 
 def by_host(draw: random.Random) -> str:
-    return "//" + draw.choice(HOSTS) + draw.choice(PORTS) + "/" + draw.choice(["", path(draw)]) + tail(draw)
+    rest = draw.choice(["", "/", "/" + path(draw), "/" + path(draw)])
+    return "//" + draw.choice(HOSTS) + draw.choice(PORTS) + rest + tail(draw)
 
 
 def absolute(draw: random.Random) -> str:

@@ -14,3 +14,4 @@ pub mod BaseLemmas
 pub mod LaneLemmas
 pub mod OpaqueLinks
 pub mod DotLinks
+pub mod CasedLinks

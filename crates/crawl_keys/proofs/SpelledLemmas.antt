@@ -179,7 +179,7 @@ pub named : (host : List ℕ) → is_named host ≡ true → ends_in_a_number ho
 unfolding ends_in_a_number
 named host letter = named_last (rsplit_once 46 host).0 (rsplit_once 46 host).1 letter
 
-named_some : (host : List ℕ) → is_named host ≡ true → 0 < length host
+pub named_some : (host : List ℕ) → is_named host ≡ true → 0 < length host
 unfolding rsplit_once
 named_some [] letter = absurd (true≢false (sym letter))
 named_some (b ∷ host) letter = omega arith

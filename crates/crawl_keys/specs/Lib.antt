@@ -15,3 +15,4 @@ pub mod Bases
 pub mod Spelled
 pub mod Lanes
 pub mod Opaque
+pub mod Cased

@@ -9,6 +9,7 @@ ghost use Rattle.crawl_keys.specs.Outcome.{Gives};
 ghost use Rattle.crawl_keys.specs.Spelled.{IsSpelled};
 ghost use Rattle.url.specs.Parser.{parse_url};
 
+use crate::cased::respelled;
 use crate::dots::behind_dots;
 use crate::folder::{folder_above, folder_len, has_no_scheme};
 use crate::opaque::is_opaque;
@@ -236,7 +237,11 @@ impl Base {
         if is_opaque(text) {
             return Err(KeyError::NotHttp);
         }
-        self.parsed(alloc, text)
+        let known = respelled(alloc, text)?;
+        match known {
+            Some(url) => Ok(url),
+            None => self.parsed(alloc, text),
+        }
     }
 
     /// The canonical URL of a link that has to be parsed.

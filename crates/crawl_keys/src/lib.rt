@@ -4,6 +4,7 @@
 mod assignment;
 mod base;
 mod canon_url;
+mod cased;
 mod dots;
 mod error;
 mod filter;

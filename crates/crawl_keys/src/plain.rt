@@ -96,7 +96,7 @@ pub fn host_place(text: &str) -> Option<HostPlace>
 }
 
 /// How long the host is at the front of what stands behind a scheme and its slashes, where all of that is plain.
-fn plain_host_len(rest: &[u8]) -> Option<usize>
+pub fn plain_host_len(rest: &[u8]) -> Option<usize>
     ensures plain { IfSome result (λ len. spec.is_plain_host rest.now ≡ true) }
     ensures len { IfSome result (λ len. len ≡ spec.host_len rest.now) }
     ensures within { IfSome result (λ len. len ≤ length rest.now) }

@@ -3,6 +3,7 @@ ghost use Rattle.std.specs.Prelude.{◌≡◌, true, Ok};
 ghost use Rattle.crawl_keys.specs.CanonicalText as spec;
 ghost use Rattle.crawl_keys.specs.Outcome.{Gives};
 
+use crate::cased::respelled;
 use crate::plain::host_place;
 use crate::{CanonUrl, KeyError, before_fragment};
 use std::alloc::Global;
@@ -37,11 +38,22 @@ fn without_fragment(alloc: Global, text: &str) -> Result<CanonUrl, KeyError>
 {
     let front = before_fragment(text);
     if front.len() == text.len() {
-        return parsed(alloc, text);
+        return not_plain(alloc, text);
     }
     match host_place(front) {
         Some(host) => CanonUrl::join(alloc, front, "", host),
-        None => parsed(alloc, front),
+        None => not_plain(alloc, front),
+    }
+}
+
+/// The canonical URL of a text that is none as it is, and has no fragment to be cut.
+fn not_plain(alloc: Global, text: &str) -> Result<CanonUrl, KeyError>
+    ensures { Gives KeyError.NoMemory (λ url. url) result (spec.canonical text.now) }
+{
+    let known = respelled(alloc, text)?;
+    match known {
+        Some(url) => Ok(url),
+        None => parsed(alloc, text),
     }
 }
 

@@ -12,6 +12,8 @@ const HOSTS: &[Host] = &[
     ("http://a.test?q#f", "http://a.test/?q", "a.test"),
     ("http://u:p@a.test./", "http://u:p@a.test./", "a.test."),
     ("http://[::1]:80/", "http://[::1]/", "[::1]"),
+    ("HTTPS://A.Test:443", "https://a.test/", "a.test"),
+    ("http://A.test:443/", "http://a.test:443/", "a.test"),
     (
         "http://a.test/12345678901234567890123456789012345678901234567890",
         "http://a.test/12345678901234567890123456789012345678901234567890",
@@ -96,7 +98,19 @@ const LINKS: &[Row] = &[
     ("//b.test", "http://b.test/"),
     ("#x", "http://a.test/d/e?q"),
     ("", "http://a.test/d/e?q"),
+    ("HTTP://B.Test:80/X?Y", "http://b.test/X?Y"),
+    ("hTTps://b.test:443/x#Y", "https://b.test/x"),
+    ("https://B.test:80/", "https://b.test:80/"),
+    ("https://b.test", "https://b.test/"),
+    ("/x/./f", "http://a.test/x/f"),
+    ("/x/../../f", "http://a.test/f"),
+    ("x/y/../f?./z", "http://a.test/d/x/f?./z"),
+    ("x/y/../../../f", "http://a.test/f"),
+    ("x/..", "http://a.test/d/"),
+    ("/x?/../f", "http://a.test/x?/../f"),
     ("mailto:x", "not http or https"),
+    ("Tel:1", "not http or https"),
+    ("FTP://b.test/", "not http or https"),
     ("http://[", "not a URL"),
 ];
 

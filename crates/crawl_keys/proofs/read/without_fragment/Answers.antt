@@ -16,4 +16,4 @@ returns-in-Some c =
 pub returns-in-None : goal.returns-in-None
 returns-in-None c =
     let same = ap canonical c.before_fragment-front.ensures.value ∙ canonical-before_fragment c.args.text.now in
-    subst (Gives NoMemory (λ url. url) c.parsed-in-None.result) same c.parsed-in-None.ensures
+    subst (Gives NoMemory (λ url. url) c.not_plain-in-None.result) same c.not_plain-in-None.ensures

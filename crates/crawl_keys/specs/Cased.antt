@@ -1,0 +1,43 @@
+-- URLs of the web that the parser spells in another way: in any case of letters, with the port that is the scheme's own, or
+-- with no path.
+use Rattle.std.specs.Prelude.{◌≡◌, ◌⊎◌, ◌++◌, ℕ, true, List, [], ◌∷◌, length, codes, Option, None, Ok}
+use Rattle.std.specs.Char.{is_ascii_digit}
+use Rattle.std.specs.List.{list_all}
+use Rattle.url.specs.Ascii.{colon, slash}
+use Rattle.url.specs.Input.{lowercase}
+use Rattle.url.specs.Parser.{parse_port, parse_url}
+use Rattle.url.specs.Parts.{Parts}
+use Rattle.crawl_keys.specs.CanonicalText.{text_of_parse}
+use Rattle.crawl_keys.specs.Plain.{host_len, is_plain_host}
+
+-- on whatever page the text stands, or on none, it leads there
+abbrev pub LeadsAnywhere : List ℕ → List ℕ → Type 0
+LeadsAnywhere text url = (base : Option Parts) → text_of_parse (parse_url base text) ≡ Ok url
+
+-- a scheme of the web in lower case, and its slashes
+abbrev pub IsFront : List ℕ → Type 0
+IsFront front = (front ≡ codes "http://") ⊎ (front ≡ codes "https://")
+
+-- the front is the scheme in lower case with its slashes, and the port a colon and the digits of the scheme's own port, which the
+-- parser leaves out
+pub record IsFrontOf (scheme front port : List ℕ) : Type 0 where
+  pub digits : List ℕ
+  pub web : (lowercase scheme ≡ codes "http") ⊎ (lowercase scheme ≡ codes "https")
+  pub is : front ≡ lowercase scheme ++ codes "://"
+  pub is_port : port ≡ colon ∷ digits
+  pub whole : list_all is_ascii_digit digits ≡ true
+  pub own : parse_port (lowercase scheme) digits ≡ Ok None
+
+-- the text is this front, a slash and what is behind it; or the front alone, and nothing is behind it
+abbrev pub IsCut : List ℕ → List ℕ → List ℕ → Type 0
+IsCut text front back = (text ≡ front ++ slash ∷ back) ⊎ ((text ≡ front) × (back ≡ []))
+
+-- the text is this host and the port, or the host alone
+abbrev pub IsWithPort : List ℕ → List ℕ → List ℕ → Type 0
+IsWithPort text host port = (text ≡ host ++ port) ⊎ (text ≡ host)
+
+-- the URL is the front, the host in lower case, a slash and the path, and all behind the front is plain
+pub record IsLowered (front host path url : List ℕ) : Type 0 where
+  pub is : url ≡ front ++ (lowercase host ++ slash ∷ path)
+  pub plain : is_plain_host (lowercase host ++ slash ∷ path) ≡ true
+  pub len : host_len (lowercase host ++ slash ∷ path) ≡ length host
