@@ -51,17 +51,17 @@ page_of text k = record {
   parses = ap (parse_url None) k.spelled ∙ k.parses;
 }
 
-own_start : (text : List ℕ) (start end : ℕ) (k : IsCanonical text) (s : IsSpelled text start end) → start ≡ offset k.url BeforeHost
+pub own_start : (text : List ℕ) (start end : ℕ) (k : IsCanonical text) (s : IsSpelled text start end) → start ≡ offset k.url BeforeHost
 own_start text start end k s =
     sym s.start ∙ ap (λ u. offset u BeforeHost) (one_url text s.url k.url (parse_spelled text start end None s) k.parses)
 
-own_end : (text : List ℕ) (start end : ℕ) (k : IsCanonical text) (s : IsSpelled text start end) → end ≡ offset k.url AfterHost
+pub own_end : (text : List ℕ) (start end : ℕ) (k : IsCanonical text) (s : IsSpelled text start end) → end ≡ offset k.url AfterHost
 own_end text start end k s =
     sym s.end ∙ ap (λ u. offset u AfterHost) (one_url text s.url k.url (parse_spelled text start end None s) k.parses)
 
 -- ---- where the root ends
 
-page_text : (url : Parts) → has_authority url ≡ true → url.fragment ≡ None → serialize url ≡ root_text url ++ (url.path ++ query_text url.query)
+pub page_text : (url : Parts) → has_authority url ≡ true → url.fragment ≡ None → serialize url ≡ root_text url ++ (url.path ++ query_text url.query)
 page_text url authority bare = rw (authority, bare) (simp (append_assoc, append-nil))
 
 -- the colon and the port, if there is one

@@ -1,8 +1,8 @@
 -- What the parser makes of dot segments that a text begins with, and of segments that they take back.
-use Rattle.std.proofs.Common.{◌≡◌, ℕ, zero, suc, ◌+◌, ◌<◌, ◌==◌, true, false, List, [], ◌∷◌, ◌++◌, length, refl, ap, sym, subst, ◌∙◌, All, arith, append-nil, take_all}
+use Rattle.std.proofs.Common.{◌≡◌, ℕ, zero, suc, ◌+◌, ◌-◌, ◌<◌, ◌==◌, true, false, List, [], ◌∷◌, ◌++◌, length, take, refl, ap, sym, subst, ◌∙◌, All, arith, append_assoc, append-nil, length-append, take_all, take_at}
 use Rattle.std.specs.Prelude.{Option, unwrap_or}
 use Rattle.std.specs.List.{before_first, list_all, position_or_len, prefix_len}
-use Rattle.std.proofs.lemmas.Bool.{and_from, eq-eqb, true≢false}
+use Rattle.std.proofs.lemmas.Bool.{and_from, and_parts, eq-eqb, true≢false}
 use Rattle.std.proofs.lemmas.Bool.Decides.{nat_tests}
 use Rattle.std.proofs.lemmas.List.Elements.{All-nil, All-cons, All-weaker}
 use Rattle.std.proofs.lemmas.List.Folds.{list_all-append}
@@ -14,7 +14,7 @@ use Rattle.url.specs.Input.{split_once}
 use Rattle.url.specs.Path.{IsSegment, dot_count, parse_path, push_segment, without_last_segment}
 use Rattle.url.proofs.InputLemmas.{All-take-prefix_len, All-take_from_reads, IsNot, Passes, list_all_from_All, rsplit_once_at}
 use Rattle.url.proofs.PathLemmas.{IsNoSlash, parse_path_more}
-use Rattle.crawl_keys.specs.Links.{IsBehind, IsInFolder, above, behind_ups, has_no_scheme}
+use Rattle.crawl_keys.specs.Links.{IsAhead, IsBehind, IsInFolder, IsWithin, above, behind_ups, has_no_scheme}
 use Rattle.crawl_keys.specs.Plain.{first_is_slash, is_kept, is_other, is_plain}
 use Rattle.crawl_keys.proofs.HostLinks.{split_behind}
 use Rattle.crawl_keys.proofs.PlainLemmas.{all_kept, plain_segment}
@@ -140,3 +140,64 @@ pub no_query_in : (segment : List ℕ) → prefix_len (is_other 63) segment ≡ 
 no_query_in segment len =
     let all = subst (All (Passes (is_other 63))) (take_all (prefix_len (is_other 63) segment) segment (omega (arith, len))) (All-take-prefix_len (is_other 63) segment) in
     All-weaker (Passes (is_other 63)) (IsNot 63) other_byte segment all
+
+-- ---- dot segments behind segments
+
+pub ahead_none : (text : List ℕ) → IsAhead text text
+ahead_none text = record { front = []; is = refl; lifts = λ more behind. behind }
+
+pub ahead_then : (text mid rest : List ℕ) → IsAhead text mid → IsAhead mid rest → IsAhead text rest
+ahead_then text mid rest one other = record {
+  front = one.front ++ other.front;
+  is = one.is ∙ ap (λ t. one.front ++ t) other.is ∙ sym (append_assoc one.front other.front rest);
+  lifts = λ more behind. subst (IsBehind text 0) (sym (append_assoc one.front other.front more)) (one.lifts (other.front ++ more) (other.lifts more behind));
+}
+
+same_first : (segment rest more : List ℕ) → first_is_slash (segment ++ 47 ∷ rest) ≡ first_is_slash (segment ++ 47 ∷ more)
+same_first [] rest more = refl
+same_first (b ∷ segment) rest more = refl
+
+behind_segment : (segment rest more : List ℕ) → All (IsNot 63) segment → All (IsNoSlash SpecialNotFile) segment → IsBehind rest 0 more → IsBehind (segment ++ 47 ∷ rest) 0 (segment ++ 47 ∷ more)
+unfolding split_once
+behind_segment segment rest more no_query whole behind =
+    let one = split_behind segment (47 ∷ rest) no_query in
+    let other = split_behind segment (47 ∷ more) no_query in
+    record {
+      reads = record {
+        path = λ front.
+            ap (λ (r : Split). parse_path SpecialNotFile front r.0) one
+            ∙ parse_path_more SpecialNotFile front segment 47 (split_once 63 rest).0 whole refl
+            ∙ behind.reads.path (push_segment SpecialNotFile front segment false)
+            ∙ sym (parse_path_more SpecialNotFile front segment 47 (split_once 63 more).0 whole refl)
+            ∙ sym (ap (λ (r : Split). parse_path SpecialNotFile front r.0) other);
+        query = ap (λ (r : Split). r.1) one ∙ behind.reads.query ∙ sym (ap (λ (r : Split). r.1) other);
+      };
+      kept = λ kept.
+          let parts = and_parts _ _ (sym (list_all-append is_kept segment (47 ∷ more)) ∙ kept) in
+          list_all-append is_kept segment (47 ∷ rest) ∙ and_from _ _ parts.0 (behind.kept parts.1);
+      rootless = λ rootless. same_first segment rest more ∙ rootless;
+    }
+
+pub segment_ahead : (segment rest : List ℕ) → is_plain 47 segment ≡ true → All (IsNot 63) segment → All (IsNot 47) segment → IsAhead (segment ++ 47 ∷ rest) rest
+segment_ahead segment rest plain no_query no_slash = record {
+  front = segment ++ 47 ∷ [];
+  is = sym (append_assoc segment (47 ∷ []) rest);
+  lifts = λ more behind.
+      subst (IsBehind (segment ++ 47 ∷ rest) 0) (sym (append_assoc segment (47 ∷ []) more))
+      (behind_segment segment rest more no_query (plain_segment segment plain no_query no_slash).whole behind);
+}
+
+pub within_from : (text rest behind : List ℕ) (ups : ℕ) → IsAhead text rest → IsBehind rest ups behind → ups ≡ 0 → IsWithin text rest behind
+within_from text rest behind ups ahead dots none =
+    let len : length text ≡ length ahead.front + length rest = ap length ahead.is ∙ length-append ahead.front rest in
+    let size : length ahead.front ≡ length text - length rest = omega (arith, len) in
+    let front : take (length text - length rest) text ≡ ahead.front = ap (take (length text - length rest)) ahead.is ∙ take_at ahead.front rest _ size in
+    record {
+      within = omega (arith, len);
+      reads = subst (λ f. IsBehind text 0 (f ++ behind)) (sym front) (ahead.lifts behind (subst (λ n. IsBehind rest n behind) none dots));
+    }
+
+pub behind_both : (text rest path : List ℕ) (ups : ℕ) → IsBehind text ups rest → IsBehind rest 0 path → IsBehind text ups path
+behind_both text rest path ups one other =
+    let same : ups + 0 ≡ ups = omega arith in
+    subst (λ n. IsBehind text n path) same (behind_then text rest path ups 0 one other)

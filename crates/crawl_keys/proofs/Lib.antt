@@ -15,3 +15,4 @@ pub mod LaneLemmas
 pub mod OpaqueLinks
 pub mod DotLinks
 pub mod CasedLinks
+pub mod RootLinks

@@ -87,7 +87,7 @@ tail_of base path query kind kept =
     ∙ (λ i. with_rest base path (same i))
 
 -- a kept text leads to the page's URL with this path, where the relative state gives that
-parse_url-path : (base : Parts) (text body path : List ℕ) (query : Option (List ℕ)) → IsWeb base → All (Passes is_kept) text → split_once 63 text ≡ (body, query) → split_scheme body ≡ None
+pub parse_url-path : (base : Parts) (text body path : List ℕ) (query : Option (List ℕ)) → IsWeb base → All (Passes is_kept) text → split_once 63 text ≡ (body, query) → split_scheme body ≡ None
     → 0 < length body → IfSome query (All (IsKept SPECIAL_QUERY)) → parse_relative base body ≡ Ok (with_path (head_only base) path)
     → parse_url (Some base) text ≡ Ok (with_rest base path query)
 parse_url-path base text body path query web kept split none some own relative =
@@ -103,7 +103,7 @@ pub rooted_scheme : (more : List ℕ) → split_scheme (47 ∷ more) ≡ None
 rooted_scheme more =
     no_scheme 47 (47 ∷ more) (record { rest = more; is = refl; all = λ n d inside. inl refl })
 
-one_slash : (kind : SchemeType) (rest : List ℕ) → StopsAt (is_slash kind) rest → leading_slashes kind (47 ∷ rest) ≡ 1
+pub one_slash : (kind : SchemeType) (rest : List ℕ) → StopsAt (is_slash kind) rest → leading_slashes kind (47 ∷ rest) ≡ 1
 unfolding leading_slashes
 one_slash kind [] stops = refl
 one_slash kind (b ∷ rest) stops = rw stops refl
@@ -117,7 +117,7 @@ stops_plain (b ∷ text) plain = no_slash b (and_parts _ _ plain).0
     no_slash b test = grind (arith, nat_tests)
 
 -- the relative state, by the number of slashes in front
-abbrev relative_by : Parts → List ℕ → ℕ → Parsed Parts
+abbrev pub relative_by : Parts → List ℕ → ℕ → Parsed Parts
 relative_by base body slashes =
     let kind = kind_of base in
     let start = inherit base (slashes == 0) in
@@ -150,7 +150,7 @@ parse_url-rooted base (b ∷ more) web slash plain =
     (sym slash) (rooted_more base more web) plain
 
 -- where the page's URL with a rest leads
-resolve-rest : (base : Parts) (link text path : List ℕ) (query : Option (List ℕ)) → IsValid base → IsPage base → IsRest text path query
+pub resolve-rest : (base : Parts) (link text path : List ℕ) (query : Option (List ℕ)) → IsValid base → IsPage base → IsRest text path query
     → parse_url (Some base) link ≡ Ok (with_rest base path query) → resolve (serialize base) link ≡ Ok (root_text base ++ text)
 resolve-rest base link text path query valid page rest parses =
     let web = web_url base valid page.web in
@@ -203,7 +203,7 @@ parse_ups path (suc n) body =
 abbrev pub in_folder : Parts → ℕ → List ℕ → List ℕ
 in_folder base n body = above n (without_last_segment base.path) ++ 47 ∷ body
 
-parse_run : (path body : List ℕ) → is_plain 47 body ≡ true → All (IsNot 63) body → parse_path SpecialNotFile path body ≡ path ++ 47 ∷ body
+pub parse_run : (path body : List ℕ) → is_plain 47 body ≡ true → All (IsNot 63) body → parse_path SpecialNotFile path body ≡ path ++ 47 ∷ body
 parse_run path body plain none =
     let run = runs 47 body plain none in
     ap (parse_path SpecialNotFile path) run.is
@@ -284,7 +284,7 @@ path_of (b ∷ text) test =
 kept_slash : (b : ℕ) → Passes is_kept b → (b == 47) ≡ false → is_slash SpecialNotFile b ≡ false
 kept_slash b kept other = grind (arith, nat_tests)
 
-stops_kept : (text : List ℕ) → All (Passes is_kept) text → first_is_slash text ≡ false → StopsAt (is_slash SpecialNotFile) (split_once 63 text).0
+pub stops_kept : (text : List ℕ) → All (Passes is_kept) text → first_is_slash text ≡ false → StopsAt (is_slash SpecialNotFile) (split_once 63 text).0
 unfolding split_once
 stops_kept [] kept rootless = tt
 stops_kept (b ∷ text) kept rootless =

@@ -1,5 +1,5 @@
 -- Links that are resolved without a parse.
-use Rattle.std.specs.Prelude.{◌≡◌, ◌≤◌, ◌+◌, ◌-◌, ℕ, zero, suc, Bool, true, false, ◌&&◌, ◌||◌, ◌==◌, List, [], ◌∷◌, length, slice_index, slice_range, ⊤}
+use Rattle.std.specs.Prelude.{◌≡◌, ◌≤◌, ◌+◌, ◌-◌, ◌++◌, ℕ, zero, suc, Bool, true, false, ◌&&◌, ◌||◌, ◌==◌, List, [], ◌∷◌, length, take, slice_index, slice_range, ⊤}
 use Rattle.std.specs.List.{list_all}
 use Rattle.url.specs.declared.scheme.SchemeType.TheVariants.{SpecialNotFile}
 use Rattle.url.specs.Ascii.{dot, number_sign, question_mark, slash}
@@ -48,6 +48,25 @@ pub record IsBehind (text : List ℕ) (ups : ℕ) (rest : List ℕ) : Type 0 whe
   pub reads : ReadsAs text ups rest
   pub kept : list_all is_kept rest ≡ true → list_all is_kept text ≡ true
   pub rootless : first_is_slash rest ≡ false → first_is_slash text ≡ false
+
+-- the text is whole segments and the rest, and where the rest reads as more, it reads as these and more
+pub record IsAhead (text rest : List ℕ) : Type 0 where
+  pub front : List ℕ
+  pub is : text ≡ front ++ rest
+  pub lifts : (more : List ℕ) → IsBehind rest 0 more → IsBehind text 0 (front ++ more)
+
+-- the text ends with dot segments and more, and reads as what stands before them and what stands behind them
+pub record IsWithin (text dots behind : List ℕ) : Type 0 where
+  pub within : length dots ≤ length text
+  pub reads : IsBehind text 0 (take (length text - length dots) text ++ behind)
+
+-- a slash, and a path that reads as one of plain segments behind the root, above which there is no folder
+pub record IsAtRoot (text rest : List ℕ) : Type 0 where
+  pub path : List ℕ
+  pub ups : ℕ
+  pub is : text ≡ slash ∷ path
+  pub behind : IsBehind path ups rest
+  pub plain : is_plain slash rest ≡ true
 
 -- no scheme begins with a dot
 abbrev pub has_no_scheme : List ℕ → Bool

@@ -4,13 +4,13 @@ ghost use Rattle.crawl_keys.specs.Bases.{IsBase, IsFolderOf, IsSchemeOf};
 ghost use Rattle.crawl_keys.specs.CanonicalText.{IsCanonical};
 ghost use Rattle.crawl_keys.specs.CanonicalText as spec;
 ghost use Rattle.crawl_keys.specs.Folders.{is_of_folder};
-ghost use Rattle.crawl_keys.specs.Links.{IsByHost, IsInFolder, is_query, is_rooted, is_same};
+ghost use Rattle.crawl_keys.specs.Links.{IsAtRoot, IsByHost, IsInFolder, is_query, is_rooted, is_same};
 ghost use Rattle.crawl_keys.specs.Outcome.{Gives};
 ghost use Rattle.crawl_keys.specs.Spelled.{IsSpelled};
 ghost use Rattle.url.specs.Parser.{parse_url};
 
 use crate::cased::respelled;
-use crate::dots::behind_dots;
+use crate::dots::{behind_dots, without_dots};
 use crate::folder::{folder_above, folder_len, has_no_scheme};
 use crate::opaque::is_opaque;
 use crate::parsed::Parsed;
@@ -221,15 +221,70 @@ impl Base {
         None
     }
 
+    /// What a link leads to with dot segments behind a segment. `None` says nothing.
+    fn dotted_within(&self, alloc: Global, text: &str) -> Option<Result<CanonUrl, KeyError>>
+        ensures { IfSome result (λ answer. Gives KeyError.NoMemory (λ url. url) answer (spec.resolve self.now text.now)) }
+    {
+        if !has_no_scheme(text) {
+            return None;
+        }
+        let (ups, rest) = behind_dots(text);
+        let Ok(found) = without_dots(alloc, rest) else {
+            return Some(Err(KeyError::NoMemory));
+        };
+        let Some(without) = found else {
+            return None;
+        };
+        let path = without.as_str();
+        if is_plain(b'/', path.as_bytes()) {
+            return Some(self.in_folder(alloc, text, ups, path));
+        }
+        None
+    }
+
+    /// The canonical URL of a link that begins with a slash, is not plain and has no fragment to be cut.
+    fn from_root(&self, alloc: Global, text: &str) -> Result<CanonUrl, KeyError>
+        ensures { Gives KeyError.NoMemory (λ url. url) result (spec.resolve self.now text.now) }
+    {
+        let Some(path) = text.strip_prefix("/") else {
+            return self.parsed(alloc, text);
+        };
+        let (_, rest) = behind_dots(path);
+        if is_plain(b'/', rest.as_bytes()) {
+            return self.at_root(alloc, text, rest);
+        }
+        let found = without_dots(alloc, rest)?;
+        let Some(without) = found else {
+            return self.parsed(alloc, text);
+        };
+        let more = without.as_str();
+        if is_plain(b'/', more.as_bytes()) {
+            return self.at_root(alloc, text, more);
+        }
+        self.parsed(alloc, text)
+    }
+
+    /// The canonical URL of a link to this rest behind the page's root.
+    fn at_root(&self, alloc: Global, text: &str, rest: &str) -> Result<CanonUrl, KeyError>
+        requires { IsAtRoot text.now rest.now }
+        ensures { Gives KeyError.NoMemory (λ url. url) result (spec.resolve self.now text.now) }
+    {
+        let root = &self.url.ascii()[..self.root + 1];
+        CanonUrl::join(alloc, root, rest, self.url.host())
+    }
+
     /// The canonical URL of a link that is not plain and has no fragment to be cut.
     fn not_plain(&self, alloc: Global, text: &str) -> Result<CanonUrl, KeyError>
         ensures { Gives KeyError.NoMemory (λ url. url) result (spec.resolve self.now text.now) }
     {
         // Neither a dot segment nor a scheme begins so.
         if begins_path(text.as_bytes()) {
-            return self.parsed(alloc, text);
+            return self.from_root(alloc, text);
         }
         if let Some(answer) = self.dotted(alloc, text) {
+            return answer;
+        }
+        if let Some(answer) = self.dotted_within(alloc, text) {
             return answer;
         }
         // For the proof: the page's URL has a text that parses.

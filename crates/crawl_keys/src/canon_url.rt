@@ -24,6 +24,7 @@ mod text;
 
 pub(crate) use lay_out::is_web;
 use text::Text;
+pub(crate) use text::joined;
 
 /// The canonical text of an `http` or `https` URL.
 ///

@@ -1,12 +1,14 @@
-//! Dot segments that a link begins with.
-ghost use Rattle.std.specs.Prelude.{◌≡◌, ◌<◌, ◌≤◌, ◌+◌, length, true, IfSome};
+//! Dot segments of links.
+ghost use Rattle.std.specs.Prelude.{◌≡◌, ◌<◌, ◌≤◌, ◌+◌, length, true, IfOk, IfSome, string_bytes};
 ghost use Rattle.std.specs.List.{prefix_len};
 ghost use Rattle.url.specs.Ascii.{question_mark, slash};
-ghost use Rattle.crawl_keys.specs.Links.{IsBehind};
+ghost use Rattle.crawl_keys.specs.Links.{IsAhead, IsBehind, IsWithin};
 ghost use Rattle.crawl_keys.specs.Plain.{is_other};
 ghost use Rattle.crawl_keys.specs.Plain as plain;
 
+use crate::canon_url::joined;
 use crate::plain::{is_plain, len_before};
+use std::alloc::{AllocError, Global};
 
 /// How many folders a text climbs by the dot segments that it begins with, and what stands behind them and the segments that
 /// they take back: `b` and 1 for `../a/.././b`.
@@ -48,6 +50,54 @@ fn behind_pair(text: &str) -> Option<&str>
         return None;
     };
     let Some(rest) = more.strip_prefix("../") else {
+        return None;
+    };
+    if is_segment(segment.as_bytes()) {
+        Some(rest)
+    } else {
+        None
+    }
+}
+
+/// The text without the first dot segments that stand behind a segment in it, and without the segments that they take back.
+/// `None` says nothing.
+pub fn without_dots(alloc: Global, text: &str) -> Result<Option<String>, AllocError>
+    ensures { IfOk result (λ found. IfSome found (λ path. IsBehind text.now 0 (string_bytes path))) }
+{
+    let Some((dots, behind)) = dots_within(text) else {
+        return Ok(None);
+    };
+    let Some(front) = text.strip_suffix(dots) else {
+        return Ok(None);
+    };
+    let path = joined(alloc, front, behind)?;
+    Ok(Some(path))
+}
+
+/// What stands from such dot segments on, and behind them, where they take back no segment that stands before them.
+fn dots_within(text: &str) -> Option<(&str, &str)>
+    ensures { IfSome result (λ found. IsWithin text.now found.0.now found.1.now) }
+{
+    let mut rest = text;
+    while let Some(more) = behind_segment(rest) {
+        rest = more;
+        let (ups, behind) = behind_dots(rest);
+        if ups > 0 {
+            return None;
+        }
+        if behind.len() < rest.len() {
+            return Some((rest, behind));
+        }
+    }
+    None
+}
+
+/// What stands behind a segment and its slash.
+fn behind_segment(text: &str) -> Option<&str>
+    ensures ahead { IfSome result (λ rest. IsAhead text.now rest.now) }
+    ensures shorter { IfSome result (λ rest. length rest.now < length text.now) }
+{
+    let Some((segment, rest)) = text.split_once('/') else {
         return None;
     };
     if is_segment(segment.as_bytes()) {

@@ -72,8 +72,8 @@ impl Text {
     }
 }
 
-/// A long text that is made of these two, in memory that is asked for once.
-fn joined(alloc: Global, front: &str, back: &str) -> Result<String, AllocError>
+/// A text that is made of these two, in memory that is asked for once.
+pub(crate) fn joined(alloc: Global, front: &str, back: &str) -> Result<String, AllocError>
     ensures { IfOk result (λ text. string_bytes text ≡ front.now ++ back.now) }
 {
     let mut text = String::with_capacity(alloc, front.len() + back.len())?;
