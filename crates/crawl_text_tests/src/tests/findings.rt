@@ -1,7 +1,7 @@
 //! What is printed, in each form. The expected bytes are written by hand.
 use check_report::{
-    Broken, External, FileCount, Findings, Kind, Place, Redirect, Told, Totals, print_annotations,
-    print_json, print_page, print_text,
+    Broken, External, FileCount, Findings, Kind, NoMemory, Place, Redirect, Told, Totals,
+    print_annotations, print_json, print_page, print_text,
 };
 use std::alloc::Global;
 
@@ -225,32 +225,31 @@ fn count(alloc: Global, file: &str, links: u64) -> Option<FileCount> {
     Some(FileCount { file, links })
 }
 
-/// The number of the first form that is not printed as expected, or how many there are.
-fn forms(alloc: Global, findings: &Findings<'_>, told: Told<'_>) -> Option<usize> {
-    if print_text(alloc, findings, told, false, false)
-        .ok()?
-        .as_slice()
-        != TEXT.as_bytes()
-    {
-        return Some(0);
+fn is(form: Result<Vec<u8>, NoMemory>, expected: &str) -> bool {
+    match form {
+        Ok(form) => form.as_slice() == expected.as_bytes(),
+        Err(_) => false,
     }
-    if print_json(alloc, findings, told).ok()?.as_slice() != JSON.as_bytes() {
-        return Some(1);
-    }
-    if print_annotations(alloc, findings, told).ok()?.as_slice() != ANNOTATIONS.as_bytes() {
-        return Some(2);
-    }
-    if !print_page(alloc, findings, told)
-        .ok()?
-        .as_slice()
-        .ends_with(PAGE.as_bytes())
-    {
-        return Some(3);
-    }
-    Some(4)
 }
 
-fn printed(alloc: Global) -> Option<usize> {
+fn ends(form: Result<Vec<u8>, NoMemory>, expected: &str) -> bool {
+    match form {
+        Ok(form) => form.as_slice().ends_with(expected.as_bytes()),
+        Err(_) => false,
+    }
+}
+
+/// Which forms are printed as expected: the text, the JSON, the annotations, the end of the page.
+fn forms(alloc: Global, findings: &Findings<'_>, told: Told<'_>) -> [bool; 4] {
+    [
+        is(print_text(alloc, findings, told, false, false), TEXT),
+        is(print_json(alloc, findings, told), JSON),
+        is(print_annotations(alloc, findings, told), ANNOTATIONS),
+        ends(print_page(alloc, findings, told), PAGE),
+    ]
+}
+
+fn printed(alloc: Global) -> Option<[bool; 4]> {
     let broken = targets(alloc)?;
     let worst = [count(alloc, "b.html", 2)?];
     let redirects = [
@@ -263,22 +262,20 @@ fn printed(alloc: Global) -> Option<usize> {
         external(alloc, "http://o.test/?a&b", 3)?,
         external(alloc, "https://p.test/", 1)?,
     ];
-    forms(
-        alloc,
-        &Findings {
-            base: "http://s.test",
-            totals: TOTALS,
-            broken: broken.as_slice(),
-            worst: &worst,
-            redirects: &redirects,
-            unreached: &unreached,
-            unused_ignores: &unused,
-        },
-        Told {
-            unreached: true,
-            external: Some(&others),
-        },
-    )
+    let findings = Findings {
+        base: "http://s.test",
+        totals: TOTALS,
+        broken: broken.as_slice(),
+        worst: &worst,
+        redirects: &redirects,
+        unreached: &unreached,
+        unused_ignores: &unused,
+    };
+    let told = Told {
+        unreached: true,
+        external: Some(&others),
+    };
+    Some(forms(alloc, &findings, told))
 }
 
 /// What is not asked for is neither counted nor told.
@@ -304,7 +301,7 @@ fn nothing(alloc: Global) -> Option<bool> {
 #[test]
 fn prints_each_form(rt: HostRuntime) {
     let forms = printed(rt.alloc());
-    assert!(rt; forms == Some(4), "{forms:?}");
+    assert!(rt; forms == Some([true; 4]), "{forms:?}");
 }
 
 #[test]
