@@ -1,4 +1,4 @@
-//! The tests of `mercator`, by what any crate can call: the worked rows of crawls, commands, words, faults and inputs.
+//! The tests of `mercator`, by what any crate can call: crawls, failing readers and writers, faults and inputs.
 #![tactic(auto)]
 
 #[cfg(test)]

@@ -4,7 +4,6 @@ mod failing;
 mod faults;
 mod inputs;
 mod losses;
-mod rows;
 mod runs;
 mod sources;
 mod threads;

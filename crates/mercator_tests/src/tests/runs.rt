@@ -45,13 +45,6 @@ pub struct Failing {
 /// More bytes than any row has.
 pub const ALL: usize = 1_000_000;
 
-pub const NOTHING_FAILS: Failing = Failing {
-    reads: false,
-    out: ALL,
-    flushes: true,
-    err: ALL,
-};
-
 /// Gives what it has, at most so many bytes a read, and then ends or fails.
 #[derive(Drop)]
 pub struct Reader<'a> {

@@ -180,17 +180,19 @@ fn without<R: Threads + Wait + Sync>(
     }
 }
 
+// The seed is of the second host, so no page is found at all.
 #[test]
 fn failing_host(rt: HostRuntime) {
-    assert!(rt; without(&rt, rt.alloc(), "c.test", ONE_IN_TURN) == Told::Lacks);
-    assert!(rt; without(&rt, rt.alloc(), "c.test", ONE_IN_A_THREAD) == Told::Lacks);
-}
-
-// The source fails for the seed, so no page is found at all.
-#[test]
-fn a_source_that_always_fails(rt: HostRuntime) {
-    assert!(rt; without(&rt, rt.alloc(), "a.test", ONE_IN_TURN) == Told::Lacks);
-    assert!(rt; without(&rt, rt.alloc(), "a.test", ONE_IN_A_THREAD) == Told::Lacks);
+    for host in ["c.test", "a.test"] {
+        assert!(rt;
+            without(&rt, rt.alloc(), host, ONE_IN_TURN) == Told::Lacks,
+            "{host}"
+        );
+        assert!(rt;
+            without(&rt, rt.alloc(), host, ONE_IN_A_THREAD) == Told::Lacks,
+            "{host}"
+        );
+    }
 }
 
 /// A crawl of two pages whose fetch that waits for another one ends well only where two workers fetch at once.

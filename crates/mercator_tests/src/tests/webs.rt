@@ -25,19 +25,5 @@ pub const TWO_LINKS_REPORT: &str = "ok 2 0 http://a.test/\n\
     missing http://a.test/2\n\
     total 3 ok 1 missing 2\n";
 
-pub const MOVED: &str = "savedweb 2\n\
-    page http://a.test/\n\
-    moved http://b.test/\n\
-    page http://b.test/\n\
-    moved mailto:x\n\
-    page http://c.test/\n\
-    link gone\n";
-
-pub const MOVED_REPORT: &str = "moved http://a.test/\n\
-    moved http://b.test/\n\
-    ok 1 0 http://c.test/\n\
-    missing http://c.test/gone\n\
-    total 4 ok 1 missing 1 moved 2\n";
-
 /// The report of a crawl that reaches nothing.
 pub const NOTHING: &str = "total 0 ok 0 missing 0\n";
