@@ -23,15 +23,6 @@ use Rattle.crawl_certificate.proofs.NothingLost.{accepted_in, nothing_lost}
 use Rattle.crawl_certificate.proofs.Order.{Distinct, distinct_entries, text_swap}
 use Rattle.crawl_certificate.proofs.Places.{among_at, length_pointed, read_pointed}
 
--- one mark more
-pub set_only : (test : Entry → Bool) (entries : List Entry) (marks : List Bool) (j : ℕ) (x : Entry) → MarksOnly test entries marks → slice_get entries j ≡ Some x → test x ≡ true → MarksOnly test entries (set marks j true)
-set_only test [] marks j x only there passes k e at mark = absurd (cc)
-set_only test (y ∷ ys) [] j x only there passes k e at mark = absurd (cc)
-set_only test (y ∷ ys) (m ∷ ms) zero x only there passes zero e at mark = subst (λ z. test z ≡ true) (same_at (y ∷ ys) zero x e there at) passes
-set_only test (y ∷ ys) (m ∷ ms) zero x only there passes (suc k) e at mark = only (suc k) e at mark
-set_only test (y ∷ ys) (m ∷ ms) (suc j) x only there passes zero e at mark = only zero e at mark
-set_only test (y ∷ ys) (m ∷ ms) (suc j) x only there passes (suc k) e at mark = set_only test ys ms j x (λ i z. only (suc i) z) there passes k e at mark
-
 -- no mark is set
 pub none_set : (test : Entry → Bool) (entries : List Entry) → MarksOnly test entries (map (λ _. false) entries)
 none_set test [] k e at mark = absurd (cc)

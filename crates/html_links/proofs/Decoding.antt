@@ -1,10 +1,10 @@
 -- The machine of character references over runs of bytes.
 use Rattle.std.proofs.Common.{◌≡◌, ℕ, ◌==◌, ◌||◌, Bool, true, false, not, cond, List, [], ◌∷◌, ◌++◌, None, Some, ◌<◌, ◌≤◌, length, refl, ap, sym, ◌∙◌, append_assoc, append-nil, arith}
-use Rattle.std.specs.Char.{is_ascii_alphanumeric, is_digit, digit_value, encode_utf8}
+use Rattle.std.specs.Char.{is_ascii_alphanumeric, encode_utf8}
 use Rattle.html_links.specs.Shown.{front, behind, Stopped}
 use Rattle.html_links.specs.Names.{named}
-use Rattle.html_links.specs.References.{Text, Reference, Name, Number, Next, Go, text_step, number_at, number_end, number_after, number_text, digit_in, closed_at, name_text, name_end, step, follow, read}
-use Rattle.html_links.specs.Decoding.{is_plain, in_base}
+use Rattle.html_links.specs.References.{Text, Reference, Name, Next, Go, text_step, closed_at, name_text, name_end, step, follow, read}
+use Rattle.html_links.specs.Decoding.{is_plain}
 use Rattle.html_links.proofs.Jumps.{shorter}
 use Rattle.html_links.proofs.Sources.{front_all}
 
@@ -119,27 +119,3 @@ open_name name (c ∷ rest) letter semicolon equals =
     ∙ if_false (c == 59) (closed_at name (named true name)) _ semicolon
     ∙ if_false (c == 61) (text_step (38 ∷ name) c) (text_step (name_text name) c) equals)
     ∙ text_behind (name_text name) c rest
-
--- numbers
-
-digit_no : (b : Bool) (d : ℕ) → b ≡ false → cond b (Some d) None ≡ None
-digit_no true d e = absurd (cc)
-digit_no false d e = refl
-
-pub one_digit : (radix n digit c : ℕ) (rest : List ℕ) → Some digit ≡ digit_in radix c → read (Number radix n) (c ∷ rest) ≡ read (Number radix (number_after radix n digit)) rest
-one_digit radix n digit c rest found = ap (λ o. on rest (number_at radix n c o)) (sym found)
-
-pub number_closed : (radix n : ℕ) (rest last : List ℕ) → Stopped (in_base radix) rest → rest ≡ 59 ∷ last → read (Number radix n) rest ≡ number_text n ++ read Text last
-number_closed radix n [] last stop is = absurd (cc)
-number_closed radix n (c ∷ rest) last stop is =
-    ap (λ o. on rest (number_at radix n c o)) (digit_no (is_digit c radix) (digit_value c) stop) ∙ closes c rest is
-  where
-    closes : (c : ℕ) (rest : List ℕ) → (c ∷ rest) ≡ 59 ∷ last → on rest (number_end n c) ≡ number_text n ++ read Text last
-    closes c rest is = let first : c ≡ 59 = cc in let same : rest ≡ last = cc in ap (λ c. on rest (number_end n c)) first ∙ ap (λ r. number_text n ++ read Text r) same
-
-pub number_open : (radix n : ℕ) (rest : List ℕ) → Stopped (in_base radix) rest → Stopped (λ c. c == 59) rest → read (Number radix n) rest ≡ number_text n ++ read Text rest
-number_open radix n [] stop semicolon = sym (append-nil (number_text n))
-number_open radix n (c ∷ rest) stop semicolon =
-    ap (λ o. on rest (number_at radix n c o)) (digit_no (is_digit c radix) (digit_value c) stop)
-    ∙ ap (on rest) (if_false (c == 59) (Go (number_text n) Text) (text_step (number_text n) c) semicolon)
-    ∙ text_behind (number_text n) c rest
