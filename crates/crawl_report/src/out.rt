@@ -26,6 +26,22 @@ impl Out {
         }
     }
 
+    /// What is printed, with room for so many bytes behind it.
+    pub fn with_room(self, bytes: usize) -> Result<Out, NoMemory>
+        ensures { IfOk result (λ more. Adds self more []) }
+    {
+        match self {
+            Out::Text(mut text) => {
+                text.reserve(bytes)?;
+                Ok(Out::Text(text))
+            }
+            Out::Json(mut text) => {
+                text.reserve(bytes)?;
+                Ok(Out::Json(text))
+            }
+        }
+    }
+
     /// What is printed, and behind it the row's line.
     pub fn with(self, row: Row<'_>) -> Result<Out, NoMemory>
         ensures { IfOk result (λ more. Adds self more (line_of row.entry ∷ [])) }

@@ -1,5 +1,5 @@
 //! A report as bytes.
-ghost use Rattle.std.specs.Prelude.{◌≡◌, ◌++◌, IfOk, count_by};
+ghost use Rattle.std.specs.Prelude.{◌≡◌, ◌<◌, ◌++◌, [], length, IfOk, count_by};
 ghost use Rattle.std.specs.List.{flat_map};
 ghost use Rattle.crawl_web.specs.ReportText.{is_found, is_missing, is_moved};
 ghost use Rattle.crawl_report.specs.Json.{printed_line};
@@ -15,6 +15,12 @@ use crate::threads::results_in_threads;
 use crawl_web::{NoMemory, Page, PageResult};
 use std::alloc::Global;
 use std::thread::Threads;
+
+/// Room is made for the lines of so many results at once.
+const AT_ONCE: usize = 32;
+
+/// About so many bytes of a result's line are not its URL's.
+const BESIDE: usize = 16;
 
 /// The report's bytes: a line for each row, as text or as a JSON object, each ended by LF.
 ///
@@ -60,10 +66,35 @@ fn with_rest(alloc: Global, results: Out, report: &Report<'_>) -> Result<Vec<u8>
 pub(crate) fn with_results(mut out: Out, pages: &[PageResult]) -> Result<Out, NoMemory>
     ensures { IfOk result (λ more. Adds out more (result_lines pages.now)) }
 {
-    for one in pages {
-        out = out.with(row_of(one))?;
+    for (index, one) in pages.iter().enumerate() {
+        let roomy = with_room_at(out, pages, index)?;
+        out = roomy.with(row_of(one))?;
     }
     Ok(out)
+}
+
+/// What is printed, with room for the lines of the next results where the index is that of the first of them.
+///
+/// To print a line, its URL is looked for in memory. Their lengths are read one behind the other, so that those of all wait for
+/// memory at the same time.
+fn with_room_at(out: Out, pages: &[PageResult], index: usize) -> Result<Out, NoMemory>
+    requires { index < length pages.now }
+    ensures { IfOk result (λ more. Adds out more []) }
+{
+    if !index.is_multiple_of(AT_ONCE) {
+        return Ok(out);
+    }
+    let next = &pages[index..];
+    out.with_room(room_for(&next[..next.len().min(AT_ONCE)]))
+}
+
+/// About how many bytes the lines of these results have.
+fn room_for(pages: &[PageResult]) -> usize {
+    let mut room = pages.len().saturating_mul(BESIDE);
+    for one in pages {
+        room = room.saturating_add(one.url.as_str().len());
+    }
+    room
 }
 
 fn row_of(one: &PageResult) -> Row<'_>
