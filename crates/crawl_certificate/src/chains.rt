@@ -8,6 +8,9 @@ use std::mem;
 /// No entry has this index.
 const NONE: usize = usize::MAX;
 
+/// Of so many workers or fewer, a link's hash is compared with those that the worker's chains go on with; else its host is hashed.
+const FEW: u32 = 8;
+
 /// For each worker and subqueue the entries that the worker sent there, in order. Nothing rests on what it answers.
 #[derive(Drop)]
 pub struct Chains {
@@ -22,8 +25,11 @@ pub struct Chains {
 #[derive(Drop)]
 pub struct Heads<'c> {
     chains: &'c Chains,
+    entries: &'c [&'c Entry],
     /// For each worker and subqueue the index of the first of its entries that was not passed.
     heads: Vec<usize>,
+    /// The hash of that entry's URL, or 0 where there is none; nothing where there are many workers.
+    hashes: Vec<u64>,
 }
 
 impl Chains {
@@ -80,15 +86,45 @@ impl Chains {
 }
 
 impl<'c> Heads<'c> {
-    /// Where none was passed.
-    pub fn of(chains: &'c Chains) -> Result<Heads<'c>, AllocError> {
+    /// Where none of all entries was passed.
+    pub fn of(
+        alloc: Global,
+        chains: &'c Chains,
+        entries: &'c [&'c Entry],
+    ) -> Result<Heads<'c>, AllocError> {
         let heads = chains.firsts.clone()?;
-        Ok(Heads { chains, heads })
+        let mut hashes = Vec::new(alloc);
+        if chains.workers <= FEW {
+            for index in &heads {
+                hashes.push(hash_at(entries, *index))?;
+            }
+        }
+        Ok(Heads {
+            chains,
+            entries,
+            heads,
+            hashes,
+        })
     }
 
     /// The subqueue of the URL.
     pub fn queue_of(&self, url: &CanonUrl) -> u32 {
         self.chains.queue_of(url)
+    }
+
+    /// The subqueue where the worker's first entry that was not passed may have the URL, if there is one.
+    pub fn queue_with(&self, worker: u32, url: &CanonUrl) -> Option<u32> {
+        if self.hashes.is_empty() {
+            return Some(self.queue_of(url));
+        }
+        let hash = url.text_hash();
+        for queue in 0..self.chains.workers {
+            let pair = self.chains.pair(u64::from(worker), queue);
+            if self.hashes.get(pair) == Some(&hash) {
+                return Some(queue);
+            }
+        }
+        None
     }
 
     /// The index of the first entry that the worker sent to the subqueue and that was not passed, or one that no entry has.
@@ -104,6 +140,17 @@ impl<'c> Heads<'c> {
         if let Some(head) = self.heads.get_mut(pair) {
             *head = next;
         }
+        if let Some(hash) = self.hashes.get_mut(pair) {
+            *hash = hash_at(self.entries, next);
+        }
+    }
+}
+
+// The hash of the URL of the entry at the index, or 0 where there is none.
+fn hash_at(entries: &[&Entry], index: usize) -> u64 {
+    match entries.get(index) {
+        Some(entry) => entry.url.text_hash(),
+        None => 0,
     }
 }
 

@@ -82,7 +82,7 @@ fn walked(
     ensures { IfOk result (λ told. IfSome told (λ linked. IsWalk chunk.entry.accepted.now chunk.entry.first chunk.entry.results.now linked.items)) }
 {
     let mut linked = no_marks(alloc, chunk.accepted)?;
-    let mut heads = Heads::of(chains)?;
+    let mut heads = Heads::of(alloc, chains, chunk.accepted.entries())?;
     if walk(chunk, &mut heads, &mut linked) {
         Ok(Some(linked))
     } else {
@@ -143,7 +143,9 @@ fn mark_next(
     ensures long { length linked.new ≡ length linked.old }
     ensures marks { (holds : Entry → Bool) → ((e : Entry) → e.url ≡ link.now → e.hops ≡ hops + 1 → holds e ≡ true) → MarksOnly holds accepted.now linked.old → MarksOnly holds accepted.now linked.new }
 {
-    let queue = heads.queue_of(link);
+    let Some(queue) = heads.queue_with(worker, link) else {
+        return;
+    };
     let index = heads.head(worker, queue);
     let Some(entry) = accepted.with_url(index, link) else {
         return;
