@@ -1,5 +1,5 @@
 -- Results with their numbers: what begins alike, and what is sorted in two parts.
-use Rattle.std.proofs.Common.{◌≡◌, ℕ, zero, suc, ◌+◌, ◌-◌, ◌*◌, ◌<◌, ◌≤◌, Bool, false, List, [], ◌∷◌, ◌++◌, length, take, drop, get_or, set, slice_index, refl, sym, ap, subst, ◌∙◌, arith, inl, inr}
+use Rattle.std.proofs.Common.{◌≡◌, ℕ, zero, suc, ◌+◌, ◌-◌, ◌*◌, ◌<◌, ◌≤◌, Bool, true, false, List, [], ◌∷◌, ◌++◌, length, take, drop, get_or, set, slice_index, refl, sym, ap, subst, ◌∙◌, arith, inl, inr}
 use Rattle.std.specs.List.{All, Contains}
 use Rattle.std.specs.List.Sorted.{IsPermutation, IsNonDecreasingBy, IsSortedBy, IsSortedByKey}
 use Rattle.std.specs.Cmp.Lexicographic.{slice_cmp}
@@ -11,7 +11,7 @@ use Rattle.std.proofs.lemmas.List.Sorted.{All-permutation, IsPermutation-append,
 use Rattle.crawl_web.specs.declared.page.PageResult.{PageResult}
 use Rattle.crawl_certificate.specs.declared.sorting.Numbered.{Numbered}
 use Rattle.crawl_certificate.specs.Eights.{AreAlikeWithin, BeginAlike}
-use Rattle.crawl_certificate.specs.Sorting.{AllBeginAlike, AreInOrder, ArePrepared, AllEqual, ArePartedAt, IsAlikeUntil, IsNumbered, pages_of}
+use Rattle.crawl_certificate.specs.Sorting.{AllBeginAlike, AreGuessed, AreInOrder, AreNumbered, ArePrepared, AllEqual, ArePartedAt, IsAlikeUntil, IsNumbered, pages_of}
 use Rattle.crawl_certificate.proofs.EightBytes.{less_number, equal_number}
 
 -- ---- pages and the numbers beside them
@@ -103,6 +103,27 @@ alike_in_both from most text front back pages first second end parts of_front of
   alike =
       subst (All (λ (p : Numbered). AreAlikeWithin from end text p.page.url)) parts
       (All-append (λ (p : Numbered). AreAlikeWithin from end text p.page.url) front back (alike_before from first end text front le_first of_front.alike) (alike_before from second end text back le_second of_back.alike));
+}
+
+-- ---- numbers that are set where a guess holds
+
+pub guessed_both : (from index : ℕ) (text : List ℕ) (pages low high : List Numbered) (one other both : Bool) → (both ≡ true → (one ≡ true) × (other ≡ true))
+    → AreGuessed from text (take index pages) low one → AreGuessed from text (drop index pages) high other → AreGuessed from text pages (low ++ high) both
+guessed_both from index text pages low high one other both told front back = record {
+  same = map-append (λ (c : Numbered). c.page) low high ∙ (λ i. front.same i ++ back.same i) ∙ sym (parts index pages);
+  alike = λ yes.
+      subst (All (λ (p : Numbered). AreAlikeWithin from (length text) text p.page.url)) (take-append-drop index pages)
+      (All-append (λ (p : Numbered). AreAlikeWithin from (length text) text p.page.url) (take index pages) (drop index pages) (front.alike (told yes).0) (back.alike (told yes).1));
+  numbered = λ yes. All-append (IsNumbered (length text)) low high (front.numbered (told yes).0) (back.numbered (told yes).1);
+}
+
+-- a guess that holds of all
+pub numbered_so : (levels from begin : ℕ) (text : List ℕ) (old new : List Numbered) → AllBeginAlike from (pages_of old) → begin + 8 * levels ≤ 4096 → length text ≡ begin → AreGuessed from text old new true → AreNumbered levels begin old new
+numbered_so levels from begin text old new alike room long guessed = record {
+  same = guessed.same;
+  alike = alike_up_to from begin text old alike (subst (λ n. All (λ (p : Numbered). AreAlikeWithin from n text p.page.url) old) long (guessed.alike refl));
+  room = room;
+  numbered = subst (λ n. All (IsNumbered n) new) long (guessed.numbered refl);
 }
 
 -- ---- two sorted lists, one behind the other

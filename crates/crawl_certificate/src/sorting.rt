@@ -11,11 +11,12 @@ ghost use Rattle.std.specs.Ordering.{nat_cmp};
 ghost use Rattle.crawl_certificate.specs.Eights.{IsEight};
 ghost use Rattle.crawl_certificate.specs.Sorting.{AllBeginAlike, AllEqual, AreInOrder, ArePartedAt, ArePrepared, IsNumbered, pages_of};
 
-use beginning::beginning_of;
 use crawl_web::PageResult;
+use numbering::number_all;
 use std::alloc::{AllocError, Global};
 
 mod beginning;
+mod numbering;
 mod threads;
 
 pub use threads::in_order_by_threads;
@@ -84,8 +85,7 @@ fn sort_from(pages: &mut [Numbered], from: usize, levels: usize)
         pages.sort_unstable_by(|a, b| a.page.url.cmp(&b.page.url));
         return;
     }
-    let from = beginning_of(pages, from, levels);
-    set_numbers(pages, from);
+    let from = number_all(pages, from, levels);
     pages.sort_unstable_by_key(|one| one.number);
     sort_runs(pages, from, levels - 1);
 }

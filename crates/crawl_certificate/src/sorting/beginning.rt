@@ -45,7 +45,7 @@ pub fn beginning_by_threads<R: Threads + Sync>(
 }
 
 /// Up to which index a beginning is looked for: the text's end, or where there is no room for so many numbers behind it.
-fn last_of(text: &[u8], from: usize, levels: usize) -> usize
+pub fn last_of(text: &[u8], from: usize, levels: usize) -> usize
     requires { from + 8 * levels ≤ 4096 }
     ensures least { from ≤ result }
     ensures room { result + 8 * levels ≤ 4096 }
@@ -54,7 +54,7 @@ fn last_of(text: &[u8], from: usize, levels: usize) -> usize
 }
 
 /// Up to which index, `most` at most, all URLs have the same bytes as the text from `from` on.
-fn alike_until(text: &[u8], pages: &[Numbered], from: usize, most: usize) -> usize
+pub fn alike_until(text: &[u8], pages: &[Numbered], from: usize, most: usize) -> usize
     requires { from ≤ most }
     ensures { IsAlikeUntil from most text.now pages.now result }
 {
@@ -98,7 +98,7 @@ fn alike_by_threads<R: Threads + Sync>(
 }
 
 /// Up to which index, `most` at most, two texts have the same bytes from `from` on.
-fn alike_to(first: &[u8], second: &[u8], from: usize, most: usize) -> usize
+pub fn alike_to(first: &[u8], second: &[u8], from: usize, most: usize) -> usize
     requires { from ≤ most }
     ensures least { from ≤ result }
     ensures most { result ≤ most }

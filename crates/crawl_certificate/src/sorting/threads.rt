@@ -1,30 +1,23 @@
 //! The sort by threads: numbers are sorted by all of them, and then each takes a part of the results.
 ghost use Rattle.std.specs.Prelude.{◌≡◌, ◌+◌, ◌*◌, ◌≤◌, IfOk, IfSome, IsNone};
-ghost use Rattle.std.specs.List.{All};
 ghost use Rattle.std.specs.List.Sorted.{IsPermutation, IsNonDecreasingBy, IsSortedByKey};
 ghost use Rattle.std.specs.Cmp.Lexicographic.{slice_cmp};
 ghost use Rattle.std.specs.Ordering.{nat_cmp};
 ghost use Rattle.std.specs.Thread.{IsSync};
-ghost use Rattle.crawl_certificate.specs.Sorting.{AllBeginAlike, AllEqual, AreInOrder, ArePartedAt, ArePrepared, IsNumbered, IsNumberSet, pages_of};
+ghost use Rattle.crawl_certificate.specs.Sorting.{AllBeginAlike, AllEqual, AreInOrder, ArePartedAt, ArePrepared, pages_of};
 
-use super::beginning::beginning_by_threads;
-use super::{
-    BYTES, LEVELS, Numbered, number_at, sort_from, sort_runs, text_of, with_numbers,
-    without_numbers,
-};
+use super::numbering::number_all_by_threads;
+use super::{BYTES, LEVELS, Numbered, sort_from, sort_runs, with_numbers, without_numbers};
 use crawl_web::PageResult;
 use rayon::slice::par_sort_unstable_by_key;
 use std::alloc::{AllocError, Global};
-use std::thread::{Threads, for_each_mut, join_mut};
+use std::thread::{Threads, join_mut};
 
 /// Fewer results than this are not worth a thread.
 const MANY: usize = 4096;
 
 /// How often results are parted, so that as many threads take a part as two to this power.
 const HALVINGS: u32 = 3;
-
-/// So many threads read the numbers.
-const THREADS: usize = 8;
 
 /// As [`super::in_order`], by threads.
 pub fn in_order_by_threads<R: Threads + Sync>(
@@ -59,23 +52,9 @@ fn sort_in_threads<R: Threads + Sync>(
         sort_from(pages, from, levels);
         return;
     }
-    let from = beginning_by_threads(rt, pages, from, levels);
-    set_numbers_in_threads(rt, pages, from);
+    let from = number_all_by_threads(rt, pages, from, levels);
     par_sort_unstable_by_key(rt, pages, |one| one.number);
     sort_runs_in_threads(rt, halvings, pages, from, levels - 1);
-}
-
-/// As [`super::set_numbers`], by threads.
-fn set_numbers_in_threads<R: Threads + Sync>(rt: &R, pages: &mut [Numbered], from: usize)
-    requires { from + 8 ≤ 4096 }
-    ensures same { pages_of pages.new ≡ pages_of pages.old }
-    ensures numbered { All (IsNumbered from) pages.new }
-{
-    let set = move |_: usize, numbered: &mut Numbered|
-        requires { from + 8 ≤ 4096 }
-        ensures { IsNumberSet from numbered.entry.now numbered.exit.now }
-    { numbered.number = number_at(text_of(numbered), from) };
-    for_each_mut(rt, pages, THREADS, &set);
 }
 
 /// As [`super::sort_runs`], by threads where there are many.

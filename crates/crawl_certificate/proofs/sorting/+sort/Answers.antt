@@ -18,20 +18,20 @@ sort_from-returns-then-pages-lt-FEW-clause-sorted t c =
 
 pub sort_from-sort_runs-requires : goal.sort_from-sort_runs-requires
 sort_from-sort_runs-requires t c =
-    let numbered = c.set_numbers.new.pages in
+    let numbered = c.number_all-from.new.pages in
     let sorted = c.sort_unstable_by_key.new.self in
     let rising = IsNonDecreasingBy-from_sort_by_key (λ (p : Numbered). p.number) sorted c.sort_unstable_by_key.ensures.sorted (λ a r q k. search rules) in (
       omega (arith, c.decreases),
-      prepared c.beginning_of-from.result _ c.args.pages.now numbered sorted c.beginning_of-from.ensures.alike (omega (arith, c.beginning_of-from.ensures.room, c.if-levels-eq0.false)) c.set_numbers.ensures.same
-          c.set_numbers.ensures.numbered c.sort_unstable_by_key.ensures.permutation rising,
+      prepared c.number_all-from.result _ c.args.pages.now numbered sorted c.number_all-from.ensures.alike (omega (arith, c.number_all-from.ensures.room, c.if-levels-eq0.false)) c.number_all-from.ensures.same
+          c.number_all-from.ensures.numbered c.sort_unstable_by_key.ensures.permutation rising,
     )
 
 pub sort_from-returns-clause-same : goal.sort_from-returns-clause-same
 sort_from-returns-clause-same t c =
-    let numbered = c.set_numbers.new.pages in
+    let numbered = c.number_all-from.new.pages in
     let sorted = c.sort_unstable_by_key.new.self in
     let moved = IsPermutation-map (λ (p : Numbered). p.page) numbered sorted c.sort_unstable_by_key.ensures.permutation in
-    IsPermutation-trans _ _ _ (subst (λ ps. IsPermutation ps (pages_of sorted)) c.set_numbers.ensures.same moved) c.sort_runs.ensures.same
+    IsPermutation-trans _ _ _ (subst (λ ps. IsPermutation ps (pages_of sorted)) c.number_all-from.ensures.same moved) c.sort_runs.ensures.same
 
 pub sort_runs-sort_from-requires : goal.sort_runs-sort_from-requires
 sort_runs-sort_from-requires t c =

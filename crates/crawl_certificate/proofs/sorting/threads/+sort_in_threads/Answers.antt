@@ -8,18 +8,18 @@ use Rattle.crawl_certificate.proofs.sorting.threads.+sort_in_threads.Goals as go
 
 pub sort_in_threads-sort_runs_in_threads-requires-after_bounds : goal.sort_in_threads-sort_runs_in_threads-requires-after_bounds
 sort_in_threads-sort_runs_in_threads-requires-after_bounds g t c κs within =
-    let numbered = c.set_numbers_in_threads.new.pages in
+    let numbered = c.number_all_by_threads-from.new.pages in
     let sorted = c.par_sort_unstable_by_key.new.s in
     let rising = IsNonDecreasingBy-from_sort_by_key (λ (p : Numbered). p.number) sorted c.par_sort_unstable_by_key.ensures.sorted (λ a r q k. search rules) in
-    prepared c.beginning_by_threads-from.result _ c.args.pages.now numbered sorted c.beginning_by_threads-from.ensures.alike (omega (arith, c.beginning_by_threads-from.ensures.room, c.if-levels-eq0.false))
-    c.set_numbers_in_threads.ensures.same c.set_numbers_in_threads.ensures.numbered c.par_sort_unstable_by_key.ensures.permutation rising
+    prepared c.number_all_by_threads-from.result _ c.args.pages.now numbered sorted c.number_all_by_threads-from.ensures.alike (omega (arith, c.number_all_by_threads-from.ensures.room, c.if-levels-eq0.false))
+    c.number_all_by_threads-from.ensures.same c.number_all_by_threads-from.ensures.numbered c.par_sort_unstable_by_key.ensures.permutation rising
 
 pub sort_in_threads-returns-clause-same : goal.sort_in_threads-returns-clause-same
 sort_in_threads-returns-clause-same g t c =
-    let numbered = c.set_numbers_in_threads.new.pages in
+    let numbered = c.number_all_by_threads-from.new.pages in
     let sorted = c.par_sort_unstable_by_key.new.s in
     let moved = IsPermutation-map (λ (p : Numbered). p.page) numbered sorted c.par_sort_unstable_by_key.ensures.permutation in
-    IsPermutation-trans _ _ _ (subst (λ ps. IsPermutation ps (pages_of sorted)) c.set_numbers_in_threads.ensures.same moved) c.sort_runs_in_threads.ensures.same
+    IsPermutation-trans _ _ _ (subst (λ ps. IsPermutation ps (pages_of sorted)) c.number_all_by_threads-from.ensures.same moved) c.sort_runs_in_threads.ensures.same
 
 pub sort_runs_in_threads-sort_in_threads-requires-clause-alike : goal.sort_runs_in_threads-sort_in_threads-requires-clause-alike
 sort_runs_in_threads-sort_in_threads-requires-clause-alike g t c κs within =

@@ -1,7 +1,7 @@
 use Rattle.std.proofs.Common.{sym, ap, ◌∙◌}
 use Rattle.crawl_certificate.specs.declared.sorting.Numbered.{Numbered}
 use Rattle.crawl_certificate.proofs.SortedParts.{each_page_same}
-use Rattle.crawl_certificate.proofs.sorting.threads.set_numbers_in_threads.Goals as goal
+use Rattle.crawl_certificate.proofs.sorting.numbering.set_numbers_in_threads.Goals as goal
 
 pub returns-clause-same : goal.returns-clause-same
 returns-clause-same g c =
