@@ -18,7 +18,11 @@ use crawl_gate::{Gate, Unit};
 use crawl_keys::Filter;
 use std::alloc::{AllocError, Global};
 use std::collections::VecDeque;
+use std::hint;
 use std::sync::{Mutex, MutexGuard, Wait};
+
+// So often a lock is tried before its thread sleeps until it is given back: for some microseconds, longer than any thread keeps it.
+const TRIES: u32 = 200;
 
 /// The gate, the subqueues, and one lock round the shard of each subqueue. Threads share it by `&`.
 #[derive(Drop)]
@@ -168,6 +172,13 @@ impl<K: Name> Frontier<K> {
     pub(crate) fn lock<R: Wait>(&self, rt: &R, queue: u32) -> MutexGuard<'_, Shard<K>>
         requires { queue < K.workers }
     {
-        self.shards[queue as usize].lock(rt)
+        let shard = &self.shards[queue as usize];
+        for _ in 0..TRIES {
+            if let Some(guard) = shard.try_lock() {
+                return guard;
+            }
+            hint::spin_loop();
+        }
+        shard.lock(rt)
     }
 }
