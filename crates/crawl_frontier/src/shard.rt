@@ -194,6 +194,15 @@ impl<K: Name> Shard<K> {
         (AcceptedList::new(sent, index, counts), right)
     }
 
+    /// The hashes of the URLs sent from this index on, as many as there is room for, and how many they are.
+    pub(crate) fn hashes(&self, from: usize, hashes: &mut [u64]) -> usize {
+        let waiting = self.sent.get(from..).unwrap_or(&[]);
+        for (hash, entry) in hashes.iter_mut().zip(waiting) {
+            *hash = entry.url.text_hash();
+        }
+        waiting.len().min(hashes.len())
+    }
+
     /// Which subqueue it is.
     pub fn queue(&self) -> u32
         ensures { result ≡ self.now.queue }

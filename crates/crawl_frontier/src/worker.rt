@@ -91,6 +91,19 @@ impl<K: Name> Worker<K> {
         self.queue
     }
 
+    /// The hashes of the URLs that its subqueue accepted behind the first so many, the oldest first, as many as there is room for, and
+    /// how many they are. A worker that took so many takes these next. It takes the subqueue's lock for it.
+    pub fn look_ahead<R: Wait>(
+        &self,
+        rt: &R,
+        frontier: &Frontier<K>,
+        taken: usize,
+        hashes: &mut [u64],
+    ) -> usize {
+        let shard = frontier.lock(rt, self.queue);
+        shard.hashes(taken, hashes)
+    }
+
     /// Rests after a turn that found nothing, until a URL is accepted for this worker, or the last unit of the gate is given
     /// back. The first call returns at once, so that the worker looks once more by [`Worker::next`]; where that finds nothing
     /// either, the next call may wait for some microseconds, and each one after it sleeps, for at most 50 ms. It may return

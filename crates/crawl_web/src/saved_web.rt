@@ -169,6 +169,10 @@ impl<'a> SessionFetch for SavedWeb<'a> {
         LinkCache::new(alloc, among)
     }
 
+    fn expect(&self, hashes: &[u64]) -> u64 {
+        self.pages.read_ahead(hashes)
+    }
+
     fn fetch_in(
         &self,
         alloc: Global,

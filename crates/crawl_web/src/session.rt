@@ -25,6 +25,12 @@ pub trait SessionFetch {
     fn open_session(&self, alloc: Global, among: u32) -> Self::Session
         ensures { is_of self.now result };
 
+    /// The URLs with these hashes are likely to be fetched next: what their fetches will read may be read now, so that all of it
+    /// waits for memory at the same time. The answer is some sum of what was read, so that no read is left out; it says nothing.
+    fn expect(&self, _hashes: &[u64]) -> u64 {
+        0
+    }
+
     /// The page at the URL.
     ///
     /// # Errors

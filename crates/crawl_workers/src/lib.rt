@@ -6,6 +6,7 @@
 //! has a second form, as [`run_worker_in`], for sources whose fetches remember something in a session.
 #![tactic(auto)]
 
+mod ahead;
 mod error;
 pub mod laws;
 mod losses;

@@ -5,6 +5,7 @@ ghost use Rattle.crawl_workers.specs.Recent.{Knows};
 ghost use Rattle.crawl_workers.specs.Losses.{no_losses, with_loss};
 ghost use Rattle.crawl_workers.specs.Turn.{HasRoomOrNot, Keeps, Loses, Tallies};
 
+use crate::ahead::LookAhead;
 use crate::losses::{Loss, Losses};
 use crate::recent::RecentUrls;
 use crate::worker_end::WorkerEnd;
@@ -13,8 +14,8 @@ use crawl_keys::CanonUrl;
 use crawl_web::{Page, PageResult};
 use std::alloc::Global;
 
-/// Where its memory comes from, the results so far, how much was lost, up to the greatest u64, in all and by why, and the URLs
-/// that were offered not long ago.
+/// Where its memory comes from, the results so far, how much was lost, up to the greatest u64, in all and by why, the URLs that
+/// were offered not long ago, and how far the worker has looked ahead.
 #[derive(Drop)]
 pub(crate) struct WorkerOutput {
     pub alloc: Global,
@@ -22,6 +23,7 @@ pub(crate) struct WorkerOutput {
     pub lost: u64,
     pub losses: Losses,
     pub recent: RecentUrls,
+    pub ahead: LookAhead,
 }
 
 impl WorkerOutput {
@@ -36,6 +38,7 @@ impl WorkerOutput {
             lost: 0,
             losses: Losses::none(),
             recent: RecentUrls::new(alloc),
+            ahead: LookAhead::new(),
         }
     }
 

@@ -43,10 +43,14 @@ impl Slot {
         }
     }
 
-    // Whether it has this URL's mark, and its URL this one's hash.
-    fn has_hash(&self, of: &CanonUrl) -> bool {
+    // Whether it has this URL's mark, and its URL this one's hash and last byte: so that both ends of its text are read.
+    fn has_ends(&self, of: &CanonUrl) -> bool {
         match self {
-            Slot::Taken { mark, url } => *mark == mark_of(of) && url.text_hash() == of.text_hash(),
+            Slot::Taken { mark, url } => {
+                *mark == mark_of(of)
+                    && url.text_hash() == of.text_hash()
+                    && last_byte(url) == last_byte(of)
+            }
             Slot::Vacant => false,
         }
     }
@@ -133,7 +137,7 @@ impl RecentUrls {
         for (bit, url) in urls.iter().enumerate() {
             if marked >> bit & 1 == 1 {
                 let slot = pair_of(mark_of(url), self.slots.len());
-                let has = self.slots[slot].has_hash(url) || self.slots[slot + 1].has_hash(url);
+                let has = self.slots[slot].has_ends(url) || self.slots[slot + 1].has_ends(url);
                 hashed |= u64::from(has) << bit;
             }
         }
@@ -206,6 +210,10 @@ fn pair_of(mark: u32, slots: usize) -> usize
 {
     let pairs = slots / 2;
     2 * (mark as usize & (pairs - 1))
+}
+
+fn last_byte(url: &CanonUrl) -> Option<&u8> {
+    url.as_str().as_bytes().last()
 }
 
 // Half of a URL's hash.

@@ -159,7 +159,8 @@ fn work<K: Name, F: SessionFetch, R: Wait>(
     output.keep(busy.url(), page);
 }
 
-/// A turn of a worker. A URL that is lost is still done, so that the gate can close.
+/// A turn of a worker, which looks ahead before it where it is time to. A URL that is lost is still done, so that the gate can
+/// close.
 pub(crate) fn turn<K: Name, F: SessionFetch, R: Wait>(
     rt: &R,
     frontier: &Frontier<K>,
@@ -171,6 +172,24 @@ pub(crate) fn turn<K: Name, F: SessionFetch, R: Wait>(
     requires { F.is_of fetcher.now session.old }
     ensures right { F.is_of fetcher.now session.new }
     // Whatever the run began with, the turn goes on with it.
+    ensures goes { (start : WorkerId) → Goes K.workers (allows K.filter) (F.meaning fetcher.now) start worker output.old → Goes K.workers (allows K.filter) (F.meaning fetcher.now) start (worker_in result) output.new }
+{
+    let taken = output.results.len();
+    output.ahead.look(rt, frontier, &worker, fetcher, taken);
+    take(rt, frontier, worker, fetcher, session, output)
+}
+
+// The turn itself.
+fn take<K: Name, F: SessionFetch, R: Wait>(
+    rt: &R,
+    frontier: &Frontier<K>,
+    worker: Worker<K>,
+    fetcher: &F,
+    session: &mut F::Session,
+    output: &mut WorkerOutput,
+) -> Step<K>
+    requires { F.is_of fetcher.now session.old }
+    ensures right { F.is_of fetcher.now session.new }
     ensures goes { (start : WorkerId) → Goes K.workers (allows K.filter) (F.meaning fetcher.now) start worker output.old → Goes K.workers (allows K.filter) (F.meaning fetcher.now) start (worker_in result) output.new }
 {
     match worker.next(rt, frontier) {

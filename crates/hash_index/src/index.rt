@@ -49,6 +49,12 @@ impl HashIndex {
         self.slots.capacity()
     }
 
+    /// An index at which a text of this hash may stand: the first that its slots say and that may be one. No text is looked at, and
+    /// nothing is said of it. Who wants many texts reads ahead by it, so that all wait for memory at the same time.
+    pub fn guess(&self, hash: u64) -> usize {
+        self.slots.guess(hash)
+    }
+
     /// The index at which the key's text stands in the list.
     pub fn find<L: TextList, K: Keyed>(&self, list: &L, key: &K) -> Option<usize>
         requires index { IsIndexOf L.hash (L.texts list.now) self.now }

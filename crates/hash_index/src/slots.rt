@@ -101,6 +101,22 @@ impl Slots {
         Search::Full
     }
 
+    /// The first index that a slot of the hash leads to, of those that a list may have that these slots are for.
+    pub fn guess(&self, hash: u64) -> usize {
+        let limit = self.capacity();
+        for number in 0..BUCKET {
+            let word = self.word(hash, number);
+            if word == VACANT {
+                return usize::MAX;
+            }
+            let index = index_in(hash, word);
+            if index < limit {
+                return index;
+            }
+        }
+        usize::MAX
+    }
+
     /// Whether a slot of the hash has the index.
     pub fn has(&self, hash: u64, index: usize) -> bool
         requires { index < 2 ^ 31 }

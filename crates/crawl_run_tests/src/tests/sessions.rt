@@ -10,12 +10,14 @@ use crawl_workers::{run_threads_in, run_turns_in};
 use std::alloc::Global;
 use std::marker::Brand;
 use std::sync::Wait;
+use std::sync::atomic::{AtomicU64, Ordering};
 use std::thread::Threads;
 
-// Every page has moved to one URL.
+// Every page has moved to one URL. It keeps the sum of the hashes that it was told to expect.
 #[derive(Drop)]
 pub struct AllMoved {
     pub to: CanonUrl,
+    pub expected: AtomicU64,
 }
 
 impl SessionFetch for AllMoved {
@@ -28,6 +30,13 @@ impl SessionFetch for AllMoved {
 
     fn open_session(&self, _alloc: Global, _among: u32) -> Option<CanonUrl> {
         None
+    }
+
+    fn expect(&self, hashes: &[u64]) -> u64 {
+        for hash in hashes {
+            let _before = self.expected.fetch_add(*hash, Ordering::SeqCst);
+        }
+        1
     }
 
     fn fetch_in(
@@ -56,6 +65,19 @@ fn moved_to(url: &CanonUrl) -> Result<Page, FetchError>
     }
 }
 
+const SEEDS: [&str; 3] = ["http://a.test/", "http://b.test/", "http://a.test/x"];
+
+// The sum of the seeds' hashes.
+fn hashes_of_seeds(alloc: Global) -> u64 {
+    let mut sum: u64 = 0;
+    for text in SEEDS {
+        if let Ok(url) = canonical(alloc, text) {
+            sum = sum.wrapping_add(url.text_hash());
+        }
+    }
+    sum
+}
+
 // How many results the workers have, where they have an account.
 fn results_of<K: Name + Send + Sync, F: SessionFetch + Sync, R: Threads + Wait + Sync>(
     rt: &R,
@@ -71,8 +93,7 @@ fn results_of<K: Name + Send + Sync, F: SessionFetch + Sync, R: Threads + Wait +
     requires filter { filter.now ≡ K.filter }
 {
     let (frontier, workers, seeder) = Frontier::<K>::new(alloc, setup, filter).ok()?;
-    let seeds = ["http://a.test/", "http://b.test/", "http://a.test/x"];
-    let sender = seeded(rt, alloc, &frontier, seeder, &seeds);
+    let sender = seeded(rt, alloc, &frontier, seeder, &SEEDS);
     let ends = match how {
         How::Turns => run_turns_in(rt, alloc, &frontier, workers, source),
         _ => run_threads_in(rt, alloc, &frontier, workers, source),
@@ -89,24 +110,36 @@ fn results_of<K: Name + Send + Sync, F: SessionFetch + Sync, R: Threads + Wait +
     }
 }
 
+// How many results there are, and the sum of the hashes that the source was told to expect.
 fn found_by<R: Threads + Wait + Sync>(
     rt: &R,
     alloc: Global,
     workers: u32,
     how: How,
-) -> Option<usize> {
+) -> Option<(usize, u64)> {
     let setup = Setup::new(alloc, workers, 9).ok()?;
     let filter = Filter::new(alloc, &[]).ok()?;
     let to = canonical(alloc, "http://c.test/").ok()?;
-    let source = AllMoved { to };
-    results_of::<Brand, AllMoved, R>(rt, alloc, setup, &filter, how, &source)
+    let expected = AtomicU64::new(0);
+    let source = AllMoved { to, expected };
+    let results = results_of::<Brand, AllMoved, R>(rt, alloc, setup, &filter, how, &source)?;
+    Some((results, source.expected.load(Ordering::SeqCst)))
 }
 
 // Three seeds, and the URL that all pages moved to.
 #[test]
 fn sessions_serve_each_worker(rt: HostRuntime) {
     for workers in [1, 3] {
-        assert!(rt; found_by(&rt, rt.alloc(), workers, How::Threads) == Some(4));
-        assert!(rt; found_by(&rt, rt.alloc(), workers, How::Turns) == Some(4));
+        for how in [How::Threads, How::Turns] {
+            let found = found_by(&rt, rt.alloc(), workers, how);
+            assert!(rt; matches!(found, Some((4, _))));
+        }
     }
+}
+
+// A worker that begins tells its source of all that waits for it.
+#[test]
+fn sources_expect_the_seeds(rt: HostRuntime) {
+    let sum = hashes_of_seeds(rt.alloc());
+    assert!(rt; found_by(&rt, rt.alloc(), 1, How::Threads) == Some((4, sum)));
 }

@@ -10,6 +10,12 @@ use std::alloc::{AllocError, Global};
 use std::marker::Model;
 use std::mem::size_of;
 
+/// So many bytes a processor reads from memory at once, mostly.
+const LINE: usize = 64;
+
+/// So many of these lines are read ahead of a page.
+const LINES_AHEAD: usize = 5;
+
 /// A page of a saved web: its URL, and all that is behind its line.
 #[derive(Drop)]
 pub struct KnownPage<'a> {
@@ -104,6 +110,21 @@ impl KnownPage<'_> {
             PageText::Written(text) => text.len(),
             PageText::Made(page) => page.behind.len(),
         }
+    }
+
+    /// Reads a byte of each of its first lines of memory. The answer says nothing.
+    pub fn read_ahead(&self) -> u64 {
+        let bytes = match &self.text {
+            PageText::Written(text) => text.as_bytes(),
+            PageText::Made(page) => page.behind.as_bytes(),
+        };
+        let mut sum: u64 = 0;
+        for line in 0..LINES_AHEAD {
+            if let Some(byte) = bytes.get(LINE * line) {
+                sum = sum.wrapping_add(u64::from(*byte));
+            }
+        }
+        sum
     }
 
     /// How many bytes are its own, about, where this page is the next one, if any is.

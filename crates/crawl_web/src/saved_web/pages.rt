@@ -128,6 +128,37 @@ impl<'a> Pages<'a> {
         self.index.find(&self.list, url)
     }
 
+    /// Reads what look-ups of these hashes read first.
+    pub fn read_slots(&self, hashes: &[u64]) -> u64 {
+        let mut sum: u64 = 0;
+        for hash in hashes {
+            sum = sum.wrapping_add(self.index.guess(*hash) as u64);
+        }
+        sum
+    }
+
+    /// Reads what the list has where the slots of these hashes lead.
+    pub fn read_list(&self, hashes: &[u64]) -> u64 {
+        let mut sum: u64 = 0;
+        for hash in hashes {
+            if let Some(page) = self.list.get(self.index.guess(*hash)) {
+                sum = sum.wrapping_add(page.bytes_left() as u64);
+            }
+        }
+        sum
+    }
+
+    /// Reads what stands first on the pages where the slots of these hashes lead.
+    pub fn read_texts(&self, hashes: &[u64]) -> u64 {
+        let mut sum: u64 = 0;
+        for hash in hashes {
+            if let Some(page) = self.list.get(self.index.guess(*hash)) {
+                sum = sum.wrapping_add(page.read_ahead());
+            }
+        }
+        sum
+    }
+
     /// The page at the index.
     pub fn at(&self, index: usize) -> Option<&KnownPage<'a>>
         ensures { option_map (λ page. page.now) result ≡ slice_get self.now index }

@@ -58,6 +58,10 @@ impl<'w, 'a, R: Threads> SessionFetch for WebInThreads<'w, 'a, R> {
         LinkCache::new(alloc, among)
     }
 
+    fn expect(&self, hashes: &[u64]) -> u64 {
+        self.web.expect(hashes)
+    }
+
     fn fetch_in(
         &self,
         alloc: Global,

@@ -66,6 +66,22 @@ impl<'a> WebPages<'a> {
         page_at(&self.parts, index)
     }
 
+    /// Reads what look-ups of URLs with these hashes read, and what stands first on their pages: the slots of all, then what these
+    /// lead to. The answer says nothing.
+    pub fn read_ahead(&self, hashes: &[u64]) -> u64 {
+        let mut sum: u64 = 0;
+        for part in &self.parts {
+            sum = sum.wrapping_add(part.read_slots(hashes));
+        }
+        for part in &self.parts {
+            sum = sum.wrapping_add(part.read_list(hashes));
+        }
+        for part in &self.parts {
+            sum = sum.wrapping_add(part.read_texts(hashes));
+        }
+        sum
+    }
+
     /// How many bytes of the input are theirs, about.
     pub fn bytes(&self) -> usize {
         let mut bytes: usize = 0;

@@ -74,6 +74,10 @@ impl<'f, 'o, F: SessionFetch, V: Observe> SessionFetch for Watched<'f, 'o, F, V>
         }
     }
 
+    fn expect(&self, hashes: &[u64]) -> u64 {
+        self.source.expect(hashes)
+    }
+
     fn fetch_in(
         &self,
         alloc: Global,

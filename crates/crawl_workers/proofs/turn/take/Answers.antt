@@ -6,7 +6,7 @@ use Rattle.crawl_workers.specs.Recent.{Knows}
 use Rattle.crawl_workers.proofs.Outcomes.{told_more, told_still}
 use Rattle.crawl_workers.proofs.Running.{ran_worked, ran_on, taken_one}
 use Rattle.crawl_workers.proofs.Tallies.{tally_more, tally_on}
-use Rattle.crawl_workers.proofs.turn.turn.Goals as goal
+use Rattle.crawl_workers.proofs.turn.take.Goals as goal
 
 pub returns-in-Busy-clause-goes : goal.returns-in-Busy-clause-goes
 returns-in-Busy-clause-goes g c = λ start goes.
