@@ -2,8 +2,9 @@
 """Compares the program's saved webs of folders with the converter's: site.py [--drawn COUNT] [--seed SEED] [FOLDER ..].
 
 PROGRAM in the environment is the program, else crates/mercator_cli's is taken; it is called as `PROGRAM site FOLDER BASE`.
-Each FOLDER is compared byte for byte with tools/site_to_web.py as it stands, and so is the shipped site. Without a
-FOLDER those of Debian's python3.11-doc, apache2-doc and postgresql-doc-15 that are installed are taken.
+Each FOLDER is compared byte for byte with tools/site_to_web.py as it stands, and so are the shipped site and drawn
+documents with elements whose content is text. Without a FOLDER those of Debian's python3.11-doc, apache2-doc and
+postgresql-doc-15 that are installed are taken.
 
 Drawn folders are nasty: names with every odd byte, links, FIFOs, documents in several encodings with broken markup. There
 the converter reads documents by html5lib's tokenizer (Debian's python3-html5lib), because its own leaves the Standard. The
@@ -79,6 +80,28 @@ def compare_as_it_stands(call: str, folder: str) -> bool:
     given = web_of(call, folder, [])
     print(f"{folder}: {len(given)} bytes, {'the same' if given == wanted else first_difference(given, wanted)}")
     return given == wanted
+
+
+TEXTS = "title textarea iframe xmp noembed noframes style script".split()
+IN_TEXTS = ["<a href=in>", "<img src=in>", "</a>", "</p>", "<!", "-->", "<", ">", "&amp;", "&#", "x", "\n", "</titles>", "</ title>", "<p/>"]
+
+
+def drawn_texts(draw: random.Random) -> str:
+    """Elements whose content is text, some of them not ended, and a link behind each."""
+    text = "<!doctype html><a href=first>"
+    for number in range(draw.randint(1, 6)):
+        name = draw.choice([*TEXTS, "plaintext"] if draw.random() < 0.1 else TEXTS)
+        name = draw.choice([name, name.upper(), name.title()])
+        inside = "".join(draw.choice([*IN_TEXTS, "<!--"] if name.lower() != "script" else IN_TEXTS) for _ in range(draw.randint(0, 6)))
+        end = f"</{name.swapcase()}{draw.choice(['', ' ', chr(10), '/', ' x=y', ' x'])}>" if draw.random() < 0.9 else ""
+        text += f"<{name}{draw.choice(['', ' id=a', '/', ' src=own'])}>{inside}{end}<a href=behind{number}>"
+    return text
+
+
+def draw_texts(draw: random.Random, top: pathlib.Path) -> None:
+    """Fills a folder with documents of such elements."""
+    for number in range(400):
+        (top / f"{number}.html").write_text(drawn_texts(draw), "utf-8")
 
 
 # ---------------------------------------------------------------- the reckoning of drawn folders
@@ -252,7 +275,9 @@ def main() -> int:
     given = words.parse_args()
     call = program()
     folders = given.folders or [folder for folder in DOCUMENTS if os.path.isdir(folder)]
-    results = [compare_as_it_stands(call, folder) for folder in (str(TOP / "examples/site"), *folders)]
+    with tempfile.TemporaryDirectory() as texts:
+        draw_texts(random.Random(given.seed), pathlib.Path(texts))
+        results = [compare_as_it_stands(call, folder) for folder in (str(TOP / "examples/site"), texts, *folders)]
     failed = compare_drawn(call, given.drawn, given.seed) if given.drawn else 0
     return 0 if all(results) and not failed else 1
 

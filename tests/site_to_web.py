@@ -549,6 +549,12 @@ class Documents(Converting):
             '<!-- > <a href="x">': [],
             '<![unheard[<a href="x">]]><a href="y">': ["y"],
             '<script>"<a href=x>"</script><a href="y">': ["y"],
+            "<title><a href=x></titles></title lang=en><a href=y>": ["y"],
+            "<textarea><a href=x></p></TextArea/><a href=y>": ["y"],
+            '<iframe src="x"><a href="n"></iframe\n><a href="y">': ["x", "y"],
+            "<xmp><!-- </xmp><a href=y> -->": ["y"],
+            "<noembed><a href=x></noembed><noframes/><a href=x></noframes><a href=y>": ["y"],
+            "<a href=x><plaintext><a href=n></plaintext><a href=n>": ["x"],
             '<a href="?a=1&amp;b=2&copy=3&#38;c&lt;">': ["?a=1&b=2&copy=3&c<"],
             '<div style="background: url(x)"><style>@import "y";</style>': [],
         }

@@ -280,6 +280,7 @@ def respelled(path: str) -> str:
 # ---------------------------------------------------------------- HTML
 
 ATTRIBUTE = re.compile(r"""[\s/]*([^\s/>][^\s/>=]*)(?:\s*=\s*("[^"]*"|'[^']*'|(?!['"])[^\s>]*))?""", re.A)
+END_TAG = re.compile("</[^>]*>?")
 COMMENT = re.compile(r"<!--(?:-?>|.*?(?:--!?>|\Z))", re.S)
 HTML_START = re.compile(
     rb"(\xef\xbb\xbf)?\s*(<\?xml[^>]*>\s*)?(<!--.*?-->\s*)*<(!doctype\s+html|html)\b", re.I | re.S
@@ -361,6 +362,9 @@ def links_of_style(text: str) -> list[str]:
 class LinkReader(html.parser.HTMLParser):
     """Collects the link texts of a document in its order, and the text of its base."""
 
+    # The elements whose content is text, by HTML's rules; Python's own differ between its versions
+    CDATA_CONTENT_ELEMENTS = tuple("script style title textarea xmp iframe noembed noframes plaintext".split())
+
     def __init__(self, styles: bool) -> None:
         super().__init__(convert_charrefs=False)
         self.links: list[str] = []
@@ -374,6 +378,25 @@ class LinkReader(html.parser.HTMLParser):
     def parse_marked_section(self, begin: int, report: int = True) -> int:
         """Where `<![..` ends: HTML has no such sections, so at the next `>`. Python's own may fail here."""
         return self.parse_bogus_comment(begin)
+
+    def set_cdata_mode(self, elem: str, **_: bool) -> None:
+        """Takes what follows as text, up to the end tag of the element; nothing ends a `plaintext`."""
+        self.cdata_elem = elem
+        self.interesting = re.compile("(?!)" if elem == "plaintext" else rf"(?i)</{elem}(?=[\t\n\f\r />])")
+
+    def parse_endtag(self, begin: int) -> int:
+        """Where the end tag at a place ends. Python's own takes one with an attribute for more of a text."""
+        if self.cdata_elem is None:
+            return super().parse_endtag(begin)
+        self.handle_endtag(self.cdata_elem)
+        self.clear_cdata_mode()
+        return end_of(END_TAG, self.rawdata, begin)
+
+    def handle_startendtag(self, tag: str, attrs: list[tuple[str, Optional[str]]]) -> None:
+        """A slash at its end closes no element of HTML."""
+        self.handle_starttag(tag, attrs)
+        if tag in self.CDATA_CONTENT_ELEMENTS:
+            self.set_cdata_mode(tag)
 
     def handle_endtag(self, tag: str) -> None:
         self.in_style = False

@@ -1,5 +1,5 @@
 -- The entries of what is known to be broken, and which of them stand for nothing.
-use Rattle.std.specs.Prelude.{◌≡◌, ◌==◌, ℕ, Bool, true, not, List, [], ◌∷◌, ◌++◌, filter, if◌then◌else◌, string_bytes}
+use Rattle.std.specs.Prelude.{◌≡◌, ◌==◌, ℕ, Bool, true, not, List, [], ◌∷◌, ◌++◌, drop, filter, if◌then◌else◌, string_bytes}
 use Rattle.std.specs.List.{list_any, flat_map}
 use Rattle.std.specs.Str.{trim}
 use Rattle.std.specs.Str.Lines.{lines}
@@ -23,9 +23,16 @@ entry_of text = if has_no_entry text then [] else text ∷ []
 abbrev pub entry_in : List ℕ → List (List ℕ)
 entry_in line = entry_of (trim (utf8_lossy line))
 
+-- what editors put in front of a text in UTF-8
+abbrev pub mark : List ℕ
+mark = 239 ∷ 187 ∷ 191 ∷ []
+
+abbrev pub without_mark : List ℕ → List ℕ
+without_mark bytes = if begins mark bytes then drop 3 bytes else bytes
+
 -- those of all lines
 abbrev pub entries_in : List ℕ → List (List ℕ)
-entries_in bytes = flat_map entry_in (lines bytes)
+entries_in bytes = flat_map entry_in (lines (without_mark bytes))
 
 -- the entries that none of the texts begins with
 abbrev pub unused : List (List ℕ) → List (List ℕ) → List (List ℕ)

@@ -3,7 +3,7 @@ ghost use Rattle.std.specs.Prelude.{◌≡◌, ◌∷◌, ◌++◌, [], IfOk, Ma
 ghost use Rattle.std.specs.List.{list_any};
 ghost use Rattle.crawl_sources.specs.Tallies.{pointed};
 ghost use Rattle.site_check.specs.Broken.{begins, is_ignored};
-ghost use Rattle.site_check.specs.Ignored.{entries_in, entry_in, entry_of, has_no_entry, unused};
+ghost use Rattle.site_check.specs.Ignored.{entries_in, entry_in, entry_of, has_no_entry, unused, without_mark};
 
 use crate::names::split_byte;
 use crate::shown::begins;
@@ -11,7 +11,7 @@ use crawl_web::{NoMemory, first_line};
 use std::alloc::Global;
 
 /// The entries that the bytes have, one a line: each stands for the targets that begin with it. A line that is empty or begins
-/// with `#` has none, and white space round an entry is no part of it.
+/// with `#` has none, and neither white space round an entry nor a byte-order mark at the front is part of one.
 ///
 /// # Errors
 /// Where a growth was refused.
@@ -19,12 +19,22 @@ pub fn read_ignores(alloc: Global, bytes: &[u8]) -> Result<Vec<String>, NoMemory
     ensures { IfOk result (λ entries. map string_bytes entries.items ≡ entries_in bytes.now) }
 {
     let mut entries = Vec::new(alloc);
-    let mut rest = bytes;
+    let mut rest = without_mark(bytes);
     'lines: while let Some((line, more)) = first_line(rest) {
         push_line(alloc, line, &mut entries)?;
         rest = more;
     }
     Ok(entries)
+}
+
+/// The bytes behind the byte-order mark, where they begin with one.
+fn without_mark(bytes: &[u8]) -> &[u8]
+    ensures { result.now ≡ without_mark bytes.now }
+{
+    match bytes.strip_prefix(&[239, 187, 191]) {
+        Some(rest) => rest,
+        None => bytes,
+    }
 }
 
 /// Appends the entry of a line, where it has one.
