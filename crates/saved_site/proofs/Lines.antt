@@ -48,6 +48,11 @@ fits_inner front text fit =
     let parts = and_parts (nat_le (front + length text) line_limit) _ fit in
     (and_parts (is_utf8 text) (list_all is_inner text) parts.1).1
 
+pub fits_utf8 : (front : ℕ) (text : List ℕ) → fits front text ≡ true → is_utf8 text ≡ true
+fits_utf8 front text fit =
+    let parts = and_parts (nat_le (front + length text) line_limit) _ fit in
+    (and_parts (is_utf8 text) (list_all is_inner text) parts.1).0
+
 -- a front, a text and a LF, with more behind them
 pub line_on : (front text rest : List ℕ) → (front ++ text ++ 10 ∷ []) ++ rest ≡ (front ++ text) ++ 10 ∷ rest
 line_on front text rest = append_assoc (front ++ text) (10 ∷ []) rest

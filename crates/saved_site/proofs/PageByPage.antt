@@ -125,7 +125,7 @@ pages_up : (last : List ℕ) (pages : List SitePage) → DoAscend last (map (λ 
 pages_up last [] up = tt
 pages_up last (page ∷ pages) up = (up.0, pages_up page.url pages up.1)
 
-all_taken : (last : List ℕ) (pages : List SitePage) → AscendsBehind last pages → ascending_behind last pages ≡ pages
+pub all_taken : (last : List ℕ) (pages : List SitePage) → AscendsBehind last pages → ascending_behind last pages ≡ pages
 all_taken last [] up = refl
 all_taken last (page ∷ pages) up =
     cond-true (is_behind last page.url) (page ∷ ascending_behind page.url pages) (ascending_behind last pages) up.0

@@ -1,6 +1,10 @@
 pub mod Below
 pub mod Errors
 pub mod Files
+pub mod Leads
+pub mod LinkTables
+pub mod Linked
+pub mod LinkedPages
 pub mod Meaning
 pub mod Pages
 pub mod Pieces

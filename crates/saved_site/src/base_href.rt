@@ -1,4 +1,6 @@
 //! What the links of a page mean whose base is given.
+ghost use Rattle.std.specs.Prelude.{◌≡◌, IfOk};
+
 use crate::cleaning::{is_web, scheme_of, trimmed, without_breaks};
 use crawl_keys::{Base, CanonUrl, KeyError};
 use std::alloc::{AllocError, Global};
@@ -77,7 +79,9 @@ pub(crate) fn meaning_of(alloc: Global, given: &Given, text: &[u8]) -> Result<Me
 }
 
 /// The base of the page at a URL.
-pub(crate) fn base_of(alloc: Global, url: &CanonUrl) -> Result<Base, AllocError> {
+pub(crate) fn base_of(alloc: Global, url: &CanonUrl) -> Result<Base, AllocError>
+    ensures { IfOk result (λ base. base ≡ url.now) }
+{
     match Base::new(alloc, url) {
         Ok(base) => Ok(base),
         Err(_) => Err(AllocError),

@@ -48,8 +48,8 @@ impl<'a> SiteFiles<'a> {
         })
     }
 
-    /// What its pages are made by.
-    pub(crate) fn given(&self) -> Given<'_>
+    /// What its pages are made by, and whether their links are looked up.
+    pub(crate) fn given(&self, is_linked: bool) -> Given<'_>
         ensures { result.top.now ≡ string_bytes self.now.site.top }
     {
         Given {
@@ -57,6 +57,7 @@ impl<'a> SiteFiles<'a> {
             top: self.site.top(),
             names: self.names,
             rules: self.rules,
+            is_linked,
         }
     }
 

@@ -2,7 +2,9 @@
 ghost use Rattle.std.specs.Prelude.{IfOk};
 ghost use Rattle.saved_site.specs.Printed.{HasPrinted};
 
+use crate::linked::Linker;
 use crate::make::Made;
+use crate::maker::Maker;
 use crate::notes::Note;
 use crate::page::SitePage;
 use crate::printer::Printer;
@@ -27,6 +29,10 @@ pub(crate) struct Beside {
     pub(crate) notes: Vec<Note>,
     pub(crate) anchors: Vec<PageAnchors>,
     pub(crate) places: Vec<LinkPlaces>,
+    /// The pages whose links are looked up.
+    pub(crate) linkers: Vec<Linker>,
+    /// How many bytes the web of all pages has, but for its header.
+    pub(crate) byte_count: usize,
     /// What is told of pages of a round that has not ended.
     told: Vec<Told>,
     /// Room for the lines of a page.
@@ -42,6 +48,8 @@ impl Beside {
             notes,
             anchors: Vec::new(alloc),
             places: Vec::new(alloc),
+            linkers: Vec::new(alloc),
+            byte_count: 0,
             told: Vec::new(alloc),
             room: Vec::new(alloc),
         }
@@ -84,6 +92,28 @@ impl Beside {
             self.told.push(Told { url, notes })?;
         }
         Ok(())
+    }
+
+    /// Adds what the makers of a round have looked up.
+    pub(crate) fn add_makers(&mut self, makers: Vec<Maker>) -> Result<(), AllocError> {
+        for maker in makers {
+            let (linker, summary) = maker.into_linked();
+            self.summary.join(summary);
+            if let Some(linker) = linker {
+                self.linkers.push(linker)?;
+            }
+        }
+        Ok(())
+    }
+
+    /// Sorts what stands beside the pages by their URLs, and the pages that did not come in order.
+    pub(crate) fn sort(&mut self) -> Result<(), AllocError> {
+        let places = &mut self.places;
+        places.sort_by(|a: &LinkPlaces, b: &LinkPlaces| a.url.as_str().cmp(b.url.as_str()))?;
+        let anchors = &mut self.anchors;
+        anchors.sort_by(|a: &PageAnchors, b: &PageAnchors| a.url.as_str().cmp(b.url.as_str()))?;
+        let late = &mut self.late;
+        late.sort_by(|a: &SitePage, b: &SitePage| a.url().as_str().cmp(b.url().as_str()))
     }
 
     /// Notes what is told of the pages of a round, in the order of their URLs.

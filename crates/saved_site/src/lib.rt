@@ -19,6 +19,7 @@ mod indices;
 mod kept;
 mod kinds;
 mod link_lines;
+mod linked;
 mod make;
 mod maker;
 mod making;
@@ -43,9 +44,11 @@ pub use body::Body;
 pub use error::SiteError;
 pub use files::SiteFiles;
 pub use link_lines::LinkLines;
+pub use linked::LinkedPages;
 pub use notes::{Left, Note};
 pub use on_disk::{
-    FolderNames, folder_body, folder_files_web, folder_names, folder_web, folder_web_of,
+    FolderNames, folder_body, folder_files_pages, folder_files_web, folder_names, folder_web,
+    folder_web_of,
 };
 pub use page::{SitePage, Under};
 pub use places::{TextPlace, text_places};
@@ -54,4 +57,6 @@ pub use site::Rules;
 pub use targets::Target;
 pub use text::LineText;
 pub use texts::LinkCounts;
-pub use web::{LinkPlaces, PageAnchors, SiteNames, Summary, Web, files_web, site_web};
+pub use web::{
+    LinkPlaces, LinkedSite, PageAnchors, SiteNames, Summary, Web, files_pages, files_web, site_web,
+};

@@ -1,7 +1,9 @@
 //! The lines of a page's links.
-ghost use Rattle.std.specs.Prelude.{◌≡◌, ◌∷◌, ◌++◌, [], true, IfOk, OnOk, OnErr};
-ghost use Rattle.saved_site.specs.Texts.{fits, all_fit, link_line, link_lines};
+ghost use Rattle.std.specs.Prelude.{◌≡◌, ◌<◌, ◌∷◌, ◌++◌, [], true, drop, length, IfOk, IfSome, MatchOption, OnOk, OnErr};
+ghost use Rattle.saved_site.specs.Texts.{fits, all_fit, link_line, link_lines, texts_in};
 
+use crate::text::LINK_FRONT;
+use crawl_web::first_line;
 use std::alloc::{AllocError, Global};
 use std::marker::Model;
 
@@ -77,4 +79,24 @@ fn push_line(text: &[u8], lines: &mut Vec<u8>) -> Result<(), AllocError>
     lines.extend_from_slice(text)?;
     lines.push(b'\n')?;
     Ok(())
+}
+
+/// The text of the first of these lines, and the lines behind it.
+pub(crate) fn next_text(lines: &[u8]) -> Option<(&str, &[u8])>
+    requires { all_fit (texts_in lines.now) ≡ true }
+    ensures next { MatchOption result (texts_in lines.now ≡ []) (λ x. texts_in lines.now ≡ x.0.now ∷ texts_in x.1.now) }
+    ensures shorter { IfSome result (λ x. length x.1.now < length lines.now) }
+{
+    let (line, more) = first_line(lines)?;
+    match simdutf8::basic::from_utf8(behind_front(line)) {
+        Ok(text) => Some((text, more)),
+        Err(_) => unreachable!(),
+    }
+}
+
+/// What stands behind `link ` in a line.
+fn behind_front(line: &[u8]) -> &[u8]
+    ensures { result.now ≡ drop 5 line.now }
+{
+    line.get(LINK_FRONT..).unwrap_or(&[])
 }

@@ -30,6 +30,8 @@ pub(crate) struct Given<'a> {
     pub(crate) top: &'a str,
     pub(crate) names: &'a [String],
     pub(crate) rules: &'a Rules,
+    /// Whether the links of its pages are looked up, and no web is printed of them.
+    pub(crate) is_linked: bool,
 }
 
 impl Given<'_> {
@@ -58,8 +60,10 @@ pub(crate) struct Made {
     /// How many bytes stand under every other spelling of that page too, at least.
     pub(crate) repeated: usize,
     pub(crate) url: CanonUrl,
-    /// The page, unless its URL is too long.
+    /// The page, unless its URL is too long or its links are looked up.
     pub(crate) page: Option<SitePage>,
+    /// How many bytes the page has in a web, at least.
+    pub(crate) byte_count: usize,
     pub(crate) spellings: Vec<Spelling>,
     pub(crate) counts: LinkCounts,
     /// Its anchors, where they are wanted and the page is a document.
@@ -265,6 +269,7 @@ impl Made {
             entry: task.entry,
             repeated: 0,
             url: task.url.clone()?,
+            byte_count: byte_count_of(&page),
             page,
             spellings,
             counts,
@@ -273,12 +278,11 @@ impl Made {
             notes,
         })
     }
+}
 
-    /// How many bytes its page has in a web, at least.
-    pub(crate) fn byte_count(&self) -> usize {
-        match &self.page {
-            Some(page) => page.byte_count(),
-            None => 0,
-        }
+fn byte_count_of(page: &Option<SitePage>) -> usize {
+    match page {
+        Some(page) => page.byte_count(),
+        None => 0,
     }
 }

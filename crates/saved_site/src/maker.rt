@@ -2,8 +2,10 @@
 use crate::body::Body;
 use crate::contents::Contents;
 use crate::found_links::Found;
+use crate::linked::Linker;
 use crate::make::{Given, Made, Task, page_of};
 use crate::notes::Note;
+use crate::web::Summary;
 use std::alloc::{AllocError, Global};
 use std::sync::atomic::{AtomicUsize, Ordering};
 use std::thread;
@@ -11,6 +13,9 @@ use std::thread::Threads;
 
 /// About how many bytes of documents and of lines are in a batch.
 const BATCH_LENGTH: usize = 1 << 24;
+
+/// So many tasks are taken at once, whose pages mostly lie in one folder.
+const BLOCK: usize = 8;
 
 /// Which tasks of a batch are taken by threads: the first of them, in their order.
 #[derive(Drop)]
@@ -29,12 +34,12 @@ impl Taken {
         }
     }
 
-    /// The number of the next one, unless the batch has enough.
+    /// The number of the first of the next ones, unless the batch has enough.
     fn next(&self) -> Option<usize> {
         if self.byte_count.load(Ordering::SeqCst) > BATCH_LENGTH {
             return None;
         }
-        Some(self.count.fetch_add(1, Ordering::SeqCst))
+        Some(self.count.fetch_add(BLOCK, Ordering::SeqCst))
     }
 
     /// Counts bytes.
@@ -58,17 +63,37 @@ pub(crate) struct Maker {
     found: Found,
     made: Vec<Made>,
     unread: Vec<Unread>,
+    /// Its pages so far and what they have, where their links are looked up.
+    linker: Option<Linker>,
+    summary: Summary,
 }
 
 impl Maker {
-    fn new(alloc: Global) -> Maker {
-        Maker {
+    fn new(alloc: Global, given: Given<'_>) -> Result<Maker, AllocError> {
+        let linker = if given.is_linked {
+            Some(Linker::new(alloc, given.top)?)
+        } else {
+            None
+        };
+        Ok(Maker {
             alloc,
             body: Body::new(alloc),
             found: Found::new(alloc),
             made: Vec::new(alloc),
             unread: Vec::new(alloc),
-        }
+            linker,
+            summary: Summary::default(),
+        })
+    }
+
+    /// What it has looked up.
+    pub(crate) fn into_linked(self) -> (Option<Linker>, Summary) {
+        let Maker {
+            linker,
+            summary,
+            ..
+        } = self;
+        (linker, summary)
     }
 
     /// Makes the pages of the tasks that it takes, until there is none or the batch has enough. A long file keeps one thread alone.
@@ -81,17 +106,35 @@ impl Maker {
     ) -> Result<Maker, AllocError> {
         let mut maker = self;
         for _ in 0..tasks.len() {
-            let Some(number) = taken.next() else {
+            let Some(first) = taken.next() else {
                 break;
             };
+            if first >= tasks.len() {
+                break;
+            }
+            maker.make_block(given, contents, tasks, first, taken)?;
+        }
+        Ok(maker)
+    }
+
+    /// Makes the pages of the tasks of a block, whose first has this number.
+    fn make_block<C: Contents>(
+        &mut self,
+        given: Given<'_>,
+        contents: &C,
+        tasks: &[Task],
+        first: usize,
+        taken: &Taken,
+    ) -> Result<(), AllocError> {
+        for number in first..first.saturating_add(BLOCK) {
             let Some(task) = tasks.get(number) else {
                 break;
             };
-            maker.read(given, contents, number, task)?;
-            taken.add(maker.body.as_slice().len());
-            taken.add(maker.make(given, number, task)?);
+            self.read(given, contents, number, task)?;
+            taken.add(self.body.as_slice().len());
+            taken.add(self.make(given, number, task)?);
         }
-        Ok(maker)
+        Ok(())
     }
 
     /// Reads the file of the task with this number.
@@ -115,9 +158,25 @@ impl Maker {
         let body = self.body.as_slice();
         let mut page = page_of(self.alloc, given, task, body, &mut self.found)?;
         page.number = number;
-        let byte_count = page.byte_count();
+        let byte_count = page.byte_count;
+        self.link(&mut page)?;
         self.made.push(page)?;
         Ok(byte_count)
+    }
+
+    /// Looks up where a page leads, where that is wanted. The page is taken then, and counted.
+    fn link(&mut self, made: &mut Made) -> Result<(), AllocError> {
+        let Some(linker) = self.linker.take() else {
+            return Ok(());
+        };
+        match made.page.take() {
+            Some(page) => {
+                self.summary.add(&page, made.counts);
+                self.linker = Some(linker.with_page(&page)?);
+            }
+            None => self.linker = Some(linker),
+        }
+        Ok(())
     }
 }
 
@@ -132,21 +191,29 @@ pub(crate) struct Batch {
 
 impl Batch {
     /// One without pages, before so many threads make the first.
-    pub(crate) fn before(alloc: Global, threads: usize) -> Result<Batch, AllocError> {
-        let mut makers = Vec::new(alloc);
+    pub(crate) fn before(
+        alloc: Global,
+        given: Given<'_>,
+        threads: usize,
+    ) -> Result<Batch, AllocError> {
+        let mut batch = Batch::new(alloc);
         for _ in 0..threads {
-            makers.push(Maker::new(alloc))?;
+            batch.makers.push(Maker::new(alloc, given)?)?;
         }
-        Ok(Batch {
+        Ok(batch)
+    }
+
+    fn new(alloc: Global) -> Batch {
+        Batch {
             made: Vec::new(alloc),
             notes: Vec::new(alloc),
-            makers,
-        })
+            makers: Vec::new(alloc),
+        }
     }
 
     /// What threads made.
     fn of(alloc: Global, parts: Vec<Result<Maker, AllocError>>) -> Result<Batch, AllocError> {
-        let mut batch = Batch::before(alloc, 0)?;
+        let mut batch = Batch::new(alloc);
         let mut unread: Vec<Unread> = Vec::new(alloc);
         for part in parts {
             let mut maker = part?;

@@ -14,7 +14,7 @@ pub(crate) struct Making {
     /// The pages that are to be made yet.
     ahead: NewTasks,
     /// How many bytes the pages that are made have in the web.
-    byte_count: usize,
+    pub(crate) byte_count: usize,
     /// How many pages are other spellings.
     pub(crate) spellings: u64,
 }
@@ -40,7 +40,7 @@ impl Making {
         ensures { IfErr result IsOfWeb }
     {
         for one in made.iter() {
-            self.byte_count = self.byte_count.saturating_add(one.byte_count());
+            self.byte_count = self.byte_count.saturating_add(one.byte_count);
         }
         if self.byte_count > WEB_LIMIT {
             return Err(SiteError::TooLarge);

@@ -3,6 +3,7 @@ ghost use Rattle.std.specs.IoError.{error_kind};
 ghost use Rattle.std.specs.Prelude.{◌≡◌, IfErr, IfOk, alloc_error, string_bytes};
 ghost use Rattle.saved_site.specs.Below.{IsWebAt, IsWebBelow};
 ghost use Rattle.saved_site.specs.Errors.{IsOfFiles, IsOfWeb};
+ghost use Rattle.saved_site.specs.Linked.{IsSiteSource};
 ghost use Rattle.saved_site.specs.Meaning.{IsSiteWeb};
 
 use crate::body::Body;
@@ -14,7 +15,7 @@ use crate::make::{Given, Task};
 use crate::notes::{Left, Note};
 use crate::site::{Rules, split_name};
 use crate::walk::entries_below;
-use crate::web::{SiteNames, Web, web_of};
+use crate::web::{LinkedSite, SiteNames, Web, pages_of, web_of};
 use std::alloc::{AllocError, Global};
 use std::io::ErrorKind;
 use std::rt::Files;
@@ -106,7 +107,26 @@ pub fn folder_files_web<R: Files<File: Send, Dir: Send> + Threads + Sync>(
     ensures error { IfErr result IsOfWeb }
 {
     let contents = OnDisk { rt, alloc, folder };
-    web_of(rt, alloc, files, seeds, told, &contents)
+    web_of(rt, files, seeds, told, &contents)
+}
+
+/// The pages of that saved web, whose bytes are not made.
+///
+/// # Errors
+/// Those of `folder_files_web`.
+pub fn folder_files_pages<R: Files<File: Send, Dir: Send> + Threads + Sync>(
+    rt: &R,
+    alloc: Global,
+    folder: &str,
+    files: &SiteFiles<'_>,
+    seeds: &[String],
+    told: Vec<Note>,
+) -> Result<LinkedSite, SiteError>
+    ensures source { IfOk result (λ site. IsSiteSource (string_bytes files.now.site.top) site.pages) }
+    ensures error { IfErr result IsOfWeb }
+{
+    let contents = OnDisk { rt, alloc, folder };
+    pages_of(rt, files, seeds, told, &contents)
 }
 
 /// Reads a file below a folder into a body without bytes.

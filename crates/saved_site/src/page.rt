@@ -44,6 +44,13 @@ impl SitePage {
         &self.url
     }
 
+    /// What stands under it.
+    pub fn under(&self) -> &Under
+        ensures { result.now ≡ self.now.under }
+    {
+        &self.under
+    }
+
     /// Whether it moved.
     pub fn is_moved(&self) -> bool {
         matches!(self.under, Under::Moved(_))

@@ -34,6 +34,9 @@ pub fn print_web(alloc: Global, pages: &[SitePage]) -> Result<Vec<u8>, AllocErro
     Ok(web)
 }
 
+/// How many bytes the header of a web has.
+pub(crate) const HEADER_LENGTH: usize = 11;
+
 /// The header of a web.
 pub(crate) fn header(alloc: Global) -> Result<Vec<u8>, AllocError>
     ensures { IfOk result (λ web. web.items ≡ web_text []) }

@@ -38,6 +38,7 @@ pub(crate) fn make_all<R: Threads + Sync, C: Contents + Sync>(
         tasks = making.next_tasks()?;
     }
     kept.beside.summary.spellings = making.spellings;
+    kept.beside.byte_count = making.byte_count;
     Ok(kept)
 }
 
@@ -55,8 +56,9 @@ fn make_round<R: Threads + Sync, C: Contents + Sync>(
     ensures error { IfErr result IsOfWeb }
 {
     let (last, kept) = make_batches(rt, given, contents, tasks, making, before)?;
-    let Batch { made, .. } = last;
+    let Batch { made, makers, .. } = last;
     let mut kept = kept.push_all(given.top, made)?;
+    kept.beside.add_makers(makers)?;
     kept.beside.end_round()?;
     Ok(kept)
 }
@@ -77,7 +79,7 @@ fn make_batches<R: Threads + Sync, C: Contents + Sync>(
 {
     let mut kept = before;
     let alloc = *kept.beside.notes.allocator();
-    let mut batch = Batch::before(alloc, given.rules.threads.min(tasks.len()).max(1))?;
+    let mut batch = Batch::before(alloc, given, given.rules.threads.min(tasks.len()).max(1))?;
     let mut rest = tasks;
     'batches: for _ in 0..tasks.len() {
         if rest.is_empty() {

@@ -2,6 +2,7 @@
 ghost use Rattle.std.specs.Prelude.{IfErr, IfOk, string_bytes};
 ghost use Rattle.saved_site.specs.Below.{IsWebAt, IsWebBelow};
 ghost use Rattle.saved_site.specs.Errors.{IsOfFiles, IsOfWeb};
+ghost use Rattle.saved_site.specs.Linked.{IsSiteSource};
 ghost use Rattle.saved_site.specs.Meaning.{IsSiteWeb};
 ghost use Rattle.saved_site.specs.Printed.{HasPrinted};
 
@@ -10,9 +11,12 @@ use crate::contents::{Contents, InMemory};
 use crate::error::SiteError;
 use crate::files::SiteFiles;
 use crate::kept::{Beside, Kept};
+use crate::linked::LinkedPages;
+use crate::make::Given;
 use crate::making::Making;
 use crate::notes::Note;
 use crate::page::SitePage;
+use crate::print::HEADER_LENGTH;
 use crate::printer::Printer;
 use crate::rounds::make_all;
 use crate::site::Rules;
@@ -36,6 +40,18 @@ pub struct Web {
     /// The anchors of its documents where the rules want them, ascending by URL.
     pub anchors: Vec<PageAnchors>,
     /// Where the links of its documents stand where the rules want that, ascending by URL.
+    pub places: Vec<LinkPlaces>,
+}
+
+/// A site whose pages a crawl takes from memory.
+#[derive(Drop)]
+pub struct LinkedSite {
+    /// Its pages.
+    pub pages: LinkedPages,
+    /// The same as a saved web of these pages has beside its bytes.
+    pub summary: Summary,
+    pub notes: Vec<Note>,
+    pub anchors: Vec<PageAnchors>,
     pub places: Vec<LinkPlaces>,
 }
 
@@ -111,13 +127,30 @@ pub fn files_web<R: Threads + Sync>(
     ensures error { IfErr result IsOfWeb }
 {
     let contents = InMemory { bodies };
-    web_of(rt, alloc, files, seeds, Vec::new(alloc), &contents)
+    web_of(rt, files, seeds, Vec::new(alloc), &contents)
+}
+
+/// The pages of that saved web, whose bytes are not made.
+///
+/// # Errors
+/// Those of `files_web`.
+pub fn files_pages<R: Threads + Sync>(
+    rt: &R,
+    alloc: Global,
+    files: &SiteFiles<'_>,
+    seeds: &[String],
+    bodies: &[Vec<u8>],
+) -> Result<LinkedSite, SiteError>
+    ensures source { IfOk result (λ site. IsSiteSource (string_bytes files.now.site.top) site.pages) }
+    ensures error { IfErr result IsOfWeb }
+{
+    let contents = InMemory { bodies };
+    pages_of(rt, files, seeds, Vec::new(alloc), &contents)
 }
 
 /// The saved web of a site whose files are read, and what was told of their names before.
 pub(crate) fn web_of<R: Threads + Sync, C: Contents + Sync>(
     rt: &R,
-    alloc: Global,
     files: &SiteFiles<'_>,
     seeds: &[String],
     told: Vec<Note>,
@@ -127,14 +160,46 @@ pub(crate) fn web_of<R: Threads + Sync, C: Contents + Sync>(
     ensures below { IfOk result (λ web. IsWebBelow (string_bytes files.now.site.top) web.bytes.items) }
     ensures error { IfErr result IsOfWeb }
 {
-    let given = files.given();
+    let given = files.given(false);
+    let kept = all_kept(rt, given, files, seeds, told, contents)?;
+    finish(given.top, kept)
+}
+
+/// The pages of that saved web.
+pub(crate) fn pages_of<R: Threads + Sync, C: Contents + Sync>(
+    rt: &R,
+    files: &SiteFiles<'_>,
+    seeds: &[String],
+    told: Vec<Note>,
+    contents: &C,
+) -> Result<LinkedSite, SiteError>
+    ensures source { IfOk result (λ site. IsSiteSource (string_bytes files.now.site.top) site.pages) }
+    ensures error { IfErr result IsOfWeb }
+{
+    let given = files.given(true);
+    let kept = all_kept(rt, given, files, seeds, told, contents)?;
+    finish_linked(given.top, kept)
+}
+
+/// All that is kept of a site whose files are read.
+fn all_kept<R: Threads + Sync, C: Contents + Sync>(
+    rt: &R,
+    given: Given<'_>,
+    files: &SiteFiles<'_>,
+    seeds: &[String],
+    told: Vec<Note>,
+    contents: &C,
+) -> Result<Kept, SiteError>
+    ensures web { IfOk result (λ kept. HasPrinted given.entry.top.now kept.web) }
+    ensures error { IfErr result IsOfWeb }
+{
+    let alloc = *told.allocator();
     let mut beside = Beside::new(alloc, told);
     files.tell_doubles(&mut beside.notes)?;
     let making = Making::new(alloc, given, seeds)?;
     let web = Printer::new(alloc)?;
     let none = Kept { web, beside };
-    let kept = make_all(rt, given, contents, making, none)?;
-    finish(given.top, kept)
+    make_all(rt, given, contents, making, none)
 }
 
 fn finish(top: &str, kept: Kept) -> Result<Web, SiteError>
@@ -143,22 +208,18 @@ fn finish(top: &str, kept: Kept) -> Result<Web, SiteError>
     ensures below { IfOk result (λ web. IsWebBelow top.now web.bytes.items) }
     ensures error { IfErr result IsOfWeb }
 {
-    let Kept { web, beside } = kept;
+    let Kept { web, mut beside } = kept;
+    beside.sort()?;
     let Beside {
-        mut late,
+        late,
         summary,
         notes,
-        mut anchors,
-        mut places,
+        anchors,
+        places,
         ..
     } = beside;
-    places.sort_by(|a: &LinkPlaces, b: &LinkPlaces| a.url.as_str().cmp(b.url.as_str()))?;
-    anchors.sort_by(|a: &PageAnchors, b: &PageAnchors| a.url.as_str().cmp(b.url.as_str()))?;
-    late.sort_by(|a: &SitePage, b: &SitePage| a.url().as_str().cmp(b.url().as_str()))?;
     let bytes = web.into_web(top, late.as_slice())?;
-    if bytes.len() > WEB_LIMIT {
-        return Err(SiteError::TooLarge);
-    }
+    check_length(bytes.len())?;
     Ok(Web {
         bytes,
         summary,
@@ -168,10 +229,53 @@ fn finish(top: &str, kept: Kept) -> Result<Web, SiteError>
     })
 }
 
+/// The same of the pages whose links are looked up. Their web would have so many bytes.
+fn finish_linked(top: &str, kept: Kept) -> Result<LinkedSite, SiteError>
+    ensures source { IfOk result (λ site. IsSiteSource top.now site.pages) }
+    ensures error { IfErr result IsOfWeb }
+{
+    let Kept { mut beside, .. } = kept;
+    beside.sort()?;
+    let Beside {
+        summary,
+        notes,
+        anchors,
+        places,
+        linkers,
+        byte_count,
+        ..
+    } = beside;
+    check_length(byte_count.saturating_add(HEADER_LENGTH))?;
+    let pages = LinkedPages::new(*notes.allocator(), top, linkers)?;
+    Ok(LinkedSite {
+        pages,
+        summary,
+        notes,
+        anchors,
+        places,
+    })
+}
+
+/// Whether a web has no more bytes than a crawl takes.
+fn check_length(byte_count: usize) -> Result<(), SiteError>
+    ensures { IfErr result IsOfWeb }
+{
+    if byte_count > WEB_LIMIT {
+        return Err(SiteError::TooLarge);
+    }
+    Ok(())
+}
+
 impl Summary {
     pub(crate) fn add(&mut self, page: &SitePage, counts: LinkCounts) {
         self.pages = self.pages.saturating_add(1);
         self.moved = self.moved.saturating_add(u64::from(page.is_moved()));
         self.links.add(counts);
+    }
+
+    pub(crate) fn join(&mut self, more: Summary) {
+        self.pages = self.pages.saturating_add(more.pages);
+        self.moved = self.moved.saturating_add(more.moved);
+        self.links.add(more.links);
     }
 }

@@ -27,6 +27,14 @@ impl SitePage {
         self.under.print(web)
     }
 
+    /// It stands in lines.
+    pub(crate) fn stands(&self)
+        ensures { IsPage self.now }
+    {
+        let _ = self.url.as_str();
+        self.under.stands();
+    }
+
     /// How many bytes its lines have, as far as they can be counted.
     #[tactic(auto, using(crate::proofs::PageLengths::page_length))]
     pub(crate) fn byte_count(&self) -> usize
@@ -57,6 +65,19 @@ impl Under {
         match self {
             Under::Links(links) => web.extend_from_slice(links.as_bytes()),
             Under::Moved(text) => print_moved(text.as_bytes(), web),
+        }
+    }
+
+    fn stands(&self)
+        ensures { fits_under self.now ≡ true }
+    {
+        match self {
+            Under::Links(links) => {
+                let _ = links.as_bytes();
+            }
+            Under::Moved(text) => {
+                let _ = text.as_bytes();
+            }
         }
     }
 

@@ -1,0 +1,74 @@
+-- One page more of those whose links are the indices of URLs.
+use Rattle.std.proofs.Common.{◌≡◌, ℕ, Bool, true, false, List, [], ◌∷◌, ◌++◌, is_some, refl, sym, ap, subst, ◌∙◌}
+use Rattle.std.specs.Bool.{if◌then◌else◌}
+use Rattle.std.proofs.lemmas.Bool.{cond-true}
+use Rattle.std.proofs.lemmas.List.{map_push}
+use Rattle.std.proofs.lemmas.List.Elements.{All-push}
+use Rattle.crawl_web.specs.Ahead.{KeepIndices}
+use Rattle.crawl_web.specs.declared.page.Page.{Page}
+use Rattle.hash_index.specs.Lists.{index_of}
+use Rattle.saved_site.proofs.LedPages.{all_led_still, has_found, same_found}
+use Rattle.saved_site.specs.Linked.{PageFound, page_with, found_of, is_kept, IsKept, AreKept, with_found}
+use Rattle.saved_site.specs.LinkedPages.{page_led, found_in, found_all, IsLed, AreLed, urls_of}
+use Rattle.saved_site.specs.Meaning.{under_page}
+use Rattle.saved_site.specs.Pages.{IsPage}
+use Rattle.saved_site.specs.declared.linked.linked_page.LinkedPage.{LinkedPage}
+use Rattle.saved_site.specs.declared.page.SitePage.{SitePage}
+
+abbrev pub with_one : List LinkedPage → LinkedPage → List LinkedPage
+with_one list one = if is_some (index_of (urls_of list) one.url) then list else list ++ one ∷ []
+
+pub led_one : (old new : List (List ℕ)) (list longer : List LinkedPage) (one : LinkedPage) → longer ≡ with_one list one → KeepIndices old new → AreLed old list → IsLed new one.leads → AreLed new longer
+led_one old new list longer one is keep led own =
+    subst (AreLed new) (sym is) (by_has (is_some (index_of (urls_of list) one.url)) (all_led_still old new list keep led))
+  where
+    by_has : (b : Bool) → AreLed new list → AreLed new (if b then list else list ++ one ∷ [])
+    by_has true all = all
+    by_has false all = All-push (λ (p : LinkedPage). IsLed new p.leads) list one all own
+
+found_one : (urls : List (List ℕ)) (list : List LinkedPage) (one : LinkedPage) (b : Bool) → found_all urls (if b then list else list ++ one ∷ []) ≡ (if b then found_all urls list else found_all urls list ++ found_in urls one ∷ [])
+found_one urls list one true = refl
+found_one urls list one false = map_push (found_in urls) list one
+
+-- what is found of them with one more
+pub found_with : (top : List ℕ) (old new : List (List ℕ)) (list longer : List LinkedPage) (one : LinkedPage) (page : SitePage) → longer ≡ with_one list one → KeepIndices old new → AreLed old list → found_in new one ≡ found_of page → is_kept top page.url ≡ true → found_all new longer ≡ with_found top (found_all old list) (found_of page)
+found_with top old new list longer one page is keep led own kept =
+    let pages : List PageFound = found_all old list in
+    let url : one.url ≡ page.url = ap (λ (f : PageFound). f.0) own in
+    let has : is_some (index_of (urls_of list) one.url) ≡ is_some (page_with pages page.url) =
+    sym (has_found old list one.url) ∙ ap (λ (u : List ℕ). is_some (page_with pages u)) url in
+    ap (found_all new) is
+    ∙ found_one new list one (is_some (index_of (urls_of list) one.url))
+    ∙ ap (λ (b : Bool). if b then found_all new list else found_all new list ++ found_in new one ∷ []) has
+    ∙ ap (λ (fs : List PageFound). if is_some (page_with pages page.url) then fs else fs ++ found_in new one ∷ []) (same_found old new list keep led)
+    ∙ ap (λ (f : PageFound). if is_some (page_with pages page.url) then pages else pages ++ f ∷ []) own
+    ∙ sym (cond-true (is_kept top page.url) _ _ kept)
+
+pub kept_with : (top : List ℕ) (pages longer : List PageFound) (page : SitePage) → longer ≡ with_found top pages (found_of page) → AreKept top pages → IsPage page → is_kept top page.url ≡ true → AreKept top longer
+kept_with top pages longer page is all owes kept =
+    let own : IsKept top (found_of page) = record { page = page; is = refl; owes = owes; kept = kept } in
+    subst (AreKept top) (sym (is ∙ cond-true (is_kept top page.url) _ _ kept)) (by_has (is_some (page_with pages page.url)) own)
+  where
+    by_has : (b : Bool) → IsKept top (found_of page) → AreKept top (if b then pages else pages ++ found_of page ∷ [])
+    by_has true own = all
+    by_has false own = All-push (IsKept top) pages (found_of page) all own
+
+-- what is known of them with one more
+pub record LinkedOne (top : List ℕ) (old new : List (List ℕ)) (list longer : List LinkedPage) (page : SitePage) : Type 0 where
+  pub led : AreLed new longer
+  pub kept : AreKept top (found_all new longer)
+  pub view : found_all new longer ≡ with_found top (found_all old list) (found_of page)
+
+pub linked_one : (top : List ℕ) (old turned new : List (List ℕ)) (list longer : List LinkedPage) (one : LinkedPage) (page : SitePage) (base : List ℕ) → longer ≡ with_one list one → turned ≡ old → KeepIndices turned new → AreLed old list → AreKept top (found_all old list)
+    → one.url ≡ page.url → base ≡ page.url → page_led new one.leads ≡ under_page base page.under → IsLed new one.leads → IsPage page → is_kept top page.url ≡ true → LinkedOne top old new list longer page
+linked_one top old turned new list longer one page base is same keep_turned led all url base_is page_is own owes kept =
+    let keep : KeepIndices old new = subst (λ (u : List (List ℕ)). KeepIndices u new) same keep_turned in
+    let found : found_in new one ≡ found_of page =
+    ap (λ (p : Page). (one.url, p)) (page_is ∙ ap (λ (b : List ℕ). under_page b page.under) base_is)
+    ∙ ap (λ (u : List ℕ). (u, under_page page.url page.under)) url in
+    let view = found_with top old new list longer one page is keep led found kept in
+    record {
+      led = led_one old new list longer one is keep led own;
+      kept = kept_with top (found_all old list) (found_all new longer) page view all owes kept;
+      view = view;
+    }

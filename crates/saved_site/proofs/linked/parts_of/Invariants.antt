@@ -1,0 +1,6 @@
+use Rattle.std.specs.List.{flat_map}
+use Rattle.saved_site.specs.Linked.{AreKept}
+use Rattle.saved_site.proofs.linked.parts_of.Given as goal
+
+abbrev pub invariant-linkers : goal.invariant-linkers
+invariant-linkers l = AreKept l.top (flat_map (λ part. part) l.parts.items)

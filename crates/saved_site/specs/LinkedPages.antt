@@ -1,0 +1,40 @@
+-- Pages whose links are the indices of URLs.
+use Rattle.std.specs.Prelude.{ℕ, List, All, map, slice_get}
+use Rattle.std.specs.List.{filter_map}
+use Rattle.hash_index.specs.Index.{IsIndexOf}
+use Rattle.hash_order.specs.HashOrder.{hash_of}
+use Rattle.crawl_web.specs.Ahead.{LeadTo}
+use Rattle.crawl_web.specs.declared.page.Page.{Page}
+use Rattle.crawl_web.specs.declared.page.Page.TheVariants as page
+use Rattle.saved_site.specs.Linked.{PageFound}
+use Rattle.saved_site.specs.declared.linked.linked_page.LinkedPage.{LinkedPage}
+use Rattle.saved_site.specs.declared.linked.linked_page.Leads.{Leads}
+use Rattle.saved_site.specs.declared.linked.linked_page.Leads.TheVariants.{Links, Moved}
+use Rattle.saved_site.specs.declared.linked.page_list.PageList.{PageList}
+
+-- the page, whose links are the URLs at the indices
+abbrev pub page_led : List (List ℕ) → Leads → Page
+page_led urls (Links indices skipped) = page.Found (filter_map (slice_get urls) indices.items) skipped
+page_led urls (Moved to) = page.Moved to
+
+abbrev pub found_in : List (List ℕ) → LinkedPage → PageFound
+found_in urls page = (page.url, page_led urls page.leads)
+
+-- what is found of each
+abbrev pub found_all : List (List ℕ) → List LinkedPage → List PageFound
+found_all urls pages = map (found_in urls) pages
+
+-- a URL stands at each index
+abbrev pub IsLed : List (List ℕ) → Leads → Type 0
+IsLed urls (Links indices skipped) = (links : List (List ℕ)) × LeadTo urls indices.items links
+IsLed urls (Moved to) = Unit {0}
+
+abbrev pub AreLed : List (List ℕ) → List LinkedPage → Type 0
+AreLed urls pages = All (λ page. IsLed urls page.leads) pages
+
+abbrev pub urls_of : List LinkedPage → List (List ℕ)
+urls_of pages = map (λ page. page.url) pages
+
+-- the index is that of the pages' URLs
+abbrev pub IsPageList : PageList → Type 0
+IsPageList pages = IsIndexOf hash_of (urls_of pages.list.items) pages.index

@@ -1,0 +1,101 @@
+//! The pages of a site as a source of a crawl, whose links are the indices of URLs.
+ghost use Rattle.std.specs.Prelude.{◌≡◌, IfOk, IfErr};
+ghost use Rattle.std.specs.List.{flat_map};
+ghost use Rattle.saved_site.specs.Linked.{AreKept, IsSiteSource, page_with};
+
+mod known_texts;
+mod link_table;
+mod linked_page;
+mod linker;
+mod page_list;
+mod part;
+mod url_list;
+
+use crawl_keys::CanonUrl;
+use crawl_web::{FetchError, Page, SessionFetch};
+pub(crate) use linker::Linker;
+use part::Part;
+use std::alloc::{AllocError, Global};
+use std::marker::Model;
+
+/// The pages of a site, of whose links the indices of their URLs are kept.
+#[derive(Drop)]
+pub struct LinkedPages {
+    /// Those that a thread has made, each part with URLs of its own.
+    parts: Vec<Part>,
+}
+
+// Contracts see the page at each URL.
+impl Model for LinkedPages {
+    ghost use Rattle.std.specs.Prelude.{ℕ, List};
+    ghost use Rattle.std.specs.List.{flat_map};
+    ghost use Rattle.crawl_web.specs.declared.page.Page.{Page};
+
+    ghost Value = { List (List ℕ × Page) };
+
+    ghost view = { λ pages. flat_map (λ part. part) pages.parts.items };
+}
+
+impl LinkedPages {
+    /// The pages of the site with this top, which threads have made.
+    #[tactic(auto, using(crate::proofs::SiteSource::site_source))]
+    pub(crate) fn new(
+        alloc: Global,
+        top: &str,
+        linkers: Vec<Linker>,
+    ) -> Result<LinkedPages, AllocError>
+        ensures { IfOk result (IsSiteSource top.now) }
+    {
+        let parts = parts_of(alloc, top, linkers)?;
+        Ok(LinkedPages { parts })
+    }
+}
+
+/// The pages that threads have made. Those of another site are left out.
+fn parts_of(alloc: Global, top: &str, linkers: Vec<Linker>) -> Result<Vec<Part>, AllocError>
+    ensures { IfOk result (λ parts. AreKept top.now (flat_map (λ part. part) parts.items)) }
+{
+    let mut parts = Vec::with_capacity(alloc, linkers.len())?;
+    'linkers: for linker in linkers {
+        if linker.is_of(top) {
+            parts.push(linker.into_part())?;
+        }
+    }
+    Ok(parts)
+}
+
+/// The page at the URL in the first part that has one.
+fn first_page(alloc: Global, parts: &[Part], url: &CanonUrl) -> Result<Option<Page>, AllocError>
+    ensures { IfOk result (λ page. page ≡ page_with (flat_map (λ part. part) parts.now) url.now) }
+{
+    'parts: for part in parts {
+        match part.page(alloc, url)? {
+            Some(page) => return Ok(Some(page)),
+            None => {}
+        }
+    }
+    Ok(None)
+}
+
+impl SessionFetch for LinkedPages {
+    ghost use Rattle.saved_site.specs.Linked.{page_at};
+
+    type Session = ();
+
+    ghost meaning = { λ source. page_at source };
+
+    ghost is_of = { λ _ _. Unit {0} };
+
+    fn open_session(&self, _alloc: Global, _among: u32) {}
+
+    fn fetch_in(&self, alloc: Global, _session: &mut (), url: &CanonUrl) -> Result<Page, FetchError>
+        ensures meaning { IfOk result (λ page. page ≡ page_at self.now url.now) }
+        // It never fails of itself.
+        ensures refused { IfErr result (λ e. e ≡ FetchError.NoMemory) }
+    {
+        match first_page(alloc, self.parts.as_slice(), url)? {
+            Some(page) => Ok(page),
+            None => Ok(Page::Missing),
+        }
+    }
+}

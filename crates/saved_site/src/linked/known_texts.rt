@@ -1,0 +1,197 @@
+//! Texts of links, each found by its hash.
+ghost use Rattle.std.specs.Prelude.{◌≡◌, ◌<◌, ◌++◌, ℕ, List, [], None, true, length, get_or, IfOk, IfSome, OnOk};
+ghost use Rattle.std.specs.List.{Contains};
+ghost use Rattle.crawl_keys.specs.Folders.{is_of_folder};
+ghost use Rattle.crawl_web.specs.SavedWeb.{link_url};
+ghost use Rattle.saved_site.specs.Leads.{AreKnown, AreOfFolder, LeadsTo};
+
+use crawl_keys::before_fragment;
+use hash_index::{HashIndex, Keyed};
+use hash_order::hash_of;
+use std::alloc::{AllocError, Global};
+use std::marker::Model;
+
+/// The text of a link, as a key to find by what is known of it. Its hash is made once.
+#[derive(Drop)]
+pub(crate) struct TextKey<'a> {
+    hash: u64,
+    text: &'a str,
+}
+
+// Contracts see the text.
+impl<'a> Model for TextKey<'a> {
+    ghost use Rattle.std.specs.Prelude.{◌≡◌, ℕ, List};
+    ghost use Rattle.hash_order.specs.HashOrder.{hash_of};
+
+    ghost Value = { List ℕ };
+
+    ghost view = { λ key. key.text.now };
+
+    ghost invariant = { λ key. key.hash ≡ hash_of key.text.now };
+}
+
+impl<'a> TextKey<'a> {
+    /// The text with its hash.
+    fn new(text: &'a str) -> TextKey<'a>
+        ensures { result ≡ text.now }
+    {
+        TextKey {
+            hash: hash_of(text),
+            text,
+        }
+    }
+
+    /// The text before the fragment, which leads to the same URL.
+    pub(crate) fn before_fragment(text: &'a str) -> TextKey<'a>
+        ensures { (base : List ℕ) → link_url base result ≡ link_url base text.now }
+    {
+        TextKey::new(before_fragment(text))
+    }
+
+    /// The text.
+    pub(crate) fn as_str(&self) -> &'a str
+        ensures { result.now ≡ self.now }
+    {
+        self.text
+    }
+}
+
+impl Keyed for TextKey<'_> {
+    ghost use Rattle.hash_order.specs.HashOrder.{hash_of};
+
+    ghost text = { λ key. key };
+
+    ghost hash = { hash_of };
+
+    fn text(&self) -> &str {
+        self.text
+    }
+
+    fn text_hash(&self) -> u64 {
+        self.hash
+    }
+}
+
+/// A text, and the index of the URL that a link with it leads to, if it leads to one.
+#[derive(Drop)]
+struct KnownText {
+    text: String,
+    hash: u64,
+    index: Option<u32>,
+}
+
+// Contracts see the text and the index.
+impl Model for KnownText {
+    ghost use Rattle.std.specs.Prelude.{◌≡◌, ℕ, List, Option, string_bytes};
+    ghost use Rattle.hash_order.specs.HashOrder.{hash_of};
+
+    ghost Value = { List ℕ × Option ℕ };
+
+    ghost view = { λ known. (string_bytes known.text, known.index) };
+
+    ghost invariant = { λ known. known.hash ≡ hash_of (string_bytes known.text) };
+}
+
+impl KnownText {
+    fn new(alloc: Global, key: &TextKey<'_>, index: Option<u32>) -> Result<KnownText, AllocError>
+        ensures { IfOk result (λ known. known ≡ (key.now, index)) }
+    {
+        let text = String::from_str(alloc, key.text)?;
+        Ok(KnownText {
+            text,
+            hash: key.hash,
+            index,
+        })
+    }
+}
+
+impl Keyed for KnownText {
+    ghost use Rattle.hash_order.specs.HashOrder.{hash_of};
+
+    ghost text = { λ known. known.0 };
+
+    ghost hash = { hash_of };
+
+    fn text(&self) -> &str {
+        self.text.as_str()
+    }
+
+    fn text_hash(&self) -> u64 {
+        self.hash
+    }
+}
+
+/// Texts of links, and the indices of the URLs that links with them lead to.
+#[derive(Drop)]
+pub(crate) struct KnownTexts {
+    texts: Vec<KnownText>,
+    index: HashIndex,
+}
+
+// Contracts see the list.
+impl Model for KnownTexts {
+    ghost use Rattle.std.specs.Prelude.{ℕ, List, Option, map};
+    ghost use Rattle.hash_order.specs.HashOrder.{hash_of};
+    ghost use Rattle.hash_index.specs.Index.{IsIndexOf};
+
+    ghost Value = { List (List ℕ × Option ℕ) };
+
+    ghost view = { λ known. known.texts.items };
+
+    ghost invariant = { λ known. IsIndexOf hash_of (map (λ one. one.0) known.texts.items) known.index };
+}
+
+impl KnownTexts {
+    /// No text is known.
+    pub(crate) fn new(alloc: Global) -> KnownTexts
+        ensures { result ≡ [] }
+    {
+        KnownTexts {
+            texts: Vec::new(alloc),
+            index: HashIndex::new(alloc),
+        }
+    }
+
+    /// How many texts are known.
+    pub(crate) fn len(&self) -> usize {
+        self.texts.len()
+    }
+
+    /// The index that is known of a text.
+    pub(crate) fn find(&self, key: &TextKey<'_>) -> Option<Option<u32>>
+        ensures { IfSome result (λ index. Contains self.now (key.now, index)) }
+    {
+        match self.index.find(&self.texts, key) {
+            Some(at) => Some(index_at(&self.texts, at)),
+            None => None,
+        }
+    }
+
+    /// Adds a text, where it is not known.
+    pub(crate) fn add(
+        &mut self,
+        alloc: Global,
+        key: &TextKey<'_>,
+        index: Option<u32>,
+    ) -> Result<(), AllocError>
+        ensures known { (base : List ℕ) (urls : List (List ℕ)) → AreKnown base urls self.old → LeadsTo urls index (link_url base key.now) → OnOk result (AreKnown base urls self.new) }
+        ensures of_folder { is_of_folder key.now ≡ true → AreOfFolder self.old → OnOk result (AreOfFolder self.new) }
+    {
+        let found = self.index.find_or_insert(&self.texts, key)?;
+        if found.is_some() {
+            return Ok(());
+        }
+        let known = KnownText::new(alloc, key, index)?;
+        self.texts.push(known)?;
+        Ok(())
+    }
+}
+
+/// The index that is known of the text at an index.
+fn index_at(texts: &[KnownText], at: usize) -> Option<u32>
+    requires { at < length texts.now }
+    ensures { result ≡ (get_or texts.now at ([], None)).1 }
+{
+    let known = &texts[at];
+    known.index
+}

@@ -1,0 +1,73 @@
+//! Pages, each found by its URL.
+ghost use Rattle.std.specs.Prelude.{◌≡◌, ◌++◌, ◌∷◌, [], IfOk, if◌then◌else◌};
+ghost use Rattle.std.specs.Option.{is_some};
+ghost use Rattle.hash_index.specs.Lists.{index_of};
+ghost use Rattle.saved_site.specs.Linked.{page_with};
+ghost use Rattle.saved_site.specs.LinkedPages.{IsPageList, found_all, urls_of};
+
+use crate::linked::linked_page::LinkedPage;
+use crawl_keys::CanonUrl;
+use crawl_web::Page;
+use hash_index::HashIndex;
+use std::alloc::{AllocError, Global};
+
+/// Pages, of each URL one.
+#[derive(Drop)]
+pub(crate) struct PageList {
+    pub(crate) list: Vec<LinkedPage>,
+    /// Where the page of each URL stands.
+    pub(crate) index: HashIndex,
+}
+
+impl PageList {
+    /// None.
+    pub(crate) fn new(alloc: Global) -> PageList
+        ensures pages { IsPageList result }
+        ensures none { result.list.items ≡ [] }
+    {
+        PageList {
+            list: Vec::new(alloc),
+            index: HashIndex::new(alloc),
+        }
+    }
+
+    /// The same with a page, unless its URL has one.
+    pub(crate) fn with_page(self, page: LinkedPage) -> Result<PageList, AllocError>
+        requires { IsPageList self }
+        ensures pages { IfOk result IsPageList }
+        ensures list { IfOk result (λ pages. pages.list.items ≡ (if is_some (index_of (urls_of self.list.items) page.url) then self.list.items else self.list.items ++ page ∷ [])) }
+    {
+        let PageList {
+            mut list,
+            mut index,
+        } = self;
+        let found = index.find_or_insert(&list, &page)?;
+        if found.is_some() {
+            return Ok(PageList { list, index });
+        }
+        list.push(page)?;
+        Ok(PageList { list, index })
+    }
+
+    /// The page with the URL, whose links have these URLs.
+    pub(crate) fn page(
+        &self,
+        alloc: Global,
+        urls: &[CanonUrl],
+        url: &CanonUrl,
+    ) -> Result<Option<Page>, AllocError>
+        requires { IsPageList self.now }
+        ensures { IfOk result (λ page. page ≡ page_with (found_all urls.now self.now.list.items) url.now) }
+    {
+        let Some(at) = self.index.find(&self.list, url) else {
+            return Ok(None);
+        };
+        match self.list.get(at) {
+            Some(page) => {
+                let page = page.page(alloc, urls)?;
+                Ok(Some(page))
+            }
+            None => Ok(None),
+        }
+    }
+}
