@@ -1,7 +1,7 @@
 #!/bin/bash
 # Measures crawl_keys: URLs and links per second, instructions each by callgrind, and the bytes
 # that a URL keeps in a set, alone and with three copies; and what a filter's answer costs. URLs and
-# links that are not parsed are the works `plain`, `joined`, `by_host`, `rooted`, `beside` and `part`.
+# links that are not parsed are all works but `canonical`.
 # Wants `rt`, valgrind and GNU time in the path.
 #
 # usage: bench/keys.sh [URLS [LINKS]]      300000 URLs and 500000 links where none is given
