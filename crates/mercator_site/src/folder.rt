@@ -11,7 +11,7 @@ use crate::asked::{CheckAsked, SiteAsked};
 use crate::bodies::OnDisk;
 use crate::check::{CheckReport, CheckSettings, report_of_site};
 use crate::fault::SiteFault;
-use crate::writing::tell_notes;
+use crate::writing::{tell_note, tell_notes};
 use saved_site::{
     FolderNames, Rules, SiteFiles, SiteNames, Web, folder_files_web, folder_names, folder_web,
 };
@@ -113,10 +113,25 @@ fn report_of_names<R: Files<File: Send, Dir: Send> + Threads + Wait + Sync, E: W
     let files = SiteFiles::new(alloc, input)?;
     let web = folder_files_web(rt, alloc, folder, &files, input.seeds, Vec::new(alloc))?;
     tell_notes(alloc, err, web.notes.as_slice())?;
+    tell_no_index(alloc, err, input)?;
     let bodies = OnDisk { rt, alloc, folder };
     let settings = settings_of(asked, files.top(), known);
     let report = report_of_site(rt, alloc, web, &files, &bodies, settings)?;
     Ok(report)
+}
+
+/// Tells that the crawl reaches nothing, where it begins at the top and the top has no index file.
+fn tell_no_index<E: Write>(
+    alloc: Global,
+    err: &mut E,
+    input: SiteNames<'_>,
+) -> Result<(), AllocError> {
+    let index = input.rules.index.as_str();
+    if input.seeds.is_empty() && !input.names.iter().any(|name| name.as_str() == index) {
+        let words = format!(in alloc; "no {index}, so nothing is crawled: see --seed")?;
+        tell_note(alloc, err, "./", words.as_str())?;
+    }
+    Ok(())
 }
 
 /// How the check is made and told: without BASE the folder names the site, and what is behind the top's URL is told.

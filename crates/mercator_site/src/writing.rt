@@ -1,9 +1,11 @@
 //! What a command writes: its text to the output, and lines to the writer for faults.
 ghost use Rattle.std.specs.Prelude.{◌≡◌, IfErr, IfOk, OnOk, string_bytes};
 ghost use Rattle.std.specs.Io.KnownBytes.{Appends};
+ghost use Rattle.check_report.specs.Text.{shown};
 ghost use Rattle.mercator_site.specs.Faults.{name_line, site_line, status_of};
 
 use crate::fault::SiteFault;
+use check_report::put_shown;
 use mercator::{Fault, fault_line};
 use saved_site::Note;
 use std::alloc::{AllocError, Global};
@@ -30,15 +32,36 @@ pub(crate) fn tell_notes<E: Write>(
     notes: &[Note],
 ) -> Result<(), AllocError> {
     for note in notes {
-        let line = note_line(alloc, note)?;
-        let _ = err.write_all(line.as_bytes());
+        let left = note.left;
+        let words = format!(in alloc; "{left}")?;
+        tell_note(alloc, err, note.place.as_str(), words.as_str())?;
     }
     Ok(())
 }
 
-fn note_line(alloc: Global, note: &Note) -> Result<String, AllocError> {
-    let (left, place) = (note.left, note.place.as_str());
-    format!(in alloc; "mercator: {place}: {left}\n")
+/// Tells these words of a place in a line. What `err` refuses is dropped.
+pub(crate) fn tell_note<E: Write>(
+    alloc: Global,
+    err: &mut E,
+    place: &str,
+    words: &str,
+) -> Result<(), AllocError> {
+    let line = note_line(alloc, place, words)?;
+    let _ = err.write_all(line.as_slice());
+    Ok(())
+}
+
+/// The line of a note. A place is a name that strangers chose: its control bytes are shown as pictures.
+fn note_line(alloc: Global, place: &str, words: &str) -> Result<Vec<u8>, AllocError>
+    ensures { IfOk result (λ line. line.items ≡ name_line (shown place.now) words.now) }
+{
+    let mut line = Vec::new(alloc);
+    line.extend_from_slice(b"mercator: ")?;
+    put_shown(&mut line, place)?;
+    line.extend_from_slice(b": ")?;
+    line.extend_from_slice(words.as_bytes())?;
+    line.extend_from_slice(b"\n")?;
+    Ok(line)
 }
 
 /// Tells a fault in a line. What `err` refuses is dropped, and so is a line that finds no room.
