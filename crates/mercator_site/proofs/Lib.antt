@@ -1,2 +1,4 @@
+mod Reports
 mod Runs
 mod Statuses
+mod TopCrawls

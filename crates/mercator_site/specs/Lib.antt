@@ -3,3 +3,4 @@ pub mod Checks
 pub mod Ends
 pub mod External
 pub mod Faults
+pub mod Sources

@@ -1,24 +1,25 @@
 //! A check of a site, from its files to the report.
-ghost use Rattle.std.specs.Prelude.{◌≡◌, ◌∷◌, [], IfErr, IfOk, map, string_bytes, Ok};
+ghost use Rattle.std.specs.Prelude.{◌≡◌, ℕ, List, IfErr, IfOk, map, string_bytes};
 ghost use Rattle.std.specs.Option.{option_map};
-ghost use Rattle.crawl_keys.specs.CanonicalText.{canonical};
 ghost use Rattle.mercator_site.specs.Asks.{asks_in};
 ghost use Rattle.mercator_site.specs.Checks.{AreOthersAsked, IsCheck, IsNamedCheck, IsNamedSiteCheck, IsReport, IsSiteCheck, IsSiteCheckAt, IsTopCrawl};
 ghost use Rattle.mercator_site.specs.External.{row_of};
 ghost use Rattle.mercator_site.specs.Faults.{IsTopIncomplete, status_of};
+ghost use Rattle.mercator_site.specs.Sources.{IsSourceOf};
+ghost use Rattle.saved_site.specs.Linked.{page_at};
 
 use crate::asked::CheckForm;
 use crate::bodies::{Files, InMemory};
+use crate::crawl::{crawl_site, crawl_source, host_filter, host_of};
 use crate::external::external_links;
 use crate::fault::SiteFault;
 use crate::print::print_check;
-use crate::start::starts;
 use check_report::{External, Told};
-use crawl_keys::{CanonUrl, Filter, FilterError, KeyError, canonical};
-use crawl_limits::PENDING_LIMIT;
 use crawl_web::PageResult;
-use mercator::{CrawlSettings, Crawled, Mode, crawl_saved_web_in_threads};
-use saved_site::{LinkPlaces, PageAnchors, Rules, SiteFiles, SiteNames, Web, files_web};
+use mercator::Crawled;
+use saved_site::{
+    LinkPlaces, LinkedSite, PageAnchors, Rules, SiteFiles, SiteNames, Web, files_web,
+};
 use site_check::{Asked, Bodies, Checked, check_site};
 use std::alloc::{AllocError, Global};
 use std::mem::forget;
@@ -53,6 +54,14 @@ pub struct CheckReport {
     pub text: Vec<u8>,
     /// Whether something is broken.
     pub is_broken: bool,
+}
+
+/// What was crawled of a site, and what is known of its documents.
+#[derive(Drop)]
+struct FoundSite {
+    crawled: Crawled,
+    anchors: Vec<PageAnchors>,
+    places: Vec<LinkPlaces>,
 }
 
 /// The report of a check of the site whose files have these names and bytes.
@@ -106,7 +115,7 @@ pub fn report_of_site<R: Threads + Wait + Sync, B: Bodies + Sync>(
         places,
         ..
     } = web;
-    let found = crawl_site(
+    let crawled = crawl_site(
         rt,
         alloc,
         bytes.as_slice(),
@@ -115,12 +124,77 @@ pub fn report_of_site<R: Threads + Wait + Sync, B: Bodies + Sync>(
         settings.workers,
     )?;
     drop(bytes);
-    let others = others_asked(alloc, settings.external, files.top(), found.result.pages())?;
+    let found = FoundSite {
+        crawled,
+        anchors,
+        places,
+    };
+    report_of_found(rt, alloc, found, files, bodies, settings)
+}
+
+/// As [`report_of_site`], by the site's pages in memory: they are those of some saved web, whose bytes are not needed.
+///
+/// # Errors
+/// Those of [`report_of_site`].
+pub fn report_of_pages<R: Threads + Wait + Sync, B: Bodies + Sync>(
+    rt: &R,
+    alloc: Global,
+    site: LinkedSite,
+    files: &SiteFiles<'_>,
+    bodies: &B,
+    settings: CheckSettings<'_>,
+) -> Result<CheckReport, SiteFault>
+    ensures done { (web : List ℕ) → IsSourceOf (page_at site.pages) web → IfOk result (λ report. IsCheck (string_bytes files.now.site.top) web (asks_in settings.entry) report.is_broken report.text.items) }
+    ensures named { (web : List ℕ) → IsSourceOf (page_at site.pages) web → IfOk result (λ report. IsNamedCheck settings.entry.name.now (string_bytes files.now.site.top) web (asks_in settings.entry) report.is_broken report.text.items) }
+    ensures incomplete { (web : List ℕ) → IsSourceOf (page_at site.pages) web → IfErr result (λ fault. status_of fault ≡ 2 → IsTopIncomplete (string_bytes files.now.site.top) web (map string_bytes settings.entry.seeds.now) settings.entry.workers) }
+{
+    let LinkedSite {
+        pages,
+        anchors,
+        places,
+        ..
+    } = site;
+    let crawled = crawl_source(
+        rt,
+        alloc,
+        &pages,
+        files.top(),
+        settings.seeds,
+        settings.workers,
+    )?;
+    drop(pages);
+    let found = FoundSite {
+        crawled,
+        anchors,
+        places,
+    };
+    report_of_found(rt, alloc, found, files, bodies, settings)
+}
+
+/// The report of a check of a site by what was crawled of it.
+fn report_of_found<R: Threads + Wait + Sync, B: Bodies + Sync>(
+    rt: &R,
+    alloc: Global,
+    found: FoundSite,
+    files: &SiteFiles<'_>,
+    bodies: &B,
+    settings: CheckSettings<'_>,
+) -> Result<CheckReport, SiteFault>
+    ensures named { (web : List ℕ) → IsTopCrawl (string_bytes files.now.site.top) web (map string_bytes settings.entry.seeds.now) found.crawled.result → IfOk result (λ report. IsNamedCheck settings.entry.name.now (string_bytes files.now.site.top) web (asks_in settings.entry) report.is_broken report.text.items) }
+    ensures plain { IfErr result (λ fault. status_of fault ≡ 1) }
+{
+    let FoundSite {
+        crawled,
+        anchors,
+        places,
+    } = found;
+    let pages = crawled.result.pages();
+    let others = others_asked(alloc, settings.external, files.top(), pages)?;
     let asked = asked_of(settings, anchors.as_slice(), places.as_slice());
-    let checked = check_site(rt, alloc, found.result.pages(), files, bodies, asked)?;
+    let checked = check_site(rt, alloc, pages, files, bodies, asked)?;
     let report = report_of(alloc, &checked, &others, settings)?;
     // The process ends soon, and gives it back at once.
-    forget(found);
+    forget(crawled);
     forget(anchors);
     forget(places);
     forget(checked);
@@ -164,53 +238,6 @@ fn report_of(
         text,
         is_broken: checked.is_broken(),
     })
-}
-
-/// What a crawl of a site's web finds from the links of its top, within the top's host.
-fn crawl_site<R: Threads + Wait + Sync>(
-    rt: &R,
-    alloc: Global,
-    web: &[u8],
-    top: &str,
-    links: &[String],
-    workers: u32,
-) -> Result<Crawled, SiteFault>
-    ensures found { IfOk result (λ found. IsTopCrawl top.now web.now (map string_bytes links.now) found.result) }
-    ensures incomplete { IfErr result (λ fault. status_of fault ≡ 2 → IsTopIncomplete top.now web.now (map string_bytes links.now) workers) }
-{
-    let host = host_of(alloc, top)?;
-    let filter = host_filter(alloc, host.host_key())?;
-    let seeds = starts(alloc, &host, &filter, links)?;
-    let settings = CrawlSettings {
-        workers,
-        max_pending: PENDING_LIMIT,
-        mode: Mode::Threads,
-        filter: &filter,
-    };
-    let found = crawl_saved_web_in_threads(rt, alloc, web, &[], seeds.as_slice(), &settings)?;
-    Ok(found)
-}
-
-fn host_of(alloc: Global, top: &str) -> Result<CanonUrl, SiteFault>
-    ensures canon { IfOk result (λ url. canonical top.now ≡ Ok url) }
-    ensures plain { IfErr result (λ fault. status_of fault ≡ 1) }
-{
-    match canonical(alloc, top) {
-        Ok(url) => Ok(url),
-        Err(KeyError::NoMemory) => Err(SiteFault::NoMemory),
-        Err(_) => Err(SiteFault::BadBase),
-    }
-}
-
-fn host_filter(alloc: Global, host: &str) -> Result<Filter, SiteFault>
-    ensures within { IfOk result (λ filter. filter ≡ host.now ∷ []) }
-    ensures plain { IfErr result (λ fault. status_of fault ≡ 1) }
-{
-    match Filter::new(alloc, &[host]) {
-        Ok(filter) => Ok(filter),
-        Err(FilterError::BadSuffix(_)) => Err(SiteFault::BadHost),
-        Err(FilterError::NoMemory) => Err(SiteFault::NoMemory),
-    }
 }
 
 /// Where links of the pages to hosts outside that of the top lead, where that is asked for.

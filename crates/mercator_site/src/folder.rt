@@ -9,11 +9,11 @@ ghost use Rattle.saved_site.specs.Meaning.{IsSiteWeb};
 
 use crate::asked::{CheckAsked, SiteAsked};
 use crate::bodies::OnDisk;
-use crate::check::{CheckReport, CheckSettings, report_of_site};
+use crate::check::{CheckReport, CheckSettings, report_of_pages};
 use crate::fault::SiteFault;
 use crate::writing::{tell_note, tell_notes};
 use saved_site::{
-    FolderNames, Rules, SiteFiles, SiteNames, Web, folder_files_web, folder_names, folder_web,
+    FolderNames, Rules, SiteFiles, SiteNames, Web, folder_files_pages, folder_names, folder_web,
 };
 use site_check::read_ignores;
 use std::alloc::{AllocError, Global};
@@ -111,12 +111,12 @@ fn report_of_names<R: Files<File: Send, Dir: Send> + Threads + Wait + Sync, E: W
 {
     let folder = asked.site.folder.as_str();
     let files = SiteFiles::new(alloc, input)?;
-    let web = folder_files_web(rt, alloc, folder, &files, input.seeds, Vec::new(alloc))?;
-    tell_notes(alloc, err, web.notes.as_slice())?;
+    let site = folder_files_pages(rt, alloc, folder, &files, input.seeds, Vec::new(alloc))?;
+    tell_notes(alloc, err, site.notes.as_slice())?;
     tell_no_index(alloc, err, input)?;
     let bodies = OnDisk { rt, alloc, folder };
     let settings = settings_of(asked, files.top(), known);
-    let report = report_of_site(rt, alloc, web, &files, &bodies, settings)?;
+    let report = report_of_pages(rt, alloc, site, &files, &bodies, settings)?;
     Ok(report)
 }
 

@@ -4,6 +4,7 @@
 mod asked;
 mod bodies;
 mod check;
+mod crawl;
 mod external;
 mod fault;
 mod folder;
@@ -14,7 +15,7 @@ mod writing;
 
 pub use asked::{CheckAsked, CheckForm, SiteAsked, SitePlan, site_plan};
 pub use bodies::Files;
-pub use check::{CheckReport, CheckSettings, report_of_files, report_of_site};
+pub use check::{CheckReport, CheckSettings, report_of_files, report_of_pages, report_of_site};
 pub use fault::SiteFault;
 pub use folder::{report_of_folder, web_of_folder};
 pub use program::{BROKEN, run_site_plan, run_site_words};

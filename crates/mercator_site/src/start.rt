@@ -1,6 +1,7 @@
 //! Where a check's crawl begins.
 ghost use Rattle.std.specs.Prelude.{◌≡◌, ◌∷◌, [], IfErr, IfOk, map, string_bytes, Ok};
-ghost use Rattle.crawl_keys.specs.CanonicalText.{resolve};
+ghost use Rattle.crawl_keys.specs.CanonicalText.{canonical, resolve};
+ghost use Rattle.mercator.specs.WebCrawl.{AreSeeds};
 ghost use Rattle.mercator_site.specs.Checks.{starts};
 ghost use Rattle.mercator_site.specs.Faults.{status_of};
 
@@ -14,8 +15,9 @@ pub(crate) fn starts(
     top: &CanonUrl,
     filter: &Filter,
     links: &[String],
-) -> Result<Vec<String>, SiteFault>
-    ensures begun { IfOk result (λ seeds. map (resolve top.now) (starts (map string_bytes links.now)) ≡ map Ok (map string_bytes seeds.items)) }
+) -> Result<Vec<CanonUrl>, SiteFault>
+    ensures begun { IfOk result (λ seeds. map (resolve top.now) (starts (map string_bytes links.now)) ≡ map Ok seeds.items) }
+    ensures stable { IfOk result (λ seeds. AreSeeds seeds.items seeds.items) }
     ensures plain { IfErr result (λ fault. status_of fault ≡ 1) }
 {
     match links.split_first() {
@@ -24,8 +26,9 @@ pub(crate) fn starts(
     }
 }
 
-fn top_alone(alloc: Global, top: &CanonUrl, filter: &Filter) -> Result<Vec<String>, SiteFault>
-    ensures resolved { IfOk result (λ seeds. map (resolve top.now) ([] ∷ []) ≡ map Ok (map string_bytes seeds.items)) }
+fn top_alone(alloc: Global, top: &CanonUrl, filter: &Filter) -> Result<Vec<CanonUrl>, SiteFault>
+    ensures resolved { IfOk result (λ seeds. map (resolve top.now) ([] ∷ []) ≡ map Ok seeds.items) }
+    ensures stable { IfOk result (λ seeds. AreSeeds seeds.items seeds.items) }
     ensures plain { IfErr result (λ fault. status_of fault ≡ 1) }
 {
     let mut seeds = Vec::new(alloc);
@@ -38,8 +41,9 @@ fn seeds_of(
     top: &CanonUrl,
     filter: &Filter,
     links: &[String],
-) -> Result<Vec<String>, SiteFault>
-    ensures resolved { IfOk result (λ seeds. map (resolve top.now) (map string_bytes links.now) ≡ map Ok (map string_bytes seeds.items)) }
+) -> Result<Vec<CanonUrl>, SiteFault>
+    ensures resolved { IfOk result (λ seeds. map (resolve top.now) (map string_bytes links.now) ≡ map Ok seeds.items) }
+    ensures stable { IfOk result (λ seeds. AreSeeds seeds.items seeds.items) }
     ensures plain { IfErr result (λ fault. status_of fault ≡ 1) }
 {
     let mut seeds = Vec::new(alloc);
@@ -50,13 +54,28 @@ fn seeds_of(
 }
 
 /// The URL of a link of the top; the filter has to allow it.
-fn seed_of(alloc: Global, top: &CanonUrl, filter: &Filter, link: &str) -> Result<String, SiteFault>
-    ensures resolved { IfOk result (λ seed. resolve top.now link.now ≡ Ok (string_bytes seed)) }
+fn seed_of(
+    alloc: Global,
+    top: &CanonUrl,
+    filter: &Filter,
+    link: &str,
+) -> Result<CanonUrl, SiteFault>
+    ensures resolved { IfOk result (λ seed. resolve top.now link.now ≡ Ok seed) }
+    ensures stable { IfOk result (λ seed. canonical seed ≡ Ok seed) }
     ensures plain { IfErr result (λ fault. status_of fault ≡ 1) }
 {
     match resolve(alloc, top, link) {
-        Ok(url) if filter.allows(&url) => Ok(String::from_str(alloc, url.as_str())?),
+        Ok(url) if filter.allows(&url) => Ok(stable(url)),
         Err(KeyError::NoMemory) => Err(SiteFault::NoMemory),
         _ => Err(SiteFault::BadSeed),
     }
+}
+
+/// The URL as it is: its text is its own canonical URL.
+fn stable(url: CanonUrl) -> CanonUrl
+    ensures same { result ≡ url }
+    ensures stable { canonical result ≡ Ok result }
+{
+    let _text = url.as_str();
+    url
 }

@@ -2,48 +2,69 @@ use Rattle.std.proofs.Common.{ℕ, List, [], map, string_bytes, ap, subst, ◌�
 use Rattle.std.specs.Bool.{if◌then◌else◌}
 use Rattle.std.proofs.lemmas.Result.{err_from_is_err_and}
 use Rattle.mercator_site.specs.Asks.{Asks}
-use Rattle.mercator_site.specs.Checks.{IsNamedCheck}
+use Rattle.mercator_site.specs.Checks.{IsCheck, IsNamedCheck}
 use Rattle.mercator_site.specs.Faults.{IsTopIncomplete}
+use Rattle.mercator_site.proofs.TopCrawls.{source_of}
 use Rattle.saved_site.specs.Below.{IsTop}
 use Rattle.mercator_site.proofs.folder.report_of_names.Goals as goal
 
 pub returns-in_err-report-clause-incomplete : goal.returns-in_err-report-clause-incomplete
 returns-in_err-report-clause-incomplete g c =
     let top = string_bytes c.in_ok-files.files.site.top in
-    let web = c.in_ok-web.web.bytes.items in
+    let source = c.in_ok-site.ensures.source in
+    let web = source.bytes in
     let seeds = ap (λ (a : Asks). a.seeds) c.settings_of-settings.ensures.asks in
     let r = c.from_residual-in_err-report in
     let same = err_from_is_err_and r.result r.ensures.1 in
     rw (same.1, same.2) (λ two. record {
       top = top;
       web = web;
-      made = c.in_ok-web.ensures.web;
+      made = source.web;
       crawl =
           subst (λ n. IsTopIncomplete top web (map string_bytes c.args.asked.now.seeds.items) n) c.settings_of-settings.ensures.workers
-          (subst (λ links. IsTopIncomplete top web links c.settings_of-settings.result.workers) seeds (c.in_err-report.ensures.incomplete two));
+          (subst (λ links. IsTopIncomplete top web links c.settings_of-settings.result.workers) seeds (c.in_err-report.ensures.incomplete web (source_of _ _ source) two));
     })
+
+pub returns-clause-done : goal.returns-clause-done
+returns-clause-done g c =
+    let top = string_bytes c.in_ok-files.files.site.top in
+    let source = c.in_ok-site.ensures.source in
+    let report = c.in_ok-report.report in
+    let check = c.in_ok-report.ensures.done source.bytes (source_of _ _ source) in (
+      c.settings_of-settings.result.front.now,
+      map string_bytes c.args.known.now,
+      record {
+        top = top;
+        web = source.bytes;
+        made = source.web;
+        checked = subst (λ (a : Asks). IsCheck top source.bytes a report.is_broken report.text.items) c.settings_of-settings.ensures.asks check;
+      },
+    )
 
 pub returns-clause-folder : goal.returns-clause-folder
 returns-clause-folder g c = λ none_known based.
     let top = string_bytes c.in_ok-files.files.site.top in
-    let web = c.in_ok-web.web.bytes.items in
+    let source = c.in_ok-site.ensures.source in
+    let web = source.bytes in
     let report = c.in_ok-report.report in
     let paths = c.args.asked.now.paths in
     let folder = string_bytes c.args.asked.now.site.folder in
     let name = c.settings_of-settings.result.name.now in
-    let named = subst (λ (a : Asks). IsNamedCheck name top web a report.is_broken report.text.items) c.settings_of-settings.ensures.asks c.in_ok-report.ensures.named in
+    let named =
+    subst (λ (a : Asks). IsNamedCheck name top web a report.is_broken report.text.items) c.settings_of-settings.ensures.asks
+    (c.in_ok-report.ensures.named web (source_of _ _ source)) in
     record {
       front = c.settings_of-settings.result.front.now;
       entries = map string_bytes c.args.known.now;
       told = record {
         top = top;
         web = web;
-        made = c.in_ok-web.ensures.web;
+        made = source.web;
         checked = named.check;
       };
       fronted = c.settings_of-settings.ensures.front ∙ ap (λ (t : List ℕ). if paths then t else []) c.top.ensures;
       base = named.base ∙ c.settings_of-settings.ensures.name ∙ ap (λ (t : List ℕ). if paths then folder else t) c.top.ensures;
       known = λ none. ap (map string_bytes) (none_known none);
       is_top = subst (λ b. IsTop b top) based c.in_ok-files.ensures.top;
-      below = c.in_ok-web.ensures.below;
+      below = source.below;
     }

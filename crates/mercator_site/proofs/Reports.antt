@@ -1,0 +1,18 @@
+-- What an answer that is a report says.
+use Rattle.std.specs.Prelude.{◌≡◌, ℕ, List, Result, Ok, Err, IfErr, IfOk}
+use Rattle.std.proofs.Common.{arith}
+use Rattle.mercator_site.specs.Asks.{Asks}
+use Rattle.mercator_site.specs.Checks.{IsCheck, IsNamedCheck}
+use Rattle.mercator_site.specs.Faults.{status_of}
+use Rattle.mercator_site.specs.declared.check.CheckReport.{CheckReport}
+use Rattle.mercator_site.specs.declared.fault.SiteFault.{SiteFault}
+
+-- the name may be left out
+pub unnamed : (answer : Result CheckReport SiteFault) (name top web : List ℕ) (asks : Asks) → IfOk answer (λ report. IsNamedCheck name top web asks report.is_broken report.text.items) → IfOk answer (λ report. IsCheck top web asks report.is_broken report.text.items)
+unnamed (Ok report) name top web asks is = is.check
+unnamed (Err fault) name top web asks is = tt
+
+-- a fault of status 1 is no incomplete crawl
+pub not_incomplete : (P : Type 0) (answer : Result CheckReport SiteFault) → IfErr answer (λ fault. status_of fault ≡ 1) → IfErr answer (λ fault. status_of fault ≡ 2 → P)
+not_incomplete P (Ok report) plain = tt
+not_incomplete P (Err fault) plain = λ two. absurd (omega (arith, plain, two))

@@ -1,0 +1,58 @@
+use Rattle.std.proofs.Common.{ℕ, List, map, Vec, Global, refl, sym, ap, subst, ◌∙◌, ◌==◌, not, length, string_bytes}
+use Rattle.std.specs.Option.{option_map}
+use Rattle.check_report.specs.declared.value.External.{External}
+use Rattle.crawl_web.specs.declared.page.PageResult.{PageResult}
+use Rattle.site_check.specs.Broken.{broken_of, redirects_of}
+use Rattle.site_check.specs.Ignored.{AreUnused, parts_in}
+use Rattle.site_check.specs.Names.{AreNamed}
+use Rattle.site_check.specs.Told.{rows_in, way_of}
+use Rattle.site_check.specs.Totals.{totals_of}
+use Rattle.mercator_site.specs.Checks.{AreOthersAsked, IsTopCrawl}
+use Rattle.mercator_site.specs.External.{row_of}
+use Rattle.mercator_site.proofs.check.report_of_found.Goals as goal
+
+pub returns-clause-named : goal.returns-clause-named
+returns-clause-named g c = λ web crawled.
+    let top = string_bytes c.args.files.now.site.top in
+    let links = map string_bytes c.args.settings.seeds.now in
+    let external = c.args.settings.external in
+    let pages = c.pages-pages.result.now in
+    let C : List PageResult → Type 0 = λ ps. IsTopCrawl top web links ps in
+    let others = option_map (λ (urls : Vec External Global). map row_of urls.items) c.in_ok-others.others in
+    let D : List ℕ → Type 0 = λ t. AreOthersAsked external t pages others in
+    let d = subst D c.top.ensures c.in_ok-others.ensures.told in
+    let front = c.args.settings.front.now in
+    let entries = map string_bytes c.args.settings.ignores.now in
+    let asked = c.asked_of-asked.result in
+    let same_front = c.asked_of-asked.ensures.front in
+    let same_entries = ap (map string_bytes) c.asked_of-asked.ensures.ignores in
+    let checked = c.in_ok-checked.checked in
+    let told = c.in_ok-report.ensures in
+    record {
+      check = record {
+        pages = pages;
+        crawled = subst C (sym c.pages-pages.ensures) crawled;
+        found = told.found;
+        rows =
+            ap rows_in told.rows ∙ c.in_ok-checked.ensures.broken ∙ ap (λ f. broken_of f (map string_bytes asked.ignores.now) pages) same_front
+            ∙ ap (λ es. broken_of front es pages) same_entries;
+        ways = ap (map way_of) told.ways ∙ c.in_ok-checked.ensures.redirects ∙ ap (λ f. redirects_of f pages) same_front;
+        totals =
+            told.totals ∙ c.in_ok-checked.ensures.totals ∙ ap (λ bs. totals_of pages bs checked.redirects.items) (sym told.rows)
+            ∙ ap (λ ws. totals_of pages told.found.broken.now ws) (sym told.ways);
+        site = c.args.files.now;
+        site_top = refl;
+        names = subst (λ bs. AreNamed front c.args.files.now bs) (sym told.rows) (subst (λ f. AreNamed f c.args.files.now checked.broken.items) same_front c.in_ok-checked.ensures.names);
+        unused =
+            subst (λ us. AreUnused front entries pages (parts_in told.found.broken.now) (map string_bytes us)) (sym told.unused)
+            (subst (λ bs. AreUnused front entries pages (parts_in bs) (map string_bytes checked.unused_ignores.items)) (sym told.rows)
+            (subst (λ es. AreUnused front es pages (parts_in checked.broken.items) (map string_bytes checked.unused_ignores.items)) same_entries
+            (subst (λ f. AreUnused f (map string_bytes asked.ignores.now) pages (parts_in checked.broken.items) (map string_bytes checked.unused_ignores.items)) same_front c.in_ok-checked.ensures.ignores)));
+        is_broken = told.is_broken ∙ ap (λ bs. not (length bs == 0)) (sym told.rows);
+        told = told.told;
+        unreached = told.unreached;
+        others = subst (λ rows. AreOthersAsked external top pages rows) (sym told.others_told) d;
+        written = told.written;
+      };
+      base = told.base;
+    }

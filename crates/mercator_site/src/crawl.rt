@@ -1,0 +1,86 @@
+//! The crawl of a site: from its top or from links of it, within the top's host.
+ghost use Rattle.std.specs.Prelude.{◌≡◌, ℕ, ◌∷◌, List, [], IfErr, IfOk, map, string_bytes, Ok};
+ghost use Rattle.crawl_keys.specs.CanonicalText.{canonical};
+ghost use Rattle.mercator_site.specs.Checks.{IsTopCrawl};
+ghost use Rattle.mercator_site.specs.Faults.{IsTopIncomplete, status_of};
+ghost use Rattle.mercator_site.specs.Sources.{IsSourceOf};
+
+use crate::fault::SiteFault;
+use crate::start::starts;
+use crawl_keys::{CanonUrl, Filter, FilterError, KeyError, canonical};
+use crawl_limits::PENDING_LIMIT;
+use crawl_web::{SavedWeb, WebInThreads};
+use mercator::{CrawlSettings, Crawled, Fault, Mode, SessionFetch, crawl_with};
+use std::alloc::Global;
+use std::sync::Wait;
+use std::thread::Threads;
+
+/// What a crawl of a site's web finds from the links of its top, within the top's host.
+pub(crate) fn crawl_site<R: Threads + Wait + Sync>(
+    rt: &R,
+    alloc: Global,
+    web: &[u8],
+    top: &str,
+    links: &[String],
+    workers: u32,
+) -> Result<Crawled, SiteFault>
+    ensures found { IfOk result (λ found. IsTopCrawl top.now web.now (map string_bytes links.now) found.result) }
+    ensures incomplete { IfErr result (λ fault. status_of fault ≡ 2 → IsTopIncomplete top.now web.now (map string_bytes links.now) workers) }
+{
+    match SavedWeb::read_in_threads(rt, alloc, web) {
+        Ok(pages) => {
+            let source = WebInThreads::new(rt, alloc, &pages, true);
+            crawl_source(rt, alloc, &source, top, links, workers)
+        }
+        Err(fault) => Err(SiteFault::from(Fault::from(fault))),
+    }
+}
+
+/// The same of a source that has the pages of that web.
+pub(crate) fn crawl_source<F: SessionFetch + Sync, R: Threads + Wait + Sync>(
+    rt: &R,
+    alloc: Global,
+    source: &F,
+    top: &str,
+    links: &[String],
+    workers: u32,
+) -> Result<Crawled, SiteFault>
+    ensures found { (web : List ℕ) → IsSourceOf (F.meaning source.now) web → IfOk result (λ found. IsTopCrawl top.now web (map string_bytes links.now) found.result) }
+    ensures incomplete { (web : List ℕ) → IsSourceOf (F.meaning source.now) web → IfErr result (λ fault. status_of fault ≡ 2 → IsTopIncomplete top.now web (map string_bytes links.now) workers) }
+{
+    let host = host_of(alloc, top)?;
+    let filter = host_filter(alloc, host.host_key())?;
+    let seeds = starts(alloc, &host, &filter, links)?;
+    let settings = CrawlSettings {
+        workers,
+        max_pending: PENDING_LIMIT,
+        mode: Mode::Threads,
+        filter: &filter,
+    };
+    match crawl_with(rt, alloc, source, &settings, seeds.as_slice()) {
+        Ok(found) => Ok(found),
+        Err(error) => Err(SiteFault::from(Fault::from(error))),
+    }
+}
+
+pub(crate) fn host_of(alloc: Global, top: &str) -> Result<CanonUrl, SiteFault>
+    ensures canon { IfOk result (λ url. canonical top.now ≡ Ok url) }
+    ensures plain { IfErr result (λ fault. status_of fault ≡ 1) }
+{
+    match canonical(alloc, top) {
+        Ok(url) => Ok(url),
+        Err(KeyError::NoMemory) => Err(SiteFault::NoMemory),
+        Err(_) => Err(SiteFault::BadBase),
+    }
+}
+
+pub(crate) fn host_filter(alloc: Global, host: &str) -> Result<Filter, SiteFault>
+    ensures within { IfOk result (λ filter. filter ≡ host.now ∷ []) }
+    ensures plain { IfErr result (λ fault. status_of fault ≡ 1) }
+{
+    match Filter::new(alloc, &[host]) {
+        Ok(filter) => Ok(filter),
+        Err(FilterError::BadSuffix(_)) => Err(SiteFault::BadHost),
+        Err(FilterError::NoMemory) => Err(SiteFault::NoMemory),
+    }
+}
