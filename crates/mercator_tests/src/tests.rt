@@ -2,6 +2,7 @@
 mod crawls;
 mod failing;
 mod faults;
+mod folders;
 mod inputs;
 mod losses;
 mod runs;

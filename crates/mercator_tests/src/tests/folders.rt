@@ -1,0 +1,120 @@
+//! Files in memory: the saved web and the pages that they are, and a check of them.
+use crawl_keys::{CanonUrl, canonical};
+use crawl_web::{Fetch, Page, SavedWeb, SessionFetch};
+use mercator_site::{CheckForm, CheckSettings, Files, report_of_files};
+use saved_site::{Rules, SiteFiles, SiteNames, files_pages, site_web};
+use std::alloc::{AllocError, Global};
+use std::sync::Wait;
+use std::thread::Threads;
+
+const BASE: &str = "http://a.test/";
+
+/// A site of one file, with a link that leads to no page.
+#[derive(Drop)]
+struct OneFile {
+    names: Vec<String>,
+    bodies: Vec<Vec<u8>>,
+    rules: Rules,
+}
+
+impl OneFile {
+    fn new(alloc: Global) -> Result<OneFile, AllocError> {
+        let mut names = Vec::new(alloc);
+        names.push(String::from_str(alloc, "index.html")?)?;
+        let mut bodies = Vec::new(alloc);
+        bodies.push(b"<a href=gone.html>gone</a>".to_vec(alloc)?)?;
+        let rules = Rules {
+            index: String::from_str(alloc, "index.html")?,
+            queries: false,
+            exact: false,
+            anchors: true,
+            places: true,
+            threads: 2,
+        };
+        Ok(OneFile {
+            names,
+            bodies,
+            rules,
+        })
+    }
+
+    fn input(&self) -> SiteNames<'_> {
+        SiteNames {
+            names: self.names.as_slice(),
+            base: BASE,
+            rules: &self.rules,
+            seeds: &[],
+        }
+    }
+}
+
+fn is_its_page(page: &Page) -> bool {
+    match page {
+        Page::Found { links, skipped: 0 } => match links.as_slice() {
+            [link] => link.as_str() == "http://a.test/gone.html",
+            _ => false,
+        },
+        _ => false,
+    }
+}
+
+fn has_web<R: Threads + Sync>(
+    rt: &R,
+    alloc: Global,
+    site: &OneFile,
+    top: &CanonUrl,
+) -> Option<bool> {
+    let web = site_web(rt, alloc, site.input(), site.bodies.as_slice()).ok()?;
+    let pages = SavedWeb::read(alloc, web.bytes.as_slice()).ok()?;
+    let page = pages.fetch(alloc, top).ok()?;
+    Some(is_its_page(&page))
+}
+
+fn has_pages<R: Threads + Sync>(
+    rt: &R,
+    alloc: Global,
+    site: &OneFile,
+    top: &CanonUrl,
+) -> Option<bool> {
+    let files = SiteFiles::new(alloc, site.input()).ok()?;
+    let linked = files_pages(rt, alloc, &files, &[], site.bodies.as_slice()).ok()?;
+    let page = linked.pages.fetch_in(alloc, &mut (), top).ok()?;
+    Some(is_its_page(&page))
+}
+
+fn is_checked<R: Threads + Wait + Sync>(rt: &R, alloc: Global, site: &OneFile) -> Option<bool> {
+    let files = Files {
+        names: site.names.as_slice(),
+        bodies: site.bodies.as_slice(),
+    };
+    let settings = CheckSettings {
+        workers: 2,
+        name: BASE,
+        front: "",
+        ignores: &[],
+        unreached: false,
+        external: false,
+        seeds: &[],
+        form: CheckForm::Text { colour: false },
+        all: false,
+    };
+    let report = report_of_files(rt, alloc, files, BASE, &site.rules, settings).ok()?;
+    let front = b"pages 1, links 1, redirects 0\nbroken links 1, missing pages 1,";
+    Some(report.is_broken && report.text.as_slice().starts_with(front))
+}
+
+// The page is at the top, in the web's bytes and in memory, and its link is told.
+#[test]
+fn files_in_memory(rt: HostRuntime) {
+    let alloc = rt.alloc();
+    let site = OneFile::new(alloc);
+    let top = canonical(alloc, BASE);
+    match (&site, &top) {
+        (Ok(site), Ok(top)) => {
+            assert!(rt; has_web(&rt, alloc, site, top) == Some(true));
+            assert!(rt; has_pages(&rt, alloc, site, top) == Some(true));
+            assert!(rt; is_checked(&rt, alloc, site) == Some(true));
+        }
+        _ => assert!(rt; false),
+    }
+}
