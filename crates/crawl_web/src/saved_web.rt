@@ -23,6 +23,7 @@ mod reader;
 mod threads;
 mod web_in_threads;
 mod web_pages;
+mod worth;
 
 use crate::fetch::{Fetch, FetchError};
 use crate::lines::first_line;

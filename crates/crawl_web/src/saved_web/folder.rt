@@ -15,7 +15,7 @@ use std::marker::Model;
 pub struct Folder<'a> {
     page: Base,
     known: KnownLinks<'a>,
-    // Another page of the folder came before this one, so that there may be more.
+    // Another page of the folder came before this one, so that there may be more; and texts came again where that was so.
     again: bool,
 }
 
@@ -32,14 +32,14 @@ impl<'a> Model for Folder<'a> {
 }
 
 impl<'a> Folder<'a> {
-    /// The folder of this page, of which nothing is known.
-    pub fn new(alloc: Global, page: Base) -> Folder<'a>
+    /// The folder of this page, of which nothing is known, and whether it comes again.
+    pub fn new(alloc: Global, page: Base, again: bool) -> Folder<'a>
         ensures { result ≡ page }
     {
         Folder {
             page,
             known: KnownLinks::new(alloc),
-            again: false,
+            again,
         }
     }
 
@@ -59,7 +59,7 @@ impl<'a> Folder<'a> {
                 again: true,
             }
         } else {
-            Folder::new(alloc, page)
+            Folder::new(alloc, page, false)
         }
     }
 
@@ -70,7 +70,7 @@ impl<'a> Folder<'a> {
         &self.page
     }
 
-    /// Whether another page of it came before.
+    /// Whether another page of it came before, so that it is worth to learn of each link where it leads.
     pub fn comes_again(&self) -> bool {
         self.again
     }

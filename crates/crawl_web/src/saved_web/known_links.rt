@@ -88,6 +88,9 @@ impl<'a> KnownLinks<'a> {
     pub fn clear(&mut self, alloc: Global)
         ensures { self.new ≡ [] }
     {
+        if self.links.is_empty() {
+            return;
+        }
         if self.links.len() > FEW_TEXTS {
             *self = KnownLinks::new(alloc);
             return;

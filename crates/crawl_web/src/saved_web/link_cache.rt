@@ -3,6 +3,7 @@ ghost use Rattle.std.specs.Prelude.{◌≡◌, ◌≤◌, ◌<◌};
 
 use crate::saved_web::folder::Folder;
 use crate::saved_web::known_links::KnownLinks;
+use crate::saved_web::worth::Worth;
 use crawl_keys::{Base, CanonUrl};
 use hash_order::hash_of;
 use std::alloc::{AllocError, Global};
@@ -12,6 +13,9 @@ use std::mem;
 const FEWEST_SLOTS: usize = 16;
 
 const MOST_SLOTS: usize = 1_024;
+
+/// So many folders are met, each at the place that its hash picks.
+const MET: usize = 1_024;
 
 /// The caches of a crawl have at most so many slots together, but for those that each begins with.
 const ALL_SLOTS: usize = 8_192;
@@ -26,6 +30,7 @@ const ALL_TEXTS: usize = 1_048_576;
 const FOLDER_LIMIT: usize = 512;
 
 /// Folders, each in the slot that its text picks. A folder keeps of itself that what it knows is right, so a slot may hold any.
+/// Of a folder that knows nothing the hash alone is kept: many have one page, or pages whose links lead to other URLs each.
 #[derive(Drop)]
 pub struct LinkCache<'a> {
     /// Room for the links of a page, until they are all found.
@@ -33,6 +38,9 @@ pub struct LinkCache<'a> {
     /// What is known of those links that are of no folder.
     pub known: KnownLinks<'a>,
     slots: Vec<Option<Folder<'a>>>,
+    // The hashes of folders that came and knew nothing.
+    met: Vec<u64>,
+    worth: Worth,
     // A folder was put out since there are so many slots.
     crowded: bool,
     // How many texts the folders here know.
@@ -49,6 +57,8 @@ impl<'a> LinkCache<'a> {
             links: Vec::new(alloc),
             known: KnownLinks::new(alloc),
             slots: Vec::new(alloc),
+            met: Vec::new(alloc),
+            worth: Worth::unknown(),
             crowded: false,
             texts: 0,
             most_slots: (ALL_SLOTS / among).max(FEWEST_SLOTS).min(MOST_SLOTS),
@@ -62,6 +72,8 @@ impl<'a> LinkCache<'a> {
             links: Vec::new(alloc),
             known: KnownLinks::new(alloc),
             slots: Vec::new(alloc),
+            met: Vec::new(alloc),
+            worth: Worth::unknown(),
             crowded: false,
             texts: 0,
             most_slots: 0,
@@ -69,26 +81,55 @@ impl<'a> LinkCache<'a> {
         }
     }
 
-    /// The folder of this page, with what the folder in its slot knew, if that is the same.
+    /// The folder of this page, with what the folder in its slot knew, if that is the same and it is worth it.
     pub fn take(&mut self, alloc: Global, hash: u64, page: Base) -> Folder<'a>
         ensures { result ≡ page }
     {
-        if !self.slots.is_empty() {
-            let slot = slot_of(hash, self.slots.len());
-            if let Some(folder) = self.slots[slot].take() {
-                let known = folder.len();
-                self.texts = self.texts.saturating_sub(known);
-                let folder = folder.turn_to(alloc, page);
-                self.crowded = self.crowded | (folder.len() < known);
-                return folder;
-            }
+        if !self.worth.is_some() {
+            return Folder::new(alloc, page, false);
         }
-        Folder::new(alloc, page)
+        match self.take_beside(hash, &page) {
+            Some(folder) => folder.turn_to(alloc, page),
+            None => Folder::new(alloc, page, self.has_met(hash)),
+        }
     }
 
-    /// Puts the folder back into its slot, unless it knows too many texts.
+    // The folder in the slot of this hash, if the page is in it.
+    fn take_beside(&mut self, hash: u64, page: &Base) -> Option<Folder<'a>> {
+        if self.slots.is_empty() {
+            return None;
+        }
+        let slot = slot_of(hash, self.slots.len());
+        match &self.slots[slot] {
+            Some(folder) if folder.page().is_beside(page) => {
+                self.texts = self.texts.saturating_sub(folder.len());
+                self.slots[slot].take()
+            }
+            Some(_) | None => None,
+        }
+    }
+
+    // Whether the last folder that came to its place and knew nothing has this hash.
+    fn has_met(&self, hash: u64) -> bool {
+        self.met.get(slot_of(hash, MET)) == Some(&hash)
+    }
+
+    /// Counts the links of a page of this folder, which knew so many texts before.
+    pub fn weigh(&mut self, folder: &Folder<'a>, knew: usize, links: u64) {
+        if folder.comes_again() {
+            let of_folder = folder.len().saturating_sub(knew);
+            let learned = of_folder.saturating_add(self.known.len());
+            self.worth.count(links, learned as u64);
+        }
+    }
+
+    /// Puts the folder back into its slot, unless it knows nothing, or too many texts.
     pub fn put(&mut self, alloc: Global, hash: u64, folder: Folder<'a>) {
         let texts = folder.len();
+        if texts == 0 {
+            self.meet(alloc, hash);
+            return;
+        }
         if texts > FOLDER_LIMIT {
             return;
         }
@@ -103,6 +144,16 @@ impl<'a> LinkCache<'a> {
         self.insert(hash, folder);
     }
 
+    // Keeps the hash of a folder that knows nothing, where there is room.
+    fn meet(&mut self, alloc: Global, hash: u64) {
+        if self.met.is_empty() && self.most_slots > 0 {
+            self.met = vec![in alloc; 0u64; MET].unwrap_or(Vec::new(alloc));
+        }
+        if let Some(met) = self.met.get_mut(slot_of(hash, MET)) {
+            *met = hash;
+        }
+    }
+
     // Puts the folder into its slot, where there are slots.
     fn insert(&mut self, hash: u64, folder: Folder<'a>) {
         if self.slots.is_empty() {
@@ -112,6 +163,7 @@ impl<'a> LinkCache<'a> {
         self.texts = self.texts.saturating_add(folder.len());
         if let Some(out) = mem::replace(&mut self.slots[slot], Some(folder)) {
             self.texts = self.texts.saturating_sub(out.len());
+            self.crowded = true;
         }
     }
 

@@ -20,7 +20,8 @@ use crawl_keys::{Base, CanonUrl, is_of_folder};
 use std::alloc::{AllocError, Global};
 use std::mem;
 
-/// So many links of a folder's first page are not known from then on: of many folders there is one page, with few links.
+/// So many links of a page of which the folder does not come again are not known from then on: of many folders there is one page,
+/// with few links.
 const FEW_TEXTS: u64 = 8;
 
 /// A list of so many links, or fewer, has room for just these.
@@ -63,6 +64,7 @@ fn remembering<'a>(
 {
     let hash = folder_hash(&base);
     let mut folder = cache.take(alloc, hash, base);
+    let knew = folder.len();
     let page = found_page(
         alloc,
         &mut folder,
@@ -70,8 +72,17 @@ fn remembering<'a>(
         &mut cache.links,
         behind,
     )?;
+    cache.weigh(&folder, knew, count_of(&page));
     cache.put(alloc, hash, folder);
     Ok(page)
+}
+
+/// How many links the page has, those that lead to no URL too.
+fn count_of(page: &Page) -> u64 {
+    match page {
+        Page::Found { links, skipped } => skipped.saturating_add(links.as_slice().len() as u64),
+        Page::Moved { .. } | Page::Missing => 0,
+    }
 }
 
 /// The page with the links among these lines, up to the next page. The buffer has them until they are all found.
@@ -133,7 +144,7 @@ fn take_links(alloc: Global, buffer: &mut Vec<CanonUrl>) -> Result<Vec<CanonUrl>
 }
 
 /// Where a link with this text leads, before which the page has so many: what is of the folder is known to it from now on, and what
-/// is not to this page. The first of a folder's first page are not.
+/// is not to this page. The first of a page are not, where its folder was not met before or texts do not come again.
 fn link_on<'a>(
     alloc: Global,
     folder: &mut Folder<'a>,

@@ -194,7 +194,7 @@ fn links_among(alloc: Global, url: &CanonUrl, text: &str) -> Option<LinksFound>
     let Ok(base) = base_of(alloc, url) else {
         return None;
     };
-    let mut folder = Folder::new(alloc, base);
+    let mut folder = Folder::new(alloc, base, false);
     let mut known = KnownLinks::new(alloc);
     let mut links = Vec::new(alloc);
     match find_links(alloc, &mut folder, &mut known, &mut links, text) {
