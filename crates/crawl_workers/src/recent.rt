@@ -122,8 +122,10 @@ impl RecentUrls {
         let mut marked = 0;
         for (bit, url) in urls.iter().enumerate() {
             let slot = pair_of(mark_of(url), self.slots.len());
-            let has = self.slots[slot].has_mark(url) || self.slots[slot + 1].has_mark(url);
-            marked |= u64::from(has) << bit;
+            // Both are looked at, since which of them has it cannot be foreseen.
+            let first = self.slots[slot].has_mark(url);
+            let second = self.slots[slot + 1].has_mark(url);
+            marked |= u64::from(first | second) << bit;
         }
         marked
     }
@@ -162,7 +164,7 @@ impl RecentUrls {
         ensures { (workers : ℕ) (log : List Logged) → Knows workers log self.old → Knows workers log self.new }
     {
         let slots = self.slots.len();
-        if self.put_out < slots / 16 || self.missed < slots / 64 || slots >= MOST_SLOTS {
+        if self.put_out < slots / 64 || self.missed < slots / 256 || slots >= MOST_SLOTS {
             return;
         }
         self.grow(alloc, FEWEST_SLOTS.max(2 * slots));
