@@ -10,9 +10,9 @@ use Rattle.std.proofs.lemmas.List.Elements.{All-append, All-contains, All-take, 
 use Rattle.std.proofs.lemmas.List.Sorted.{All-permutation, IsPermutation-append, IsPermutation-map, IsPermutation-sym, IsNonDecreasingBy-take, IsNonDecreasingBy-drop, Contains-permutation}
 use Rattle.crawl_web.specs.declared.page.PageResult.{PageResult}
 use Rattle.crawl_certificate.specs.declared.sorting.Numbered.{Numbered}
-use Rattle.crawl_certificate.specs.Eights.{AreAlikeWithin, BeginAlike}
+use Rattle.crawl_certificate.specs.Sixteens.{AreAlikeWithin, BeginAlike}
 use Rattle.crawl_certificate.specs.Sorting.{AllBeginAlike, AreGuessed, AreInOrder, AreNumbered, ArePrepared, AllEqual, ArePartedAt, IsAlikeUntil, IsNumbered, pages_of}
-use Rattle.crawl_certificate.proofs.EightBytes.{less_number, equal_number}
+use Rattle.crawl_certificate.proofs.SixteenBytes.{less_number, equal_number}
 
 -- ---- pages and the numbers beside them
 
@@ -46,7 +46,7 @@ alike_permuted : (count : ℕ) (xs ys : List PageResult) → IsPermutation xs ys
 alike_permuted count xs ys moved alike = λ a b in_a in_b.
     alike a b (Contains-permutation ys xs a (IsPermutation-sym xs ys moved) in_a) (Contains-permutation ys xs b (IsPermutation-sym xs ys moved) in_b)
 
-pub prepared : (from levels : ℕ) (old numbered sorted : List Numbered) → AllBeginAlike from (pages_of old) → from + 8 * levels ≤ 4088 → pages_of numbered ≡ pages_of old
+pub prepared : (from levels : ℕ) (old numbered sorted : List Numbered) → AllBeginAlike from (pages_of old) → from + 16 * levels ≤ 4080 → pages_of numbered ≡ pages_of old
     → All (IsNumbered from) numbered → IsPermutation numbered sorted → IsNonDecreasingBy (λ (p : Numbered). p.number) sorted → ArePrepared from levels sorted
 prepared from levels old numbered sorted alike room same all moved rising = record {
   alike = alike_permuted from (pages_of numbered) (pages_of sorted) (IsPermutation-map (λ (p : Numbered). p.page) numbered sorted moved) (subst (AllBeginAlike from) (sym same) alike);
@@ -71,14 +71,14 @@ prepared_back from levels index pages back whole is = subst (ArePrepared from le
   rising = IsNonDecreasingBy-drop (λ (p : Numbered). p.number) index pages whole.rising;
 })
 
-pub alike_further : (from : ℕ) (pages : List Numbered) → AllBeginAlike from (pages_of pages) → All (IsNumbered from) pages → AllEqual pages → AllBeginAlike (from + 8) (pages_of pages)
+pub alike_further : (from : ℕ) (pages : List Numbered) → AllBeginAlike from (pages_of pages) → All (IsNumbered from) pages → AllEqual pages → AllBeginAlike (from + 16) (pages_of pages)
 alike_further from pages alike numbered equal = λ a b in_a in_b.
     let one = has_page pages a in_a in
     let other = has_page pages b in_b in
     let further = equal_number one.numbered.page.url other.numbered.page.url from one.numbered.number other.numbered.number
     (subst (λ p. BeginAlike from p.url other.numbered.page.url) (sym one.is) (subst (λ p. BeginAlike from a.url p.url) (sym other.is) (alike a b in_a in_b)))
     (All-contains (IsNumbered from) pages one.numbered numbered one.among) (All-contains (IsNumbered from) pages other.numbered numbered other.among) (equal one.numbered other.numbered one.among other.among) in
-    subst (λ p. BeginAlike (from + 8) p.url b.url) one.is (subst (λ p. BeginAlike (from + 8) one.numbered.page.url p.url) other.is further)
+    subst (λ p. BeginAlike (from + 16) p.url b.url) one.is (subst (λ p. BeginAlike (from + 16) one.numbered.page.url p.url) other.is further)
 
 pub alike_up_to : (from end : ℕ) (text : List ℕ) (pages : List Numbered) → AllBeginAlike from (pages_of pages) → All (λ (p : Numbered). AreAlikeWithin from end text p.page.url) pages → AllBeginAlike end (pages_of pages)
 alike_up_to from end text pages alike all = λ a b in_a in_b k below. elim (cases_lt k from) [
@@ -118,7 +118,7 @@ guessed_both from index text pages low high one other both told front back = rec
 }
 
 -- a guess that holds of all
-pub numbered_so : (levels from begin : ℕ) (text : List ℕ) (old new : List Numbered) → AllBeginAlike from (pages_of old) → begin + 8 * levels ≤ 4096 → length text ≡ begin → AreGuessed from text old new true → AreNumbered levels begin old new
+pub numbered_so : (levels from begin : ℕ) (text : List ℕ) (old new : List Numbered) → AllBeginAlike from (pages_of old) → begin + 16 * levels ≤ 4096 → length text ≡ begin → AreGuessed from text old new true → AreNumbered levels begin old new
 numbered_so levels from begin text old new alike room long guessed = record {
   same = guessed.same;
   alike = alike_up_to from begin text old alike (subst (λ n. All (λ (p : Numbered). AreAlikeWithin from n text p.page.url) old) long (guessed.alike refl));

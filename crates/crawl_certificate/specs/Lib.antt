@@ -2,7 +2,7 @@ pub mod AccountEntries
 pub mod CertFaults
 pub mod Certificate
 pub mod Culprits
-pub mod Eights
+pub mod Sixteens
 pub mod Least
 pub mod Lookups
 pub mod Marks

@@ -6,7 +6,7 @@ use Rattle.std.specs.Cmp.Lexicographic.{slice_cmp}
 use Rattle.std.specs.Ordering.{nat_cmp}
 use Rattle.crawl_web.specs.declared.page.PageResult.{PageResult}
 use Rattle.crawl_certificate.specs.declared.sorting.Numbered.{Numbered}
-use Rattle.crawl_certificate.specs.Eights.{BeginAlike, AreAlikeWithin, IsEight}
+use Rattle.crawl_certificate.specs.Sixteens.{BeginAlike, AreAlikeWithin, IsSixteen}
 
 -- the results without their numbers
 abbrev pub pages_of : List Numbered → List PageResult
@@ -22,23 +22,23 @@ pub record IsAlikeUntil (from most : ℕ) (text : List ℕ) (pages : List Number
   pub within : end ≤ most
   pub alike : All (λ p. AreAlikeWithin from end text p.page.url) pages
 
--- the number has the eight bytes of the URL from an index on
+-- the number has the sixteen bytes of the URL from an index on
 abbrev pub IsNumbered : ℕ → Numbered → Type 0
-IsNumbered from numbered = IsEight numbered.page.url from numbered.number
+IsNumbered from numbered = IsSixteen numbered.page.url from numbered.number
 
--- the number is set to the eight bytes of the URL from an index on, and the page is the same
+-- the number is set to the sixteen bytes of the URL from an index on, and the page is the same
 pub record IsNumberSet (from : ℕ) (old new : Numbered) : Type 0 where
   pub same : new.page ≡ old.page
   pub numbered : IsNumbered from new
 
--- each number is set to the eight bytes of the URL from an index on, up to which all begin alike; there is room for so many numbers
+-- each number is set to the sixteen bytes of the URL from an index on, up to which all begin alike; there is room for so many numbers
 pub record AreNumbered (levels from : ℕ) (old new : List Numbered) : Type 0 where
   pub same : pages_of new ≡ pages_of old
   pub alike : AllBeginAlike from (pages_of old)
-  pub room : from + 8 * levels ≤ 4096
+  pub room : from + 16 * levels ≤ 4096
   pub numbered : All (IsNumbered from) new
 
--- where it is told so, all URLs have the bytes of a text from an index on, and each number is set to the eight behind
+-- where it is told so, all URLs have the bytes of a text from an index on, and each number is set to the sixteen behind
 pub record AreGuessed (from : ℕ) (text : List ℕ) (old new : List Numbered) (told : Bool) : Type 0 where
   pub same : pages_of new ≡ pages_of old
   pub alike : told ≡ true → All (λ p. AreAlikeWithin from (length text) text p.page.url) old
@@ -48,10 +48,10 @@ pub record AreGuessed (from : ℕ) (text : List ℕ) (old new : List Numbered) (
 abbrev pub AreInOrder : List Numbered → Type 0
 AreInOrder pages = IsSortedByKey (λ p. p.page.url) (slice_cmp nat_cmp) pages
 
--- results that begin alike up to an index, in the order of their numbers, which have the eight bytes from there on
+-- results that begin alike up to an index, in the order of their numbers, which have the sixteen bytes from there on
 pub record ArePrepared (from levels : ℕ) (pages : List Numbered) : Type 0 where
   pub alike : AllBeginAlike from (pages_of pages)
-  pub room : from + 8 * levels ≤ 4088
+  pub room : from + 16 * levels ≤ 4080
   pub numbered : All (IsNumbered from) pages
   pub rising : IsNonDecreasingBy (λ p. p.number) pages
 

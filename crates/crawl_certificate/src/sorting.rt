@@ -1,4 +1,4 @@
-//! Results in the order of their URLs, by a sort that mostly compares numbers: eight bytes of each URL, beside the result.
+//! Results in the order of their URLs, by a sort that mostly compares numbers: sixteen bytes of each URL, beside the result.
 //!
 //! To compare two texts, both are looked for in memory; a number is at hand. What all begin with is passed over. Those that
 //! have the same number are sorted by the bytes behind it, and so on. Few, and those that have been parted often, are sorted by
@@ -8,7 +8,7 @@ ghost use Rattle.std.specs.List.{All};
 ghost use Rattle.std.specs.List.Sorted.{IsPermutation, IsNonDecreasingBy, IsSortedByKey};
 ghost use Rattle.std.specs.Cmp.Lexicographic.{slice_cmp};
 ghost use Rattle.std.specs.Ordering.{nat_cmp};
-ghost use Rattle.crawl_certificate.specs.Eights.{IsEight};
+ghost use Rattle.crawl_certificate.specs.Sixteens.{IsSixteen};
 ghost use Rattle.crawl_certificate.specs.Sorting.{AllBeginAlike, AllEqual, AreInOrder, ArePartedAt, ArePrepared, IsNumbered, pages_of};
 
 use crawl_web::PageResult;
@@ -22,7 +22,7 @@ mod threads;
 pub use threads::in_order_by_threads;
 
 /// How many bytes a number has.
-const BYTES: usize = 8;
+const BYTES: usize = 16;
 
 /// How many numbers of a URL are compared before its text is.
 const LEVELS: usize = 32;
@@ -33,10 +33,10 @@ const END: usize = 4096;
 /// Fewer than these are sorted by their texts.
 const FEW: usize = 12;
 
-/// A result, and eight bytes of its URL as a number.
+/// A result, and sixteen bytes of its URL as a number.
 #[derive(Drop)]
 struct Numbered {
-    number: u64,
+    number: u128,
     page: PageResult,
 }
 
@@ -77,7 +77,7 @@ fn without_numbers(alloc: Global, pages: Vec<Numbered>) -> Result<Vec<PageResult
 #[cycle(sort)]
 fn sort_from(pages: &mut [Numbered], from: usize, levels: usize)
     requires alike { AllBeginAlike from (pages_of pages.old) }
-    requires room { from + 8 * levels ≤ 4096 }
+    requires room { from + 16 * levels ≤ 4096 }
     ensures same { IsPermutation (pages_of pages.old) (pages_of pages.new) }
     ensures sorted { AreInOrder pages.new }
 {
@@ -90,7 +90,7 @@ fn sort_from(pages: &mut [Numbered], from: usize, levels: usize)
     sort_runs(pages, from, levels - 1);
 }
 
-/// Sorts results that are in the order of their numbers, which have the eight bytes from this index on.
+/// Sorts results that are in the order of their numbers, which have the sixteen bytes from this index on.
 #[cycle(sort)]
 fn sort_runs(pages: &mut [Numbered], from: usize, levels: usize)
     requires { ArePrepared from levels pages.old }
@@ -125,9 +125,9 @@ fn middle(pages: &[Numbered]) -> Option<usize>
     Some(pages.partition_point(|one| one.number <= mean))
 }
 
-/// Sets each number to the eight bytes of the URL from this index on.
+/// Sets each number to the sixteen bytes of the URL from this index on.
 fn set_numbers(pages: &mut [Numbered], from: usize)
-    requires { from + 8 ≤ 4096 }
+    requires { from + 16 ≤ 4096 }
     ensures same { pages_of pages.new ≡ pages_of pages.old }
     ensures numbered { All (IsNumbered from) pages.new }
 {
@@ -142,12 +142,40 @@ fn text_of(numbered: &Numbered) -> &[u8]
     numbered.page.url.as_str().as_bytes()
 }
 
-/// Eight bytes of a text as a number, the first of which weighs most. Behind the text's end stand zeros.
-fn number_at(text: &[u8], from: usize) -> u64
-    requires { from + 8 ≤ 4096 }
-    ensures { IsEight text.now from result }
+/// Sixteen bytes of a text as a number, the first of which weighs most. Behind the text's end stand zeros.
+fn number_at(text: &[u8], from: usize) -> u128
+    requires { from + 16 ≤ 4096 }
+    ensures { IsSixteen text.now from result }
 {
-    u64::from_be_bytes([
+    if text.len() < from + BYTES {
+        return number_near_end(text, from);
+    }
+    u128::from_be_bytes([
+        text[from],
+        text[from + 1],
+        text[from + 2],
+        text[from + 3],
+        text[from + 4],
+        text[from + 5],
+        text[from + 6],
+        text[from + 7],
+        text[from + 8],
+        text[from + 9],
+        text[from + 10],
+        text[from + 11],
+        text[from + 12],
+        text[from + 13],
+        text[from + 14],
+        text[from + 15],
+    ])
+}
+
+/// As [`number_at`], of a text that may end before.
+fn number_near_end(text: &[u8], from: usize) -> u128
+    requires { from + 16 ≤ 4096 }
+    ensures { IsSixteen text.now from result }
+{
+    let bytes = [
         byte_at(text, from),
         byte_at(text, from + 1),
         byte_at(text, from + 2),
@@ -156,7 +184,16 @@ fn number_at(text: &[u8], from: usize) -> u64
         byte_at(text, from + 5),
         byte_at(text, from + 6),
         byte_at(text, from + 7),
-    ])
+        byte_at(text, from + 8),
+        byte_at(text, from + 9),
+        byte_at(text, from + 10),
+        byte_at(text, from + 11),
+        byte_at(text, from + 12),
+        byte_at(text, from + 13),
+        byte_at(text, from + 14),
+        byte_at(text, from + 15),
+    ];
+    u128::from_be_bytes(bytes)
 }
 
 /// The byte at an index, and 0 behind the end.

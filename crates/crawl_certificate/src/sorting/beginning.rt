@@ -1,8 +1,9 @@
 //! How far URLs begin alike.
-ghost use Rattle.std.specs.Prelude.{◌≡◌, ◌+◌, ◌*◌, ◌≤◌};
+ghost use Rattle.std.specs.Prelude.{◌≡◌, ◌+◌, ◌*◌, ◌≤◌, true, length};
+ghost use Rattle.std.specs.List.{All};
 ghost use Rattle.std.specs.Thread.{IsSync};
 ghost use Rattle.crawl_certificate.specs.Sorting.{AllBeginAlike, IsAlikeUntil, pages_of};
-ghost use Rattle.crawl_certificate.specs.Eights.{AreAlikeWithin};
+ghost use Rattle.crawl_certificate.specs.Sixteens.{AreAlikeWithin};
 
 use super::{BYTES, END, Numbered, byte_at, text_of};
 use std::thread::{Threads, join};
@@ -13,9 +14,9 @@ const HALVINGS: u32 = 2;
 /// Up to which index all URLs begin alike, of those that do so up to `from`. There is room for so many numbers behind it.
 pub fn beginning_of(pages: &[Numbered], from: usize, levels: usize) -> usize
     requires alike { AllBeginAlike from (pages_of pages.now) }
-    requires room { from + 8 * levels ≤ 4096 }
+    requires room { from + 16 * levels ≤ 4096 }
     ensures alike { AllBeginAlike result (pages_of pages.now) }
-    ensures room { result + 8 * levels ≤ 4096 }
+    ensures room { result + 16 * levels ≤ 4096 }
 {
     let Some(first) = pages.first() else {
         return from;
@@ -32,9 +33,9 @@ pub fn beginning_by_threads<R: Threads + Sync>(
     levels: usize,
 ) -> usize
     requires alike { AllBeginAlike from (pages_of pages.now) }
-    requires room { from + 8 * levels ≤ 4096 }
+    requires room { from + 16 * levels ≤ 4096 }
     ensures alike { AllBeginAlike result (pages_of pages.now) }
-    ensures room { result + 8 * levels ≤ 4096 }
+    ensures room { result + 16 * levels ≤ 4096 }
 {
     let Some(first) = pages.first() else {
         return from;
@@ -46,15 +47,15 @@ pub fn beginning_by_threads<R: Threads + Sync>(
 
 /// Up to which index a beginning is looked for: the text's end, or where there is no room for so many numbers behind it.
 pub fn last_of(text: &[u8], from: usize, levels: usize) -> usize
-    requires { from + 8 * levels ≤ 4096 }
+    requires { from + 16 * levels ≤ 4096 }
     ensures least { from ≤ result }
-    ensures room { result + 8 * levels ≤ 4096 }
+    ensures room { result + 16 * levels ≤ 4096 }
 {
     text.len().min(END - BYTES * levels).max(from)
 }
 
 /// Up to which index, `most` at most, all URLs have the same bytes as the text from `from` on.
-pub fn alike_until(text: &[u8], pages: &[Numbered], from: usize, most: usize) -> usize
+fn alike_until(text: &[u8], pages: &[Numbered], from: usize, most: usize) -> usize
     requires { from ≤ most }
     ensures { IsAlikeUntil from most text.now pages.now result }
 {
@@ -95,6 +96,30 @@ fn alike_by_threads<R: Threads + Sync>(
     { alike_by_threads(rt, fewer, text, back, from, most) };
     let (first, second) = join(rt, of_front, of_back);
     first.min(second)
+}
+
+/// Whether all URLs have the text's bytes from an index on.
+pub fn all_begin(text: &[u8], pages: &[Numbered], from: usize) -> bool
+    requires { from ≤ length text.now }
+    ensures { result ≡ true → All (λ p. AreAlikeWithin from (length text.now) text.now p.page.url) pages.now }
+{
+    for one in pages {
+        if !begins(text, text_of(one), from) {
+            return false;
+        }
+    }
+    true
+}
+
+/// Whether a URL has the text's bytes from an index on.
+fn begins(text: &[u8], url: &[u8], from: usize) -> bool
+    requires { from ≤ length text.now }
+    ensures { result ≡ true → AreAlikeWithin from (length text.now) text.now url.now }
+{
+    match url.get(from..text.len()) {
+        Some(bytes) => bytes == &text[from..],
+        None => false,
+    }
 }
 
 /// Up to which index, `most` at most, two texts have the same bytes from `from` on.

@@ -1,4 +1,4 @@
-//! The numbers of results: eight bytes of each URL, behind what all URLs begin with.
+//! The numbers of results: sixteen bytes of each URL, behind what all URLs begin with.
 //!
 //! A URL is looked for in memory. So how far all begin alike is guessed from a few of them, and seen while the numbers are set:
 //! each is looked for once.
@@ -7,8 +7,8 @@ ghost use Rattle.std.specs.List.{All};
 ghost use Rattle.std.specs.Thread.{IsSync};
 ghost use Rattle.crawl_certificate.specs.Sorting.{AllBeginAlike, AreGuessed, AreNumbered, IsNumbered, IsNumberSet, pages_of};
 
-use super::beginning::{alike_to, alike_until, beginning_by_threads, beginning_of, last_of};
-use super::{Numbered, number_at, set_numbers, text_of};
+use super::beginning::{alike_to, all_begin, beginning_by_threads, beginning_of, last_of};
+use super::{Numbered, byte_at, number_at, set_numbers, text_of};
 use crawl_keys::CanonUrl;
 use std::thread::{Threads, for_each_mut, join_mut};
 
@@ -24,11 +24,11 @@ const HALVINGS: u32 = 2;
 /// So many threads read the numbers.
 const THREADS: usize = 8;
 
-/// Sets each number to eight bytes of the URL, behind what all URLs begin with. Tells from which index on they stand; all begin
+/// Sets each number to sixteen bytes of the URL, behind what all URLs begin with. Tells from which index on they stand; all begin
 /// alike up to `from`, and there is room for so many numbers.
 pub fn number_all(pages: &mut [Numbered], from: usize, levels: usize) -> usize
     requires alike { AllBeginAlike from (pages_of pages.old) }
-    requires room { from + 8 * levels ≤ 4096 }
+    requires room { from + 16 * levels ≤ 4096 }
     requires some { 0 < levels }
     ensures { AreNumbered levels result pages.old pages.new }
 {
@@ -50,7 +50,7 @@ pub fn number_all_by_threads<R: Threads + Sync>(
     levels: usize,
 ) -> usize
     requires alike { AllBeginAlike from (pages_of pages.old) }
-    requires room { from + 8 * levels ≤ 4096 }
+    requires room { from + 16 * levels ≤ 4096 }
     requires some { 0 < levels }
     ensures { AreNumbered levels result pages.old pages.new }
 {
@@ -66,12 +66,12 @@ pub fn number_all_by_threads<R: Threads + Sync>(
 
 /// As [`super::set_numbers`], by threads.
 fn set_numbers_in_threads<R: Threads + Sync>(rt: &R, pages: &mut [Numbered], from: usize)
-    requires { from + 8 ≤ 4096 }
+    requires { from + 16 ≤ 4096 }
     ensures same { pages_of pages.new ≡ pages_of pages.old }
     ensures numbered { All (IsNumbered from) pages.new }
 {
     let set = move |_: usize, numbered: &mut Numbered|
-        requires { from + 8 ≤ 4096 }
+        requires { from + 16 ≤ 4096 }
         ensures { IsNumberSet from numbered.entry.now numbered.exit.now }
     { numbered.number = number_at(text_of(numbered), from) };
     for_each_mut(rt, pages, THREADS, &set);
@@ -80,7 +80,7 @@ fn set_numbers_in_threads<R: Threads + Sync>(rt: &R, pages: &mut [Numbered], fro
 /// As [`number_all`], where a guess holds of all; else nothing.
 fn number_by_guess(pages: &mut [Numbered], from: usize, levels: usize) -> Option<usize>
     requires alike { AllBeginAlike from (pages_of pages.old) }
-    requires room { from + 8 * levels ≤ 4096 }
+    requires room { from + 16 * levels ≤ 4096 }
     requires some { 0 < levels }
     ensures same { pages_of pages.new ≡ pages_of pages.old }
     ensures some { IfSome result (λ begin. AreNumbered levels begin pages.old pages.new) }
@@ -103,7 +103,7 @@ fn number_by_guess_in_threads<R: Threads + Sync>(
     levels: usize,
 ) -> Option<usize>
     requires alike { AllBeginAlike from (pages_of pages.old) }
-    requires room { from + 8 * levels ≤ 4096 }
+    requires room { from + 16 * levels ≤ 4096 }
     requires some { 0 < levels }
     ensures same { pages_of pages.new ≡ pages_of pages.old }
     ensures some { IfSome result (λ begin. AreNumbered levels begin pages.old pages.new) }
@@ -125,9 +125,9 @@ fn first_of(pages: &[Numbered]) -> Option<CanonUrl> {
 
 /// A guess up to which index all URLs have the bytes of the text from `from` on: as far as some have them.
 fn guess_of(text: &[u8], pages: &[Numbered], from: usize, levels: usize) -> usize
-    requires { from + 8 * levels ≤ 4096 }
+    requires { from + 16 * levels ≤ 4096 }
     ensures least { from ≤ result }
-    ensures room { result + 8 * levels ≤ 4096 }
+    ensures room { result + 16 * levels ≤ 4096 }
 {
     let step = pages.len() / SAMPLES;
     let mut end = last_of(text, from, levels);
@@ -139,11 +139,11 @@ fn guess_of(text: &[u8], pages: &[Numbered], from: usize, levels: usize) -> usiz
     end
 }
 
-/// Sets each number to the eight bytes of the URL behind the text, if all URLs begin with it: its bytes before `from` they have.
+/// Sets each number to the sixteen bytes of the URL behind the text, if all URLs begin with it: its bytes before `from` they have.
 /// Tells whether they do.
 fn number_alike(text: &[u8], pages: &mut [Numbered], from: usize) -> bool
     requires order { from ≤ length text.now }
-    requires room { length text.now + 8 ≤ 4096 }
+    requires room { length text.now + 16 ≤ 4096 }
     ensures { AreGuessed from text.now pages.old pages.new result }
 {
     if pages.len() <= AT_ONCE {
@@ -159,27 +159,29 @@ fn number_alike(text: &[u8], pages: &mut [Numbered], from: usize) -> bool
 /// As [`number_alike`], of a few.
 fn number_some(text: &[u8], pages: &mut [Numbered], from: usize) -> bool
     requires order { from ≤ length text.now }
-    requires room { length text.now + 8 ≤ 4096 }
+    requires room { length text.now + 16 ≤ 4096 }
     ensures { AreGuessed from text.now pages.old pages.new result }
 {
-    let begin = text.len();
-    if shortest(pages) < begin {
+    if !may_begin(text, pages) || !all_begin(text, pages, from) {
         return false;
     }
-    if alike_until(text, pages, from, begin) < begin {
-        return false;
-    }
-    set_numbers(pages, begin);
+    set_numbers(pages, text.len());
     true
 }
 
-/// The length of the shortest URL. Nothing else is read of them here, so that they wait for memory at the same time.
-fn shortest(pages: &[Numbered]) -> usize {
+/// Whether each URL is as long as the text, at least, and has its last byte. Nothing else is read of them here, so that they wait
+/// for memory at the same time.
+fn may_begin(text: &[u8], pages: &[Numbered]) -> bool {
+    let index = text.len().saturating_sub(1);
+    let last = byte_at(text, index);
     let mut least = usize::MAX;
+    let mut differ = 0;
     for one in pages {
-        least = least.min(text_of(one).len());
+        let url = text_of(one);
+        least = least.min(url.len());
+        differ |= byte_at(url, index) ^ last;
     }
-    least
+    least >= text.len() && (differ == 0 || text.is_empty())
 }
 
 /// As [`number_alike`], by a thread for each half of the results, as often as they are halved.
@@ -192,7 +194,7 @@ fn number_alike_in_threads<R: Threads + Sync>(
     from: usize,
 ) -> bool
     requires order { from ≤ length text.now }
-    requires room { length text.now + 8 ≤ 4096 }
+    requires room { length text.now + 16 ≤ 4096 }
     ensures { AreGuessed from text.now pages.old pages.new result }
 {
     if halvings == 0 {
@@ -214,16 +216,16 @@ fn number_parts<R: Threads + Sync>(
     from: usize,
 ) -> (bool, bool)
     requires order { from ≤ length text.now }
-    requires room { length text.now + 8 ≤ 4096 }
+    requires room { length text.now + 16 ≤ 4096 }
     ensures low { AreGuessed from text.now low.old low.new result.0 }
     ensures high { AreGuessed from text.now high.old high.new result.1 }
 {
     let mut first = || -> bool
-        requires { IsSync R.row × (from ≤ length text.now) × (length text.now + 8 ≤ 4096) }
+        requires { IsSync R.row × (from ≤ length text.now) × (length text.now + 16 ≤ 4096) }
         ensures { AreGuessed from text.entry.now low.entry.now low.exit.now result }
     { number_alike_in_threads(rt, halvings, text, low, from) };
     let mut second = || -> bool
-        requires { IsSync R.row × (from ≤ length text.now) × (length text.now + 8 ≤ 4096) }
+        requires { IsSync R.row × (from ≤ length text.now) × (length text.now + 16 ≤ 4096) }
         ensures { AreGuessed from text.entry.now high.entry.now high.exit.now result }
     { number_alike_in_threads(rt, halvings, text, high, from) };
     join_mut(rt, &mut first, &mut second)

@@ -44,7 +44,7 @@ fn sort_in_threads<R: Threads + Sync>(
     levels: usize,
 )
     requires alike { AllBeginAlike from (pages_of pages.old) }
-    requires room { from + 8 * levels ≤ 4096 }
+    requires room { from + 16 * levels ≤ 4096 }
     ensures same { IsPermutation (pages_of pages.old) (pages_of pages.new) }
     ensures sorted { AreInOrder pages.new }
 {

@@ -2,7 +2,7 @@ use Rattle.std.proofs.Common.{◌<◌, length, get_or, refl, subst, ◌∙◌, a
 use Rattle.std.proofs.lemmas.List.Elements.{AllWithin-more_set}
 use Rattle.crawl_certificate.specs.declared.sorting.Numbered.{Numbered}
 use Rattle.crawl_certificate.specs.Sorting.{IsNumbered}
-use Rattle.crawl_certificate.specs.Eights.{IsEight}
+use Rattle.crawl_certificate.specs.Sixteens.{IsSixteen}
 use Rattle.crawl_certificate.proofs.SortedParts.{same_pages}
 use Rattle.crawl_certificate.proofs.sorting.set_numbers.Goals as goal
 
@@ -13,8 +13,8 @@ loop-numbered-preserved c =
     let here = get_or pages i c.numbered-item.result in
     let next : Numbered = record { number = c.number_at-numbered.result; page = here.page } in
     let within : i < length pages = omega arith in
-    let eight : IsEight here.page.url c.args.from c.number_at-numbered.result = subst (λ text. IsEight text c.args.from c.number_at-numbered.result) c.text_of.ensures c.number_at-numbered.ensures in
+    let sixteen : IsSixteen here.page.url c.args.from c.number_at-numbered.result = subst (λ text. IsSixteen text c.args.from c.number_at-numbered.result) c.text_of.ensures c.number_at-numbered.ensures in
     record {
       same = same_pages pages i next c.numbered-item.result within refl ∙ c.loop-numbered.invariant.same;
-      numbered = AllWithin-more_set pages i next within (IsNumbered c.args.from) c.loop-numbered.invariant.numbered eight;
+      numbered = AllWithin-more_set pages i next within (IsNumbered c.args.from) c.loop-numbered.invariant.numbered sixteen;
     }

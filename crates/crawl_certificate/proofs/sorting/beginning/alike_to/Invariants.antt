@@ -1,4 +1,4 @@
-use Rattle.crawl_certificate.specs.Eights.{AreAlikeWithin}
+use Rattle.crawl_certificate.specs.Sixteens.{AreAlikeWithin}
 use Rattle.crawl_certificate.proofs.sorting.beginning.alike_to.Given as goal
 
 abbrev pub invariant-loop-index : goal.invariant-loop-index

@@ -1,6 +1,6 @@
 use Rattle.std.proofs.Common.{◌≤◌}
 use Rattle.std.specs.List.{AllWithin}
-use Rattle.crawl_certificate.specs.Eights.{AreAlikeWithin}
+use Rattle.crawl_certificate.specs.Sixteens.{AreAlikeWithin}
 use Rattle.crawl_certificate.proofs.sorting.beginning.alike_until.Given as goal
 
 abbrev pub invariant-loop-one : goal.invariant-loop-one

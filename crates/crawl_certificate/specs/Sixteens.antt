@@ -1,4 +1,4 @@
--- Eight bytes of a text as a number.
+-- Sixteen bytes of a text as a number.
 use Rattle.std.specs.Prelude.{◌≡◌, ℕ, zero, suc, ◌<◌, ◌≤◌, List, [], ◌∷◌, slice_index}
 use Rattle.std.specs.Int.Digits.{number_from_digits, AllBelowBase}
 
@@ -15,7 +15,7 @@ abbrev pub bytes_from : List ℕ → ℕ → ℕ → List ℕ
 bytes_from text from zero = []
 bytes_from text from (suc count) = slice_index text from ∷ bytes_from text (suc from) count
 
--- the number has the eight bytes of a text from an index on, of which the first weighs most
-pub record IsEight (text : List ℕ) (from number : ℕ) : Type 0 where
-  pub bytes : AllBelowBase 256 (bytes_from text from 8)
-  pub value : number ≡ number_from_digits 256 (bytes_from text from 8)
+-- the number has the sixteen bytes of a text from an index on, of which the first weighs most
+pub record IsSixteen (text : List ℕ) (from number : ℕ) : Type 0 where
+  pub bytes : AllBelowBase 256 (bytes_from text from 16)
+  pub value : number ≡ number_from_digits 256 (bytes_from text from 16)

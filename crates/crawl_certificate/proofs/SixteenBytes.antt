@@ -1,12 +1,13 @@
--- Eight bytes as a number: the numbers of two texts that begin alike are ordered as the texts are.
-use Rattle.std.proofs.Common.{◌≡◌, ℕ, zero, suc, ◌+◌, ◌*◌, ◌<◌, ◌≤◌, false, List, [], ◌∷◌, slice_index, refl, sym, ap, subst, ◌∙◌, arith, inl, inr}
+-- Sixteen bytes as a number: the numbers of two texts that begin alike are ordered as the texts are.
+use Rattle.std.proofs.Common.{◌≡◌, ℕ, zero, suc, ◌+◌, ◌-◌, ◌*◌, ◌<◌, ◌≤◌, false, List, [], ◌∷◌, slice_index, slice_range, drop, length, get_or, refl, sym, ap, subst, ◌∙◌, arith, inl, inr}
 use Rattle.std.specs.Int.Digits.{number_from_digits_after, AllBelowBase}
 use Rattle.std.specs.Cmp.Lexicographic.{slice_cmp, nat_list_cmp_total}
 use Rattle.std.specs.Ordering.{nat_cmp, ordering_then, ordering_reverse, is_lt}
 use Rattle.std.specs.declared.cmp.Ordering.TheVariants.{Less, Equal}
 use Rattle.std.proofs.lemmas.Bool.{cases_order, cases_eq, cases_lt}
 use Rattle.std.proofs.lemmas.Bool.Decides.{nat_tests}
-use Rattle.crawl_certificate.specs.Eights.{BeginAlike, bytes_from, IsEight}
+use Rattle.std.proofs.lemmas.List.{get_or-take, get_or-drop}
+use Rattle.crawl_certificate.specs.Sixteens.{AreAlikeWithin, BeginAlike, bytes_from, IsSixteen}
 
 abbrev after : ℕ → List ℕ → ℕ
 after n bytes = number_from_digits_after 256 n bytes
@@ -75,11 +76,19 @@ less_text (suc index) (x ∷ a) (y ∷ b) alike less =
     ap (λ o. ordering_then o (slice_cmp nat_cmp a b)) (is_equal x y (alike zero (omega arith)))
     ∙ less_text index a b (λ k below. alike (suc k) (omega arith)) less
 
-pub less_number : (a b : List ℕ) (from m n : ℕ) → BeginAlike from a b → IsEight a from m → IsEight b from n → m < n → is_lt (slice_cmp nat_cmp b a) ≡ false
+pub less_number : (a b : List ℕ) (from m n : ℕ) → BeginAlike from a b → IsSixteen a from m → IsSixteen b from n → m < n → is_lt (slice_cmp nat_cmp b a) ≡ false
 less_number a b from m n alike one other less =
-    let first = less_somewhere 8 a b from 0 one.bytes other.bytes (omega (arith, one.value, other.value, less)) in
+    let first = less_somewhere 16 a b from 0 one.bytes other.bytes (omega (arith, one.value, other.value, less)) in
     let is = less_text first.index a b (λ k below. elim (cases_lt k from) [ inl early ↦ alike k early | inr late ↦ first.alike k late below ]) first.less in
     ap is_lt (nat_list_cmp_total.antisymm b a ∙ ap ordering_reverse is)
 
-pub equal_number : (a b : List ℕ) (from m n : ℕ) → BeginAlike from a b → IsEight a from m → IsEight b from n → m ≡ n → BeginAlike (from + 8) a b
+pub equal_number : (a b : List ℕ) (from m n : ℕ) → BeginAlike from a b → IsSixteen a from m → IsSixteen b from n → m ≡ n → BeginAlike (from + 16) a b
 equal_number a b from m n alike one other same = grind arith
+
+-- a text has the bytes of another one from an index on
+pub alike_part : (from : ℕ) (text url part : List ℕ) → part ≡ slice_range url from (length text) → part ≡ drop from text → AreAlikeWithin from (length text) text url
+alike_part from text url part of_url of_text k least below =
+    let i : ℕ = k - from in
+    let there : k ≡ from + i = omega arith in
+    ap (slice_index text) there ∙ sym (get_or-drop from text i 0) ∙ ap (λ l. get_or l i 0) (sym of_text ∙ of_url) ∙ get_or-take (length text - from) (drop from url) i 0 (omega arith)
+    ∙ get_or-drop from url i 0 ∙ ap (slice_index url) (sym there)
