@@ -1,5 +1,6 @@
 -- What is printed so far, and lines that are printed behind it.
-use Rattle.std.specs.Prelude.{◌≡◌, ℕ, Bool, true, false, List, ◌++◌, string_bytes}
+use Rattle.std.specs.Prelude.{◌≡◌, ℕ, Bool, true, false, List, ◌++◌, Vec, string_bytes}
+use Rattle.std.specs.declared.alloc.Global.{Global}
 use Rattle.std.specs.List.{flat_map}
 use Rattle.crawl_report.specs.Json.{printed_line}
 use Rattle.crawl_report.specs.Lines.{Line}
@@ -19,7 +20,6 @@ pub record Adds (out more : Out) (lines : List Line) : Type 0 where
   pub same : is_json more ≡ is_json out
   pub added : bytes_of more ≡ bytes_of out ++ flat_map (printed_line (is_json out)) lines
 
--- these lines are printed and nothing else, as JSON or as text
-pub record IsPrinted (as_json : Bool) (lines : List Line) (out : Out) : Type 0 where
-  pub kind : is_json out ≡ as_json
-  pub bytes : bytes_of out ≡ flat_map (printed_line as_json) lines
+-- parts, one behind the other
+abbrev pub joined : List (Vec ℕ Global) → List ℕ
+joined parts = flat_map (λ part. part.items) parts

@@ -14,7 +14,7 @@ mod unseen;
 mod web_urls;
 
 pub use crawl_web::NoMemory;
-pub use printing::{print, print_in_threads};
+pub use printing::{print, print_in_parts, print_in_threads};
 pub use queues::queue_text;
 pub use report::{Parts, Report, Sources};
 pub use row::Row;

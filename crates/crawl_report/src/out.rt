@@ -1,5 +1,5 @@
 //! What is printed so far: lines of text, or of JSON.
-ghost use Rattle.std.specs.Prelude.{◌≡◌, ◌++◌, ◌∷◌, [], IfOk};
+ghost use Rattle.std.specs.Prelude.{◌≡◌, ◌∷◌, [], IfOk};
 ghost use Rattle.crawl_report.specs.Lines.{line_of};
 ghost use Rattle.crawl_report.specs.Printing.{Adds, bytes_of, is_json};
 
@@ -55,25 +55,6 @@ impl Out {
                 let text = with_json(text, row)?;
                 Ok(Out::Json(text))
             }
-        }
-    }
-
-    /// What is printed, and behind it what is printed elsewhere, in the same way.
-    pub fn and(self, more: Out) -> Result<Out, NoMemory>
-        requires { is_json more ≡ is_json self }
-        ensures kind { IfOk result (λ both. is_json both ≡ is_json self) }
-        ensures bytes { IfOk result (λ both. bytes_of both ≡ bytes_of self ++ bytes_of more) }
-    {
-        match (self, more) {
-            (Out::Text(mut text), Out::Text(more)) => {
-                text.push_str(more.as_str())?;
-                Ok(Out::Text(text))
-            }
-            (Out::Json(mut text), Out::Json(mut more)) => {
-                text.append(&mut more)?;
-                Ok(Out::Json(text))
-            }
-            _ => unreachable!("both are text, or both are JSON"),
         }
     }
 

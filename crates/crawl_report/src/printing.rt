@@ -5,7 +5,7 @@ ghost use Rattle.crawl_web.specs.ReportText.{is_found, is_missing, is_moved};
 ghost use Rattle.crawl_report.specs.Json.{printed_line};
 ghost use Rattle.crawl_report.specs.Lines as line;
 ghost use Rattle.crawl_report.specs.Lines.{line_of};
-ghost use Rattle.crawl_report.specs.Printing.{Adds, bytes_of, is_json};
+ghost use Rattle.crawl_report.specs.Printing.{Adds, bytes_of, is_json, joined};
 ghost use Rattle.crawl_report.specs.Rows.{printed, rows_behind, page_line, result_lines, total_of, queue_lines};
 
 use crate::out::Out;
@@ -48,8 +48,37 @@ pub fn print_in_threads<R: Threads + Sync>(
 ) -> Result<Vec<u8>, NoMemory>
     ensures { IfOk result (λ text. text.items ≡ printed json report.now) }
 {
-    let results = results_in_threads(rt, alloc, json, report.pages)?;
-    with_rest(alloc, results, report)
+    let parts = print_in_parts(rt, alloc, report, json)?;
+    put_together(alloc, &parts)
+}
+
+/// As [`print_in_threads`], and the parts are not put together: the report's bytes are those of all, one behind the other.
+///
+/// # Errors
+/// Those of [`print_in_threads`].
+pub fn print_in_parts<R: Threads + Sync>(
+    rt: &R,
+    alloc: Global,
+    report: &Report<'_>,
+    json: bool,
+) -> Result<Vec<Vec<u8>>, NoMemory>
+    ensures { IfOk result (λ parts. joined parts.items ≡ printed json report.now) }
+{
+    let mut parts = results_in_threads(rt, alloc, json, report.pages)?;
+    let empty = Out::new(alloc, json);
+    let rest = with_rest(alloc, empty, report)?;
+    parts.push(rest)?;
+    Ok(parts)
+}
+
+fn put_together(alloc: Global, parts: &[Vec<u8>]) -> Result<Vec<u8>, NoMemory>
+    ensures { IfOk result (λ text. text.items ≡ joined parts.now) }
+{
+    let mut text = Vec::new(alloc);
+    for part in parts {
+        text.extend_from_slice(part)?;
+    }
+    Ok(text)
 }
 
 /// The bytes of what is printed, and behind it of all lines but those of the results.

@@ -1,5 +1,5 @@
 //! A line of a report, and its two forms: a line of text, and a JSON object.
-ghost use Rattle.std.specs.Prelude.{◌≡◌, ◌++◌, ◌∷◌, [], OnOk, IfOk, string_bytes};
+ghost use Rattle.std.specs.Prelude.{◌≡◌, ◌++◌, ◌∷◌, [], OnOk, IfOk, decimal, string_bytes};
 ghost use Rattle.std.specs.Option.{option_map};
 ghost use Rattle.json.specs.Token.{begin_object, end_object};
 ghost use Rattle.json.specs.Tree.{json_tokens};
@@ -10,6 +10,7 @@ ghost use Rattle.crawl_report.specs.Lines.{line_of, line_text, text_line};
 
 use crate::as_json::{put_count, put_text, put_text_or_null, put_url};
 use crawl_web::NoMemory;
+use itoa::Buffer;
 use json::Writer;
 
 /// What a line of a report says. URLs are texts.
@@ -80,7 +81,7 @@ fn push_text(text: &mut String, row: Row<'_>) -> Result<(), NoMemory>
             url,
             links,
             skipped,
-        } => write!(text, "ok {links} {skipped} {url}"),
+        } => push_page(text, url, links, skipped),
         Row::Moved { url } => write!(text, "moved {url}"),
         Row::Missing { url } => write!(text, "missing {url}"),
         Row::Total {
@@ -104,6 +105,25 @@ fn push_text(text: &mut String, row: Row<'_>) -> Result<(), NoMemory>
         }
         Row::Unreached { url } => write!(text, "unreached {url}"),
     }
+}
+
+/// A page's line by its parts: nearly all lines are pages', and `write!` takes many times as long.
+fn push_page(text: &mut String, url: &str, links: u128, skipped: u64) -> Result<(), NoMemory>
+    ensures { OnOk result (string_bytes text.new ≡ string_bytes text.old ++ line_text (line.page url.now links skipped)) }
+{
+    text.push_str("ok ")?;
+    push_count(text, links)?;
+    text.push(' ')?;
+    push_count(text, u128::from(skipped))?;
+    text.push(' ')?;
+    text.push_str(url)
+}
+
+fn push_count(text: &mut String, count: u128) -> Result<(), NoMemory>
+    ensures { OnOk result (string_bytes text.new ≡ string_bytes text.old ++ decimal count) }
+{
+    let mut buffer = Buffer::new();
+    text.push_str(buffer.format(count))
 }
 
 fn push_moved(text: &mut String, count: usize) -> Result<(), NoMemory>

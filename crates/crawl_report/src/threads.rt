@@ -1,6 +1,8 @@
-//! The lines of the results by threads: each prints a part, and the parts are put together in their order.
-ghost use Rattle.std.specs.Prelude.{IfOk};
-ghost use Rattle.crawl_report.specs.Printing.{IsPrinted};
+//! The lines of the results by threads: each prints a part, and the parts stand one behind the other in their order.
+ghost use Rattle.std.specs.Prelude.{◌≡◌, IfOk};
+ghost use Rattle.std.specs.List.{flat_map};
+ghost use Rattle.crawl_report.specs.Json.{printed_line};
+ghost use Rattle.crawl_report.specs.Printing.{joined};
 ghost use Rattle.crawl_report.specs.Rows.{result_lines};
 
 use crate::out::Out;
@@ -15,14 +17,14 @@ const LEAST: usize = 4096;
 /// How often results are halved, so that as many threads print a part as two to this power.
 const HALVINGS: u32 = 2;
 
-/// A line for each result, by four threads where there are many.
+/// A line for each result, in parts: by four threads where there are many.
 pub fn results_in_threads<R: Threads + Sync>(
     rt: &R,
     alloc: Global,
     json: bool,
     pages: &[PageResult],
-) -> Result<Out, NoMemory>
-    ensures { IfOk result (IsPrinted json (result_lines pages.now)) }
+) -> Result<Vec<Vec<u8>>, NoMemory>
+    ensures { IfOk result (λ parts. joined parts.items ≡ flat_map (printed_line json) (result_lines pages.now)) }
 {
     let halvings = if pages.len() < LEAST { 0 } else { HALVINGS };
     lines_of_part(rt, alloc, json, halvings, pages)
@@ -36,22 +38,34 @@ fn lines_of_part<R: Threads + Sync>(
     json: bool,
     halvings: u32,
     pages: &[PageResult],
-) -> Result<Out, NoMemory>
-    ensures { IfOk result (IsPrinted json (result_lines pages.now)) }
+) -> Result<Vec<Vec<u8>>, NoMemory>
+    ensures { IfOk result (λ parts. joined parts.items ≡ flat_map (printed_line json) (result_lines pages.now)) }
 {
     if halvings == 0 {
-        return with_results(Out::new(alloc, json), pages);
+        return lines_alone(alloc, json, pages);
     }
     let fewer = halvings - 1;
     let (front, back) = pages.split_at(pages.len() / 2);
-    let of_front = move || -> Result<Out, NoMemory>
-        ensures { IfOk result (IsPrinted json (result_lines front.entry.now)) }
+    let of_front = move || -> Result<Vec<Vec<u8>>, NoMemory>
+        ensures { IfOk result (λ parts. joined parts.items ≡ flat_map (printed_line json) (result_lines front.entry.now)) }
     { lines_of_part(rt, alloc, json, fewer, front) };
-    let of_back = move || -> Result<Out, NoMemory>
-        ensures { IfOk result (IsPrinted json (result_lines back.entry.now)) }
+    let of_back = move || -> Result<Vec<Vec<u8>>, NoMemory>
+        ensures { IfOk result (λ parts. joined parts.items ≡ flat_map (printed_line json) (result_lines back.entry.now)) }
     { lines_of_part(rt, alloc, json, fewer, back) };
     let (first, second) = join(rt, of_front, of_back);
-    let first = first?;
-    let second = second?;
-    first.and(second)
+    let mut parts = first?;
+    let mut others = second?;
+    parts.append(&mut others)?;
+    Ok(parts)
+}
+
+/// A line for each result, in one part.
+fn lines_alone(alloc: Global, json: bool, pages: &[PageResult]) -> Result<Vec<Vec<u8>>, NoMemory>
+    ensures { IfOk result (λ parts. joined parts.items ≡ flat_map (printed_line json) (result_lines pages.now)) }
+{
+    let empty = Out::new(alloc, json);
+    let lines = with_results(empty, pages)?;
+    let mut parts = Vec::new(alloc);
+    parts.push(lines.into_bytes())?;
+    Ok(parts)
 }

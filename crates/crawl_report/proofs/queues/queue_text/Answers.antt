@@ -8,4 +8,4 @@ pub returns : goal.returns
 returns c =
     let counts = c.args.counts.now in
     let printed = printed_alone _ (queue_lines counts) c.new.result c.in_ok-lines.lines c.new.ensures.empty c.new.ensures.json c.in_ok-lines.ensures in
-    c.into_bytes.ensures ∙ printed.bytes ∙ queues_alone counts
+    c.into_bytes.ensures ∙ printed ∙ queues_alone counts
