@@ -36,5 +36,8 @@ pub fn assign(key: &str, n: u32) -> u32
     ensures value { result ≡ spec.assign key.now n }
     ensures below { result < n }
 {
+    if n == 1 {
+        return 0;
+    }
     hash(key) % n
 }
