@@ -110,6 +110,8 @@ pub fn certify_moved(
 {
     let accepted = Accepted::of(alloc, account)?;
     find_fault(alloc, filter, seeds, &accepted, &results)?;
+    // Its memory is for the sort.
+    drop(accepted);
     let pages = in_order(alloc, results)?;
     Ok(CrawlResult { pages })
 }
@@ -140,6 +142,7 @@ pub fn certify_in_threads<R: Threads + Sync>(
 {
     let accepted = Accepted::of(alloc, account)?;
     find_fault_in_threads(rt, alloc, filter, seeds, &accepted, &results)?;
+    drop(accepted);
     let pages = in_order_by_threads(rt, alloc, results)?;
     Ok(CrawlResult { pages })
 }
@@ -171,6 +174,7 @@ pub fn certify_lossless(
 {
     let accepted = Accepted::of(alloc, account)?;
     find_fault_unlost(alloc, filter, seeds, &accepted, &results)?;
+    drop(accepted);
     let pages = in_order(alloc, results)?;
     Ok(CrawlResult { pages })
 }
@@ -202,6 +206,7 @@ pub fn certify_lossless_in_threads<R: Threads + Sync>(
 {
     let accepted = Accepted::of(alloc, account)?;
     find_fault_unlost_in_threads(rt, alloc, filter, seeds, &accepted, &results)?;
+    drop(accepted);
     let pages = in_order_by_threads(rt, alloc, results)?;
     Ok(CrawlResult { pages })
 }
