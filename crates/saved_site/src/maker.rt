@@ -14,8 +14,11 @@ use std::thread::Threads;
 /// About how many bytes of documents and of lines are in a batch.
 const BATCH_LENGTH: usize = 1 << 24;
 
+/// The same where links are looked up, of which no lines are kept: threads seldom wait for the last of them.
+const LINKED_LENGTH: usize = 1 << 26;
+
 /// So many tasks are taken at once, whose pages mostly lie in one folder.
-const BLOCK: usize = 8;
+const BLOCK: usize = 4;
 
 /// Which tasks of a batch are taken by threads: the first of them, in their order.
 #[derive(Drop)]
@@ -23,20 +26,23 @@ struct Taken {
     count: AtomicUsize,
     /// How many bytes were read and made for them.
     byte_count: AtomicUsize,
+    /// With more bytes the batch has enough.
+    limit: usize,
 }
 
 impl Taken {
     /// None yet.
-    fn new() -> Taken {
+    fn new(limit: usize) -> Taken {
         Taken {
             count: AtomicUsize::new(0),
             byte_count: AtomicUsize::new(0),
+            limit,
         }
     }
 
     /// The number of the first of the next ones, unless the batch has enough.
     fn next(&self) -> Option<usize> {
-        if self.byte_count.load(Ordering::SeqCst) > BATCH_LENGTH {
+        if self.byte_count.load(Ordering::SeqCst) > self.limit {
             return None;
         }
         Some(self.count.fetch_add(BLOCK, Ordering::SeqCst))
@@ -216,17 +222,26 @@ impl Batch {
         let mut batch = Batch::new(alloc);
         let mut unread: Vec<Unread> = Vec::new(alloc);
         for part in parts {
-            let mut maker = part?;
-            batch.made.append(&mut maker.made)?;
-            unread.append(&mut maker.unread)?;
-            batch.makers.push(maker)?;
+            batch.add(part?, &mut unread)?;
         }
-        batch
-            .made
-            .sort_by(|a: &Made, b: &Made| a.number.cmp(&b.number))?;
+        batch.sort()?;
         unread.sort_by(|a: &Unread, b: &Unread| a.number.cmp(&b.number))?;
         batch.tell(unread)?;
         Ok(batch)
+    }
+
+    /// Adds what one of them made.
+    fn add(&mut self, maker: Maker, unread: &mut Vec<Unread>) -> Result<(), AllocError> {
+        let mut maker = maker;
+        self.made.append(&mut maker.made)?;
+        unread.append(&mut maker.unread)?;
+        self.makers.push(maker)?;
+        Ok(())
+    }
+
+    fn sort(&mut self) -> Result<(), AllocError> {
+        self.made
+            .sort_by(|a: &Made, b: &Made| a.number.cmp(&b.number))
     }
 
     fn tell(&mut self, unread: Vec<Unread>) -> Result<(), AllocError> {
@@ -235,6 +250,15 @@ impl Batch {
             self.notes.push(note)?;
         }
         Ok(())
+    }
+}
+
+/// About how many bytes are in a batch.
+fn length_of(given: Given<'_>) -> usize {
+    if given.is_linked {
+        LINKED_LENGTH
+    } else {
+        BATCH_LENGTH
     }
 }
 
@@ -247,7 +271,7 @@ pub(crate) fn next_batch<R: Threads + Sync, C: Contents + Sync>(
     makers: Vec<Maker>,
 ) -> Result<Batch, AllocError> {
     let alloc = *makers.allocator();
-    let taken = Taken::new();
+    let taken = Taken::new(length_of(given));
     let taken = &taken;
     let parts = thread::map_vec(
         rt,

@@ -45,7 +45,7 @@ impl SitePage {
     }
 
     /// What stands under it.
-    pub fn under(&self) -> &Under
+    pub(crate) fn under(&self) -> &Under
         ensures { result.now ≡ self.now.under }
     {
         &self.under

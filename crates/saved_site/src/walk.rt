@@ -27,12 +27,29 @@ pub(crate) fn entries_below<R: Files<File: Send, Dir: Send> + Threads + Sync>(
         return Err(SiteError::Io(io::Error::from(ErrorKind::InvalidInput)));
     }
     let folders = DiskFolders { rt, alloc, top };
+    let begun = begun(alloc, &folders, real.as_path().to_string_lossy())?;
+    let walk = walked(rt, alloc, &folders, begun)?;
+    let found = taken(walk)?;
+    Ok(found)
+}
+
+/// The walk, once the top is read, whose own path this is.
+fn begun<R: Files>(
+    alloc: Global,
+    folders: &DiskFolders<'_, R>,
+    real: &str,
+) -> Result<Walk, SiteError> {
     let mut room = vec![in alloc; 0u8; NAMES_ROOM]?;
     let listed = folders.names_in("", room.as_mut_slice())?;
-    let mut walk = Walk::from(alloc, real.as_path().to_string_lossy())?;
+    let mut walk = Walk::from(alloc, real)?;
     let inside = folders.listed(walk.first(), listed.as_slice())?;
     walk.push(inside)?;
-    let mut walk = walked(rt, alloc, &folders, walk)?;
+    Ok(walk)
+}
+
+/// What the walk has found.
+fn taken(walk: Walk) -> Result<(Vec<String>, Vec<Note>), AllocError> {
+    let mut walk = walk;
     let notes = walk.take_notes()?;
     let mut names = walk.take_names()?;
     names.sort()?;
