@@ -153,7 +153,7 @@ pub(crate) struct Lacked<'a> {
 
 /// Links of a result to parts of a document, by the numbers of both.
 #[derive(Clone, Copy)]
-pub(crate) struct LinksTo<'a> {
+struct LinksTo<'a> {
     page: usize,
     source: usize,
     anchors: &'a Anchors,
@@ -161,7 +161,7 @@ pub(crate) struct LinksTo<'a> {
 }
 
 /// The links to parts of documents, of each result whose number leaves this rest by `of`.
-pub(crate) fn every_links<'a>(
+fn every_links<'a>(
     alloc: Global,
     pages: Pages<'a>,
     files: &SiteFiles<'_>,
@@ -200,40 +200,23 @@ fn push_links<'a>(
     Ok(())
 }
 
-/// Those of the links that lead to parts that documents lack, of each document whose number leaves this rest by `of`, part by
-/// part. The links of a result stand together. They are looked up document by document, so that the ids of one are near.
+/// Those of these links that lead to parts that documents lack, part by part. They are looked up document by document, so that the
+/// ids of one are near.
 pub(crate) fn every_lacked<'a>(
     alloc: Global,
     pages: Pages<'a>,
-    links: &[Vec<LinksTo<'a>>],
+    files: &SiteFiles<'_>,
     rest: usize,
     of: usize,
 ) -> Result<Vec<Lacked<'a>>, NoMemory> {
+    let mut links = every_links(alloc, pages, files, rest, of)?;
+    links.sort_by(|a: &LinksTo<'_>, b: &LinksTo<'_>| a.page.cmp(&b.page))?;
     let mut all = Vec::new(alloc);
-    for own in &by_document(alloc, links, rest, of)? {
+    for own in &links {
         push_lacked(alloc, pages, *own, &mut all)?;
     }
     sort_by_part(&mut all)?;
     Ok(all)
-}
-
-/// The links to documents whose numbers leave this rest, document by document.
-fn by_document<'a>(
-    alloc: Global,
-    links: &[Vec<LinksTo<'a>>],
-    rest: usize,
-    of: usize,
-) -> Result<Vec<LinksTo<'a>>, NoMemory> {
-    let mut own: Vec<LinksTo<'a>> = Vec::new(alloc);
-    for part in links {
-        for one in part {
-            if one.page.checked_rem(of) == Some(rest) {
-                own.push(*one)?;
-            }
-        }
-    }
-    own.sort_by(|a: &LinksTo<'_>, b: &LinksTo<'_>| a.page.cmp(&b.page))?;
-    Ok(own)
 }
 
 /// Appends the links to parts that the document lacks.
@@ -288,7 +271,7 @@ pub(crate) fn lacking<'a>(
     leads: &mut Vec<Lead>,
 ) -> Result<LackedParts<'a>, NoMemory> {
     let mut all = all;
-    all.sort_by(|a: &Lacked<'_>, b: &Lacked<'_>| a.part.page.cmp(&b.part.page))?;
+    sort_by_part(&mut all)?;
     let mut lacking = Vec::new(alloc);
     let mut last = None;
     for lacked in &all {

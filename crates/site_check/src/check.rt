@@ -28,7 +28,7 @@ use check_report::{Broken, FileCount, Findings, Redirect, Totals};
 use crawl_web::{NoMemory, PageResult};
 use saved_site::{Body, LinkPlaces, PageAnchors, SiteFiles};
 use std::alloc::Global;
-use std::thread::Threads;
+use std::thread::{Threads, join};
 
 /// Gives the bytes of a site's files, to several threads at once.
 pub trait Bodies {
@@ -172,8 +172,13 @@ fn sought_by<'p, R: Threads + Sync>(
     linked: &[Linked<'p>],
 ) -> Result<Sought<'p>, NoMemory> {
     let threads = site.files.threads().max(1);
-    let mut leads = page_leads(rt, alloc, asked, site, linked)?;
-    let lacked = lacked_by(rt, alloc, site, threads)?;
+    let (leads, lacked) = join(
+        rt,
+        move || page_leads(rt, alloc, asked, site, linked),
+        move || lacked_by(rt, alloc, site, threads),
+    );
+    let mut leads = leads?;
+    let lacked = lacked?;
     let lacking = lacking(alloc, lacked, linked.len(), &mut leads)?;
     leads.sort_by(|a: &Lead, b: &Lead| (a.source, a.index).cmp(&(b.source, b.index)))?;
     Ok(Sought { lacking, leads })

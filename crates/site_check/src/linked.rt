@@ -21,7 +21,7 @@ pub(crate) struct Linked<'a> {
 }
 
 /// How often results are halved, so that the links of as many parts as two to this power are counted by threads.
-const HALVINGS: u32 = 2;
+const HALVINGS: u32 = 4;
 
 /// The results that found no page, in their order, each with how many results have its URL among their links. These are counted by
 /// threads where there may be four.

@@ -2,7 +2,7 @@
 ghost use Rattle.std.specs.Prelude.{◌≡◌, ◌++◌, ◌+◌, ◌<◌, ◌^◌, IfOk, length};
 ghost use Rattle.site_check.specs.Leads.{indices_at, leads_from, number_at};
 
-use crate::anchors::{Lacked, Pages, every_lacked, every_links};
+use crate::anchors::{Lacked, every_lacked};
 use crate::check::{Bodies, Site};
 use crate::leads::{Lead, Maps, leads_from};
 use crate::located::{PlaceOf, by_page, every_place};
@@ -115,15 +115,7 @@ pub(crate) fn lacked_by<'p, R: Threads + Sync>(
         rt,
         alloc,
         count,
-        &|rest: usize| { every_links(alloc, pages, files, rest, count) },
-    )?;
-    let links = all_made(alloc, parts)?;
-    let links = links.as_slice();
-    let parts = thread::map_indices(
-        rt,
-        alloc,
-        count,
-        &|rest: usize| { every_lacked(alloc, pages, links, rest, count) },
+        &|rest: usize| { every_lacked(alloc, pages, files, rest, count) },
     )?;
     joined(alloc, parts)
 }
@@ -148,18 +140,6 @@ pub(crate) fn locate_by<R: Threads + Sync, B: Bodies + Sync>(
         &|_: usize| { every_place(alloc, site, pages, bodies, next) },
     )?;
     joined(alloc, parts)
-}
-
-/// What each thread found, or that a growth was refused.
-fn all_made<T: Drop>(
-    alloc: Global,
-    parts: Vec<Result<Vec<T>, NoMemory>>,
-) -> Result<Vec<Vec<T>>, NoMemory> {
-    let mut all = Vec::new(alloc);
-    for part in parts {
-        all.push(part?)?;
-    }
-    Ok(all)
 }
 
 /// All that the threads found, or that a growth was refused.

@@ -1,17 +1,18 @@
 //! The files with most broken links.
 use check_report::{Broken, FileCount};
 use crawl_web::NoMemory;
-use hash_order::HashedText;
 use std::alloc::Global;
-use std::collections::BTreeMap;
 
 /// How many files are told.
 const TOLD: usize = 10;
 
 /// The files with most broken links, most first, at most ten.
 pub(crate) fn worst(alloc: Global, broken: &[Broken]) -> Result<Vec<FileCount>, NoMemory> {
-    let counts = counts_of(alloc, broken)?;
-    let most = most_first(alloc, &counts)?;
+    let mut runs = runs_of(alloc, broken)?;
+    // The links of a row stand in the order of files: little is left to sort.
+    runs.sort_by(|a: &Count<'_>, b: &Count<'_>| a.file.cmp(b.file))?;
+    let counts = summed(alloc, runs.as_slice())?;
+    let most = most_first(alloc, counts.as_slice())?;
     told(alloc, most.as_slice())
 }
 
@@ -29,42 +30,43 @@ impl Count<'_> {
     }
 }
 
-/// How many broken links stand in each file.
-type Counts<'a> = BTreeMap<HashedText<'a>, Count<'a>>;
-
-fn counts_of(alloc: Global, broken: &[Broken]) -> Result<Counts<'_>, NoMemory> {
-    let mut counts: Counts<'_> = BTreeMap::new(alloc);
-    let mut run = Count { file: "", links: 0 };
+/// How many broken links come one after another in a file.
+fn runs_of(alloc: Global, broken: &[Broken]) -> Result<Vec<Count<'_>>, NoMemory> {
+    let mut runs = Vec::new(alloc);
     for one in broken {
         for place in &one.places {
             let file = place.file.as_str();
-            if file != run.file {
-                add_run(&mut counts, run)?;
-                run = Count { file, links: 0 };
-            }
-            run.links = run.links.saturating_add(1);
+            add(Count { file, links: 1 }, &mut runs)?;
         }
     }
-    add_run(&mut counts, run)?;
+    Ok(runs)
+}
+
+/// Those of a file together, which stand together.
+fn summed<'a>(alloc: Global, runs: &[Count<'a>]) -> Result<Vec<Count<'a>>, NoMemory> {
+    let mut counts = Vec::new(alloc);
+    for run in runs {
+        add(*run, &mut counts)?;
+    }
     Ok(counts)
 }
 
-/// Adds a run, of one link at least.
-fn add_run<'a>(counts: &mut Counts<'a>, run: Count<'a>) -> Result<(), NoMemory> {
-    if run.links > 0 {
-        let file = run.file;
-        let count = counts
-            .entry(HashedText::from(file))?
-            .or_insert(Count { file, links: 0 });
-        count.links = count.links.saturating_add(run.links);
+/// Adds links to the last count where they stand in its file, or else behind it.
+fn add<'a>(more: Count<'a>, counts: &mut Vec<Count<'a>>) -> Result<(), NoMemory> {
+    if let Some(last) = counts.last_mut()
+        && last.file == more.file
+    {
+        last.links = last.links.saturating_add(more.links);
+        return Ok(());
     }
+    counts.push(more)?;
     Ok(())
 }
 
 /// The first files, at most ten.
-fn most_first<'a>(alloc: Global, counts: &Counts<'a>) -> Result<Vec<Count<'a>>, NoMemory> {
+fn most_first<'a>(alloc: Global, counts: &[Count<'a>]) -> Result<Vec<Count<'a>>, NoMemory> {
     let mut first = Vec::new(alloc);
-    for count in counts.values() {
+    for count in counts {
         insert(*count, &mut first)?;
     }
     Ok(first)
