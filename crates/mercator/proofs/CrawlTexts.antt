@@ -7,6 +7,7 @@ use Rattle.std.specs.Ordering.{nat_cmp}
 use Rattle.std.specs.Str.Lines.{lines}
 use Rattle.crawl_keys.specs.HostFilter.{allows}
 use Rattle.crawl_report.specs.Json.{printed_line}
+use Rattle.crawl_report.specs.Printing.{joined}
 use Rattle.crawl_report.specs.Rows.{rows_with}
 use Rattle.crawl_report.specs.Tallies.{pointed}
 use Rattle.crawl_report.specs.Unreached.{asked_pages, unreached_of}
@@ -26,9 +27,9 @@ unreached_told parts web suffixes pages given urls found shown same_pages same_u
       ascends = subst (λ xs. IsSortedByKey (λ url. url) (slice_cmp nat_cmp) (pointed xs)) (sym same_shown) ascends;
     }
 
-pub text_told : {E : Type 0} (result : Result (Vec ℕ Global) E) (queues : Bool) (options : CrawlOptions) (web : List ℕ) (suffixes : List (List ℕ)) (pages given : List PageResult) (counts shown : List ℕ) (urls : List (List ℕ)) → given ≡ pages → shown ≡ (if queues then counts else [])
-    → AreUnreached options.parts web suffixes pages urls → IfOk result (λ text. text.items ≡ flat_map (printed_line options.json) (rows_with options.parts given shown urls)) → IfOk result (λ text. IsTextOf queues options web suffixes pages counts text.items)
-text_told (Ok text) queues options web suffixes pages given counts shown urls same_pages same_counts unseen printed = record {
+pub text_told : {E : Type 0} (result : Result (Vec (Vec ℕ Global) Global) E) (queues : Bool) (options : CrawlOptions) (web : List ℕ) (suffixes : List (List ℕ)) (pages given : List PageResult) (counts shown : List ℕ) (urls : List (List ℕ)) → given ≡ pages → shown ≡ (if queues then counts else [])
+    → AreUnreached options.parts web suffixes pages urls → IfOk result (λ parts. joined parts.items ≡ flat_map (printed_line options.json) (rows_with options.parts given shown urls)) → IfOk result (λ parts. IsTextOf queues options web suffixes pages counts (joined parts.items))
+text_told (Ok parts) queues options web suffixes pages given counts shown urls same_pages same_counts unseen printed = record {
   unreached = urls;
   unseen = unseen;
   written = printed ∙ (λ i. flat_map (printed_line options.json) (rows_with options.parts (same_pages i) (same_counts i) urls));

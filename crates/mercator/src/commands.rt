@@ -56,7 +56,7 @@ use tell::tell;
 pub use web_crawl::{Report, crawl_saved_web, crawl_saved_web_in_threads, report_of_saved_web};
 pub use words::{BAD_COMMAND_LINE, PlanError, plan, whole_command};
 pub use writing::fault_line;
-use writing::{begin, end, tell_ended, tell_fault};
+use writing::{begin, end, end_by_parts, tell_ended, tell_fault};
 
 /// Runs the program and answers its status: 0 done, 1 a fault, 2 an incomplete crawl, 3 a bad command line. The words are those
 /// after the program's name, and [`plan`] reads them; [`run_plan`] runs what they ask for. Help that is asked for is written to
@@ -260,7 +260,7 @@ fn run<
         }
         Plan::Compact { log, new } => Ended::at_none(compact_log(platform, alloc, log, new)),
         _ => match tell(platform, alloc, plan, input) {
-            Ok(text) => Ended::at_none(end(out, &text)),
+            Ok(parts) => Ended::at_none(end_by_parts(out, &parts)),
             Err(failure) => Ended {
                 how: Err(failure.fault),
                 culprit: failure.culprit,

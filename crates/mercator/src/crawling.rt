@@ -18,7 +18,7 @@ mod settings;
 mod watched;
 
 use crawl_certificate::CrawlResult;
-use crawl_frontier::Setup;
+use crawl_frontier::{Account, Setup};
 use crawl_keys::{CanonUrl, Filter};
 use crawl_web::{Fetch, SessionFetch, WithoutSession};
 pub use error::CrawlError;
@@ -48,6 +48,8 @@ pub struct Crawled {
     pub result: CrawlResult,
     /// How many of these URLs belong to each subqueue, by its number.
     pub counts: Vec<u64>,
+    // So that who lets go of the whole at a process's end need not wait until it is freed.
+    account: Account,
 }
 
 /// Crawls from the seeds: all that can be reached from them over the links of the fetcher's pages, by URLs that the filter

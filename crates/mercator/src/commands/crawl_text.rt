@@ -1,12 +1,13 @@
-//! The text of what a crawl found.
+//! The text of what a crawl found, in parts that stand one behind the other.
 ghost use Rattle.std.specs.Prelude.{◌≡◌, [], IfOk, if◌then◌else◌};
+ghost use Rattle.crawl_report.specs.Printing.{joined};
 ghost use Rattle.crawl_report.specs.Rows.{printed};
 ghost use Rattle.mercator.specs.WebCrawl.{IsTextOf};
 
 use crate::commands::planned::CrawlOptions;
 use crate::commands::tell::WebFound;
-use crawl_report::{NoMemory, Report, asked_pages, print, print_in_threads, unreached};
-use std::alloc::Global;
+use crawl_report::{NoMemory, Report, asked_pages, print, print_in_parts, unreached};
+use std::alloc::{AllocError, Global};
 use std::thread::Threads;
 
 /// The text of what a crawl of a saved web found: its report, with the parts that are asked for, made by threads where the crawl
@@ -20,8 +21,8 @@ pub fn crawl_text<R: Threads + Sync>(
     found: &WebFound,
     queues: bool,
     options: &CrawlOptions,
-) -> Result<Vec<u8>, NoMemory>
-    ensures { IfOk result (λ text. IsTextOf queues options.now found.now.bytes.items found.now.filter found.now.crawled.result found.now.crawled.counts.items text.items) }
+) -> Result<Vec<Vec<u8>>, NoMemory>
+    ensures { IfOk result (λ parts. IsTextOf queues options.now found.now.bytes.items found.now.filter found.now.crawled.result found.now.crawled.counts.items (joined parts.items)) }
 {
     let crawled = &found.crawled;
     let pages = crawled.result.pages();
@@ -43,14 +44,23 @@ fn printed<R: Threads + Sync>(
     report: &Report<'_>,
     json: bool,
     workers: usize,
-) -> Result<Vec<u8>, NoMemory>
-    ensures { IfOk result (λ text. text.items ≡ printed json report.now) }
+) -> Result<Vec<Vec<u8>>, NoMemory>
+    ensures { IfOk result (λ parts. joined parts.items ≡ printed json report.now) }
 {
     if workers > 1 {
-        print_in_threads(rt, alloc, report, json)
+        print_in_parts(rt, alloc, report, json)
     } else {
-        print(alloc, report, json)
+        alone(alloc, print(alloc, report, json)?)
     }
+}
+
+/// The text as its only part.
+pub fn alone(alloc: Global, text: Vec<u8>) -> Result<Vec<Vec<u8>>, AllocError>
+    ensures { IfOk result (λ parts. joined parts.items ≡ text.items) }
+{
+    let mut parts = Vec::new(alloc);
+    parts.push(text)?;
+    Ok(parts)
 }
 
 /// The counts of subqueues, where they are asked for.

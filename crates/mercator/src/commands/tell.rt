@@ -7,11 +7,12 @@ ghost use Rattle.mercator.specs.KeyLine.{IsKeyLine};
 ghost use Rattle.mercator.specs.Limits.{most_input_bytes};
 ghost use Rattle.mercator.specs.Plans.{IsTelling, IsWithinLimits, is_input, is_bad_suffix, known_bytes, known_seeds, lists_input, reads_input, suffixes_of};
 ghost use Rattle.crawl_replay.specs.Replay.{IsReplay};
+ghost use Rattle.crawl_report.specs.Printing.{joined};
 ghost use Rattle.mercator.specs.Told.{AreFiles, Counts, CountsCrawl, Explains, ExplainsCrawl, IsTold, Fails, FailsReplay, FailsCrawl, FailsKey, OfFile, OfFiles};
 ghost use Rattle.mercator.specs.WebCrawl.{IsAtNone, IsBegun, IsCountedAt, IsFound, IsLostAt, IsNamedAt, IsTextOf, IsUnbegun};
 ghost use Rattle.mercator.specs.declared.commands.fault.Fault.TheVariants as wrong;
 
-use crate::commands::crawl_text::crawl_text;
+use crate::commands::crawl_text::{alone, crawl_text};
 use crate::commands::failure::Failure;
 use crate::commands::fault::Fault;
 use crate::commands::planned::{CrawlOptions, Plan};
@@ -29,7 +30,7 @@ use std::mem::forget;
 use std::sync::Wait;
 use std::thread::Threads;
 
-/// What the plan's command tells. A replay and a crawl read their whole FILE first, and a crawl looks at its suffix before, and
+/// What the plan's command tells, in parts that stand one behind the other. A replay and a crawl read their whole FILE first, and a crawl looks at its suffix before, and
 /// reads its file of seeds after it.
 ///
 /// # Errors
@@ -40,10 +41,10 @@ pub fn tell<R: Files + Threads + Wait + Sync, L, V: Observe + Sync, I: Read>(
     alloc: Global,
     plan: &Plan,
     input: &mut I,
-) -> Result<Vec<u8>, Failure>
+) -> Result<Vec<Vec<u8>>, Failure>
     requires limits { IsWithinLimits plan.now }
     requires telling { IsTelling plan.now }
-    ensures text { IfOk result (λ text. IsTold plan.now (I.remaining input.old) text.items) }
+    ensures text { IfOk result (λ parts. IsTold plan.now (I.remaining input.old) (joined parts.items)) }
     ensures fault { IfErr result (λ failure. Fails plan.now (I.remaining input.old) failure.fault) }
     ensures named { IfErr result (λ failure. Explains plan.now (I.remaining input.old) failure.fault failure.culprit) }
     ensures lost { IfErr result (λ failure. IsLostAt failure.fault failure.culprit failure.losses) }
@@ -71,10 +72,10 @@ pub fn tell<R: Files + Threads + Wait + Sync, L, V: Observe + Sync, I: Read>(
             };
             let watching = platform.watching(options.progress);
             let found = crawl_files(&watching, alloc, &asked, input)?;
-            let text = text_of(platform.rt, alloc, &found, *queues, options)?;
+            let parts = text_of(platform.rt, alloc, &found, *queues, options)?;
             // The process ends soon, and gives it back at once.
             forget(found);
-            Ok(text)
+            Ok(parts)
         }
         Plan::Key { url, workers } => Ok(tell_key(alloc, url, *workers)?),
         Plan::Serve(_) | Plan::ServeLog(_) | Plan::Compact { .. } => {
@@ -88,13 +89,14 @@ fn tell_replay<R: Files, I: Read>(
     alloc: Global,
     file: &str,
     input: &mut I,
-) -> Result<Vec<u8>, Fault>
-    ensures text { IfOk result (λ text. OfFile (known_bytes file.now (I.remaining input.old)) (λ bytes. IsReplay bytes text.items)) }
+) -> Result<Vec<Vec<u8>>, Fault>
+    ensures text { IfOk result (λ parts. OfFile (known_bytes file.now (I.remaining input.old)) (λ bytes. IsReplay bytes (joined parts.items))) }
     ensures fault { IfErr result (FailsReplay file.now (I.remaining input.old)) }
     ensures unread { is_input file.now ≡ false → input.new ≡ input.old }
 {
     let bytes = read_file(rt, alloc, file, input)?;
-    Ok(replay_text(alloc, &bytes)?)
+    let text = replay_text(alloc, &bytes)?;
+    Ok(alone(alloc, text)?)
 }
 
 /// A crawl that is asked for, but for what is told of it.
@@ -197,8 +199,8 @@ fn crawl_inputs<R: Threads + Wait + Sync, L, V: Observe + Sync>(
         filter: &filter,
     };
     let (web, crawled) = crawl_with_web(platform, alloc, &bytes, &list, asked.seeds, &settings)?;
-    // As the pages, by `tell`.
-    forget(web);
+    // Its list and its index are two blocks, and the text that is told takes their memory.
+    drop(web);
     Ok(WebFound {
         filter,
         bytes,
@@ -237,26 +239,27 @@ pub fn filter_of(alloc: Global, within: &Option<String>) -> Result<Filter, Filte
     }
 }
 
-/// The text of what was found.
+/// The text of what was found, in parts.
 fn text_of<R: Threads + Sync>(
     rt: &R,
     alloc: Global,
     found: &WebFound,
     queues: bool,
     options: &CrawlOptions,
-) -> Result<Vec<u8>, Fault>
-    ensures text { IfOk result (λ text. IsTextOf queues options.now found.now.bytes.items found.now.filter found.now.crawled.result found.now.crawled.counts.items text.items) }
+) -> Result<Vec<Vec<u8>>, Fault>
+    ensures text { IfOk result (λ parts. IsTextOf queues options.now found.now.bytes.items found.now.filter found.now.crawled.result found.now.crawled.counts.items (joined parts.items)) }
     ensures fault { IfErr result (λ fault. fault ≡ wrong.NoMemory) }
 {
-    let text = crawl_text(rt, alloc, found, queues, options)?;
-    Ok(text)
+    let parts = crawl_text(rt, alloc, found, queues, options)?;
+    Ok(parts)
 }
 
-fn tell_key(alloc: Global, url: &str, workers: u32) -> Result<Vec<u8>, Fault>
+fn tell_key(alloc: Global, url: &str, workers: u32) -> Result<Vec<Vec<u8>>, Fault>
     requires some_worker { 1 ≤ workers }
     requires few_workers { workers ≤ worker_limit }
-    ensures text { IfOk result (λ text. IsKeyLine url.now workers text.items) }
+    ensures text { IfOk result (λ parts. IsKeyLine url.now workers (joined parts.items)) }
     ensures fault { IfErr result (FailsKey url.now) }
 {
-    Ok(key_line(alloc, url, workers)?)
+    let line = key_line(alloc, url, workers)?;
+    Ok(alone(alloc, line)?)
 }

@@ -1,5 +1,6 @@
 //! What a command writes: its text to the output, or a fault's line to the writer for faults.
 ghost use Rattle.std.specs.Prelude.{◌≡◌, ◌++◌, [], IfOk, string_bytes};
+ghost use Rattle.crawl_report.specs.Printing.{joined};
 ghost use Rattle.mercator.specs.Ending.{Begins, EndsByText};
 ghost use Rattle.mercator.specs.FaultText.{culprit_line, culprit_lines, fault_line, losses_line};
 ghost use Rattle.mercator.specs.Told.{told_lines};
@@ -21,6 +22,18 @@ pub fn end<O: Write>(out: &mut O, text: &[u8]) -> Result<(), Fault>
         return Err(Fault::CannotWrite);
     }
     Ok(())
+}
+
+/// As [`end`], for a text in parts that stand one behind the other.
+pub fn end_by_parts<O: Write>(out: &mut O, parts: &[Vec<u8>]) -> Result<(), Fault>
+    ensures { EndsByText (joined parts.now) (O.contents out.old) (O.contents out.new) result }
+{
+    for part in parts {
+        let Ok(()) = out.write_all(part) else {
+            return Err(Fault::CannotWrite);
+        };
+    }
+    end(out, &[])
 }
 
 /// Tells a fault of no plan by its line. What `err` refuses of the line is dropped, and so is a line that finds no room.

@@ -51,7 +51,11 @@ pub fn crawled_of<R: Threads + Sync>(
     match certified(rt, settings, seeds, &account, results, is_lossless) {
         Ok(result) => {
             let counts = counts_of(alloc, &account)?;
-            Ok(Crawled { result, counts })
+            Ok(Crawled {
+                result,
+                counts,
+                account,
+            })
         }
         Err(culprit) => Err(CrawlFailure::of_culprit(culprit, losses)),
     }

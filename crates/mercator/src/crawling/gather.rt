@@ -1,5 +1,5 @@
 //! What a run left, put together.
-ghost use Rattle.std.specs.Prelude.{◌≡◌, ◌∷◌, [], ℕ, List, IfErr, IfOk};
+ghost use Rattle.std.specs.Prelude.{◌≡◌, ◌∷◌, ◌++◌, [], ℕ, List, IfErr, IfOk};
 ghost use Rattle.crawl_certificate.specs.Certificate.{ArePages};
 ghost use Rattle.crawl_frontier.specs.Accounts.{Accounts};
 ghost use Rattle.crawl_web.specs.declared.page.Page.{Page};
@@ -78,12 +78,12 @@ pub fn gathered<K: Name>(
     for end in ends {
         let WorkerEnd {
             closed: worker,
-            results: mut found,
+            results: found,
             lost: _,
             losses: lost,
         } = end;
         closed.push(worker)?;
-        results.append(&mut found)?;
+        results = with_found(results, found)?;
         losses = both_losses(losses, lost);
     }
     Ok(EndedRun {
@@ -91,6 +91,20 @@ pub fn gathered<K: Name>(
         results,
         losses,
     })
+}
+
+/// The results so far, and behind them a worker's. The first worker's list stays as it is, and nothing of it is copied.
+fn with_found(
+    mut results: Vec<PageResult>,
+    mut found: Vec<PageResult>,
+) -> Result<Vec<PageResult>, AllocError>
+    ensures { IfOk result (λ all. all.items ≡ results.items ++ found.items) }
+{
+    if results.is_empty() {
+        return Ok(found);
+    }
+    results.append(&mut found)?;
+    Ok(results)
 }
 
 /// How many entries each subqueue has.

@@ -12,8 +12,8 @@ loop-end-preserved g c =
     record {
       pages = λ meaning all.
           let own = inv.pages meaning all in
-          rw c.in_ok-append.ensures.items (pages_on meaning c.in-Some.end rest before c.loop-end.results.items is own.0 own.1);
+          rw c.in_ok-results.ensures (pages_on meaning c.in-Some.end rest before c.loop-end.results.items is own.0 own.1);
       closed = rw c.in_ok-push.ensures.items (closed_on c.in-Some.end rest before c.loop-end.closed.items _ is inv.closed);
-      found = rw c.in_ok-append.ensures.items (found_on c.in-Some.end rest before c.loop-end.results.items _ is inv.found);
+      found = rw c.in_ok-results.ensures (found_on c.in-Some.end rest before c.loop-end.results.items _ is inv.found);
       losses = rw c.both_losses-losses.ensures (losses_on c.in-Some.end rest before c.loop-end.losses _ is inv.losses);
     }

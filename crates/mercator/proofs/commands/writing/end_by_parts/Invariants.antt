@@ -1,0 +1,7 @@
+use Rattle.std.proofs.Common.{take}
+use Rattle.std.specs.Io.KnownBytes.{Appends}
+use Rattle.crawl_report.specs.Printing.{joined}
+use Rattle.mercator.proofs.commands.writing.end_by_parts.Given as goal
+
+abbrev pub invariant-loop-part : goal.invariant-loop-part
+invariant-loop-part g l = Appends (g.O.Write.contents l.initial.out) (g.O.Write.contents l.out) (joined (take l.part-index l.parts))
