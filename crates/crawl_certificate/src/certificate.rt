@@ -116,7 +116,7 @@ pub fn certify_moved(
     Ok(CrawlResult { pages })
 }
 
-/// As [`certify_moved`], where four threads look up the links, and as many as there are processors sort the pages.
+/// As [`certify_moved`], where four threads look up the links, and threads sort the pages.
 ///
 /// # Errors
 /// Those of [`certify_moved`]. A thread that cannot be started is none: its part is done by the thread that wanted it.
@@ -179,7 +179,7 @@ pub fn certify_lossless(
     Ok(CrawlResult { pages })
 }
 
-/// As [`certify_lossless`], where four threads look at the results, and as many as there are processors sort the pages.
+/// As [`certify_lossless`], where four threads look at the results, and threads sort the pages.
 ///
 /// # Errors
 /// Those of [`certify_lossless`]. A thread that cannot be started is none: its part is done by the thread that wanted it.

@@ -33,6 +33,9 @@ const END: usize = 4096;
 /// Fewer than these are sorted by their texts.
 const FEW: usize = 12;
 
+/// Where so many items have left a list, their memory is given back.
+const STEP: usize = 1 << 17;
+
 /// A result, and sixteen bytes of its URL as a number.
 #[derive(Drop)]
 struct Numbered {
@@ -51,26 +54,40 @@ pub fn in_order(alloc: Global, results: Vec<PageResult>) -> Result<Vec<PageResul
     Ok(sorted)
 }
 
-/// The results, each beside a number that says nothing yet.
+/// The results in any order, each beside a number that says nothing yet. The memory that they leave is given back meanwhile.
 fn with_numbers(alloc: Global, results: Vec<PageResult>) -> Result<Vec<Numbered>, AllocError>
-    ensures { IfOk result (λ pages. pages_of pages.items ≡ results.items) }
+    ensures { IfOk result (λ pages. IsPermutation results.items (pages_of pages.items)) }
 {
-    let mut pages = Vec::with_capacity(alloc, results.len())?;
-    for page in results {
+    let mut rest = results;
+    let mut pages = Vec::with_capacity(alloc, rest.len())?;
+    while let Some(page) = rest.pop() {
         pages.push(Numbered { number: 0, page })?;
+        give_back(&mut rest);
     }
     Ok(pages)
 }
 
-/// The results without their numbers.
+/// The results without their numbers. The memory that these leave is given back meanwhile.
 fn without_numbers(alloc: Global, pages: Vec<Numbered>) -> Result<Vec<PageResult>, AllocError>
     ensures { IfOk result (λ results. results.items ≡ pages_of pages.items) }
 {
-    let mut results = Vec::with_capacity(alloc, pages.len())?;
-    for Numbered { page, .. } in pages {
+    let mut rest = pages;
+    let mut results = Vec::with_capacity(alloc, rest.len())?;
+    while let Some(Numbered { page, .. }) = rest.pop() {
         results.push(page)?;
+        give_back(&mut rest);
     }
+    results.reverse();
     Ok(results)
+}
+
+/// Gives back the memory that a list's items left, at every so many-th one.
+fn give_back<T>(rest: &mut Vec<T>)
+    ensures { rest.new.items ≡ rest.old.items }
+{
+    if rest.len().is_multiple_of(STEP) {
+        rest.shrink_to_fit();
+    }
 }
 
 /// Sorts results whose URLs begin alike for so many bytes, by this many numbers at most before by their texts.

@@ -1,12 +1,19 @@
 use Rattle.std.proofs.Common.{sym, subst, ap, ◌∙◌, arith}
 use Rattle.std.specs.Cmp.Lexicographic.{slice_cmp}
 use Rattle.std.specs.Ordering.{nat_cmp}
-use Rattle.std.specs.List.Sorted.{IsSortedByKey}
+use Rattle.std.specs.List.Sorted.{IsPermutation, IsSortedByKey}
+use Rattle.std.proofs.lemmas.List.Sorted.{IsPermutation-trans}
 use Rattle.crawl_web.specs.declared.page.PageResult.{PageResult}
 use Rattle.crawl_certificate.specs.Sorting.{pages_of}
 use Rattle.crawl_certificate.proofs.Places.{take_front}
 use Rattle.crawl_certificate.proofs.SortedParts.{pages_in_order}
 use Rattle.crawl_certificate.proofs.sorting.in_order.Goals as goal
+
+pub returns-clause-same : goal.returns-clause-same
+returns-clause-same c =
+    subst (IsPermutation c.args.results.items)
+    (sym (c.in_ok-sorted.ensures ∙ ap pages_of (take_front c.in_ok-pages.pages.len c.sort_from.new.pages _ (omega arith))))
+    (IsPermutation-trans _ _ _ (subst (λ ps. IsPermutation c.args.results.items (pages_of ps)) (sym c.as_mut_slice.ensures.value) c.in_ok-pages.ensures) c.sort_from.ensures.same)
 
 pub returns-clause-sorted : goal.returns-clause-sorted
 returns-clause-sorted c =
