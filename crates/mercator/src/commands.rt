@@ -60,7 +60,8 @@ use writing::{begin, end, end_by_parts, tell_ended, tell_fault};
 
 /// Runs the program and answers its status: 0 done, 1 a fault, 2 an incomplete crawl, 3 a bad command line. The words are those
 /// after the program's name, and [`plan`] reads them; [`run_plan`] runs what they ask for. Help that is asked for is written to
-/// `out`, and what is wrong with the words to `err`. It is for a process that ends then, as [`run_plan`] is. It can lock no file, and so opens no log.
+/// `out`, and what is wrong with the words to `err`. It is for a process that ends then, as [`run_plan`] is. It can lock no file,
+/// and so opens no log.
 pub fn run_words<R: Files + Threads + Wait + Sync, I: Read, O: Write, E: Write>(
     rt: &R,
     alloc: Global,

@@ -18,7 +18,7 @@ use check_report::{External, Told};
 use crawl_web::PageResult;
 use mercator::Crawled;
 use saved_site::{
-    LinkPlaces, LinkedSite, PageAnchors, Rules, SiteFiles, SiteNames, Web, files_web,
+    LinkPlaces, LinkedSite, PageAnchors, Rules, SiteFiles, SiteNames, Web, files_pages,
 };
 use site_check::{Asked, Bodies, Checked, check_site};
 use std::alloc::{AllocError, Global};
@@ -87,9 +87,9 @@ pub fn report_of_files<R: Threads + Wait + Sync>(
         seeds: settings.seeds,
     };
     let pages = SiteFiles::new(alloc, input)?;
-    let web = files_web(rt, alloc, &pages, settings.seeds, files.bodies)?;
+    let site = files_pages(rt, alloc, &pages, settings.seeds, files.bodies)?;
     let bodies = InMemory { files };
-    report_of_site(rt, alloc, web, &pages, &bodies, settings)
+    report_of_pages(rt, alloc, site, &pages, &bodies, settings)
 }
 
 /// The report of a check of a site by its saved web: of the crawl of that web from its top or the seeds, within the top's host.
@@ -162,7 +162,8 @@ pub fn report_of_pages<R: Threads + Wait + Sync, B: Bodies + Sync>(
         settings.seeds,
         settings.workers,
     )?;
-    drop(pages);
+    // As the rest is, once the report is made.
+    forget(pages);
     let found = FoundSite {
         crawled,
         anchors,

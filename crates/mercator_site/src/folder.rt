@@ -73,7 +73,8 @@ pub fn web_of_folder<R: Files<File: Send, Dir: Send> + Threads + Sync, E: Write>
 /// The report of a check of a folder. What is not read as it was found is told to `err`.
 ///
 /// # Errors
-/// `CannotReadKnown`, `CannotReadFolder`, `BadBase`, `NoFiles`, `TooLarge`, `BadHost`, `BadSeed`; `Crawl` where the crawl is incomplete; `NoMemory`.
+/// `CannotReadKnown`, `CannotReadFolder`, `BadBase`, `NoFiles`, `TooLarge`, `BadHost`, `BadSeed`; `Crawl` where the crawl is
+/// incomplete; `NoMemory`.
 pub fn report_of_folder<R: Files<File: Send, Dir: Send> + Threads + Wait + Sync, E: Write>(
     rt: &R,
     alloc: Global,

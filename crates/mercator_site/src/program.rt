@@ -30,7 +30,8 @@ enum Asked {
 }
 
 /// Runs the program's words where they are those of a command over a folder, and answers its status; nothing where they are not,
-/// and then nothing is written. `colour` says whether a text for people may have it. Statuses are 0 done, 1 a fault, 2 an incomplete crawl, 3 a bad command line, 4 something is broken.
+/// and then nothing is written. `colour` says whether a text for people may have it. Statuses are 0 done, 1 a fault, 2 an
+/// incomplete crawl, 3 a bad command line, 4 something is broken.
 pub fn run_site_words<R: Files<File: Send, Dir: Send> + Threads + Wait + Sync, O: Write, E: Write>(
     rt: &R,
     alloc: Global,

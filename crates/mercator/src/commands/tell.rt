@@ -30,8 +30,8 @@ use std::mem::forget;
 use std::sync::Wait;
 use std::thread::Threads;
 
-/// What the plan's command tells, in parts that stand one behind the other. A replay and a crawl read their whole FILE first, and a crawl looks at its suffix before, and
-/// reads its file of seeds after it.
+/// What the plan's command tells, in parts that stand one behind the other. A replay and a crawl read their whole FILE first; a
+/// crawl looks at its suffix before that, and reads its file of seeds after it.
 ///
 /// # Errors
 /// `BadSuffix`; `CannotRead`; `CannotReadSeeds`; the faults of the script, of the saved web, of the file of seeds, of the first bad

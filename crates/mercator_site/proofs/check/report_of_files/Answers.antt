@@ -1,8 +1,9 @@
 use Rattle.std.proofs.Common.{ℕ, List, Result, Ok, Err, IfOk}
 use Rattle.mercator_site.specs.Asks.{Asks}
-use Rattle.mercator_site.specs.Checks.{IsCheck, IsNamedCheck, IsNamedSiteCheck, IsSiteCheckAt}
+use Rattle.mercator_site.specs.Checks.{IsCheck, IsNamedCheck, IsNamedSiteCheck, IsSiteCheck, IsSiteCheckAt}
 use Rattle.mercator_site.specs.declared.check.CheckReport.{CheckReport}
 use Rattle.mercator_site.specs.declared.fault.SiteFault.{SiteFault}
+use Rattle.mercator_site.proofs.TopCrawls.{source_of}
 use Rattle.saved_site.specs.Below.{IsTop, IsWebBelow}
 use Rattle.saved_site.specs.Meaning.{IsSiteWeb}
 use Rattle.mercator_site.proofs.check.report_of_files.Goals as goal
@@ -12,7 +13,18 @@ named_site (Ok report) name top web asks made is = record { site = record { top 
 named_site (Err fault) name top web asks made is = tt
 
 pub returns-clause-named : goal.returns-clause-named
-returns-clause-named g c = named_site c.report_of_site.result _ _ _ _ c.in_ok-web.ensures.web c.report_of_site.ensures.named
+returns-clause-named g c =
+    let source = c.in_ok-site.ensures.source in
+    named_site c.report_of_pages.result _ _ _ _ source.web (c.report_of_pages.ensures.named source.bytes (source_of _ _ source))
+
+checked_site : (answer : Result CheckReport SiteFault) (top web : List ℕ) (asks : Asks) → IsSiteWeb web → IfOk answer (λ report. IsCheck top web asks report.is_broken report.text.items) → IfOk answer (λ report. IsSiteCheck asks report.is_broken report.text.items)
+checked_site (Ok report) top web asks made is = record { top = top; web = web; made = made; checked = is }
+checked_site (Err fault) top web asks made is = tt
+
+pub returns-clause-done : goal.returns-clause-done
+returns-clause-done g c =
+    let source = c.in_ok-site.ensures.source in
+    checked_site c.report_of_pages.result _ _ _ source.web (c.report_of_pages.ensures.done source.bytes (source_of _ _ source))
 
 site_at : (answer : Result CheckReport SiteFault) (base top web : List ℕ) (asks : Asks) → IsSiteWeb web → IsTop base top → IsWebBelow top web → IfOk answer (λ report. IsCheck top web asks report.is_broken report.text.items) → IfOk answer (λ report. IsSiteCheckAt base asks report.is_broken report.text.items)
 site_at (Ok report) base top web asks made is_top below is = record { site = record { top = top; web = web; made = made; checked = is }; is_top = is_top; below = below }
@@ -20,4 +32,5 @@ site_at (Err fault) base top web asks made is_top below is = tt
 
 pub returns-clause-below : goal.returns-clause-below
 returns-clause-below g c =
-    site_at c.report_of_site.result c.args.base.now _ _ _ c.in_ok-web.ensures.web c.in_ok-pages.ensures.top c.in_ok-web.ensures.below c.report_of_site.ensures.done
+    let source = c.in_ok-site.ensures.source in
+    site_at c.report_of_pages.result c.args.base.now _ _ _ source.web c.in_ok-pages.ensures.top source.below (c.report_of_pages.ensures.done source.bytes (source_of _ _ source))
