@@ -5,6 +5,7 @@ mod faults;
 mod folders;
 mod inputs;
 mod losses;
+mod reports;
 mod runs;
 mod sources;
 mod threads;

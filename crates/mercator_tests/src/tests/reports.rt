@@ -1,0 +1,39 @@
+//! Calls for reports that no command makes: a text by threads, and the queues alone.
+use crawl_keys::canonical;
+use crawl_report::{Parts, Report, print_in_threads};
+use crawl_web::{Page, PageResult};
+use mercator::queue_text;
+use std::alloc::Global;
+use std::thread::Threads;
+
+const REPORT: &str = "missing http://a.test/\n\
+    missing http://b.test/\n\
+    total 2 ok 0 missing 2\n\
+    queue 0 1\n\
+    queue 1 1\n";
+
+const QUEUES: &str = "queue 0 3\nqueue 1 0\n";
+
+// The report of two pages that are not there, of a crawl with two queues.
+fn printed<R: Threads + Sync>(rt: &R, alloc: Global) -> Option<Vec<u8>> {
+    let mut pages = Vec::new(alloc);
+    for text in ["http://a.test/", "http://b.test/"] {
+        let url = canonical(alloc, text).ok()?;
+        let page = Page::Missing;
+        pages.push(PageResult { url, page }).ok()?;
+    }
+    let report = Report {
+        pages: pages.as_slice(),
+        queues: &[1, 1],
+        unreached: &[],
+        parts: Parts::none(),
+    };
+    print_in_threads(rt, alloc, &report, false).ok()
+}
+
+#[test]
+fn calls_without_a_command(rt: HostRuntime) {
+    assert!(rt; printed(&rt, rt.alloc()).is_some_and(|text| text.as_slice() == REPORT.as_bytes()));
+    let queues = queue_text(rt.alloc(), &[3, 0]);
+    assert!(rt; queues.is_ok_and(|text| text.as_slice() == QUEUES.as_bytes()));
+}
