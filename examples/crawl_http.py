@@ -110,8 +110,16 @@ def reply_of(answer: http.client.HTTPResponse, largest: int) -> Reply:
     kind = answer.headers.get_content_type()
     if answer.status != 200 or kind not in (*PAGES, "text/plain"):
         return Reply(str(answer.status))
-    charset = answer.headers.get_content_charset() or "utf-8"
-    return Reply("200", None, kind, body_of(answer, largest).decode(charset, "replace"))
+    return Reply("200", None, kind, text_of(answer, largest))
+
+
+def text_of(answer: http.client.HTTPResponse, largest: int) -> str:
+    """The text of a page: by UTF-8, where Python cannot read it by the charset that it names."""
+    body = body_of(answer, largest)
+    try:
+        return body.decode(answer.headers.get_content_charset() or "utf-8", "replace")
+    except (LookupError, ValueError):
+        return body.decode("utf-8", "replace")
 
 
 def body_of(answer: http.client.HTTPResponse, largest: int) -> bytes:

@@ -215,10 +215,11 @@ def polite_crawler(trial: Trial) -> None:
 class HostileHost(http.server.ThreadingHTTPServer):
     """A host with a rule in its robots.txt, and a page with a reference that Python does not read."""
 
-    def __init__(self, rule: str) -> None:
+    def __init__(self, rule: str, charset: str = "utf-8") -> None:
         super().__init__(("127.0.0.1", 0), HostileAnswer)
-        self.url = f"http://127.0.0.1:{self.server_port}/"
-        self.pages = {"/robots.txt": f"User-agent: *\n{rule}\n", "/": f'<a href=/x><a href="&#{"9" * 5_000};">'}
+        self.url, self.charset = f"http://127.0.0.1:{self.server_port}/", charset
+        page = f'<a href=/x><a href=/y><a href="&#{"9" * 5_000};">'
+        self.pages = {"/robots.txt": f"User-agent: *\n{rule}\n", "/": page}
         threading.Thread(target=self.serve_forever, daemon=True).start()
 
 
@@ -226,7 +227,8 @@ class HostileAnswer(http.server.BaseHTTPRequestHandler):
     def do_GET(self) -> None:
         assert isinstance(self.server, HostileHost)
         self.send_response(200)
-        self.send_header("Content-Type", "text/html; charset=utf-8" if self.path == "/" else "text/plain")
+        kind = "text/html" if self.path == "/" else "text/plain"
+        self.send_header("Content-Type", f"{kind}; charset={self.server.charset}")
         self.end_headers()
         self.wfile.write(self.server.pages.get(self.path, "").encode())
 
@@ -235,16 +237,21 @@ class HostileAnswer(http.server.BaseHTTPRequestHandler):
 
 
 def hostile_hosts(trial: Trial) -> None:
-    """What Python cannot read, of robots.txt, a page or a URL, ends no crawl, and hides no link before it."""
+    """What Python cannot read, of robots.txt, a page or a URL, ends no crawl, and hides no link before it.
+
+    A charset that it does not know, or that is of no text, hides nothing.
+    """
     trial.want_link()
     rules = (
         "Disallow: //[", "Crawl-delay: \u00b2", "Request-rate: 1/\u00b2", "Crawl-delay: " + "9" * 400, "Crawl-delay: " + "9" * 5_000
     )
     shut = [HostileHost(rule) for rule in rules]
-    read = HostileHost("Disallow: /y")
-    wanted = {**{host.url: "robots" for host in shut}, read.url: "200", f"{read.url}x": "200"}
-    done = run_crawler(crawler_words(trial, "--delay", "0", "--within", "127.0.0.1", *(host.url for host in [*shut, read])))
-    for host in [*shut, read]:
+    read = [HostileHost("Disallow: /y", charset) for charset in ("utf-8", "bogus", "base64", "idna", "x\0y")]
+    wanted = {host.url: "robots" for host in shut}
+    wanted.update({host.url + path: "robots" if path == "y" else "200" for host in read for path in ("", "x", "y")})
+    hosts = [*shut, *read]
+    done = run_crawler(crawler_words(trial, "--delay", "0", "--within", "127.0.0.1", *(host.url for host in hosts)))
+    for host in hosts:
         host.shutdown()
     told = dict(told_by_crawler(done.stdout))
     expect(told == wanted and done.returncode == 0, f"{told}, status {done.returncode}: {done.stderr.decode()}")
