@@ -176,10 +176,11 @@ class Frontier:
         program      the program; else it is what MERCATOR of the environment names, else `mercator`
         """
         command = [os.fspath(program or os.environ.get("MERCATOR") or "mercator"), "serve"]
-        command += ["--workers", str(workers)]
-        command += [] if max_pending is None else ["--max-pending", str(max_pending)]
-        command += [] if within is None else ["--within", within]
-        command += [] if log is None else ["--log", os.fspath(log)]
+        # Each with its value as one word, since a value may begin as an option does.
+        command += [f"--workers={workers}"]
+        command += [] if max_pending is None else [f"--max-pending={max_pending}"]
+        command += [] if within is None else [f"--within={within}"]
+        command += [] if log is None else [f"--log={os.fsdecode(log)}"]
         command += ["--sync"] if sync else []
         self.workers = workers
         # One lock for the process. Each queue's condition stands on it, and `take` waits there.

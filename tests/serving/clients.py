@@ -102,6 +102,20 @@ def log_in_use(trial: Trial) -> None:
         expect((frontier.again(0), frontier.try_take(0)) == (None, Pending(1)), "nothing more")
 
 
+def words_like_options(trial: Trial) -> None:
+    """A log's name and a suffix that begin as options do are taken as they stand."""
+    trial.want_log()
+    before = os.getcwd()
+    os.chdir(trial.folder)
+    try:
+        for offer in (Accepted(0, 0), Refusal.SEEN):
+            with Frontier(1, within="-a.test", log="--x", program=trial.program) as frontier:
+                told = frontier.offer_all(["http://b.-a.test/", "http://a.test/"])
+                expect(told == [offer, Refusal.FILTERED], f"offers: {told}")
+    finally:
+        os.chdir(before)
+
+
 def wait(frontier: Frontier, queue: int, ends: List[FrontierEnded]) -> None:
     try:
         frontier.take(queue)
