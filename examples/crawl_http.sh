@@ -15,7 +15,7 @@ suffix=$1
 shift
 page=$(mktemp)
 trap 'rm -f "$page"' EXIT
-coproc SERVE { exec "${MERCATOR:-mercator}" serve --workers 1 --within "$suffix"; }
+coproc SERVE { exec "${MERCATOR:-mercator}" serve --workers 1 --within="$suffix"; }
 
 # ask REQUEST: sends a line, and reads its answer into `answer`.
 ask() {

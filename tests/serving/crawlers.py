@@ -110,7 +110,8 @@ def told_by_bash(trial: Trial, url: str) -> Dict[str, str]:
 def bash_crawler(trial: Trial) -> None:
     """The crawler in bash, which reads no `<base>`: each URL once, those of the search among them.
 
-    A page that is not UTF-8 has its links, and brackets in a URL stand for themselves.
+    A page that is not UTF-8 has its links, and brackets in a URL stand for themselves. A suffix may
+    begin as an option does.
     """
     trial.want_link()
     if not shutil.which("curl"):
@@ -127,6 +128,9 @@ def bash_crawler(trial: Trial) -> None:
     with Folder(odd) as folder:
         told = told_by_bash(trial, folder.url)
         expect(told == {folder.url: "200", f"{folder.url}a[1-2].html": "200"}, f"{told}")
+    words = ["env", f"MERCATOR={trial.program}", str(ROOT / "examples/crawl_http.sh"), "-a.test", "http://b.test/"]
+    done = run_crawler(words)
+    expect(done.stderr == b"crawl_http.sh: http://b.test/: filtered\n" and done.returncode == 0, f"{done.stderr!r}")
 
 
 def killed_crawler(trial: Trial) -> None:
