@@ -721,6 +721,25 @@ def http(trial: Trial) -> None:
     print(f"  {len(ours)} URLs over HTTP")
 
 
+def crawler(trial: Trial, *words: str, **options: Any) -> subprocess.Popen[str]:
+    """`examples/crawl_cluster.py` as the only part of a crawl."""
+    command = [sys.executable, str(ROOT / "examples/crawl_cluster.py"), "--part", "0/1"]
+    command += ["--program", trial.program, "--redis", trial.server.url, *words]
+    pipe = subprocess.PIPE
+    return subprocess.Popen(command, stdout=pipe, stderr=pipe, text=True, **options)
+
+
+def words_like_options(trial: Trial) -> None:
+    """A log's name and a suffix that begin as options do are taken as they stand."""
+    folder = trial.folder / "words"
+    folder.mkdir()
+    words = ["--name", "words", "--log=--x", "--within=-a.test", "http://a.test/"]
+    process = crawler(trial, *words, cwd=folder)
+    output, errors = process.communicate(timeout=SECONDS)
+    expect(process.returncode == 0 and not output, f"status {process.returncode}: {errors}")
+    expect((folder / "--x").exists(), "no log")
+
+
 def speed(trial: Trial) -> None:
     """100,000 pages on 1,000 hosts with 5 links each at random hosts, fetched at once."""
     pages = trial.words.pages
@@ -750,7 +769,7 @@ def speed(trial: Trial) -> None:
 
 PARTS: Tuple[Callable[[Trial], None], ...] = (
     plain, killed, twice_and_late, lost_redis, lost_at_the_end, full, one_host, many_queues,
-    refused, full_redis, http, speed,
+    refused, full_redis, http, words_like_options, speed,
 )
 
 

@@ -177,10 +177,11 @@ class _ServedPart:
         """Starts the program from its log, once no other has the log."""
         self._log = log
         self._command = [os.fspath(program or os.environ.get("MERCATOR") or "mercator"), "serve"]
-        self._command += ["--part", f"{part}/{crawl.parts}", "--workers", str(crawl.workers)]
-        self._command += [] if crawl.within is None else ["--within", crawl.within]
-        pending = [] if max_pending is None else ["--max-pending", str(max_pending)]
-        self._channel = Channel([*self._command, *pending, "--log", os.fspath(log)], log)
+        # Each with its value as one word, since a value may begin as an option does.
+        self._command += [f"--part={part}/{crawl.parts}", f"--workers={crawl.workers}"]
+        self._command += [] if crawl.within is None else [f"--within={crawl.within}"]
+        pending = [] if max_pending is None else [f"--max-pending={max_pending}"]
+        self._channel = Channel([*self._command, *pending, f"--log={os.fsdecode(log)}"], log)
 
     def ask(self, requests: bytes, count: int) -> List[bytes]:
         """The answers to so many lines. Each line is in the log before."""
@@ -196,7 +197,7 @@ class _ServedPart:
     def offers_of_log(self) -> Iterator[Tuple[List[bytes], List[bytes]]]:
         """All offers of the log, some at a time, and their answers by a frontier without room."""
         # It answers `elsewhere` as the first one, and holds no URL.
-        second = Channel([*self._command, "--max-pending", "1"])
+        second = Channel([*self._command, "--max-pending=1"])
         try:
             with open(self._log, "rb") as log:
                 log.readline()
