@@ -740,6 +740,29 @@ def words_like_options(trial: Trial) -> None:
     expect((folder / "--x").exists(), "no log")
 
 
+def gone_redis(trial: Trial) -> None:
+    """A cut after a long crawl does not end `run`; a Redis that does not answer for long does."""
+    web = drawn_web(trial.draw("gone redis"), 1, 2)
+    shared = trial.new(web, 1, 1, Faults())
+    losses = iter([True])
+
+    def fetch(queue: int, url: str) -> Tuple[str, List[str]]:
+        if next(losses, False):
+            time.sleep(0.5)
+            trial.server.lose(everything=False)
+        return url, web.pages.get(url, [])
+
+    with mock.patch.object(mercator_cluster, "_GONE", 0.3):
+        run(lambda: started(shared, 0), fetch)
+        expect(is_complete(shared, trial.server), "`complete` is not set")
+        other = shared._replace(crawl=shared.crawl._replace(redis="redis://127.0.0.1:1/0"))
+        try:
+            run(lambda: started(other, 0), fetch)
+        except Cut:
+            return
+    raise Differs("a Redis that does not answer is tried for ever")
+
+
 def speed(trial: Trial) -> None:
     """100,000 pages on 1,000 hosts with 5 links each at random hosts, fetched at once."""
     pages = trial.words.pages
@@ -769,7 +792,7 @@ def speed(trial: Trial) -> None:
 
 PARTS: Tuple[Callable[[Trial], None], ...] = (
     plain, killed, twice_and_late, lost_redis, lost_at_the_end, full, one_host, many_queues,
-    refused, full_redis, http, words_like_options, speed,
+    refused, full_redis, http, words_like_options, gone_redis, speed,
 )
 
 

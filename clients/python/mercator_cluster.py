@@ -714,16 +714,24 @@ def run(start: Callable[[], Part], fetch: Fetch) -> None:
 
     start  makes the part, and again each time that it was cut off from Redis
     fetch  fetches the URL of a queue, and answers the base and the texts of its links
+
+    A Redis that does not answer is tried for ten minutes.
     """
-    last_found = time.monotonic()
+    while True:
+        with _started(start) as part, contextlib.suppress(Cut):
+            _crawl(part, fetch)
+            return
+        time.sleep(_PAUSE)
+
+
+def _started(start: Callable[[], Part]) -> Part:
+    """The part, once Redis answers."""
+    begun = time.monotonic()
     while True:
         try:
-            with start() as part:
-                last_found = time.monotonic()
-                _crawl(part, fetch)
-                return
+            return start()
         except Cut:
-            if time.monotonic() - last_found > _GONE:
+            if time.monotonic() - begun > _GONE:
                 raise
         time.sleep(_PAUSE)
 
