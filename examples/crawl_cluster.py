@@ -15,12 +15,15 @@ It writes a line for each URL that it has fetched: the status, how many links it
 part that was ended in any way goes on from its log. A crawl begins anew with other logs and another
 --name. It wants `redis`; Debian's python3-redis is for /usr/bin/python3.
 
+A Redis that does not answer is told once, and tried for ten minutes. Then the part fails.
+
 Status 0: no URL is left at any part; 1: the part failed; 2: Ctrl-C.
 """
 
 from __future__ import annotations
 
 import argparse
+import logging
 import sys
 from collections import defaultdict
 from pathlib import Path
@@ -63,6 +66,7 @@ def part_of(text: str) -> Tuple[int, int]:
 
 def main() -> int:
     words = words_of_command_line()
+    logging.basicConfig(format="crawl_cluster: %(message)s")
     part, parts = words.part
     crawl = Crawl(parts, words.workers, words.within, words.name, words.redis)
     hosts: DefaultDict[int, Dict[str, crawl_http.Host]] = defaultdict(dict)

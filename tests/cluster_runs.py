@@ -20,6 +20,7 @@ import itertools
 import json
 import os
 import random
+import select
 import shutil
 import signal
 import socket
@@ -740,6 +741,29 @@ def words_like_options(trial: Trial) -> None:
     expect((folder / "--x").exists(), "no log")
 
 
+def absent_redis(trial: Trial) -> None:
+    """A Redis that does not answer is told once, and tried; the part goes on once it answers."""
+    trial.server.process.kill()
+    trial.server.process.wait()
+    words = ["--name", "absent", "--log", str(trial.folder / "absent"), "http://127.0.0.1:0/"]
+    process = crawler(trial, *words)
+    try:
+        assert process.stderr
+        expect(any(select.select([process.stderr], [], [], SECONDS)), "nothing is told")
+        line = process.stderr.readline()
+        is_told = line.startswith("crawl_cluster: Redis does not answer, and is tried for 600 s: ")
+        expect(is_told and "refused" in line, f"told: {line}")
+        time.sleep(3 * mercator_cluster._PAUSE)
+        trial.server.start()
+        output, errors = process.communicate(timeout=SECONDS)
+        expect(process.returncode == 0 and not errors, f"status {process.returncode}: {errors}")
+        expect(output == "robots 0 http://127.0.0.1:0/\n", f"fetched: {output}")
+    finally:
+        process.kill()
+        if trial.server.process.poll() is not None:
+            trial.server.start()
+
+
 def gone_redis(trial: Trial) -> None:
     """A cut after a long crawl does not end `run`; a Redis that does not answer for long does."""
     web = drawn_web(trial.draw("gone redis"), 1, 2)
@@ -792,7 +816,8 @@ def speed(trial: Trial) -> None:
 
 PARTS: Tuple[Callable[[Trial], None], ...] = (
     plain, killed, twice_and_late, lost_redis, lost_at_the_end, full, one_host, many_queues,
-    refused, full_redis, http, words_like_options, gone_redis, speed,
+    refused, full_redis, http, words_like_options, absent_redis, gone_redis,
+    speed,
 )
 
 

@@ -45,6 +45,7 @@ Debian), Linux and Python 3.9.
 from __future__ import annotations
 
 import contextlib
+import logging
 import os
 import time
 from collections import deque
@@ -66,6 +67,8 @@ __all__ = [
     "ClusterError", "Counts", "Crawl", "Cut", "Fetched", "OtherCrawl", "Part", "Taken",
     "UnsafeRedis", "run",
 ]
+
+logger = logging.getLogger(__name__)
 
 # The most URLs of one entry. Entries of one URL cost the clients three times as much, Redis eight.
 _ENTRY = 500
@@ -715,7 +718,8 @@ def run(start: Callable[[], Part], fetch: Fetch) -> None:
     start  makes the part, and again each time that it was cut off from Redis
     fetch  fetches the URL of a queue, and answers the base and the texts of its links
 
-    A Redis that does not answer is tried for ten minutes.
+    A Redis that does not answer is tried for ten minutes. That is told once, by a warning of
+    `logging`, which goes to standard error where nothing else is said.
     """
     while True:
         with _started(start) as part, contextlib.suppress(Cut):
@@ -727,12 +731,16 @@ def run(start: Callable[[], Part], fetch: Fetch) -> None:
 def _started(start: Callable[[], Part]) -> Part:
     """The part, once Redis answers."""
     begun = time.monotonic()
+    is_told = False
     while True:
         try:
             return start()
-        except Cut:
+        except Cut as cut:
             if time.monotonic() - begun > _GONE:
                 raise
+            if not is_told:
+                logger.warning("Redis does not answer, and is tried for %.0f s: %s", _GONE, cut)
+            is_told = True
         time.sleep(_PAUSE)
 
 
