@@ -741,6 +741,19 @@ def words_like_options(trial: Trial) -> None:
     expect((folder / "--x").exists(), "no log")
 
 
+def told_seeds(trial: Trial) -> None:
+    """`examples/crawl_cluster.py` tells seeds that no part takes, as `crawl_http.py` does."""
+    seeds = ["notaurl", "ftp://a.test/", "", "http://a.test/", "http://127.0.0.1:0/" + "x" * 5_000]
+    whys = ["not a URL", "not http or https", "not a URL", "filtered", "line too long"]
+    wanted = [f"crawl_cluster: {seed}: {why}" for seed, why in zip(seeds, whys)]
+    words = ["--name", "seeds", "--log", str(trial.folder / "seeds"), "--within", "127.0.0.1"]
+    process = crawler(trial, *words, *seeds, "http://127.0.0.1:0/", "HTTP://127.1:0")
+    output, errors = process.communicate(timeout=SECONDS)
+    expect(process.returncode == 0, f"status {process.returncode}: {errors}")
+    expect(errors.splitlines() == wanted, f"told: {errors}")
+    expect(output == "robots 0 http://127.0.0.1:0/\n", f"fetched: {output}")
+
+
 def absent_redis(trial: Trial) -> None:
     """A Redis that does not answer is told once, and tried; the part goes on once it answers."""
     trial.server.process.kill()
@@ -780,10 +793,12 @@ def gone_redis(trial: Trial) -> None:
         run(lambda: started(shared, 0), fetch)
         expect(is_complete(shared, trial.server), "`complete` is not set")
         other = shared._replace(crawl=shared.crawl._replace(redis="redis://127.0.0.1:1/0"))
-        try:
-            run(lambda: started(other, 0), fetch)
-        except Cut:
-            return
+        with mock.patch.object(mercator_cluster.logger, "warning") as told:
+            try:
+                run(lambda: started(other, 0), fetch)
+            except Cut:
+                expect(told.call_count == 1, f"told {told.call_count} times")
+                return
     raise Differs("a Redis that does not answer is tried for ever")
 
 
@@ -816,8 +831,8 @@ def speed(trial: Trial) -> None:
 
 PARTS: Tuple[Callable[[Trial], None], ...] = (
     plain, killed, twice_and_late, lost_redis, lost_at_the_end, full, one_host, many_queues,
-    refused, full_redis, http, words_like_options, absent_redis, gone_redis,
-    speed,
+    refused, full_redis, http, words_like_options, told_seeds, absent_redis,
+    gone_redis, speed,
 )
 
 

@@ -197,18 +197,20 @@ class _ServedPart:
             raise UnknownAnswer("the program does not tell its log's identity")
         return identity
 
-    def offers_of_log(self) -> Iterator[Tuple[List[bytes], List[bytes]]]:
-        """All offers of the log, some at a time, and their answers by a frontier without room."""
-        # It answers `elsewhere` as the first one, and holds no URL.
-        second = Channel([*self._command, "--max-pending=1"])
+    def offers_of_log(self) -> Iterator[bytes]:
+        """All offers of the log, as requests."""
+        with open(self._log, "rb") as log:
+            log.readline()
+            yield from (line for line in log if line.startswith((b"offer ", b"link ")))
+
+    @contextlib.contextmanager
+    def without_room(self) -> Iterator[Channel]:
+        """A frontier without room: it answers `elsewhere` as this one does, and holds no URL."""
+        channel = Channel([*self._command, "--max-pending=1"])
         try:
-            with open(self._log, "rb") as log:
-                log.readline()
-                offers = (line for line in log if line.startswith((b"offer ", b"link ")))
-                for lines in _slices(offers, _SLICE):
-                    yield lines, second.exchange(b"".join(lines), len(lines))
+            yield channel
         finally:
-            second.close()
+            channel.close()
 
     def close(self) -> None:
         self._channel.close()
@@ -468,7 +470,8 @@ class Part:
         """Starts the frontier from its log, and makes the part ready.
 
         part         its number, from 0
-        seeds        URLs of any parts; each time the same ones, since Redis may lose them
+        seeds        URLs of any parts; each time the same ones, since Redis may lose them. One that
+                     no part takes is told, by a warning of `logging`
         max_pending  the most URLs of this part that are not done at one time; at least 2
         sync         an entry leaves Redis only when the disk has what it brought
         program      as for `Frontier`
@@ -556,18 +559,28 @@ class Part:
 
     def _announce(self, seeds: Iterable[str]) -> None:
         """Sends the seeds, and what the log says was for others; then the part is ready."""
-        nobody = _Owner()
-        for lines, answers in self._frontier.offers_of_log():
-            offers = _Offers(nobody, b"".join(lines), len(lines))
-            for place, answer in enumerate(answers):
-                if answer.startswith(b"elsewhere "):
-                    self._put(answer, offers, place)
-            self._send_all()
-        for some in _slices(filter(None, map(_line_of_seed, seeds)), _SLICE):
-            for line in some:
-                self._outbox.put(self._part, line, nobody)
-            self._send_all()
+        with self._frontier.without_room() as frontier:
+            for lines in _slices(self._frontier.offers_of_log(), _SLICE):
+                offers = _Offers(_Owner(), b"".join(lines), len(lines))
+                for place, answer in enumerate(frontier.exchange(offers.requests, offers.size)):
+                    if answer.startswith(b"elsewhere "):
+                        self._put(answer, offers, place)
+                self._send_all()
+            for some in _slices(seeds, _SLICE):
+                self._put_seeds(some, frontier)
+                self._send_all()
         self._broker.make_ready()
+
+    def _put_seeds(self, seeds: List[str], frontier: Channel) -> None:
+        """Keeps seeds, until they are sent. Those that no part takes are told."""
+        nobody = _Owner()
+        lines = list(map(_line_of_seed, seeds))
+        requests = b"".join([b"offer " + line + b"\n" for line in lines])
+        for seed, line, answer in zip(seeds, lines, frontier.exchange(requests, len(lines))):
+            if answer in _NO_MATTER:
+                logger.warning("%s: %s", seed, answer.decode())
+            else:
+                self._outbox.put(self._part, line, nobody)
 
     def _send_all(self) -> None:
         while self._outbox:
