@@ -3,9 +3,18 @@ ghost use Rattle.std.specs.Prelude.{◌≡◌, ◌≢◌, ℕ, ◌≤◌, ◌<�
 ghost use Rattle.saved_site.specs.Places.{keeps_ascii};
 ghost use Rattle.saved_site.specs.Windows.{character_of, likely_byte};
 
-use crate::kinds::{behind_front, start_of};
+use crate::cleaning::trimmed;
+use crate::kinds::{behind_first, behind_front, start_of};
 use memchr::memchr;
 use std::alloc::{AllocError, Global};
+
+/// Names of UTF-8; those of UTF-16 mean it in a `meta`.
+const UTF8_NAMES: &str =
+    "utf-8 utf8 unicode-1-1-utf-8 unicode11utf8 unicode20utf8 x-unicode20utf8 utf_8 u8 utf-16 utf-16le utf-16be csunicode iso-10646-ucs-2 ucs-2 unicode unicodefeff unicodefffe";
+
+/// Names of Windows' own.
+const WINDOWS_NAMES: &str =
+    "windows-1252 iso-8859-1 latin1 us-ascii ascii ansi_x3.4-1968 cp1252 1252 cp819 csisolatin1 ibm819 iso-ir-100 iso8859-1 iso88591 iso_8859-1 iso_8859-1:1987 l1 x-cp1252";
 
 /// The encoding that a document is read in.
 #[derive(Clone, Copy, Debug, PartialEq, Eq)]
@@ -61,12 +70,9 @@ fn undeclared(body: &[u8], otherwise: Charset) -> Charset
 fn charset_named(name: &[u8], body: &[u8]) -> Charset
     ensures { keeps_ascii result ≡ true }
 {
-    if is_among(name, "utf-8 utf8 utf-16 utf-16le utf-16be utf_8 u8") {
+    if is_among(name, UTF8_NAMES) {
         Charset::Utf8
-    } else if is_among(
-        name,
-        "iso-8859-1 latin1 us-ascii ascii windows-1252 cp1252 1252",
-    ) {
+    } else if is_among(name, WINDOWS_NAMES) {
         Charset::Windows1252
     } else {
         undeclared(body, Charset::Other)
@@ -79,83 +85,173 @@ fn is_among(name: &[u8], names: &str) -> bool {
         .any(|known| known.as_bytes().eq_ignore_ascii_case(name))
 }
 
-/// The name of the encoding that the head of a document declares.
+/// The name of the encoding that the head of a document declares, by the HTML Standard's prescan.
 pub(crate) fn declared(start: &[u8]) -> Option<&[u8]> {
     let mut rest = start;
-    while let Some(behind) = behind_bracket(rest) {
+    while let Some(opened) = behind_byte(b'<', rest) {
+        let Some(behind) = behind_markup(opened) else {
+            return None;
+        };
         rest = behind;
-        if let Some(behind) = behind_front(rest, b"meta") {
-            let name = last_charset(inside(behind));
-            if !name.is_empty() {
-                return Some(name);
-            }
+        if let Some(name) = name_in_meta(opened) {
+            return Some(name);
         }
     }
     None
 }
 
-/// What is behind the first `<`.
-fn behind_bracket(text: &[u8]) -> Option<&[u8]>
+/// What is behind the first of these bytes.
+fn behind_byte(byte: u8, text: &[u8]) -> Option<&[u8]>
     ensures { IfSome result (λ behind. length behind.now < length text.now) }
 {
-    let index = memchr(b'<', text)?;
+    let index = memchr(byte, text)?;
     Some(&text[index + 1..])
 }
 
-/// The bytes before a `>`.
-fn inside(bytes: &[u8]) -> &[u8] {
-    match memchr(b'>', bytes) {
-        Some(end) => &bytes[..end],
-        None => bytes,
+/// What is behind a comment, tag or other mark, from behind its `<`; none where it does not end.
+fn behind_markup(text: &[u8]) -> Option<&[u8]>
+    ensures { IfSome result (λ behind. length behind.now ≤ length text.now) }
+{
+    match text {
+        // The first two dashes may be the last two.
+        [b'!', b'-', b'-', ..] => behind_first(&text[1..], b"-->"),
+        [b'A'..=b'Z' | b'a'..=b'z', ..] => behind_tag(text),
+        [b'/', b'A'..=b'Z' | b'a'..=b'z', ..] => behind_tag(&text[1..]),
+        [b'!' | b'/' | b'?', ..] => behind_byte(b'>', text),
+        _ => Some(text),
     }
 }
 
-/// The name behind the last `charset=` that has one; nothing where there is none.
-fn last_charset(tag: &[u8]) -> &[u8] {
-    let mut name: &[u8] = &[];
-    for index in 0..tag.len() {
-        let found = charset_at(&tag[index..]);
-        if !found.is_empty() {
-            name = found;
-        }
+/// What is behind a tag, from its name; none where it does not end.
+fn behind_tag(text: &[u8]) -> Option<&[u8]>
+    ensures { IfSome result (λ behind. length behind.now ≤ length text.now) }
+{
+    let mut rest = &text[length_before(text, b"/>")..];
+    while let Some(found) = next_attribute(rest) {
+        rest = found.behind;
     }
-    name
+    behind_byte(b'>', rest)
 }
 
-fn charset_at(text: &[u8]) -> &[u8] {
-    let Some(behind) = behind_front(text, b"charset") else {
-        return &[];
+/// The name of an encoding in a tag that ends, from behind its `<`, where it is a `meta`.
+fn name_in_meta(opened: &[u8]) -> Option<&[u8]> {
+    let (name, tag) = opened.split_at(length_before(opened, b"/>"));
+    if !name.eq_ignore_ascii_case(b"meta") {
+        return None;
+    }
+    let name = match value_of(tag, b"charset") {
+        Some(name) => trimmed(name),
+        None => trimmed(name_in_content(tag)),
     };
-    match skip_spaces(behind).split_first() {
-        Some((b'=', value)) => {
-            let value = match skip_spaces(value) {
-                [b'"' | b'\'', behind @ ..] => skip_spaces(behind),
-                value => value,
-            };
-            &value[..name_length(value)]
+    if name.is_empty() { None } else { Some(name) }
+}
+
+/// The name in a tag's `content`, where that is the kind of the document.
+fn name_in_content(tag: &[u8]) -> &[u8] {
+    match (value_of(tag, b"http-equiv"), value_of(tag, b"content")) {
+        (Some(header), Some(content)) if header.eq_ignore_ascii_case(b"content-type") => {
+            name_in_kind(content)
         }
         _ => &[],
     }
 }
 
-fn skip_spaces(bytes: &[u8]) -> &[u8] {
+/// The name behind the first `charset=`; nothing where there is none.
+fn name_in_kind(kind: &[u8]) -> &[u8] {
+    for index in 0..kind.len() {
+        if let Some(behind) = behind_front(&kind[index..], b"charset") {
+            if let [b'=', value @ ..] = skip_spaces(behind) {
+                return split_value(skip_spaces(value), b";").0;
+            }
+        }
+    }
+    &[]
+}
+
+/// An attribute of a tag, and what is behind it.
+#[derive(Clone, Copy)]
+struct Attribute<'a> {
+    name: &'a [u8],
+    value: &'a [u8],
+    behind: &'a [u8],
+}
+
+/// The value of a tag's first attribute of this name.
+fn value_of<'a>(tag: &'a [u8], name: &[u8]) -> Option<&'a [u8]> {
+    let mut rest = tag;
+    while let Some(found) = next_attribute(rest) {
+        if found.name.eq_ignore_ascii_case(name) {
+            return Some(found.value);
+        }
+        rest = found.behind;
+    }
+    None
+}
+
+/// The next attribute of a tag, or a `/` as one without a name; none at the tag's end.
+fn next_attribute(text: &[u8]) -> Option<Attribute<'_>>
+    ensures { IfSome result (λ found. length found.behind.now < length text.now) }
+{
+    match skip_spaces(text) {
+        [] | [b'>', ..] => None,
+        [b'/', behind @ ..] => Some(Attribute {
+            name: &[],
+            value: &[],
+            behind,
+        }),
+        text => {
+            let (name, rest) = text.split_at(1 + length_before(&text[1..], b"=/>"));
+            let (value, behind) = match skip_spaces(rest) {
+                [b'=', value @ ..] => split_value(skip_spaces(value), b">"),
+                rest => rest.split_at(0),
+            };
+            Some(Attribute {
+                name,
+                value,
+                behind,
+            })
+        }
+    }
+}
+
+/// A value, in quotes or before white space or one of these bytes, and what is behind it; nothing where its quote does not end.
+fn split_value<'a>(text: &'a [u8], ends: &[u8]) -> (&'a [u8], &'a [u8])
+    ensures { length result.1.now ≤ length text.now }
+{
+    match text {
+        [quote @ (b'"' | b'\''), inside @ ..] => match memchr(*quote, inside) {
+            Some(end) => (&inside[..end], &inside[end + 1..]),
+            None => (&[], &[]),
+        },
+        _ => text.split_at(length_before(text, ends)),
+    }
+}
+
+fn skip_spaces(bytes: &[u8]) -> &[u8]
+    ensures { length result.now ≤ length bytes.now }
+{
     for (index, byte) in bytes.iter().enumerate() {
-        if !matches!(*byte, b'\t'..=b'\r' | b' ') {
+        if !is_space(*byte) {
             return &bytes[index..];
         }
     }
     &[]
 }
 
-fn name_length(bytes: &[u8]) -> usize
+/// How many bytes stand before white space or one of these bytes.
+fn length_before(bytes: &[u8], ends: &[u8]) -> usize
     ensures { result ≤ length bytes.now }
 {
     for (index, byte) in bytes.iter().enumerate() {
-        if !byte.is_ascii_alphanumeric() && !matches!(*byte, b'_' | b'.' | b':' | b'-') {
+        if is_space(*byte) || ends.contains(byte) {
             return index;
         }
     }
     bytes.len()
+}
+
+fn is_space(byte: u8) -> bool {
+    matches!(byte, b'\t' | b'\n' | b'\x0c' | b'\r' | b' ')
 }
 
 /// The characters of 0x80 to 0x9f.

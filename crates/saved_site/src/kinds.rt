@@ -120,7 +120,8 @@ fn has_document_behind_comment(text: &[u8]) -> bool {
     false
 }
 
-fn behind_first<'a>(text: &'a [u8], needle: &[u8]) -> Option<&'a [u8]>
+/// What is behind the first of these texts.
+pub(crate) fn behind_first<'a>(text: &'a [u8], needle: &[u8]) -> Option<&'a [u8]>
     requires { 0 < length needle.now }
     ensures { IfSome result (λ behind. length behind.now < length text.now) }
 {

@@ -1,5 +1,5 @@
 use Rattle.std.proofs.Common.{length}
 use Rattle.saved_site.proofs.charset.declared.Given as goal
 
-abbrev pub decreases-loop-behind : goal.decreases-loop-behind
-decreases-loop-behind l = length l.rest
+abbrev pub decreases-loop-opened : goal.decreases-loop-opened
+decreases-loop-opened l = length l.rest
