@@ -195,7 +195,10 @@ t=u.html v@w.html x:y.html ~z.html %.html %zz.html A.HTML .html .hidden ...html 
 FOLDERS = ["", "", "", "sub/", "sub/deep/", "a.html.d/", "e f/", "%41/", "\u00e4/", "q?r/"]
 BASES = ["", "sub/", "/", "http://docs.test/sub/", "//other.test/x/", "mailto:x", "data:x", "x y", "?q", "#f", "https:g", "../..", "http://"]
 HEADS = ["", "", "", "<!doctype html>", "<html>", "\n<!-- c --><!DOCTYPE HTML>", "<?xml version='1.0'?><html>", "<!-- --> -->\n<html>"]
-DECLARED = ["", "", "", "<meta charset=utf-8>", '<meta charset="windows-1252">', "<meta charset=iso-8859-1>", "<meta charset=koi8-r>", "<meta charset=utf-16>"]
+DECLARED = ["", "", "", "<meta charset=utf-8>", '<meta charset="windows-1252">', "<meta charset=iso-8859-1>", "<meta charset=koi8-r>", "<meta charset=utf-16>",
+            '<meta name=a content="charset=l1">', "<!-- <meta charset=l1> --><!--><META/charset=' L1 '>", '<meta charset=utf8 content="charset=l1">',
+            "<meta http-equiv=Content-Type content='a; charset Charset = l1;b'>", '<p x="<meta charset=l1>"></p x=">"><meta charset=x>', "<meta charset=''>",
+            "<meta http-equiv=content-type content='charset=\"cp819\"' charset>", "<meta content=charset='l1 http-equiv=content-TYPE>", "<?x <meta charset=l1>"]
 
 
 def drawn_link(draw: random.Random, names: list[str]) -> str:

@@ -286,7 +286,25 @@ HTML_START = re.compile(
     rb"(\xef\xbb\xbf)?\s*(<\?xml[^>]*>\s*)?(<!--.*?-->\s*)*<(!doctype\s+html|html)\b", re.I | re.S
 )
 START_LENGTH = 1024  # bytes of a document in which its kind and its encoding are looked for
-DECLARED = re.compile(rb"(?i)<meta[^>]*charset\s*=\s*[\"']?\s*([A-Za-z0-9_.:-]+)")
+# What the prescan of a document for its encoding reads
+MARK = re.compile(rb"<(?:!(?=--).*?(?:-->|\Z)|(/?[A-Za-z][^\t\n\f\r />]*)|[!/?][^>]*)", re.S)
+MARK_ATTRIBUTE = re.compile(
+    rb"""[\t\n\f\r /]*([^\t\n\f\r />][^\t\n\f\r />=]*)
+    (?:[\t\n\f\r ]*=[\t\n\f\r ]*(?:"([^"]*)(?:"|\Z)|'([^']*)(?:'|\Z)|([^\t\n\f\r >]*)))?""",
+    re.X,
+)
+MARK_END = re.compile(rb"[\t\n\f\r /]*>")
+KIND_CHARSET = re.compile(
+    rb"""charset[\t\n\f\r ]*=[\t\n\f\r ]*(?:"([^"]*)"|'([^']*)'|(?!["'])([^\t\n\f\r ;]*)|)""", re.I
+)
+UTF8_NAMES = set(
+    "utf-8 utf8 unicode-1-1-utf-8 unicode11utf8 unicode20utf8 x-unicode20utf8 csunicode iso-10646-ucs-2 ucs-2 unicode"
+    " unicodefeff unicodefffe".split()
+)
+WINDOWS_NAMES = set(
+    "windows-1252 iso-8859-1 latin1 us-ascii ascii ansi_x3.4-1968 cp1252 cp819 csisolatin1 ibm819 iso-ir-100 iso8859-1"
+    " iso88591 iso_8859-1 iso_8859-1:1987 l1 x-cp1252".split()
+)
 REFERENCE = re.compile("&(#[0-9]+;?|#[xX][0-9a-fA-F]+;?|[A-Za-z][A-Za-z0-9]*(?:;|(?![A-Za-z0-9=])))")
 LONG_REFERENCE = re.compile("&#([0-9]{8,})(;?)")
 # Python's own pattern of references between tags fails at `&#` without a digit, and takes all that follows as text
@@ -437,14 +455,41 @@ class LinkReader(html.parser.HTMLParser):
                 self.links.append(found[name])
 
 
+def name_in(tag: dict[bytes, bytes]) -> bytes:
+    """The name of an encoding in the attributes of a `meta`; nothing where there is none."""
+    if b"charset" in tag:
+        return tag[b"charset"]
+    is_kind = tag.get(b"http-equiv", b"").lower() == b"content-type"
+    found = KIND_CHARSET.search(tag.get(b"content", b"")) if is_kind else None
+    return found[1] or found[2] or found[3] or b"" if found else b""
+
+
+def declared(start: bytes) -> str:
+    """The name of the encoding that the head of a document declares, by the HTML Standard's prescan; "" for none."""
+    at = 0
+    while mark := MARK.search(start, at):
+        at = mark.end()
+        if mark[1] is None:
+            continue
+        tag: dict[bytes, bytes] = {}
+        while attribute := MARK_ATTRIBUTE.match(start, at):
+            at = attribute.end()
+            tag.setdefault(attribute[1].lower(), attribute[2] or attribute[3] or attribute[4] or b"")
+        if not MARK_END.match(start, at):
+            break
+        name = name_in(tag).decode("latin-1").strip(EDGE) if mark[1].lower() == b"meta" else ""
+        if name:
+            return name
+    return ""
+
+
 def charset_names(body: bytes, charset: Optional[str]) -> Iterator[str]:
     """The names of the encodings that a document may have, as its server and its head say."""
-    declared = DECLARED.search(body[:START_LENGTH])
-    for name in (charset, declared and declared[1].decode()):
+    for name in (charset, declared(body[:START_LENGTH])):
         name = (name or "").lower()
-        if name in ("iso-8859-1", "latin1", "us-ascii", "ascii"):
+        if name in WINDOWS_NAMES:
             name = "cp1252"
-        yield "utf-8" if name.startswith("utf-16") or name == "utf8" else name
+        yield "utf-8" if name in UTF8_NAMES or name.startswith("utf-16") else name
 
 
 def text_of(body: bytes, charset: Optional[str]) -> tuple[str, str]:
