@@ -1,5 +1,6 @@
 -- A row as a command that GitHub's jobs show beside a file.
-use Rattle.std.specs.Prelude.{ℕ, List, [], ◌++◌, codes, length, nat_lt, string_bytes, if◌then◌else◌}
+use Rattle.std.specs.Prelude.{ℕ, ◌-◌, ◌==◌, List, [], ◌++◌, codes, length, nat_lt, slice_get, string_bytes, if◌then◌else◌, Option, None, Some}
+use Rattle.std.specs.Str.{bytes_eq}
 use Rattle.check_report.specs.Escape.{escaped}
 use Rattle.check_report.specs.Rows as line
 use Rattle.check_report.specs.Rows.{Line}
@@ -12,26 +13,36 @@ use Rattle.check_report.specs.declared.value.Place.{Place}
 abbrev pub message_line : Broken → List ℕ
 message_line b = escaped escape.Data (string_bytes b.target) ++ codes ": " ++ wrong_of escape.Data b ++ codes "\n"
 
--- where a link stands
-abbrev pub at_place : Place → List ℕ
-at_place p = codes "::error file=" ++ escaped escape.Property (string_bytes p.file) ++ counted (codes ",line=") p.line ++ counted (codes ",col=") p.column
+-- what is lacking behind a folder that ends so
+abbrev pub slash_behind : Option ℕ → List ℕ
+slash_behind None = []
+slash_behind (Some last) = if last == 47 then [] else codes "/"
 
-abbrev pub place_annotation : Broken → Place → List ℕ
-place_annotation b p = at_place p ++ codes "::" ++ message_line b
+-- what stands before the names of a folder's files: nothing where the folder is empty or the one that the program runs in
+abbrev pub front_of : List ℕ → List ℕ
+front_of folder = if bytes_eq folder (codes ".") then [] else folder ++ slash_behind (slice_get folder (length folder - 1))
+
+-- where a link stands
+abbrev pub at_place : List ℕ → Place → List ℕ
+at_place folder p =
+    codes "::error file=" ++ escaped escape.Property (front_of folder ++ string_bytes p.file) ++ counted (codes ",line=") p.line ++ counted (codes ",col=") p.column
+
+abbrev pub place_annotation : List ℕ → Broken → Place → List ℕ
+place_annotation folder b p = at_place folder p ++ codes "::" ++ message_line b
 
 -- a target to which no link leads
 abbrev pub broken_annotation : Broken → List ℕ
 broken_annotation b = if nat_lt 0 (length b.places.items) then [] else codes "::error::" ++ message_line b
 
-abbrev pub annotation_line : Line → List ℕ
-annotation_line (line.total base totals counts) = []
-annotation_line (line.begin of_part) = []
-annotation_line (line.finish of_part) = []
-annotation_line (line.broken b) = broken_annotation b
-annotation_line (line.place b p) = place_annotation b p
-annotation_line (line.more count) = []
-annotation_line (line.worst c) = []
-annotation_line (line.redirect r) = []
-annotation_line (line.external e) = []
-annotation_line (line.name of_part text) = []
-annotation_line line.last = []
+abbrev pub annotation_line : List ℕ → Line → List ℕ
+annotation_line folder (line.total base totals counts) = []
+annotation_line folder (line.begin of_part) = []
+annotation_line folder (line.finish of_part) = []
+annotation_line folder (line.broken b) = broken_annotation b
+annotation_line folder (line.place b p) = place_annotation folder b p
+annotation_line folder (line.more count) = []
+annotation_line folder (line.worst c) = []
+annotation_line folder (line.redirect r) = []
+annotation_line folder (line.external e) = []
+annotation_line folder (line.name of_part text) = []
+annotation_line folder line.last = []

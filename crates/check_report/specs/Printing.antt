@@ -14,7 +14,7 @@ use Rattle.check_report.specs.declared.value.Told.{Told}
 abbrev pub bytes_of : Form → Line → List ℕ
 bytes_of (form.Text colour) line = text_line colour line
 bytes_of form.Json line = json_line line
-bytes_of form.Annotations line = annotation_line line
+bytes_of (form.Annotations folder) line = annotation_line folder.now line
 bytes_of form.Page line = page_line line
 
 -- these rows are printed behind the bytes
@@ -35,7 +35,7 @@ printed_json told f = printed form.Json true told f
 
 -- as commands that GitHub's jobs show beside files, with all places
 abbrev pub printed_annotations : Told → Findings → List ℕ
-printed_annotations told f = printed form.Annotations true told f
+printed_annotations told f = printed (form.Annotations told.folder) true told f
 
 -- as one HTML page, with all places
 abbrev pub printed_page : Told → Findings → List ℕ

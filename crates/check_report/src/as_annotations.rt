@@ -1,7 +1,9 @@
 //! A row as a command that GitHub's jobs show beside a file.
-ghost use Rattle.std.specs.Prelude.{◌≡◌, ◌++◌, OnOk};
-ghost use Rattle.check_report.specs.Annotations.{annotation_line, at_place, broken_annotation, message_line, place_annotation};
+ghost use Rattle.std.specs.Prelude.{◌≡◌, ◌-◌, ◌++◌, OnOk, length, slice_get};
+ghost use Rattle.check_report.specs.Annotations.{annotation_line, at_place, broken_annotation, front_of, message_line, place_annotation, slash_behind};
+ghost use Rattle.check_report.specs.Escape.{escaped};
 ghost use Rattle.check_report.specs.Rows.{line_of};
+ghost use Rattle.check_report.specs.declared.escape.Escape.TheVariants as escape;
 
 use crate::as_text::put_wrong_of;
 use crate::escape::{Escape, put_escaped};
@@ -9,12 +11,13 @@ use crate::put::{NoMemory, put, put_counted};
 use crate::row::Row;
 use crate::value::{Broken, Place};
 
-pub fn put_annotation(out: &mut Vec<u8>, row: Row<'_>) -> Result<(), NoMemory>
-    ensures { OnOk result (out.new.items ≡ out.old.items ++ annotation_line (line_of row.entry)) }
+/// The row at the end, its file in the folder.
+pub fn put_annotation(out: &mut Vec<u8>, folder: &str, row: Row<'_>) -> Result<(), NoMemory>
+    ensures { OnOk result (out.new.items ≡ out.old.items ++ annotation_line folder.now (line_of row.entry)) }
 {
     match row {
         Row::Broken(broken) => put_broken(out, broken),
-        Row::Place(broken, place) => put_place(out, broken, place),
+        Row::Place(broken, place) => put_place(out, folder, broken, place),
         Row::Total { .. }
         | Row::Begin(_)
         | Row::Finish(_)
@@ -37,21 +40,48 @@ fn put_broken(out: &mut Vec<u8>, broken: &Broken) -> Result<(), NoMemory>
     put_message(out, broken)
 }
 
-fn put_place(out: &mut Vec<u8>, broken: &Broken, place: &Place) -> Result<(), NoMemory>
-    ensures { OnOk result (out.new.items ≡ out.old.items ++ place_annotation broken.now place.now) }
+fn put_place(
+    out: &mut Vec<u8>,
+    folder: &str,
+    broken: &Broken,
+    place: &Place,
+) -> Result<(), NoMemory>
+    ensures { OnOk result (out.new.items ≡ out.old.items ++ place_annotation folder.now broken.now place.now) }
 {
-    put_at(out, place)?;
+    put_at(out, folder, place)?;
     put(out, "::")?;
     put_message(out, broken)
 }
 
-fn put_at(out: &mut Vec<u8>, place: &Place) -> Result<(), NoMemory>
-    ensures { OnOk result (out.new.items ≡ out.old.items ++ at_place place.now) }
+fn put_at(out: &mut Vec<u8>, folder: &str, place: &Place) -> Result<(), NoMemory>
+    ensures { OnOk result (out.new.items ≡ out.old.items ++ at_place folder.now place.now) }
 {
     put(out, "::error file=")?;
+    put_front(out, folder)?;
     put_escaped(out, Escape::Property, place.file.as_str())?;
     put_counted(out, ",line=", place.line)?;
     put_counted(out, ",col=", place.column)
+}
+
+/// The folder and a slash, so that names can stand behind them; nothing of the folder that the program runs in.
+fn put_front(out: &mut Vec<u8>, folder: &str) -> Result<(), NoMemory>
+    ensures { OnOk result (out.new.items ≡ out.old.items ++ escaped escape.Property (front_of folder.now)) }
+{
+    if folder == "." {
+        return Ok(());
+    }
+    put_escaped(out, Escape::Property, folder)?;
+    put_escaped(out, Escape::Property, slash_behind(folder))
+}
+
+/// The slash that is lacking behind the folder.
+fn slash_behind(folder: &str) -> &str
+    ensures { result.now ≡ slash_behind (slice_get folder.now (length folder.now - 1)) }
+{
+    match folder.as_bytes().last() {
+        None | Some(b'/') => "",
+        Some(_) => "/",
+    }
 }
 
 fn put_message(out: &mut Vec<u8>, broken: &Broken) -> Result<(), NoMemory>

@@ -45,7 +45,7 @@ pub fn print_json(
     print(alloc, findings, told, true, Form::Json)
 }
 
-/// For GitHub's jobs: an `::error` command for each place of a broken link.
+/// For GitHub's jobs: an `::error` command for each place of a broken link, its file in the folder.
 ///
 /// # Errors
 /// Out of memory alone.
@@ -56,7 +56,7 @@ pub fn print_annotations(
 ) -> Result<Vec<u8>, NoMemory>
     ensures { IfOk result (λ text. text.items ≡ printed_annotations told.entry findings.now) }
 {
-    print(alloc, findings, told, true, Form::Annotations)
+    print(alloc, findings, told, true, Form::Annotations(told.folder))
 }
 
 /// One HTML page that needs no network. Without script it shows every row; its script draws broken links by target or by page,
@@ -79,9 +79,9 @@ fn print(
     findings: &Findings<'_>,
     told: Told<'_>,
     all: bool,
-    form: Form,
+    form: Form<'_>,
 ) -> Result<Vec<u8>, NoMemory>
-    ensures { IfOk result (λ text. text.items ≡ printed form all told.entry findings.now) }
+    ensures { IfOk result (λ text. text.items ≡ printed form.entry all told.entry findings.now) }
 {
     let begun = with(Vec::new(alloc), form, total_of(findings, told))?;
     let broken = with_broken(begun, form, findings.broken, all)?;
@@ -139,8 +139,8 @@ fn external_of(told: Told<'_>) -> &[External]
 }
 
 /// The bytes, and behind them the row's.
-fn with(mut out: Vec<u8>, form: Form, row: Row<'_>) -> Result<Vec<u8>, NoMemory>
-    ensures { IfOk result (λ more. Adds form out.items more.items (line_of row.entry ∷ [])) }
+fn with(mut out: Vec<u8>, form: Form<'_>, row: Row<'_>) -> Result<Vec<u8>, NoMemory>
+    ensures { IfOk result (λ more. Adds form.entry out.items more.items (line_of row.entry ∷ [])) }
 {
     match form {
         Form::Text(colour) => {
@@ -148,8 +148,8 @@ fn with(mut out: Vec<u8>, form: Form, row: Row<'_>) -> Result<Vec<u8>, NoMemory>
             Ok(out)
         }
         Form::Json => with_json(out, row),
-        Form::Annotations => {
-            put_annotation(&mut out, row)?;
+        Form::Annotations(folder) => {
+            put_annotation(&mut out, folder, row)?;
             Ok(out)
         }
         Form::Page => {
@@ -160,8 +160,8 @@ fn with(mut out: Vec<u8>, form: Form, row: Row<'_>) -> Result<Vec<u8>, NoMemory>
 }
 
 /// The row, where a part has rows.
-fn with_edge(out: Vec<u8>, form: Form, row: Row<'_>, rows: usize) -> Result<Vec<u8>, NoMemory>
-    ensures { IfOk result (λ more. Adds form out.items more.items (edge rows (line_of row.entry))) }
+fn with_edge(out: Vec<u8>, form: Form<'_>, row: Row<'_>, rows: usize) -> Result<Vec<u8>, NoMemory>
+    ensures { IfOk result (λ more. Adds form.entry out.items more.items (edge rows (line_of row.entry))) }
 {
     if rows > 0 {
         with(out, form, row)
@@ -170,8 +170,13 @@ fn with_edge(out: Vec<u8>, form: Form, row: Row<'_>, rows: usize) -> Result<Vec<
     }
 }
 
-fn with_broken(out: Vec<u8>, form: Form, targets: &[Broken], all: bool) -> Result<Vec<u8>, NoMemory>
-    ensures { IfOk result (λ more. Adds form out.items more.items (broken_part all targets.now)) }
+fn with_broken(
+    out: Vec<u8>,
+    form: Form<'_>,
+    targets: &[Broken],
+    all: bool,
+) -> Result<Vec<u8>, NoMemory>
+    ensures { IfOk result (λ more. Adds form.entry out.items more.items (broken_part all targets.now)) }
 {
     let rows = targets.len();
     let begun = with_edge(out, form, Row::Begin(Part::Broken), rows)?;
@@ -181,11 +186,11 @@ fn with_broken(out: Vec<u8>, form: Form, targets: &[Broken], all: bool) -> Resul
 
 fn with_targets(
     mut out: Vec<u8>,
-    form: Form,
+    form: Form<'_>,
     targets: &[Broken],
     all: bool,
 ) -> Result<Vec<u8>, NoMemory>
-    ensures { IfOk result (λ more. Adds form out.items more.items (broken_lines all targets.now)) }
+    ensures { IfOk result (λ more. Adds form.entry out.items more.items (broken_lines all targets.now)) }
 {
     for target in targets {
         out = with_target(out, form, target, all)?;
@@ -193,8 +198,13 @@ fn with_targets(
     Ok(out)
 }
 
-fn with_target(out: Vec<u8>, form: Form, target: &Broken, all: bool) -> Result<Vec<u8>, NoMemory>
-    ensures { IfOk result (λ more. Adds form out.items more.items (target_lines all target.now)) }
+fn with_target(
+    out: Vec<u8>,
+    form: Form<'_>,
+    target: &Broken,
+    all: bool,
+) -> Result<Vec<u8>, NoMemory>
+    ensures { IfOk result (λ more. Adds form.entry out.items more.items (target_lines all target.now)) }
 {
     let places = target.places.as_slice();
     let begun = with(out, form, Row::Broken(target))?;
@@ -215,11 +225,11 @@ fn shown_places(places: &[Place], all: bool) -> &[Place]
 
 fn with_places(
     mut out: Vec<u8>,
-    form: Form,
+    form: Form<'_>,
     target: &Broken,
     places: &[Place],
 ) -> Result<Vec<u8>, NoMemory>
-    ensures { IfOk result (λ more. Adds form out.items more.items (place_lines target.now places.now)) }
+    ensures { IfOk result (λ more. Adds form.entry out.items more.items (place_lines target.now places.now)) }
 {
     for place in places {
         out = with(out, form, Row::Place(target, place))?;
@@ -227,8 +237,13 @@ fn with_places(
     Ok(out)
 }
 
-fn with_left_out(out: Vec<u8>, form: Form, places: usize, all: bool) -> Result<Vec<u8>, NoMemory>
-    ensures { IfOk result (λ more. Adds form out.items more.items (left_out all places)) }
+fn with_left_out(
+    out: Vec<u8>,
+    form: Form<'_>,
+    places: usize,
+    all: bool,
+) -> Result<Vec<u8>, NoMemory>
+    ensures { IfOk result (λ more. Adds form.entry out.items more.items (left_out all places)) }
 {
     if all || places <= 3 {
         Ok(out)
@@ -237,8 +252,8 @@ fn with_left_out(out: Vec<u8>, form: Form, places: usize, all: bool) -> Result<V
     }
 }
 
-fn with_worst(out: Vec<u8>, form: Form, counts: &[FileCount]) -> Result<Vec<u8>, NoMemory>
-    ensures { IfOk result (λ more. Adds form out.items more.items (worst_part counts.now)) }
+fn with_worst(out: Vec<u8>, form: Form<'_>, counts: &[FileCount]) -> Result<Vec<u8>, NoMemory>
+    ensures { IfOk result (λ more. Adds form.entry out.items more.items (worst_part counts.now)) }
 {
     let rows = counts.len();
     let begun = with_edge(out, form, Row::Begin(Part::Worst), rows)?;
@@ -246,8 +261,8 @@ fn with_worst(out: Vec<u8>, form: Form, counts: &[FileCount]) -> Result<Vec<u8>,
     with_edge(told, form, Row::Finish(Part::Worst), rows)
 }
 
-fn with_counts(mut out: Vec<u8>, form: Form, counts: &[FileCount]) -> Result<Vec<u8>, NoMemory>
-    ensures { IfOk result (λ more. Adds form out.items more.items (map line.worst counts.now)) }
+fn with_counts(mut out: Vec<u8>, form: Form<'_>, counts: &[FileCount]) -> Result<Vec<u8>, NoMemory>
+    ensures { IfOk result (λ more. Adds form.entry out.items more.items (map line.worst counts.now)) }
 {
     for count in counts {
         out = with(out, form, Row::Worst(count))?;
@@ -255,8 +270,8 @@ fn with_counts(mut out: Vec<u8>, form: Form, counts: &[FileCount]) -> Result<Vec
     Ok(out)
 }
 
-fn with_redirects(out: Vec<u8>, form: Form, pages: &[Redirect]) -> Result<Vec<u8>, NoMemory>
-    ensures { IfOk result (λ more. Adds form out.items more.items (redirect_part pages.now)) }
+fn with_redirects(out: Vec<u8>, form: Form<'_>, pages: &[Redirect]) -> Result<Vec<u8>, NoMemory>
+    ensures { IfOk result (λ more. Adds form.entry out.items more.items (redirect_part pages.now)) }
 {
     let rows = pages.len();
     let begun = with_edge(out, form, Row::Begin(Part::Redirects), rows)?;
@@ -264,8 +279,8 @@ fn with_redirects(out: Vec<u8>, form: Form, pages: &[Redirect]) -> Result<Vec<u8
     with_edge(told, form, Row::Finish(Part::Redirects), rows)
 }
 
-fn with_moved(mut out: Vec<u8>, form: Form, pages: &[Redirect]) -> Result<Vec<u8>, NoMemory>
-    ensures { IfOk result (λ more. Adds form out.items more.items (map line.redirect pages.now)) }
+fn with_moved(mut out: Vec<u8>, form: Form<'_>, pages: &[Redirect]) -> Result<Vec<u8>, NoMemory>
+    ensures { IfOk result (λ more. Adds form.entry out.items more.items (map line.redirect pages.now)) }
 {
     for page in pages {
         out = with(out, form, Row::Redirect(page))?;
@@ -273,8 +288,8 @@ fn with_moved(mut out: Vec<u8>, form: Form, pages: &[Redirect]) -> Result<Vec<u8
     Ok(out)
 }
 
-fn with_external(out: Vec<u8>, form: Form, urls: &[External]) -> Result<Vec<u8>, NoMemory>
-    ensures { IfOk result (λ more. Adds form out.items more.items (external_part urls.now)) }
+fn with_external(out: Vec<u8>, form: Form<'_>, urls: &[External]) -> Result<Vec<u8>, NoMemory>
+    ensures { IfOk result (λ more. Adds form.entry out.items more.items (external_part urls.now)) }
 {
     let rows = urls.len();
     let begun = with_edge(out, form, Row::Begin(Part::External), rows)?;
@@ -282,8 +297,8 @@ fn with_external(out: Vec<u8>, form: Form, urls: &[External]) -> Result<Vec<u8>,
     with_edge(told, form, Row::Finish(Part::External), rows)
 }
 
-fn with_urls(mut out: Vec<u8>, form: Form, urls: &[External]) -> Result<Vec<u8>, NoMemory>
-    ensures { IfOk result (λ more. Adds form out.items more.items (map line.external urls.now)) }
+fn with_urls(mut out: Vec<u8>, form: Form<'_>, urls: &[External]) -> Result<Vec<u8>, NoMemory>
+    ensures { IfOk result (λ more. Adds form.entry out.items more.items (map line.external urls.now)) }
 {
     for url in urls {
         out = with(out, form, Row::External(url))?;
@@ -293,11 +308,11 @@ fn with_urls(mut out: Vec<u8>, form: Form, urls: &[External]) -> Result<Vec<u8>,
 
 fn with_names(
     out: Vec<u8>,
-    form: Form,
+    form: Form<'_>,
     of_part: Part,
     texts: &[String],
 ) -> Result<Vec<u8>, NoMemory>
-    ensures { IfOk result (λ more. Adds form out.items more.items (name_part of_part texts.now)) }
+    ensures { IfOk result (λ more. Adds form.entry out.items more.items (name_part of_part texts.now)) }
 {
     let rows = texts.len();
     let begun = with_edge(out, form, Row::Begin(of_part), rows)?;
@@ -307,11 +322,11 @@ fn with_names(
 
 fn with_texts(
     mut out: Vec<u8>,
-    form: Form,
+    form: Form<'_>,
     of_part: Part,
     texts: &[String],
 ) -> Result<Vec<u8>, NoMemory>
-    ensures { IfOk result (λ more. Adds form out.items more.items (map (λ text. line.name of_part (string_bytes text)) texts.now)) }
+    ensures { IfOk result (λ more. Adds form.entry out.items more.items (map (λ text. line.name of_part (string_bytes text)) texts.now)) }
 {
     for text in texts {
         out = with(out, form, Row::Name(of_part, text.as_str()))?;

@@ -25,6 +25,8 @@ pub struct Told<'a> {
     pub unreached: bool,
     /// Where links to other hosts lead, if that is counted and told.
     pub external: Option<&'a [External]>,
+    /// The folder that annotations tell before a file's name; empty where they tell the name alone.
+    pub folder: &'a str,
 }
 
 /// How many there are of each.

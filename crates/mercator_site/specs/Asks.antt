@@ -8,6 +8,8 @@ pub record Asks : Type 0 where
   pub form : CheckForm
   -- whether all places of a link are told
   pub all : Bool
+  -- the folder that annotations tell before the names of its files
+  pub folder : List ℕ
   -- whether unreached pages, and where links to other hosts lead, are told
   pub unreached : Bool
   pub external : Bool
@@ -23,6 +25,7 @@ abbrev pub asks_in : CheckSettings → Asks
 asks_in s = record {
   form = s.form;
   all = s.all;
+  folder = s.folder.now;
   unreached = s.unreached;
   external = s.external;
   seeds = map string_bytes s.seeds.now;
@@ -35,6 +38,7 @@ abbrev pub asks_of : CheckAsked → List ℕ → List (List ℕ) → Asks
 asks_of asked front entries = record {
   form = asked.form;
   all = asked.all;
+  folder = string_bytes asked.site.folder;
   unreached = asked.unreached;
   external = asked.external;
   seeds = map string_bytes asked.seeds.items;

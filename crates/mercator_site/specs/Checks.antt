@@ -70,6 +70,7 @@ pub record IsReport (checked : Checked) (others : Option (List Row)) (name : Lis
   pub is_broken : broken ≡ not (length checked.broken.items == 0)
   pub told : Told
   pub unreached : told.unreached ≡ asks.unreached
+  pub folder : told.folder.now ≡ asks.folder
   pub others_told : other_rows told ≡ others
   pub written : text ≡ printed_check asks.form asks.all told found
 
@@ -90,6 +91,7 @@ pub record IsCheck (top web : List ℕ) (asks : Asks) (broken : Bool) (text : Li
   pub is_broken : broken ≡ not (length found.broken.now == 0)
   pub told : Told
   pub unreached : told.unreached ≡ asks.unreached
+  pub folder : told.folder.now ≡ asks.folder
   pub others : AreOthersAsked asks.external top pages (other_rows told)
   pub written : text ≡ printed_check asks.form asks.all told found
 

@@ -46,6 +46,8 @@ pub struct CheckSettings<'a> {
     pub form: CheckForm,
     /// Whether all places of a link are told, and not three.
     pub all: bool,
+    /// The folder that annotations tell before the names of its files; empty for files in memory.
+    pub folder: &'a str,
 }
 
 /// What a check tells.
@@ -232,6 +234,7 @@ fn report_of(
     let told = Told {
         unreached: settings.unreached,
         external: slice_of(others),
+        folder: settings.folder,
     };
     let findings = checked.findings(settings.name);
     let text = print_check(alloc, &findings, told, settings.form, settings.all)?;

@@ -152,6 +152,7 @@ fn settings_of<'a>(asked: &'a CheckAsked, top: &'a str, known: &'a [String]) -> 
         seeds: asked.seeds.as_slice(),
         form: asked.form,
         all: asked.all,
+        folder: asked.site.folder.as_str(),
     }
 }
 

@@ -92,11 +92,11 @@ const JSON: &str =
 ";
 
 const ANNOTATIONS: &str =
-    "::error file=a.html,line=41,col=12::down.html: no such page (same name: lib/down.html)
-::error file=b.html,line=3,col=1::down.html: no such page (same name: lib/down.html)
-::error file=b.html,line=4,col=1::down.html: no such page (same name: lib/down.html)
-::error file=c.html,line=5,col=6::down.html: no such page (same name: lib/down.html)
-::error file=d%2Ce%3Af%25%0D.html,line=1,col=2::a<b>&\"'.html#x%0A: no such anchor
+    "::error file=s%3Ate/a.html,line=41,col=12::down.html: no such page (same name: lib/down.html)
+::error file=s%3Ate/b.html,line=3,col=1::down.html: no such page (same name: lib/down.html)
+::error file=s%3Ate/b.html,line=4,col=1::down.html: no such page (same name: lib/down.html)
+::error file=s%3Ate/c.html,line=5,col=6::down.html: no such page (same name: lib/down.html)
+::error file=s%3Ate/d%2Ce%3Af%25%0D.html,line=1,col=2::a<b>&\"'.html#x%0A: no such anchor
 ::error::start.html: no such page
 ";
 
@@ -274,6 +274,7 @@ fn printed(alloc: Global) -> Option<[bool; 4]> {
     let told = Told {
         unreached: true,
         external: Some(&others),
+        folder: "s:te",
     };
     Some(forms(alloc, &findings, told))
 }
@@ -293,6 +294,7 @@ fn nothing(alloc: Global) -> Option<bool> {
     let told = Told {
         unreached: false,
         external: None,
+        folder: "",
     };
     let text = print_text(alloc, &findings, told, false, true).ok()?;
     Some(text.as_slice() == NOTHING.as_bytes())

@@ -97,6 +97,7 @@ fn is_checked<R: Threads + Wait + Sync>(rt: &R, alloc: Global, site: &OneFile) -
         seeds: &[],
         form: CheckForm::Text { colour: false },
         all: false,
+        folder: "",
     };
     let report = report_of_files(rt, alloc, files, BASE, &site.rules, settings).ok()?;
     let front = b"pages 1, links 1, redirects 0\nbroken links 1, missing pages 1,";

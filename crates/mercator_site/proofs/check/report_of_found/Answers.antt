@@ -51,6 +51,7 @@ returns-clause-named g c = λ web crawled.
         is_broken = told.is_broken ∙ ap (λ bs. not (length bs == 0)) (sym told.rows);
         told = told.told;
         unreached = told.unreached;
+        folder = told.folder;
         others = subst (λ rows. AreOthersAsked external top pages rows) (sym told.others_told) d;
         written = told.written;
       };
