@@ -1,5 +1,6 @@
 -- A row as a command that GitHub's jobs show beside a file.
-use Rattle.std.specs.Prelude.{ℕ, ◌-◌, ◌==◌, List, [], ◌++◌, codes, length, nat_lt, slice_get, string_bytes, if◌then◌else◌, Option, None, Some}
+use Rattle.std.specs.Prelude.{ℕ, ◌-◌, ◌==◌, List, [], ◌++◌, codes, drop, length, nat_eq, nat_lt, slice_get, string_bytes, if◌then◌else◌, Option, None, Some}
+use Rattle.std.specs.List.{starts_with}
 use Rattle.std.specs.Str.{bytes_eq}
 use Rattle.check_report.specs.Escape.{escaped}
 use Rattle.check_report.specs.Rows as line
@@ -13,6 +14,10 @@ use Rattle.check_report.specs.declared.value.Place.{Place}
 abbrev pub message_line : Broken → List ℕ
 message_line b = escaped escape.Data (string_bytes b.target) ++ codes ": " ++ wrong_of escape.Data b ++ codes "\n"
 
+-- a folder without the `./` that it may begin with
+abbrev pub behind_here : List ℕ → List ℕ
+behind_here folder = if starts_with nat_eq folder (codes "./") then drop 2 folder else folder
+
 -- what is lacking behind a folder that ends so
 abbrev pub slash_behind : Option ℕ → List ℕ
 slash_behind None = []
@@ -25,7 +30,7 @@ front_of folder = if bytes_eq folder (codes ".") then [] else folder ++ slash_be
 -- where a link stands
 abbrev pub at_place : List ℕ → Place → List ℕ
 at_place folder p =
-    codes "::error file=" ++ escaped escape.Property (front_of folder ++ string_bytes p.file) ++ counted (codes ",line=") p.line ++ counted (codes ",col=") p.column
+    codes "::error file=" ++ escaped escape.Property (front_of (behind_here folder) ++ string_bytes p.file) ++ counted (codes ",line=") p.line ++ counted (codes ",col=") p.column
 
 abbrev pub place_annotation : List ℕ → Broken → Place → List ℕ
 place_annotation folder b p = at_place folder p ++ codes "::" ++ message_line b

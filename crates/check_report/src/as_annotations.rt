@@ -1,6 +1,6 @@
 //! A row as a command that GitHub's jobs show beside a file.
 ghost use Rattle.std.specs.Prelude.{◌≡◌, ◌-◌, ◌++◌, OnOk, length, slice_get};
-ghost use Rattle.check_report.specs.Annotations.{annotation_line, at_place, broken_annotation, front_of, message_line, place_annotation, slash_behind};
+ghost use Rattle.check_report.specs.Annotations.{annotation_line, at_place, behind_here, broken_annotation, front_of, message_line, place_annotation, slash_behind};
 ghost use Rattle.check_report.specs.Escape.{escaped};
 ghost use Rattle.check_report.specs.Rows.{line_of};
 ghost use Rattle.check_report.specs.declared.escape.Escape.TheVariants as escape;
@@ -57,10 +57,17 @@ fn put_at(out: &mut Vec<u8>, folder: &str, place: &Place) -> Result<(), NoMemory
     ensures { OnOk result (out.new.items ≡ out.old.items ++ at_place folder.now place.now) }
 {
     put(out, "::error file=")?;
-    put_front(out, folder)?;
+    put_front(out, behind_here(folder))?;
     put_escaped(out, Escape::Property, place.file.as_str())?;
     put_counted(out, ",line=", place.line)?;
     put_counted(out, ",col=", place.column)
+}
+
+/// The folder without the `./` that it may begin with.
+fn behind_here(folder: &str) -> &str
+    ensures { result.now ≡ behind_here folder.now }
+{
+    folder.strip_prefix("./").unwrap_or(folder)
 }
 
 /// The folder and a slash, so that names can stand behind them; nothing of the folder that the program runs in.

@@ -158,6 +158,21 @@ const NOTHING: &str = "pages 4, links 20, redirects 2
 \x1b[31mbroken links 5\x1b[0m, missing pages 2, missing anchors 1
 ";
 
+/// A link in the file `a.html` of a folder.
+const GONE: Target = ("gone.html", Kind::NoPage, "", &[("a.html", 3, 1)]);
+
+/// A folder, and that file as annotations tell it.
+const FOLDERS: &[(&str, &str)] = &[
+    ("", "a.html"),
+    (".", "a.html"),
+    ("./", "a.html"),
+    ("site", "site/a.html"),
+    ("site/", "site/a.html"),
+    ("./site", "site/a.html"),
+    ("../s,t", "../s%2Ct/a.html"),
+    ("/", "/a.html"),
+];
+
 fn text(alloc: Global, text: &str) -> Option<String> {
     String::from_str(alloc, text).ok()
 }
@@ -298,6 +313,46 @@ fn nothing(alloc: Global) -> Option<bool> {
     };
     let text = print_text(alloc, &findings, told, false, true).ok()?;
     Some(text.as_slice() == NOTHING.as_bytes())
+}
+
+fn annotated(alloc: Global, folder: &str) -> Option<Vec<u8>> {
+    let broken = [target(alloc, &GONE)?];
+    let findings = Findings {
+        base: "",
+        totals: TOTALS,
+        broken: &broken,
+        worst: &[],
+        redirects: &[],
+        unreached: &[],
+        unused_ignores: &[],
+    };
+    let told = Told {
+        unreached: false,
+        external: None,
+        folder,
+    };
+    print_annotations(alloc, &findings, told).ok()
+}
+
+fn stands_at(annotation: &[u8], file: &str) -> bool {
+    let Some(at) = annotation.strip_prefix(b"::error file=") else {
+        return false;
+    };
+    match at.strip_prefix(file.as_bytes()) {
+        Some(rest) => rest == b",line=3,col=1::gone.html: no such page\n".as_slice(),
+        None => false,
+    }
+}
+
+#[test]
+fn annotates_files_of_folders(rt: HostRuntime) {
+    for (folder, file) in FOLDERS {
+        let stands = match annotated(rt.alloc(), folder) {
+            Some(text) => stands_at(text.as_slice(), file),
+            None => false,
+        };
+        assert!(rt; stands, "{folder}");
+    }
 }
 
 #[test]
