@@ -1,8 +1,11 @@
 //! Files in memory: the saved web and the pages that they are, and a check of them.
 use crawl_keys::{CanonUrl, canonical};
 use crawl_web::{Fetch, Page, SavedWeb, SessionFetch};
-use mercator_site::{CheckForm, CheckSettings, Files, report_of_files};
-use saved_site::{Rules, SiteFiles, SiteNames, files_pages, site_web};
+use mercator_site::{
+    CheckForm, CheckReport, CheckSettings, Files, report_of_files, report_of_site,
+};
+use saved_site::{Body, Rules, SiteFiles, SiteNames, files_pages, files_web, site_web};
+use site_check::Bodies;
 use std::alloc::{AllocError, Global};
 use std::sync::Wait;
 use std::thread::Threads;
@@ -82,26 +85,53 @@ fn has_pages<R: Threads + Sync>(
     Some(is_its_page(&page))
 }
 
+impl Bodies for OneFile {
+    fn read(&self, _name: &str, body: &mut Body) -> Result<bool, AllocError> {
+        for bytes in &self.bodies {
+            body.push(bytes.as_slice())?;
+        }
+        Ok(true)
+    }
+}
+
+fn settings(none: &[String]) -> CheckSettings<'_> {
+    CheckSettings {
+        workers: 2,
+        name: BASE,
+        front: "",
+        ignores: none,
+        unreached: false,
+        external: false,
+        seeds: none,
+        form: CheckForm::Text { colour: false },
+        all: false,
+        folder: "",
+    }
+}
+
+fn tells_its_link(report: &CheckReport) -> bool {
+    let front = b"pages 1, links 1, redirects 0\nbroken links 1, missing pages 1,";
+    report.is_broken && report.text.as_slice().starts_with(front)
+}
+
 fn is_checked<R: Threads + Wait + Sync>(rt: &R, alloc: Global, site: &OneFile) -> Option<bool> {
     let files = Files {
         names: site.names.as_slice(),
         bodies: site.bodies.as_slice(),
     };
-    let settings = CheckSettings {
-        workers: 2,
-        name: BASE,
-        front: "",
-        ignores: &[],
-        unreached: false,
-        external: false,
-        seeds: &[],
-        form: CheckForm::Text { colour: false },
-        all: false,
-        folder: "",
-    };
-    let report = report_of_files(rt, alloc, files, BASE, &site.rules, settings).ok()?;
-    let front = b"pages 1, links 1, redirects 0\nbroken links 1, missing pages 1,";
-    Some(report.is_broken && report.text.as_slice().starts_with(front))
+    let report = report_of_files(rt, alloc, files, BASE, &site.rules, settings(&[])).ok()?;
+    Some(tells_its_link(&report))
+}
+
+fn is_checked_by_its_web<R: Threads + Wait + Sync>(
+    rt: &R,
+    alloc: Global,
+    site: &OneFile,
+) -> Option<bool> {
+    let files = SiteFiles::new(alloc, site.input()).ok()?;
+    let web = files_web(rt, alloc, &files, &[], site.bodies.as_slice()).ok()?;
+    let report = report_of_site(rt, alloc, web, &files, site, settings(&[])).ok()?;
+    Some(tells_its_link(&report))
 }
 
 // The page is at the top, in the web's bytes and in memory, and its link is told.
@@ -115,6 +145,7 @@ fn files_in_memory(rt: HostRuntime) {
             assert!(rt; has_web(&rt, alloc, site, top) == Some(true));
             assert!(rt; has_pages(&rt, alloc, site, top) == Some(true));
             assert!(rt; is_checked(&rt, alloc, site) == Some(true));
+            assert!(rt; is_checked_by_its_web(&rt, alloc, site) == Some(true));
         }
         _ => assert!(rt; false),
     }
