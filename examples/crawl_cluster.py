@@ -15,7 +15,8 @@ It writes a line for each URL that it has fetched: the status, how many links it
 part that was ended in any way goes on from its log. A crawl begins anew with other logs and another
 --name. It wants `redis`; Debian's python3-redis is for /usr/bin/python3.
 
-A Redis that does not answer is told once, and tried for ten minutes. Then the part fails.
+A Redis that does not answer is told once, and tried for ten minutes. Then the part fails. Where
+Redis wants another password it fails at once.
 
 Status 0: no URL is left at any part; 1: the part failed; 2: Ctrl-C.
 """

@@ -777,6 +777,22 @@ def absent_redis(trial: Trial) -> None:
             trial.server.start()
 
 
+def locked_redis(trial: Trial) -> None:
+    """A Redis that wants another password ends the part at once."""
+    words = ["--name", "locked", "--log", str(trial.folder / "locked"), "http://127.0.0.1:0/"]
+    trial.server.client.config_set("requirepass", "right")
+    try:
+        for word, why in ("", "Authentication required"), (":wrong@", "WRONGPASS"):
+            url = trial.server.url.replace("//", f"//{word}")
+            process = crawler(trial, "--redis", url, *words)
+            output, errors = process.communicate(timeout=SECONDS)
+            expect(process.returncode == 1 and not output, f"status {process.returncode}: {errors}")
+            expect(errors.startswith("crawl_cluster: ") and why in errors, f"told: {errors}")
+            expect(errors.count("\n") == 1, f"told: {errors}")
+    finally:
+        redis.Redis(port=trial.server.port, password="right").config_set("requirepass", "")
+
+
 def gone_redis(trial: Trial) -> None:
     """A cut after a long crawl does not end `run`; a Redis that does not answer for long does."""
     web = drawn_web(trial.draw("gone redis"), 1, 2)
@@ -832,7 +848,7 @@ def speed(trial: Trial) -> None:
 PARTS: Tuple[Callable[[Trial], None], ...] = (
     plain, killed, twice_and_late, lost_redis, lost_at_the_end, full, one_host, many_queues,
     refused, full_redis, http, words_like_options, told_seeds, absent_redis,
-    gone_redis, speed,
+    locked_redis, gone_redis, speed,
 )
 
 

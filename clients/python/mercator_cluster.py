@@ -822,6 +822,8 @@ def _connected(url: str) -> Any:
 def _cuts_are_told() -> Iterator[None]:
     try:
         yield
+    except redis.AuthenticationError:  # Redis answers, and wants another password
+        raise
     except (redis.ConnectionError, redis.TimeoutError) as error:
         raise Cut(str(error)) from error
 
