@@ -183,9 +183,8 @@ class Reckoning:
                 waiting += self.followed(url)
 
     def is_within(self, url: str) -> bool:
-        """Whether the crawl takes a URL."""
-        host = drawn.url_of(url).host
-        return host == self.site.base.host or host.endswith("." + self.site.base.host)
+        """Whether a URL has the scheme, host and port of the top."""
+        return drawn.url_of(url)[:4] == self.site.base[:4]
 
     def followed(self, url: str) -> Set[str]:
         """The URLs that a page leads to."""
@@ -330,7 +329,7 @@ class Reckoning:
                 yield self.told(url)
 
     def external(self) -> List[Row]:
-        """The rows of where links to other hosts lead."""
+        """The rows of where links that lead elsewhere lead."""
         urls = Counter(lead.url for leads in self.leads.values() for lead in leads if not self.is_within(lead.url))
         return [{"kind": "external", "url": url, "links": count} for url, count in sorted(urls.items(), key=lambda row: row[0].encode())]
 

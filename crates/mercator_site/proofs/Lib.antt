@@ -1,3 +1,4 @@
+mod OwnPages
 mod Reports
 mod Runs
 mod Statuses

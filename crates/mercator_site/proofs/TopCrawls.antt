@@ -1,11 +1,12 @@
 -- A crawl of a source that has the pages of a saved web.
-use Rattle.std.specs.Prelude.{◌≡◌, ℕ, List, [], ◌∷◌, map, Ok}
+use Rattle.std.specs.Prelude.{◌≡◌, ℕ, List, [], ◌∷◌, map, Result, Ok, Err}
 use Rattle.std.specs.Str.Lines.{lines}
-use Rattle.std.proofs.Common.{refl, sym, ◌∙◌}
+use Rattle.std.proofs.Common.{refl, sym, ap, ◌∙◌}
 use Rattle.crawl_certificate.specs.Certificate.{IsCrawl}
 use Rattle.crawl_keys.specs.CanonicalText.{canonical, resolve}
 use Rattle.crawl_keys.specs.HostFilter.{allows}
 use Rattle.crawl_keys.specs.HostKey.{host_key}
+use Rattle.crawl_keys.specs.declared.error.KeyError.{KeyError}
 use Rattle.crawl_web.specs.SavedWeb.{page_of}
 use Rattle.crawl_web.specs.declared.page.Page.{Page}
 use Rattle.crawl_web.specs.declared.page.PageResult.{PageResult}
@@ -27,6 +28,15 @@ use Rattle.saved_site.specs.Linked.{IsSiteSource, PageFound, page_at}
 -- the pages of a site stand for its saved web
 pub source_of : (top : List ℕ) (pages : List PageFound) (source : IsSiteSource top pages) → IsSourceOf (page_at pages) source.bytes
 source_of top pages source = record { sound = source.web.sound; same = source.same }
+
+url_in : Result (List ℕ) KeyError → List ℕ
+url_in (Ok url) = url
+url_in (Err why) = []
+
+-- the top has one URL
+pub same_url : (top url other : List ℕ) → canonical top ≡ Ok url → canonical top ≡ Ok other → url ≡ other
+unfolding url_in
+same_url top url other is was = ap url_in (sym is ∙ was)
 
 -- canonical URLs are seeds of a crawl without a file of them
 own_seeds : (urls : List (List ℕ)) → AreSeeds urls urls → AreAllSeeds [] urls urls

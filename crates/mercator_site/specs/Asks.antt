@@ -10,7 +10,7 @@ pub record Asks : Type 0 where
   pub all : Bool
   -- the folder that annotations tell before the names of its files
   pub folder : List ℕ
-  -- whether unreached pages, and where links to other hosts lead, are told
+  -- whether unreached pages, and where links out of the site lead, are told
   pub unreached : Bool
   pub external : Bool
   -- where the crawl begins, as links of the top; at the top itself where there is none

@@ -10,6 +10,7 @@ use Rattle.crawl_web.specs.declared.page.PageResult.{PageResult}
 use Rattle.mercator.specs.WebCrawl.{IsSiteCrawl}
 use Rattle.mercator_site.specs.Asks.{Asks}
 use Rattle.mercator_site.specs.External.{AreExternal, Row, row_of}
+use Rattle.mercator_site.specs.Own.{origin_of, own_of}
 use Rattle.mercator_site.specs.declared.asked.CheckForm.{CheckForm}
 use Rattle.mercator_site.specs.declared.asked.CheckForm.TheVariants as form
 use Rattle.saved_site.specs.Below.{IsTop, IsWebBelow}
@@ -42,24 +43,18 @@ pub record IsTopCrawl (top web : List ℕ) (links : List (List ℕ)) (pages : Li
   pub resolved : map (resolve url) (starts links) ≡ map Ok begun
   pub crawl : IsSiteCrawl web [] begun (host_key url ∷ []) pages
 
--- these are the rows of the pages' links to hosts outside that of the site's top
-pub record AreOther (top : List ℕ) (pages : List PageResult) (rows : List Row) : Type 0 where
-  pub url : List ℕ
-  pub canon : canonical top ≡ Ok url
-  pub told : AreExternal (host_key url ∷ []) pages rows
-
--- the same, where they are asked for
+-- these are the rows of the pages' links that lead out of the origin, where they are asked for
 abbrev pub AreOthersAsked : Bool → List ℕ → List PageResult → Option (List Row) → Type 0
-AreOthersAsked true top pages (Some rows) = AreOther top pages rows
-AreOthersAsked true top pages None = ⊥
-AreOthersAsked false top pages (Some rows) = ⊥
-AreOthersAsked false top pages None = ⊤
+AreOthersAsked true origin pages (Some rows) = AreExternal origin pages rows
+AreOthersAsked true origin pages None = ⊥
+AreOthersAsked false origin pages (Some rows) = ⊥
+AreOthersAsked false origin pages None = ⊤
 
 -- the rows of what is told beside findings
 abbrev pub other_rows : Told → Option (List Row)
 other_rows told = option_map (λ urls. map row_of urls.now) told.external
 
--- the text tells what a check of a site of this name found and these rows of other hosts, and whether something is broken
+-- the text tells what a check of a site of this name found and these rows of links out of it, and whether something is broken
 pub record IsReport (checked : Checked) (others : Option (List Row)) (name : List ℕ) (asks : Asks) (broken : Bool) (text : List ℕ) : Type 0 where
   pub found : Findings
   pub base : found.base.now ≡ name
@@ -74,25 +69,28 @@ pub record IsReport (checked : Checked) (others : Option (List Row)) (name : Lis
   pub others_told : other_rows told ≡ others
   pub written : text ≡ printed_check asks.form asks.all told found
 
--- the text tells the missing and the moved pages of such a crawl, each with how many pages link to it, and the entries that stand
--- for nothing; its totals count the pages, their links and the rows; it tells that something is broken where there is such a row
+-- the text tells the missing and the moved pages of such a crawl that have the scheme, host and port of the top, each with how
+-- many pages link to it, and the entries that stand for nothing; its totals count the pages, their links and the rows; it tells
+-- that something is broken where there is such a row
 pub record IsCheck (top web : List ℕ) (asks : Asks) (broken : Bool) (text : List ℕ) : Type 0 where
   pub pages : List PageResult
   pub crawled : IsTopCrawl top web asks.seeds pages
+  pub own : List PageResult
+  pub are_own : own ≡ own_of (origin_of crawled.url) pages
   pub found : Findings
-  pub rows : rows_in found.broken.now ≡ broken_of asks.front asks.entries pages
-  pub ways : map way_of found.redirects.now ≡ redirects_of asks.front pages
-  pub totals : found.totals ≡ totals_of pages found.broken.now found.redirects.now
+  pub rows : rows_in found.broken.now ≡ broken_of asks.front asks.entries own
+  pub ways : map way_of found.redirects.now ≡ redirects_of asks.front own
+  pub totals : found.totals ≡ totals_of own found.broken.now found.redirects.now
   -- the names that stand beside them are those of pages of a site with this top
   pub site : SiteFiles
   pub site_top : string_bytes site.site.top ≡ top
   pub names : AreNamed asks.front site found.broken.now
-  pub unused : AreUnused asks.front asks.entries pages (parts_in found.broken.now) (map string_bytes found.unused_ignores.now)
+  pub unused : AreUnused asks.front asks.entries own (parts_in found.broken.now) (map string_bytes found.unused_ignores.now)
   pub is_broken : broken ≡ not (length found.broken.now == 0)
   pub told : Told
   pub unreached : told.unreached ≡ asks.unreached
   pub folder : told.folder.now ≡ asks.folder
-  pub others : AreOthersAsked asks.external top pages (other_rows told)
+  pub others : AreOthersAsked asks.external (origin_of crawled.url) own (other_rows told)
   pub written : text ≡ printed_check asks.form asks.all told found
 
 -- the same, where the text tells this name of the site

@@ -1,4 +1,4 @@
--- Where links to other hosts lead.
+-- Where links that lead out of the site lead.
 use Rattle.std.specs.Prelude.{◌≡◌, ℕ, ◌+◌, not, List, [], ◌∷◌, if◌then◌else◌, filter, string_bytes}
 use Rattle.std.specs.Cmp.Lexicographic.{slice_cmp}
 use Rattle.std.specs.List.{flat_map}
@@ -6,17 +6,17 @@ use Rattle.std.specs.List.Sorted.{IsPermutation, IsSortedByKey}
 use Rattle.std.specs.Ordering.{nat_cmp}
 use Rattle.std.specs.Str.{bytes_eq}
 use Rattle.check_report.specs.declared.value.External.{External}
-use Rattle.crawl_keys.specs.HostFilter.{allows}
 use Rattle.crawl_web.specs.Pages.{links_of}
 use Rattle.crawl_web.specs.declared.page.PageResult.{PageResult}
+use Rattle.saved_site.specs.Below.{begins}
 
--- the URLs that the filter with these suffixes does not allow
-abbrev pub outside : List (List ℕ) → List (List ℕ) → List (List ℕ)
-outside suffixes urls = filter (λ url. not (allows suffixes url)) urls
+-- the URLs that are not of this origin
+abbrev pub outside : List ℕ → List (List ℕ) → List (List ℕ)
+outside origin urls = filter (λ url. not (begins origin url)) urls
 
 -- those among the links of pages, each as often as it stands there
-abbrev pub outside_links : List (List ℕ) → List PageResult → List (List ℕ)
-outside_links suffixes pages = flat_map (λ r. outside suffixes (links_of r.page)) pages
+abbrev pub outside_links : List ℕ → List PageResult → List (List ℕ)
+outside_links origin pages = flat_map (λ r. outside origin (links_of r.page)) pages
 
 -- a URL, and how many links lead to it
 pub record Row : Type 0 where
@@ -38,9 +38,9 @@ abbrev pub runs : List (List ℕ) → List Row
 runs [] = []
 runs (url ∷ more) = runs_from url 1 more
 
--- these are the rows of the links that lead to hosts outside, in the order of their bytes
-pub record AreExternal (suffixes : List (List ℕ)) (pages : List PageResult) (rows : List Row) : Type 0 where
+-- these are the rows of the links that lead out of the origin, in the order of their bytes
+pub record AreExternal (origin : List ℕ) (pages : List PageResult) (rows : List Row) : Type 0 where
   pub urls : List (List ℕ)
-  pub same : IsPermutation (outside_links suffixes pages) urls
+  pub same : IsPermutation (outside_links origin pages) urls
   pub ascends : IsSortedByKey (λ url. url) (slice_cmp nat_cmp) urls
   pub counted : rows ≡ runs urls

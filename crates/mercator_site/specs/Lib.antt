@@ -3,4 +3,5 @@ pub mod Checks
 pub mod Ends
 pub mod External
 pub mod Faults
+pub mod Own
 pub mod Sources

@@ -49,7 +49,7 @@ pub struct CheckAsked {
     pub anchors: bool,
     /// Whether files that no link leads to are told.
     pub unreached: bool,
-    /// Whether it is told where links to other hosts lead.
+    /// Whether it is told where links out of the site lead.
     pub external: bool,
     /// Where the crawl begins, as links of the top; at the top itself where there is none.
     pub seeds: Vec<String>,

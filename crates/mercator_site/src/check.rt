@@ -10,9 +10,10 @@ ghost use Rattle.saved_site.specs.Linked.{page_at};
 
 use crate::asked::CheckForm;
 use crate::bodies::{Files, InMemory};
-use crate::crawl::{crawl_site, crawl_source, host_filter, host_of};
+use crate::crawl::{crawl_site, crawl_source, host_of};
 use crate::external::external_links;
 use crate::fault::SiteFault;
+use crate::own::{origin_of, own_results};
 use crate::print::print_check;
 use check_report::{External, Told};
 use crawl_web::PageResult;
@@ -39,7 +40,7 @@ pub struct CheckSettings<'a> {
     pub ignores: &'a [String],
     /// Whether files that no link leads to are told.
     pub unreached: bool,
-    /// Whether it is told where links to other hosts lead.
+    /// Whether it is told where links out of the site lead.
     pub external: bool,
     /// Where the crawl begins, as links of the site's top; at the top itself where there is none.
     pub seeds: &'a [String],
@@ -191,8 +192,10 @@ fn report_of_found<R: Threads + Wait + Sync, B: Bodies + Sync>(
         anchors,
         places,
     } = found;
-    let pages = crawled.result.pages();
-    let others = others_asked(alloc, settings.external, files.top(), pages)?;
+    let url = host_of(alloc, files.top())?;
+    let origin = origin_of(&url);
+    let pages = own_results(origin, crawled.result.pages());
+    let others = others_asked(alloc, settings.external, origin, pages)?;
     let asked = asked_of(settings, anchors.as_slice(), places.as_slice());
     let checked = check_site(rt, alloc, pages, files, bodies, asked)?;
     let report = report_of(alloc, &checked, &others, settings)?;
@@ -222,7 +225,7 @@ fn asked_of<'a>(
     }
 }
 
-/// The report of what a check found and of where links to other hosts lead.
+/// The report of what a check found and of where links out of the site lead.
 fn report_of(
     alloc: Global,
     checked: &Checked,
@@ -244,22 +247,19 @@ fn report_of(
     })
 }
 
-/// Where links of the pages to hosts outside that of the top lead, where that is asked for.
+/// Where links of the pages out of the origin lead, where that is asked for.
 fn others_asked(
     alloc: Global,
     asked: bool,
-    top: &str,
+    origin: &[u8],
     pages: &[PageResult],
-) -> Result<Option<Vec<External>>, SiteFault>
-    ensures told { IfOk result (λ others. AreOthersAsked asked top.now pages.now (option_map (λ urls. map row_of urls.items) others)) }
-    ensures plain { IfErr result (λ fault. status_of fault ≡ 1) }
+) -> Result<Option<Vec<External>>, AllocError>
+    ensures { IfOk result (λ others. AreOthersAsked asked origin.now pages.now (option_map (λ urls. map row_of urls.items) others)) }
 {
     if !asked {
         return Ok(None);
     }
-    let host = host_of(alloc, top)?;
-    let filter = host_filter(alloc, host.host_key())?;
-    Ok(Some(external_links(alloc, &filter, pages)?))
+    Ok(Some(external_links(alloc, origin, pages)?))
 }
 
 fn slice_of(others: &Option<Vec<External>>) -> Option<&[External]>

@@ -50,7 +50,7 @@ pub(crate) fn crawl_source<F: SessionFetch + Sync, R: Threads + Wait + Sync>(
 {
     let host = host_of(alloc, top)?;
     let filter = host_filter(alloc, host.host_key())?;
-    let seeds = starts(alloc, &host, &filter, links)?;
+    let seeds = starts(alloc, &host, links)?;
     let settings = CrawlSettings {
         workers,
         max_pending: PENDING_LIMIT,
@@ -74,7 +74,7 @@ pub(crate) fn host_of(alloc: Global, top: &str) -> Result<CanonUrl, SiteFault>
     }
 }
 
-pub(crate) fn host_filter(alloc: Global, host: &str) -> Result<Filter, SiteFault>
+fn host_filter(alloc: Global, host: &str) -> Result<Filter, SiteFault>
     ensures within { IfOk result (λ filter. filter ≡ host.now ∷ []) }
     ensures plain { IfErr result (λ fault. status_of fault ≡ 1) }
 {

@@ -1,54 +1,55 @@
-//! Where links to other hosts lead.
+//! Where links that lead out of the site lead.
 ghost use Rattle.std.specs.Prelude.{◌≡◌, ◌≤◌, ◌++◌, ◌∷◌, [], OnOk, IfOk, map};
 ghost use Rattle.crawl_report.specs.Tallies.{pointed};
 ghost use Rattle.mercator_site.specs.External.{AreExternal, outside, outside_links, row, row_of, runs, runs_from};
 
+use crate::own::is_own;
 use check_report::External;
-use crawl_keys::{CanonUrl, Filter};
+use crawl_keys::CanonUrl;
 use crawl_web::{NoMemory, PageResult, links_of};
 use std::alloc::Global;
 
-/// The URLs of hosts that the filter does not allow and that links of the pages lead to, ascending by their bytes, each with how
-/// many links lead to it. A link that stands twice in a page counts twice.
+/// The URLs out of this origin that links of the pages lead to, ascending by their bytes, each with how many links lead to it. A
+/// link that stands twice in a page counts twice.
 ///
 /// # Errors
 /// Where a growth was refused.
 pub(crate) fn external_links(
     alloc: Global,
-    filter: &Filter,
+    origin: &[u8],
     pages: &[PageResult],
 ) -> Result<Vec<External>, NoMemory>
-    ensures { IfOk result (λ all. AreExternal filter.now pages.now (map row_of all.items)) }
+    ensures { IfOk result (λ all. AreExternal origin.now pages.now (map row_of all.items)) }
 {
-    let mut urls = outside_links(alloc, filter, pages)?;
+    let mut urls = outside_links(alloc, origin, pages)?;
     urls.sort_by(|a, b| a.cmp(b))?;
     runs(alloc, urls.as_slice())
 }
 
-/// The links that lead to hosts outside.
+/// The links that lead out of the origin.
 fn outside_links<'r>(
     alloc: Global,
-    filter: &Filter,
+    origin: &[u8],
     pages: &'r [PageResult],
 ) -> Result<Vec<&'r CanonUrl>, NoMemory>
-    ensures { IfOk result (λ urls. pointed urls.items ≡ outside_links filter.now pages.now) }
+    ensures { IfOk result (λ urls. pointed urls.items ≡ outside_links origin.now pages.now) }
 {
     let mut urls = Vec::new(alloc);
     for one in pages {
-        push_outside(filter, links_of(&one.page), &mut urls)?;
+        push_outside(origin, links_of(&one.page), &mut urls)?;
     }
     Ok(urls)
 }
 
 fn push_outside<'r>(
-    filter: &Filter,
+    origin: &[u8],
     links: &'r [CanonUrl],
     urls: &mut Vec<&'r CanonUrl>,
 ) -> Result<(), NoMemory>
-    ensures { OnOk result (pointed urls.new.items ≡ pointed urls.old.items ++ outside filter.now links.now) }
+    ensures { OnOk result (pointed urls.new.items ≡ pointed urls.old.items ++ outside origin.now links.now) }
 {
     for link in links {
-        if !filter.allows(link) {
+        if !is_own(origin, link) {
             urls.push(link)?;
         }
     }

@@ -8,6 +8,7 @@ mod crawl;
 mod external;
 mod fault;
 mod folder;
+mod own;
 mod print;
 mod program;
 mod start;

@@ -6,14 +6,14 @@ ghost use Rattle.mercator_site.specs.Checks.{starts};
 ghost use Rattle.mercator_site.specs.Faults.{status_of};
 
 use crate::fault::SiteFault;
-use crawl_keys::{CanonUrl, Filter, KeyError, resolve};
+use crate::own::{is_own, origin_of};
+use crawl_keys::{CanonUrl, KeyError, resolve};
 use std::alloc::Global;
 
 /// The URLs where a crawl begins: those of the links, or the top's own.
 pub(crate) fn starts(
     alloc: Global,
     top: &CanonUrl,
-    filter: &Filter,
     links: &[String],
 ) -> Result<Vec<CanonUrl>, SiteFault>
     ensures begun { IfOk result (λ seeds. map (resolve top.now) (starts (map string_bytes links.now)) ≡ map Ok seeds.items) }
@@ -21,51 +21,41 @@ pub(crate) fn starts(
     ensures plain { IfErr result (λ fault. status_of fault ≡ 1) }
 {
     match links.split_first() {
-        Some(_) => seeds_of(alloc, top, filter, links),
-        None => top_alone(alloc, top, filter),
+        Some(_) => seeds_of(alloc, top, links),
+        None => top_alone(alloc, top),
     }
 }
 
-fn top_alone(alloc: Global, top: &CanonUrl, filter: &Filter) -> Result<Vec<CanonUrl>, SiteFault>
+fn top_alone(alloc: Global, top: &CanonUrl) -> Result<Vec<CanonUrl>, SiteFault>
     ensures resolved { IfOk result (λ seeds. map (resolve top.now) ([] ∷ []) ≡ map Ok seeds.items) }
     ensures stable { IfOk result (λ seeds. AreSeeds seeds.items seeds.items) }
     ensures plain { IfErr result (λ fault. status_of fault ≡ 1) }
 {
     let mut seeds = Vec::new(alloc);
-    seeds.push(seed_of(alloc, top, filter, "")?)?;
+    seeds.push(seed_of(alloc, top, "")?)?;
     Ok(seeds)
 }
 
-fn seeds_of(
-    alloc: Global,
-    top: &CanonUrl,
-    filter: &Filter,
-    links: &[String],
-) -> Result<Vec<CanonUrl>, SiteFault>
+fn seeds_of(alloc: Global, top: &CanonUrl, links: &[String]) -> Result<Vec<CanonUrl>, SiteFault>
     ensures resolved { IfOk result (λ seeds. map (resolve top.now) (map string_bytes links.now) ≡ map Ok seeds.items) }
     ensures stable { IfOk result (λ seeds. AreSeeds seeds.items seeds.items) }
     ensures plain { IfErr result (λ fault. status_of fault ≡ 1) }
 {
     let mut seeds = Vec::new(alloc);
     for link in links {
-        seeds.push(seed_of(alloc, top, filter, link.as_str())?)?;
+        seeds.push(seed_of(alloc, top, link.as_str())?)?;
     }
     Ok(seeds)
 }
 
-/// The URL of a link of the top; the filter has to allow it.
-fn seed_of(
-    alloc: Global,
-    top: &CanonUrl,
-    filter: &Filter,
-    link: &str,
-) -> Result<CanonUrl, SiteFault>
+/// The URL of a link of the top, which has to be one of the site.
+fn seed_of(alloc: Global, top: &CanonUrl, link: &str) -> Result<CanonUrl, SiteFault>
     ensures resolved { IfOk result (λ seed. resolve top.now link.now ≡ Ok seed) }
     ensures stable { IfOk result (λ seed. canonical seed ≡ Ok seed) }
     ensures plain { IfErr result (λ fault. status_of fault ≡ 1) }
 {
     match resolve(alloc, top, link) {
-        Ok(url) if filter.allows(&url) => Ok(stable(url)),
+        Ok(url) if is_own(origin_of(top), &url) => Ok(stable(url)),
         Err(KeyError::NoMemory) => Err(SiteFault::NoMemory),
         _ => Err(SiteFault::BadSeed),
     }

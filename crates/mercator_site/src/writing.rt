@@ -86,7 +86,11 @@ fn line_of(alloc: Global, name: &str, fault: SiteFault) -> Result<String, AllocE
             "its host is not letters, digits, - and . alone",
         ),
         SiteFault::NoFiles => name_line(alloc, name, "no files"),
-        SiteFault::BadSeed => name_line(alloc, "LINK", "no http or https URL of the host of BASE"),
+        SiteFault::BadSeed => name_line(
+            alloc,
+            "LINK",
+            "no URL of the scheme, host and port of BASE",
+        ),
         SiteFault::TooLarge => name_line(alloc, name, "more than 1073741824 bytes of links"),
         SiteFault::Crawl(fault) => fault_line(alloc, name, fault),
         SiteFault::CannotWrite => fault_line(alloc, name, Fault::CannotWrite),

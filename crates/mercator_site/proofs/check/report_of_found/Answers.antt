@@ -1,6 +1,7 @@
-use Rattle.std.proofs.Common.{ℕ, List, map, Vec, Global, refl, sym, ap, subst, ◌∙◌, ◌==◌, not, length, string_bytes}
+use Rattle.std.proofs.Common.{ℕ, List, map, Vec, Global, refl, sym, ap, subst, ◌∙◌, ◌≡◌, ◌==◌, not, length, string_bytes}
 use Rattle.std.specs.Option.{option_map}
 use Rattle.check_report.specs.declared.value.External.{External}
+use Rattle.crawl_keys.specs.CanonicalText.{canonical}
 use Rattle.crawl_web.specs.declared.page.PageResult.{PageResult}
 use Rattle.site_check.specs.Broken.{broken_of, redirects_of}
 use Rattle.site_check.specs.Ignored.{AreUnused, parts_in}
@@ -9,6 +10,8 @@ use Rattle.site_check.specs.Told.{rows_in, way_of}
 use Rattle.site_check.specs.Totals.{totals_of}
 use Rattle.mercator_site.specs.Checks.{AreOthersAsked, IsTopCrawl}
 use Rattle.mercator_site.specs.External.{row_of}
+use Rattle.mercator_site.specs.Own.{origin_of, own_of}
+use Rattle.mercator_site.proofs.TopCrawls.{same_url}
 use Rattle.mercator_site.proofs.check.report_of_found.Goals as goal
 
 pub returns-clause-named : goal.returns-clause-named
@@ -16,11 +19,15 @@ returns-clause-named g c = λ web crawled.
     let top = string_bytes c.args.files.now.site.top in
     let links = map string_bytes c.args.settings.seeds.now in
     let external = c.args.settings.external in
-    let pages = c.pages-pages.result.now in
+    let all = c.pages.result.now in
+    let pages = c.own_results-pages.result.now in
     let C : List PageResult → Type 0 = λ ps. IsTopCrawl top web links ps in
+    let crawl = subst C (sym c.pages.ensures) crawled in
+    let same_top : c.in_ok-url.url ≡ crawl.url = same_url _ _ _ (ap canonical (sym c.top.ensures) ∙ c.in_ok-url.ensures.canon) crawl.canon in
+    let same_origin = c.origin_of-origin.ensures ∙ ap origin_of same_top in
     let others = option_map (λ (urls : Vec External Global). map row_of urls.items) c.in_ok-others.others in
-    let D : List ℕ → Type 0 = λ t. AreOthersAsked external t pages others in
-    let d = subst D c.top.ensures c.in_ok-others.ensures.told in
+    let D : List ℕ → Type 0 = λ o. AreOthersAsked external o pages others in
+    let d = subst D same_origin c.in_ok-others.ensures in
     let front = c.args.settings.front.now in
     let entries = map string_bytes c.args.settings.ignores.now in
     let asked = c.asked_of-asked.result in
@@ -30,8 +37,10 @@ returns-clause-named g c = λ web crawled.
     let told = c.in_ok-report.ensures in
     record {
       check = record {
-        pages = pages;
-        crawled = subst C (sym c.pages-pages.ensures) crawled;
+        pages = all;
+        crawled = crawl;
+        own = pages;
+        are_own = c.own_results-pages.ensures crawl.crawl.found.ascends ∙ ap (λ o. own_of o all) same_origin;
         found = told.found;
         rows =
             ap rows_in told.rows ∙ c.in_ok-checked.ensures.broken ∙ ap (λ f. broken_of f (map string_bytes asked.ignores.now) pages) same_front
@@ -52,7 +61,7 @@ returns-clause-named g c = λ web crawled.
         told = told.told;
         unreached = told.unreached;
         folder = told.folder;
-        others = subst (λ rows. AreOthersAsked external top pages rows) (sym told.others_told) d;
+        others = subst (λ rows. AreOthersAsked external (origin_of crawl.url) pages rows) (sym told.others_told) d;
         written = told.written;
       };
       base = told.base;

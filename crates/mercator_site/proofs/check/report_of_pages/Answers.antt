@@ -1,4 +1,4 @@
-use Rattle.std.proofs.Common.{ℕ, List, Ok, IfOk, map, subst, string_bytes}
+use Rattle.std.proofs.Common.{ℕ, List, map, subst, string_bytes}
 use Rattle.std.proofs.lemmas.Result.{err_from_is_err_and}
 use Rattle.mercator_site.specs.Checks.{IsTopCrawl}
 use Rattle.mercator_site.specs.Faults.{IsTopIncomplete}

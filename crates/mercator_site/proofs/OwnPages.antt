@@ -1,0 +1,58 @@
+-- Results that ascend, those of an origin together.
+use Rattle.std.proofs.Common.{◌≡◌, ℕ, suc, List, [], ◌∷◌, refl, true, false, arith}
+use Rattle.std.proofs.lemmas.Bool.Decides.{nat_tests}
+use Rattle.std.proofs.lemmas.List.Elements.{recursion_from_All}
+use Rattle.std.specs.List.{AllByRecursion}
+use Rattle.std.specs.Ordering.{nat_cmp}
+use Rattle.std.specs.declared.cmp.Ordering.TheVariants.{Less}
+use Rattle.std.specs.Cmp.Lexicographic.{slice_cmp}
+use Rattle.crawl_certificate.specs.Certificate.{IsAscending, result_urls}
+use Rattle.mercator_site.specs.Own.{from_own, own_of, while_own}
+use Rattle.saved_site.specs.Below.{begins}
+use Rattle.crawl_web.specs.declared.page.PageResult.{PageResult}
+
+-- a text between two that begin so does
+between : (p a b c : List ℕ) → slice_cmp nat_cmp a b ≡ Less → slice_cmp nat_cmp b c ≡ Less → begins p a ≡ true → begins p c ≡ true → begins p b ≡ true
+between [] a b c up more first last = refl
+between (x ∷ p) [] b c up more first last = grind (arith, nat_tests)
+between (x ∷ p) (y ∷ a) [] c up more first last = grind (arith, nat_tests)
+between (x ∷ p) (y ∷ a) (z ∷ b) [] up more first last = grind (arith, nat_tests)
+between (x ∷ p) (y ∷ a) (z ∷ b) (w ∷ c) up more first last = grind (arith, nat_tests, between p a b c)
+
+-- behind one that begins so, and one that does not, none does
+none_behind : (p o h : List ℕ) (rs : List PageResult) → begins p o ≡ true → begins p h ≡ false → slice_cmp nat_cmp o h ≡ Less → AllByRecursion (λ url. slice_cmp nat_cmp h url ≡ Less) (result_urls rs) → own_of p rs ≡ []
+none_behind p o h [] own other up all = refl
+none_behind p o h (r ∷ rs) own other up all = grind (arith, between p o h r.url up all.0 own, none_behind p o h rs own other up all.1, other)
+
+-- each is less than all behind it
+Rises : List (List ℕ) → Type 0
+Rises [] = Unit {0}
+Rises (url ∷ urls) = AllByRecursion (λ next. slice_cmp nat_cmp url next ≡ Less) urls × Rises urls
+
+rises_of : (urls : List (List ℕ)) → IsAscending urls → Rises urls
+unfolding Rises
+rises_of [] pairs = tt
+rises_of (url ∷ urls) pairs = (
+  recursion_from_All (λ next. slice_cmp nat_cmp url next ≡ Less) urls (λ k d below. pairs 0 (suc k) d (omega arith) (omega (arith, below))),
+  rises_of urls (λ i j d before below. pairs (suc i) (suc j) d (omega (arith, before)) (omega (arith, below))),
+)
+
+-- behind one of the origin its results stand together
+together : (p o : List ℕ) (rs : List PageResult) → begins p o ≡ true → AllByRecursion (λ url. slice_cmp nat_cmp o url ≡ Less) (result_urls rs) → Rises (result_urls rs) → while_own p rs ≡ own_of p rs
+unfolding Rises
+together p o [] own all rises = refl
+together p o (r ∷ rs) own all rises =
+    let more : begins p r.url ≡ true → while_own p rs ≡ own_of p rs = λ is. together p r.url rs is rises.0 rises.1 in
+    let none : begins p r.url ≡ false → own_of p rs ≡ [] = λ is. none_behind p o r.url rs own is all.0 rises.0 in
+    grind (arith, more, none)
+
+stands : (p : List ℕ) (rs : List PageResult) → Rises (result_urls rs) → while_own p (from_own p rs) ≡ own_of p rs
+unfolding Rises
+stands p [] rises = refl
+stands p (r ∷ rs) rises =
+    let more : begins p r.url ≡ true → while_own p rs ≡ own_of p rs = λ is. together p r.url rs is rises.0 rises.1 in
+    grind (arith, more, stands p rs rises.1)
+
+-- where results ascend, those of an origin are those from the first to the first that is none
+pub own_stand_together : (p : List ℕ) (rs : List PageResult) → IsAscending (result_urls rs) → while_own p (from_own p rs) ≡ own_of p rs
+own_stand_together p rs pairs = stands p rs (rises_of (result_urls rs) pairs)

@@ -1,0 +1,6 @@
+use Rattle.std.proofs.Common.{◌≡◌, ◌++◌, take, drop}
+use Rattle.mercator_site.specs.Own.{while_own}
+use Rattle.mercator_site.proofs.own.while_own.Given as goal
+
+abbrev pub invariant-loop-index : goal.invariant-loop-index
+invariant-loop-index l = while_own l.origin l.results ≡ take l.index l.results ++ while_own l.origin (drop l.index l.results)
