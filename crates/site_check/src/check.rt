@@ -96,7 +96,8 @@ impl Checked {
 }
 
 /// What the results of a crawl of a site's saved web tell of its links. The results ascend, and each URL has one at most. As many
-/// threads as make the pages of the site look for parts, and for places in pages that are read again.
+/// threads as make the pages of the site look for parts, and for places in pages that are read again. Links are counted, and those
+/// to missing pages found, by sixteen threads; where fewer than four make pages, by one.
 ///
 /// # Errors
 /// Where a growth was refused.
