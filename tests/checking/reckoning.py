@@ -296,22 +296,24 @@ class Reckoning:
                 yield from self.broken_rows(target, "anchor", len(pages), places, None)
 
     def anchors_missing(self) -> Dict[Tuple[str, str], Tuple[Set[str], Set[Place]]]:
-        """By page and fragment what is not there, which pages link to it, and where."""
-        missing: Dict[Tuple[str, str], Tuple[Set[str], Set[Place]]] = {}
+        """By page and fragment what is not there, which pages link to it, and where; of a file's such pages the first is told."""
+        missing: Dict[Tuple[bytes, str], Tuple[Set[str], Set[Place]]] = {}
+        firsts: Dict[bytes, str] = {}
         for page, leads in self.leads.items():
             for lead in leads:
                 answer = self.answers.get(lead.url)
                 url = answer.url if isinstance(answer, Moved) else lead.url
-                if lead.fragment is not None and not self.has_anchor(url, lead.fragment):
-                    pages, places = missing.setdefault((url, lead.fragment), (set(), set()))
+                found = self.answers.get(url)
+                if lead.fragment is not None and isinstance(found, Found) and not self.has_anchor(found.name, lead.fragment):
+                    firsts[found.name] = min(url, firsts.get(found.name, url))
+                    pages, places = missing.setdefault((found.name, lead.fragment), (set(), set()))
                     pages.add(page)
                     places.add(lead.place)
-        return missing
+        return {(firsts[name], fragment): linked for (name, fragment), linked in missing.items()}
 
-    def has_anchor(self, url: str, fragment: str) -> bool:
-        """Whether a page has an anchor, or no page tells."""
-        answer = self.answers.get(url)
-        document = self.site.document(answer.name) if isinstance(answer, Found) else None
+    def has_anchor(self, name: bytes, fragment: str) -> bool:
+        """Whether a file has an anchor, or is no document."""
+        document = self.site.document(name)
         return document is None or is_there(fragment, document.ids)
 
     def names(self) -> Dict[str, Tuple[str, str]]:

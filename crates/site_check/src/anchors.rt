@@ -7,7 +7,7 @@ ghost use Rattle.site_check.specs.Parts.{part_text};
 ghost use Rattle.site_check.specs.Told.{rows_in};
 
 use crate::ignored::is_ignored;
-use crate::leads::Lead;
+use crate::lacked::{Lacked, LackedPart, Part, sort_by_part};
 use crate::located::take_places;
 use crate::shown::shown;
 use check_report::{Broken, Kind, Place};
@@ -15,30 +15,6 @@ use crawl_web::{NoMemory, Page, PageResult};
 use page_anchors::is_indicated;
 use saved_site::{AnchorLink, AnchorLinks, Anchors, PageAnchors, SiteFiles, Target};
 use std::alloc::Global;
-use std::cmp::Ordering;
-
-/// A part that a document lacks: the number of the document, and what is behind the `#`.
-#[derive(Clone, Copy)]
-pub(crate) struct Part<'a> {
-    page: usize,
-    fragment: &'a [u8],
-}
-
-impl Part<'_> {
-    fn order(&self, other: &Part<'_>) -> Ordering {
-        (self.page, self.fragment).cmp(&(other.page, other.fragment))
-    }
-}
-
-/// A part that a document lacks, and how many results link to it.
-#[derive(Clone, Copy)]
-pub(crate) struct LackedPart<'a> {
-    part: Part<'a>,
-    pages: u64,
-}
-
-/// The parts that pages lack and links lead to, in order.
-pub(crate) type LackedParts<'a> = Vec<LackedPart<'a>>;
 
 /// The results of a crawl, and the anchors of the site's documents, both ascending by URL.
 #[derive(Clone, Copy)]
@@ -141,14 +117,6 @@ impl<'a> Pages<'a> {
 
 fn is_found(page: &Page) -> bool {
     matches!(page, Page::Found { .. })
-}
-
-/// A part that a document lacks, and a link to it: the number of the result that has it, and the index of its value if that is known.
-#[derive(Clone, Copy)]
-pub(crate) struct Lacked<'a> {
-    part: Part<'a>,
-    source: usize,
-    index: Option<u32>,
 }
 
 /// Links of a result to parts of a document, by the numbers of both.
@@ -255,67 +223,6 @@ fn push_link<'a>(
         })?;
     }
     Ok(())
-}
-
-/// Sorts the links by their parts; those of a result stay together.
-fn sort_by_part(all: &mut Vec<Lacked<'_>>) -> Result<(), NoMemory> {
-    all.sort_by(|a: &Lacked<'_>, b: &Lacked<'_>| a.part.order(&b.part))
-}
-
-/// The parts that documents lack, with how many results link to each. Appends the links to them, whose numbers come behind so
-/// many others. The links to a document stand together, part by part.
-pub(crate) fn lacking<'a>(
-    alloc: Global,
-    all: Vec<Lacked<'a>>,
-    before: usize,
-    leads: &mut Vec<Lead>,
-) -> Result<LackedParts<'a>, NoMemory> {
-    let mut all = all;
-    sort_by_part(&mut all)?;
-    let mut lacking = Vec::new(alloc);
-    let mut last = None;
-    for lacked in &all {
-        count_part(&mut lacking, *lacked, last)?;
-        last = Some(*lacked);
-        let number = before.saturating_add(lacking.len().saturating_sub(1));
-        push_lead(*lacked, number, leads)?;
-    }
-    Ok(lacking)
-}
-
-/// Appends a link to what has this number, where it is known where that stands.
-fn push_lead(lacked: Lacked<'_>, number: usize, leads: &mut Vec<Lead>) -> Result<(), NoMemory> {
-    if let Some(index) = lacked.index {
-        leads.push(Lead {
-            source: lacked.source,
-            index: index as usize,
-            number,
-        })?;
-    }
-    Ok(())
-}
-
-/// Counts a link behind the last one of its order: its result, where that is another or the part is.
-fn count_part<'a>(
-    lacking: &mut LackedParts<'a>,
-    lacked: Lacked<'a>,
-    last: Option<Lacked<'a>>,
-) -> Result<(), NoMemory> {
-    let part = lacked.part;
-    match last {
-        Some(last) if last.part.order(&part).is_eq() => {
-            if last.source != lacked.source
-                && let Some(known) = lacking.last_mut()
-            {
-                known.pages = known.pages.saturating_add(1);
-            }
-            Ok(())
-        }
-        _ => {
-            lacking.push(LackedPart { part, pages: 1 })?;
-            Ok(())
-        }
-    }
 }
 
 /// A part that a page lacks, as it is told.

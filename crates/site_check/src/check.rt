@@ -12,8 +12,9 @@ ghost use Rattle.site_check.specs.Parts.{part_text};
 ghost use Rattle.site_check.specs.Told.{rows_in, way_of};
 ghost use Rattle.site_check.specs.Totals.{totals_of};
 
-use crate::anchors::{LackedParts, Pages, ToldPart, documents_of, lacking, part_rows, told_parts};
+use crate::anchors::{Pages, ToldPart, documents_of, part_rows, told_parts};
 use crate::ignored::unused;
+use crate::lacked::{LackedParts, lacking, merge_documents};
 use crate::leads::{Lead, Maps, link_indices, targets};
 use crate::linked::{Linked, is_missing, linked_results};
 use crate::located::{PlaceOf, by_number};
@@ -179,7 +180,8 @@ fn sought_by<'p, R: Threads + Sync>(
         move || lacked_by(rt, alloc, site, threads),
     );
     let mut leads = leads?;
-    let lacked = lacked?;
+    let mut lacked = lacked?;
+    merge_documents(alloc, site, &mut lacked)?;
     let lacking = lacking(alloc, lacked, linked.len(), &mut leads)?;
     leads.sort_by(|a: &Lead, b: &Lead| (a.source, a.index).cmp(&(b.source, b.index)))?;
     Ok(Sought { lacking, leads })

@@ -4,6 +4,7 @@
 mod anchors;
 mod check;
 mod ignored;
+mod lacked;
 mod leads;
 mod linked;
 mod located;

@@ -2,8 +2,9 @@
 ghost use Rattle.std.specs.Prelude.{◌≡◌, ◌++◌, ◌+◌, ◌<◌, ◌^◌, IfOk, length};
 ghost use Rattle.site_check.specs.Leads.{indices_at, leads_from, number_at};
 
-use crate::anchors::{Lacked, every_lacked};
+use crate::anchors::every_lacked;
 use crate::check::{Bodies, Site};
+use crate::lacked::Lacked;
 use crate::leads::{Lead, Maps, leads_from};
 use crate::located::{PlaceOf, by_page, every_place};
 use crawl_web::{NoMemory, PageResult};
