@@ -2,11 +2,11 @@
 use Rattle.std.proofs.Common.{◌≡◌, ℕ, ◌+◌, ◌==◌, Bool, true, false, ◌&&◌, ◌||◌, not, List, [], ◌∷◌, ◌++◌, codes, nat_lt, refl, arith, le-ltb, if◌then◌else◌}
 use Rattle.std.proofs.lemmas.Bool.{ne_eqb}
 use Rattle.std.specs.List.{flat_map, list_all}
-use Rattle.check_report.specs.Escape.{data_byte, escaped, html_byte, is_in_line, is_in_property, is_inert, is_reference, is_shown, property_byte, shown_byte}
+use Rattle.check_report.specs.Escape.{data_byte, escaped, html_byte, is_in_line, is_in_property, is_inert, is_reference, is_shown, property_byte, shown_byte, without_c1}
 use Rattle.check_report.specs.declared.escape.Escape.TheVariants as escape
 
 -- what holds of both answers
-chosen : (q : Bool) (x y : List ℕ) (P : List ℕ → Type 0) → P x → (q ≡ false → P y) → P (if q then x else y)
+pub chosen : (q : Bool) (x y : List ℕ) (P : List ℕ → Type 0) → P x → (q ≡ false → P y) → P (if q then x else y)
 chosen true x y P of_x of_y = of_x
 chosen false x y P of_x of_y = of_y refl
 
@@ -32,9 +32,12 @@ html_byte_inert b rest inert =
     (λ printable. chosen (b == 127) (226 ∷ 144 ∷ 161 ∷ []) (b ∷ []) P inert
     (λ no_delete. plain_byte b rest no_ampersand no_less no_greater no_quote no_apostrophe inert)))))))
 
+each_inert : (text : List ℕ) → is_inert (flat_map html_byte text) ≡ true
+each_inert [] = refl
+each_inert (b ∷ bs) = html_byte_inert b (flat_map html_byte bs) (each_inert bs)
+
 pub html_inert : (text : List ℕ) → is_inert (escaped escape.Html text) ≡ true
-html_inert [] = refl
-html_inert (b ∷ bs) = html_byte_inert b (escaped escape.Html bs) (html_inert bs)
+html_inert text = each_inert (without_c1 text)
 
 -- ---- each byte by itself
 
@@ -50,7 +53,7 @@ shown_byte_shown b rest shown =
     (λ printable. chosen (b == 127) (226 ∷ 144 ∷ 161 ∷ []) (b ∷ []) P shown (λ no_delete. λ i. (not (printable i) && not (no_delete i)) && shown i))
 
 pub shown_shown : (text : List ℕ) → list_all is_shown (escaped escape.Shown text) ≡ true
-shown_shown = each_byte is_shown shown_byte shown_byte_shown
+shown_shown text = each_byte is_shown shown_byte shown_byte_shown (without_c1 text)
 
 data_byte_in_line : (b : ℕ) (rest : List ℕ) → list_all is_in_line rest ≡ true → list_all is_in_line (data_byte b ++ rest) ≡ true
 data_byte_in_line b rest inside =

@@ -1,3 +1,5 @@
 mod Adding
+mod Controls
 mod Inert
 mod Members
+mod Pieces

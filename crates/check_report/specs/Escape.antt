@@ -1,5 +1,5 @@
--- Texts of others, made harmless byte by byte.
-use Rattle.std.specs.Prelude.{ℕ, ◌+◌, ◌==◌, Bool, true, false, ◌&&◌, ◌||◌, not, List, [], ◌∷◌, codes, nat_lt, if◌then◌else◌}
+-- Texts of others, made harmless.
+use Rattle.std.specs.Prelude.{ℕ, ◌+◌, ◌==◌, Bool, true, false, ◌&&◌, ◌||◌, not, List, [], ◌∷◌, codes, nat_le, nat_lt, if◌then◌else◌}
 use Rattle.std.specs.List.{flat_map}
 use Rattle.check_report.specs.declared.escape.Escape.{Escape}
 use Rattle.check_report.specs.declared.escape.Escape.TheVariants as escape
@@ -27,14 +27,47 @@ escaped_byte escape.Data b = data_byte b
 escaped_byte escape.Property b = property_byte b
 escaped_byte escape.Html b = html_byte b
 
+-- the codes of the C1 controls; UTF-8 has such a control as 194 and its code
+abbrev pub is_c1 : ℕ → Bool
+is_c1 code = nat_le 128 code && nat_le code 159
+
+-- a C1 control, as UTF-8 has it, begins the text
+abbrev pub begins_with_c1 : List ℕ → Bool
+begins_with_c1 [] = false
+begins_with_c1 (b ∷ []) = false
+begins_with_c1 (b ∷ code ∷ rest) = (b == 194) && is_c1 code
+
+-- the text with U+FFFD in place of each C1 control
+abbrev pub without_c1 : List ℕ → List ℕ
+without_c1 [] = []
+without_c1 (b ∷ []) = b ∷ []
+without_c1 (b ∷ code ∷ rest) = if begins_with_c1 (b ∷ code ∷ rest) then 239 ∷ 191 ∷ 189 ∷ without_c1 rest else b ∷ without_c1 (code ∷ rest)
+
+-- where people read the text, so that a C1 control could steer what shows it
+abbrev pub hides_c1 : Escape → Bool
+hides_c1 escape.Shown = true
+hides_c1 escape.Data = false
+hides_c1 escape.Property = false
+hides_c1 escape.Html = true
+
+-- C1 controls go first, where they are hidden, and then each byte is escaped
 abbrev pub escaped : Escape → List ℕ → List ℕ
-escaped how text = flat_map (escaped_byte how) text
+escaped how text = flat_map (escaped_byte how) (if hides_c1 how then without_c1 text else text)
 
 -- ---- what stays in its place
+
+-- from - on without : ; < = > and DEL, and not the first byte of a C1 control: in each place such a byte stays
+abbrev pub is_plain : ℕ → Bool
+is_plain b = nat_le 45 b && not ((nat_le 58 b && nat_le b 62) || (b == 127) || (b == 194))
 
 -- neither a control byte nor delete
 abbrev pub is_shown : ℕ → Bool
 is_shown b = not (nat_lt b 32) && not (b == 127)
+
+-- no C1 control stands in the text
+abbrev pub has_no_c1 : List ℕ → Bool
+has_no_c1 [] = true
+has_no_c1 (b ∷ rest) = not (begins_with_c1 (b ∷ rest)) && has_no_c1 rest
 
 -- neither LF nor CR
 abbrev pub is_in_line : ℕ → Bool

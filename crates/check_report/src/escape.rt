@@ -1,6 +1,7 @@
 //! Texts of others, made harmless.
-ghost use Rattle.std.specs.Prelude.{◌≡◌, ◌++◌, OnOk};
-ghost use Rattle.check_report.specs.Escape.{data_byte, escaped, escaped_byte, html_byte, property_byte, shown_byte};
+ghost use Rattle.std.specs.Prelude.{◌≡◌, ◌-◌, ◌≤◌, ◌&&◌, ◌++◌, IfOk, OnOk, length};
+ghost use Rattle.std.specs.List.{take_while};
+ghost use Rattle.check_report.specs.Escape.{begins_with_c1, data_byte, escaped, escaped_byte, hides_c1, html_byte, is_plain, property_byte, shown_byte};
 ghost use Rattle.check_report.specs.Text.{shown};
 
 use crate::put::{NoMemory, put};
@@ -25,7 +26,7 @@ pub fn put_escaped(out: &mut Vec<u8>, how: Escape, text: &str) -> Result<(), NoM
     put_bytes(out, how, text.as_bytes())
 }
 
-/// The text at the end, its control bytes as pictures.
+/// The text at the end, its control bytes as pictures, its C1 controls as U+FFFD.
 pub fn put_shown(out: &mut Vec<u8>, text: &str) -> Result<(), NoMemory>
     ensures { OnOk result (out.new.items ≡ out.old.items ++ shown text.now) }
 {
@@ -35,10 +36,67 @@ pub fn put_shown(out: &mut Vec<u8>, text: &str) -> Result<(), NoMemory>
 fn put_bytes(out: &mut Vec<u8>, how: Escape, bytes: &[u8]) -> Result<(), NoMemory>
     ensures { OnOk result (out.new.items ≡ out.old.items ++ escaped how bytes.now) }
 {
-    for byte in bytes {
-        put_byte(out, how, *byte)?;
+    let mut rest = bytes;
+    'runs: while !rest.is_empty() {
+        let (run, behind) = rest.split_at(plain_len(rest));
+        out.extend_from_slice(run)?;
+        rest = put_first(out, how, behind)?;
     }
     Ok(())
+}
+
+/// How many bytes the text begins with that stay in each place.
+fn plain_len(bytes: &[u8]) -> usize
+    ensures { result ≡ length (take_while is_plain bytes.now) }
+{
+    bytes.iter().take_while(|byte| is_plain(**byte)).count()
+}
+
+fn is_plain(byte: u8) -> bool
+    ensures { result ≡ is_plain byte }
+{
+    byte >= b'-' && !matches!(byte, b':'..=b'>' | 127 | 194)
+}
+
+/// What stands for the first C1 control or byte at the end. What is left of the text.
+fn put_first<'a>(out: &mut Vec<u8>, how: Escape, bytes: &'a [u8]) -> Result<&'a [u8], NoMemory>
+    ensures text { IfOk result (λ rest. out.new.items ++ escaped how rest.now ≡ out.old.items ++ escaped how bytes.now) }
+    ensures shorter { IfOk result (λ rest. length rest.now ≤ length bytes.now - 1) }
+{
+    if hides_first(how, bytes) {
+        put(out, "\u{fffd}")?;
+        return Ok(&bytes[2..]);
+    }
+    match bytes.split_first() {
+        Some((first, rest)) => {
+            put_byte(out, how, *first)?;
+            Ok(rest)
+        }
+        None => Ok(bytes),
+    }
+}
+
+/// Whether U+FFFD stands for what the text begins with.
+fn hides_first(how: Escape, bytes: &[u8]) -> bool
+    ensures { result ≡ (hides_c1 how && begins_with_c1 bytes.now) }
+{
+    hides_c1(how) && begins_with_c1(bytes)
+}
+
+fn hides_c1(how: Escape) -> bool
+    ensures { result ≡ hides_c1 how }
+{
+    match how {
+        Escape::Shown | Escape::Html => true,
+        Escape::Data | Escape::Property => false,
+    }
+}
+
+/// Whether the text begins with one of U+0080 to U+009F.
+fn begins_with_c1(bytes: &[u8]) -> bool
+    ensures { result ≡ begins_with_c1 bytes.now }
+{
+    matches!(bytes, [194, 128..=159, ..])
 }
 
 fn put_byte(out: &mut Vec<u8>, how: Escape, byte: u8) -> Result<(), NoMemory>

@@ -173,6 +173,29 @@ const FOLDERS: &[(&str, &str)] = &[
     ("/", "/a.html"),
 ];
 
+/// A text, its bytes, which stay in a GitHub command, and what people read in a line and in the page.
+type Seen = (&'static str, &'static [u8], &'static [u8]);
+
+/// C1 controls and their neighbours.
+const CONTROLS: &[Seen] = &[
+    ("\u{80}", b"\xc2\x80", b"\xef\xbf\xbd"),
+    ("\u{85}", b"\xc2\x85", b"\xef\xbf\xbd"),
+    ("\u{9b}31m", b"\xc2\x9b31m", b"\xef\xbf\xbd31m"),
+    ("\u{9f}", b"\xc2\x9f", b"\xef\xbf\xbd"),
+    ("\u{a0}", b"\xc2\xa0", b"\xc2\xa0"),
+    ("\u{e9}", b"\xc3\xa9", b"\xc3\xa9"),
+    ("\u{201b}", b"\xe2\x80\x9b", b"\xe2\x80\x9b"),
+    (
+        "\u{c2}\u{9b}\u{84} z",
+        b"\xc3\x82\xc2\x9b\xc2\x84 z",
+        b"\xc3\x82\xef\xbf\xbd\xef\xbf\xbd z",
+    ),
+];
+
+/// What stands behind the last name of a page.
+const BEHIND_NAME: &[u8] =
+    b"\n</pre>\n</section>\n</main>\n<footer id=end></footer>\n</body>\n</html>\n";
+
 fn text(alloc: Global, text: &str) -> Option<String> {
     String::from_str(alloc, text).ok()
 }
@@ -341,6 +364,48 @@ fn stands_at(annotation: &[u8], file: &str) -> bool {
     match at.strip_prefix(file.as_bytes()) {
         Some(rest) => rest == b",line=3,col=1::gone.html: no such page\n".as_slice(),
         None => false,
+    }
+}
+
+/// Whether the bytes end with these three.
+fn ends_so(bytes: &[u8], front: &[u8], middle: &[u8], behind: &[u8]) -> Option<bool> {
+    let rest = bytes.strip_suffix(behind)?;
+    Some(rest.strip_suffix(middle)?.ends_with(front))
+}
+
+/// In which forms the name stands as expected: the text, the page, the annotations.
+fn seen(alloc: Global, row: &Seen) -> Option<[bool; 3]> {
+    let broken = [target(alloc, &(row.0, Kind::NoPage, "", &[]))?];
+    let unused = [text(alloc, row.0)?];
+    let findings = Findings {
+        base: "",
+        totals: TOTALS,
+        broken: &broken,
+        worst: &[],
+        redirects: &[],
+        unreached: &[],
+        unused_ignores: &unused,
+    };
+    let told = Told {
+        unreached: false,
+        external: None,
+        folder: "",
+    };
+    let text = print_text(alloc, &findings, told, false, false).ok()?;
+    let page = print_page(alloc, &findings, told).ok()?;
+    let command = print_annotations(alloc, &findings, told).ok()?;
+    Some([
+        ends_so(text.as_slice(), b":\n  ", row.2, b"\n")?,
+        ends_so(page.as_slice(), b"<pre>\n", row.2, BEHIND_NAME)?,
+        ends_so(command.as_slice(), b"::error::", row.1, b": no such page\n")?,
+    ])
+}
+
+#[test]
+fn shows_no_c1_control(rt: HostRuntime) {
+    for row in CONTROLS {
+        let forms = seen(rt.alloc(), row);
+        assert!(rt; forms == Some([true; 3]), "{:?}: {forms:?}", row.1);
     }
 }
 
