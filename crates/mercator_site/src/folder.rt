@@ -13,7 +13,8 @@ use crate::check::{CheckReport, CheckSettings, report_of_pages};
 use crate::fault::SiteFault;
 use crate::writing::{tell_note, tell_notes};
 use saved_site::{
-    FolderNames, Rules, SiteFiles, SiteNames, Web, folder_files_pages, folder_names, folder_web,
+    FolderNames, Note, Rules, SiteFiles, SiteNames, Web, folder_files_pages, folder_names,
+    folder_web,
 };
 use site_check::read_ignores;
 use std::alloc::{AllocError, Global};
@@ -65,7 +66,7 @@ pub fn web_of_folder<R: Files<File: Send, Dir: Send> + Threads + Sync, E: Write>
         asked.base.as_str(),
         &rules,
     )?;
-    tell_notes(alloc, err, web.notes.as_slice())?;
+    tell_notes(alloc, err, "", web.notes.as_slice())?;
     let Web { bytes, .. } = web;
     Ok(bytes)
 }
@@ -94,7 +95,7 @@ pub fn report_of_folder<R: Files<File: Send, Dir: Send> + Threads + Wait + Sync,
         rules: &rules,
         seeds: asked.seeds.as_slice(),
     };
-    tell_notes(alloc, err, notes.as_slice())?;
+    tell_notes(alloc, err, "", notes.as_slice())?;
     report_of_names(rt, alloc, asked, input, known.as_slice(), err)
 }
 
@@ -113,12 +114,23 @@ fn report_of_names<R: Files<File: Send, Dir: Send> + Threads + Wait + Sync, E: W
     let folder = asked.site.folder.as_str();
     let files = SiteFiles::new(alloc, input)?;
     let site = folder_files_pages(rt, alloc, folder, &files, input.seeds, Vec::new(alloc))?;
-    tell_notes(alloc, err, site.notes.as_slice())?;
+    tell_page_notes(alloc, err, asked.paths, &files, site.notes.as_slice())?;
     tell_no_index(alloc, err, input)?;
     let bodies = OnDisk { rt, alloc, folder };
     let settings = settings_of(asked, files.top(), known);
     let report = report_of_pages(rt, alloc, site, &files, &bodies, settings)?;
     Ok(report)
+}
+
+/// Tells what is not read as it was found of pages, which are named as the report names them.
+fn tell_page_notes<E: Write>(
+    alloc: Global,
+    err: &mut E,
+    paths: bool,
+    files: &SiteFiles<'_>,
+    notes: &[Note],
+) -> Result<(), AllocError> {
+    tell_notes(alloc, err, front_of(paths, files.top()), notes)
 }
 
 /// Tells that the crawl reaches nothing, where it begins at the top and the top has no index file.

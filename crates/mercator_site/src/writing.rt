@@ -25,18 +25,38 @@ pub(crate) fn write_text<O: Write>(out: &mut O, text: &[u8]) -> Result<(), SiteF
     Ok(())
 }
 
-/// Tells what is not written as it was found, a line each. What `err` refuses is dropped.
+/// Tells what is not written as it was found, a line each, without the front where its place begins with that. What `err` refuses
+/// is dropped.
 pub(crate) fn tell_notes<E: Write>(
     alloc: Global,
     err: &mut E,
+    front: &str,
     notes: &[Note],
 ) -> Result<(), AllocError> {
     for note in notes {
         let left = note.left;
         let words = format!(in alloc; "{left}")?;
-        tell_note(alloc, err, note.place.as_str(), words.as_str())?;
+        let place = told_place(alloc, front, note.place.as_str())?;
+        tell_note(alloc, err, place.as_str(), words.as_str())?;
     }
     Ok(())
+}
+
+/// A place without the front, where it begins with that; the top itself is `./`.
+fn told_place(alloc: Global, front: &str, place: &str) -> Result<String, AllocError> {
+    match place.strip_prefix(front) {
+        Some(behind) if !front.is_empty() => format!(in alloc; "{}{behind}", top_before(behind)),
+        _ => String::from_str(alloc, place),
+    }
+}
+
+/// The top, where no path is left of a place; a name of its encoding may be.
+fn top_before(behind: &str) -> &str {
+    if behind.is_empty() || behind.starts_with(' ') {
+        "./"
+    } else {
+        ""
+    }
 }
 
 /// Tells these words of a place in a line. What `err` refuses is dropped.
