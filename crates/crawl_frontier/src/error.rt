@@ -55,7 +55,7 @@ pub enum OfferError {
     Crossed { own: u64, found: u64 },
     /// The URL is more than [`crate::HOPS_LIMIT`] hops away.
     TooFar,
-    /// There was not memory enough, or the subqueue was pushed onto nearly 2^62 times.
+    /// There was not memory enough, or the subqueue has accepted 2^31 URLs.
     NoMemory,
 }
 
