@@ -10,7 +10,7 @@ use Rattle.crawl_web.specs.declared.page.PageResult.{PageResult}
 use Rattle.mercator.specs.WebCrawl.{IsSiteCrawl}
 use Rattle.mercator_site.specs.Asks.{Asks}
 use Rattle.mercator_site.specs.External.{AreExternal, Row, row_of}
-use Rattle.mercator_site.specs.Own.{origin_of, own_of}
+use Rattle.mercator_site.specs.Own.{AreOwn, origin_of, own_of}
 use Rattle.mercator_site.specs.declared.asked.CheckForm.{CheckForm}
 use Rattle.mercator_site.specs.declared.asked.CheckForm.TheVariants as form
 use Rattle.saved_site.specs.Below.{IsTop, IsWebBelow}
@@ -35,12 +35,13 @@ abbrev pub starts : List (List ℕ) → List (List ℕ)
 starts [] = [] ∷ []
 starts (link ∷ links) = link ∷ links
 
--- these pages were crawled of the web from the starts on the site's top, within the top's host
+-- these pages were crawled of the web from the starts on the site's top, which are its own, within the top's host
 pub record IsTopCrawl (top web : List ℕ) (links : List (List ℕ)) (pages : List PageResult) : Type 0 where
   pub url : List ℕ
   pub canon : canonical top ≡ Ok url
   pub begun : List (List ℕ)
   pub resolved : map (resolve url) (starts links) ≡ map Ok begun
+  pub own : AreOwn (origin_of url) begun
   pub crawl : IsSiteCrawl web [] begun (host_key url ∷ []) pages
 
 -- these are the rows of the pages' links that lead out of the origin, where they are asked for

@@ -7,6 +7,7 @@ use Rattle.mercator.specs.WebCrawl.{IsRefused}
 use Rattle.mercator.specs.declared.commands.fault.Fault.{Fault}
 use Rattle.mercator.specs.declared.commands.fault.Fault.TheVariants as ended
 use Rattle.mercator_site.specs.Checks.{starts}
+use Rattle.mercator_site.specs.Own.{AreOwn, origin_of}
 use Rattle.mercator_site.specs.declared.asked.CheckAsked.{CheckAsked}
 use Rattle.mercator_site.specs.declared.fault.SiteFault.{SiteFault}
 use Rattle.mercator_site.specs.declared.fault.SiteFault.TheVariants as wrong
@@ -54,6 +55,7 @@ pub record IsTopIncomplete (top web : List ℕ) (links : List (List ℕ)) (worke
   pub canon : canonical top ≡ Ok url
   pub begun : List (List ℕ)
   pub resolved : map (resolve url) (starts links) ≡ map Ok begun
+  pub own : AreOwn (origin_of url) begun
   pub max : ℕ
   pub why : Fault
   pub incomplete : status_of_fault why ≡ 2

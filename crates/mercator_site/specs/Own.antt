@@ -1,5 +1,6 @@
 -- Which URLs are a site's own: those with the scheme, host and port of its top.
 use Rattle.std.specs.Prelude.{ℕ, zero, suc, ◌==◌, List, [], ◌∷◌, filter, if◌then◌else◌}
+use Rattle.std.specs.List.{AllPass}
 use Rattle.crawl_web.specs.declared.page.PageResult.{PageResult}
 use Rattle.saved_site.specs.Below.{begins}
 
@@ -12,6 +13,10 @@ up_to_slash (suc n) (b ∷ bs) = b ∷ (if b == 47 then up_to_slash n bs else up
 -- the scheme, host and port that a URL begins with, and the slash behind them
 abbrev pub origin_of : List ℕ → List ℕ
 origin_of url = up_to_slash 3 url
+
+-- all of these URLs begin so
+abbrev pub AreOwn : List ℕ → List (List ℕ) → Type 0
+AreOwn origin urls = AllPass (begins origin) urls
 
 -- the results whose URLs begin so
 abbrev pub own_of : List ℕ → List PageResult → List PageResult
