@@ -183,8 +183,8 @@ class Reckoning:
                 waiting += self.followed(url)
 
     def is_within(self, url: str) -> bool:
-        """Whether a URL has the scheme, host and port of the top."""
-        return drawn.url_of(url)[:4] == self.site.base[:4]
+        """Whether a URL lies below the top."""
+        return url.startswith(str(self.site.base))
 
     def followed(self, url: str) -> Set[str]:
         """The URLs that a page leads to."""

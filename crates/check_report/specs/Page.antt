@@ -80,7 +80,7 @@ section_start part.Broken = codes "<section id=broken aria-labelledby=h-broken>\
 section_start part.Worst = codes "<section id=worst aria-labelledby=h-worst>\n<h2 id=h-worst>Files with most broken links</h2>\n<pre>\n"
 section_start part.Redirects = codes "<section id=redirects aria-labelledby=h-redirects>\n<h2 id=h-redirects>Redirects to mend</h2>\n<pre>\n"
 section_start part.Unreached = codes "<section id=unreached aria-labelledby=h-unreached>\n<h2 id=h-unreached>Pages that no link leads to</h2>\n<pre>\n"
-section_start part.External = codes "<section id=external aria-labelledby=h-external>\n<h2 id=h-external>Links to other hosts, not looked at</h2>\n<pre>\n"
+section_start part.External = codes "<section id=external aria-labelledby=h-external>\n<h2 id=h-external>Links out of the site, not looked at</h2>\n<pre>\n"
 section_start part.Unused = codes "<section id=unused aria-labelledby=h-unused>\n<h2 id=h-unused>Ignored, but not found</h2>\n<pre>\n"
 
 -- ---- rows

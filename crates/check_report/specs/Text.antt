@@ -112,7 +112,7 @@ title part.Broken = []
 title part.Worst = codes "files with most broken links:\n"
 title part.Redirects = codes "redirects to mend:\n"
 title part.Unreached = codes "pages that no link leads to:\n"
-title part.External = codes "links to other hosts, not looked at:\n"
+title part.External = codes "links out of the site, not looked at:\n"
 title part.Unused = codes "ignored, but not found:\n"
 
 -- an empty line, and the title
@@ -129,7 +129,7 @@ moves_text r = codes "  " ++ shown (string_bytes r.page) ++ codes " -> " ++ redi
 abbrev pub redirect_text : Redirect → List ℕ
 redirect_text r = moves_text r ++ counted (codes " (linked from ") r.pages ++ codes ")\n"
 
--- how many links lead to a URL of another host
+-- how many links lead to a URL out of the site
 abbrev pub external_text : External → List ℕ
 external_text e = counted (codes "  ") e.links ++ codes " " ++ shown (string_bytes e.url) ++ codes "\n"
 

@@ -79,7 +79,7 @@ fn section_start(part: Part) -> &'static str
         Part::Unreached =>
             "<section id=unreached aria-labelledby=h-unreached>\n<h2 id=h-unreached>Pages that no link leads to</h2>\n<pre>\n",
         Part::External =>
-            "<section id=external aria-labelledby=h-external>\n<h2 id=h-external>Links to other hosts, not looked at</h2>\n<pre>\n",
+            "<section id=external aria-labelledby=h-external>\n<h2 id=h-external>Links out of the site, not looked at</h2>\n<pre>\n",
         Part::Unused =>
             "<section id=unused aria-labelledby=h-unused>\n<h2 id=h-unused>Ignored, but not found</h2>\n<pre>\n",
     }

@@ -92,7 +92,7 @@ fn title(part: Part) -> &'static str
         Part::Worst => "files with most broken links:\n",
         Part::Redirects => "redirects to mend:\n",
         Part::Unreached => "pages that no link leads to:\n",
-        Part::External => "links to other hosts, not looked at:\n",
+        Part::External => "links out of the site, not looked at:\n",
         Part::Unused => "ignored, but not found:\n",
     }
 }

@@ -23,7 +23,7 @@ pub struct Findings<'a> {
 pub struct Told<'a> {
     /// Whether unreached pages are counted and told.
     pub unreached: bool,
-    /// Where links to other hosts lead, if that is counted and told.
+    /// Where links out of the site lead, if that is counted and told.
     pub external: Option<&'a [External]>,
     /// The folder that annotations tell before a file's name; empty where they tell the name alone.
     pub folder: &'a str,
@@ -89,7 +89,7 @@ pub struct Redirect {
     pub pages: u64,
 }
 
-/// A URL of another host.
+/// A URL out of the site.
 #[derive(Drop)]
 pub struct External {
     pub url: String,

@@ -1,4 +1,4 @@
--- Results that ascend, those of an origin together.
+-- Results that ascend, those below a top together.
 use Rattle.std.proofs.Common.{◌≡◌, ℕ, suc, List, [], ◌∷◌, refl, true, false, arith}
 use Rattle.std.proofs.lemmas.Bool.Decides.{nat_tests}
 use Rattle.std.proofs.lemmas.List.Elements.{recursion_from_All}
@@ -37,7 +37,7 @@ rises_of (url ∷ urls) pairs = (
   rises_of urls (λ i j d before below. pairs (suc i) (suc j) d (omega (arith, before)) (omega (arith, below))),
 )
 
--- behind one of the origin its results stand together
+-- behind one below the top the others stand together
 together : (p o : List ℕ) (rs : List PageResult) → begins p o ≡ true → AllByRecursion (λ url. slice_cmp nat_cmp o url ≡ Less) (result_urls rs) → Rises (result_urls rs) → while_own p rs ≡ own_of p rs
 unfolding Rises
 together p o [] own all rises = refl
@@ -53,6 +53,6 @@ stands p (r ∷ rs) rises =
     let more : begins p r.url ≡ true → while_own p rs ≡ own_of p rs = λ is. together p r.url rs is rises.0 rises.1 in
     grind (arith, more, stands p rs rises.1)
 
--- where results ascend, those of an origin are those from the first to the first that is none
+-- where results ascend, those below a top are those from the first to the first that is none
 pub own_stand_together : (p : List ℕ) (rs : List PageResult) → IsAscending (result_urls rs) → while_own p (from_own p rs) ≡ own_of p rs
 own_stand_together p rs pairs = stands p rs (rises_of (result_urls rs) pairs)

@@ -8,6 +8,6 @@ use Rattle.check_report.specs.declared.value.External.{External}
 use Rattle.mercator_site.specs.External.{AreExternal, outside_links, row_of, runs}
 
 -- the rows of URLs that are those of the links, in order
-pub rows_of_links : {E : Type 0} (answer : Result (Vec External Global) E) (origin : List ℕ) (pages : List PageResult) (urls : List (List ℕ)) → IsPermutation (outside_links origin pages) urls → IsSortedByKey (λ url. url) (slice_cmp nat_cmp) urls → IfOk answer (λ all. map row_of all.items ≡ runs urls) → IfOk answer (λ all. AreExternal origin pages (map row_of all.items))
-rows_of_links (Ok all) origin pages urls same ascends counted = record { urls = urls; same = same; ascends = ascends; counted = counted }
-rows_of_links (Err e) origin pages urls same ascends counted = tt
+pub rows_of_links : {E : Type 0} (answer : Result (Vec External Global) E) (top : List ℕ) (pages : List PageResult) (urls : List (List ℕ)) → IsPermutation (outside_links top pages) urls → IsSortedByKey (λ url. url) (slice_cmp nat_cmp) urls → IfOk answer (λ all. map row_of all.items ≡ runs urls) → IfOk answer (λ all. AreExternal top pages (map row_of all.items))
+rows_of_links (Ok all) top pages urls same ascends counted = record { urls = urls; same = same; ascends = ascends; counted = counted }
+rows_of_links (Err e) top pages urls same ascends counted = tt

@@ -22,7 +22,7 @@ use Rattle.mercator.specs.declared.crawling.error.CrawlError.TheVariants as craw
 use Rattle.mercator_site.proofs.Statuses.{crawl_status}
 use Rattle.mercator_site.specs.Checks.{IsTopCrawl, starts}
 use Rattle.mercator_site.specs.Faults.{IsTopIncomplete, of_crawl, status_of}
-use Rattle.mercator_site.specs.Own.{AreOwn, origin_of}
+use Rattle.mercator_site.specs.Own.{AreOwn}
 use Rattle.mercator_site.specs.Sources.{IsSourceOf}
 use Rattle.saved_site.specs.Linked.{IsSiteSource, PageFound, page_at}
 
@@ -45,7 +45,7 @@ own_seeds urls stable = record { first = []; others = urls; filed = refl; named 
 
 -- what is crawled from the links of the top
 pub top_crawl : (meaning : List ℕ → Page) (top web : List ℕ) (links : List (List ℕ)) (url : List ℕ) (urls : List (List ℕ)) (pages : List PageResult) → IsSourceOf meaning web
-    → canonical top ≡ Ok url → map (resolve url) (starts links) ≡ map Ok urls → AreOwn (origin_of url) urls → AreSeeds urls urls → IsCrawl meaning (allows (host_key url ∷ [])) urls pages → IsTopCrawl top web links pages
+    → canonical top ≡ Ok url → map (resolve url) (starts links) ≡ map Ok urls → AreOwn url urls → AreSeeds urls urls → IsCrawl meaning (allows (host_key url ∷ [])) urls pages → IsTopCrawl top web links pages
 top_crawl meaning top web links url urls pages source canon resolved own stable found = record {
   url = url;
   canon = canon;
@@ -69,7 +69,7 @@ refused_of workers max web urls crawl.NoMemory able fails = tt
 
 -- why nothing is
 pub top_incomplete : (meaning : List ℕ → Page) (top web : List ℕ) (links : List (List ℕ)) (url : List ℕ) (urls : List (List ℕ)) (workers max : ℕ) (error : CrawlError) → IsSourceOf meaning web
-    → canonical top ≡ Ok url → map (resolve url) (starts links) ≡ map Ok urls → AreOwn (origin_of url) urls → AreSeeds urls urls → CrawlFails workers max error → status_of (of_crawl (fault.of_crawl error)) ≡ 2 → IsTopIncomplete top web links workers
+    → canonical top ≡ Ok url → map (resolve url) (starts links) ≡ map Ok urls → AreOwn url urls → AreSeeds urls urls → CrawlFails workers max error → status_of (of_crawl (fault.of_crawl error)) ≡ 2 → IsTopIncomplete top web links workers
 top_incomplete meaning top web links url urls workers max error source canon resolved own stable fails two = record {
   url = url;
   canon = canon;

@@ -10,7 +10,7 @@ use Rattle.crawl_web.specs.declared.page.PageResult.{PageResult}
 use Rattle.mercator.specs.WebCrawl.{IsSiteCrawl}
 use Rattle.mercator_site.specs.Asks.{Asks}
 use Rattle.mercator_site.specs.External.{AreExternal, Row, row_of}
-use Rattle.mercator_site.specs.Own.{AreOwn, origin_of, own_of}
+use Rattle.mercator_site.specs.Own.{AreOwn, own_of}
 use Rattle.mercator_site.specs.declared.asked.CheckForm.{CheckForm}
 use Rattle.mercator_site.specs.declared.asked.CheckForm.TheVariants as form
 use Rattle.saved_site.specs.Below.{IsTop, IsWebBelow}
@@ -41,15 +41,15 @@ pub record IsTopCrawl (top web : List ℕ) (links : List (List ℕ)) (pages : Li
   pub canon : canonical top ≡ Ok url
   pub begun : List (List ℕ)
   pub resolved : map (resolve url) (starts links) ≡ map Ok begun
-  pub own : AreOwn (origin_of url) begun
+  pub own : AreOwn url begun
   pub crawl : IsSiteCrawl web [] begun (host_key url ∷ []) pages
 
--- these are the rows of the pages' links that lead out of the origin, where they are asked for
+-- these are the rows of the pages' links that lead out of the site, where they are asked for
 abbrev pub AreOthersAsked : Bool → List ℕ → List PageResult → Option (List Row) → Type 0
-AreOthersAsked true origin pages (Some rows) = AreExternal origin pages rows
-AreOthersAsked true origin pages None = ⊥
-AreOthersAsked false origin pages (Some rows) = ⊥
-AreOthersAsked false origin pages None = ⊤
+AreOthersAsked true top pages (Some rows) = AreExternal top pages rows
+AreOthersAsked true top pages None = ⊥
+AreOthersAsked false top pages (Some rows) = ⊥
+AreOthersAsked false top pages None = ⊤
 
 -- the rows of what is told beside findings
 abbrev pub other_rows : Told → Option (List Row)
@@ -70,14 +70,14 @@ pub record IsReport (checked : Checked) (others : Option (List Row)) (name : Lis
   pub others_told : other_rows told ≡ others
   pub written : text ≡ printed_check asks.form asks.all told found
 
--- the text tells the missing and the moved pages of such a crawl that have the scheme, host and port of the top, each with how
+-- the text tells the missing and the moved pages of such a crawl that lie below the top, each with how
 -- many pages link to it, and the entries that stand for nothing; its totals count the pages, their links and the rows; it tells
 -- that something is broken where there is such a row
 pub record IsCheck (top web : List ℕ) (asks : Asks) (broken : Bool) (text : List ℕ) : Type 0 where
   pub pages : List PageResult
   pub crawled : IsTopCrawl top web asks.seeds pages
   pub own : List PageResult
-  pub are_own : own ≡ own_of (origin_of crawled.url) pages
+  pub are_own : own ≡ own_of crawled.url pages
   pub found : Findings
   pub rows : rows_in found.broken.now ≡ broken_of asks.front asks.entries own
   pub ways : map way_of found.redirects.now ≡ redirects_of asks.front own
@@ -91,7 +91,7 @@ pub record IsCheck (top web : List ℕ) (asks : Asks) (broken : Bool) (text : Li
   pub told : Told
   pub unreached : told.unreached ≡ asks.unreached
   pub folder : told.folder.now ≡ asks.folder
-  pub others : AreOthersAsked asks.external (origin_of crawled.url) own (other_rows told)
+  pub others : AreOthersAsked asks.external crawled.url own (other_rows told)
   pub written : text ≡ printed_check asks.form asks.all told found
 
 -- the same, where the text tells this name of the site

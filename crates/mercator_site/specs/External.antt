@@ -10,13 +10,13 @@ use Rattle.crawl_web.specs.Pages.{links_of}
 use Rattle.crawl_web.specs.declared.page.PageResult.{PageResult}
 use Rattle.saved_site.specs.Below.{begins}
 
--- the URLs that are not of this origin
+-- the URLs that do not begin with the top
 abbrev pub outside : List ℕ → List (List ℕ) → List (List ℕ)
-outside origin urls = filter (λ url. not (begins origin url)) urls
+outside top urls = filter (λ url. not (begins top url)) urls
 
 -- those among the links of pages, each as often as it stands there
 abbrev pub outside_links : List ℕ → List PageResult → List (List ℕ)
-outside_links origin pages = flat_map (λ r. outside origin (links_of r.page)) pages
+outside_links top pages = flat_map (λ r. outside top (links_of r.page)) pages
 
 -- a URL, and how many links lead to it
 pub record Row : Type 0 where
@@ -38,9 +38,9 @@ abbrev pub runs : List (List ℕ) → List Row
 runs [] = []
 runs (url ∷ more) = runs_from url 1 more
 
--- these are the rows of the links that lead out of the origin, in the order of their bytes
-pub record AreExternal (origin : List ℕ) (pages : List PageResult) (rows : List Row) : Type 0 where
+-- these are the rows of the links that lead out of the site, in the order of their bytes
+pub record AreExternal (top : List ℕ) (pages : List PageResult) (rows : List Row) : Type 0 where
   pub urls : List (List ℕ)
-  pub same : IsPermutation (outside_links origin pages) urls
+  pub same : IsPermutation (outside_links top pages) urls
   pub ascends : IsSortedByKey (λ url. url) (slice_cmp nat_cmp) urls
   pub counted : rows ≡ runs urls

@@ -7,7 +7,7 @@ use Rattle.mercator.specs.WebCrawl.{IsRefused}
 use Rattle.mercator.specs.declared.commands.fault.Fault.{Fault}
 use Rattle.mercator.specs.declared.commands.fault.Fault.TheVariants as ended
 use Rattle.mercator_site.specs.Checks.{starts}
-use Rattle.mercator_site.specs.Own.{AreOwn, origin_of}
+use Rattle.mercator_site.specs.Own.{AreOwn}
 use Rattle.mercator_site.specs.declared.asked.CheckAsked.{CheckAsked}
 use Rattle.mercator_site.specs.declared.fault.SiteFault.{SiteFault}
 use Rattle.mercator_site.specs.declared.fault.SiteFault.TheVariants as wrong
@@ -43,7 +43,7 @@ site_line name wrong.CannotReadKnown = fault_line name ended.CannotRead
 site_line name wrong.BadBase = name_line (codes "BASE") (codes "no http or https URL without a query")
 site_line name wrong.BadHost = name_line (codes "BASE") (codes "its host is not letters, digits, - and . alone")
 site_line name wrong.NoFiles = name_line name (codes "no files")
-site_line name wrong.BadSeed = name_line (codes "LINK") (codes "no URL of the scheme, host and port of BASE")
+site_line name wrong.BadSeed = name_line (codes "LINK") (codes "no URL below BASE")
 site_line name wrong.TooLarge = name_line name (codes "more than 1073741824 bytes of links")
 site_line name (wrong.Crawl why) = fault_line name why
 site_line name wrong.CannotWrite = fault_line name ended.CannotWrite
@@ -55,7 +55,7 @@ pub record IsTopIncomplete (top web : List ℕ) (links : List (List ℕ)) (worke
   pub canon : canonical top ≡ Ok url
   pub begun : List (List ℕ)
   pub resolved : map (resolve url) (starts links) ≡ map Ok begun
-  pub own : AreOwn (origin_of url) begun
+  pub own : AreOwn url begun
   pub max : ℕ
   pub why : Fault
   pub incomplete : status_of_fault why ≡ 2

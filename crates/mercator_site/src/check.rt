@@ -13,9 +13,10 @@ use crate::bodies::{Files, InMemory};
 use crate::crawl::{crawl_site, crawl_source, host_of};
 use crate::external::external_links;
 use crate::fault::SiteFault;
-use crate::own::{origin_of, own_results};
+use crate::own::own_results;
 use crate::print::print_check;
 use check_report::{External, Told};
+use crawl_keys::CanonUrl;
 use crawl_web::PageResult;
 use mercator::Crawled;
 use saved_site::{
@@ -193,9 +194,8 @@ fn report_of_found<R: Threads + Wait + Sync, B: Bodies + Sync>(
         places,
     } = found;
     let url = host_of(alloc, files.top())?;
-    let origin = origin_of(&url);
-    let pages = own_results(origin, crawled.result.pages());
-    let others = others_asked(alloc, settings.external, origin, pages)?;
+    let pages = own_results(&url, crawled.result.pages());
+    let others = others_asked(alloc, settings.external, &url, pages)?;
     let asked = asked_of(settings, anchors.as_slice(), places.as_slice());
     let checked = check_site(rt, alloc, pages, files, bodies, asked)?;
     let report = report_of(alloc, &checked, &others, settings)?;
@@ -247,19 +247,19 @@ fn report_of(
     })
 }
 
-/// Where links of the pages out of the origin lead, where that is asked for.
+/// Where links of the pages out of the site lead, where that is asked for.
 fn others_asked(
     alloc: Global,
     asked: bool,
-    origin: &[u8],
+    top: &CanonUrl,
     pages: &[PageResult],
 ) -> Result<Option<Vec<External>>, AllocError>
-    ensures { IfOk result (λ others. AreOthersAsked asked origin.now pages.now (option_map (λ urls. map row_of urls.items) others)) }
+    ensures { IfOk result (λ others. AreOthersAsked asked top.now pages.now (option_map (λ urls. map row_of urls.items) others)) }
 {
     if !asked {
         return Ok(None);
     }
-    Ok(Some(external_links(alloc, origin, pages)?))
+    Ok(Some(external_links(alloc, top, pages)?))
 }
 
 fn slice_of(others: &Option<Vec<External>>) -> Option<&[External]>

@@ -9,47 +9,47 @@ use crawl_keys::CanonUrl;
 use crawl_web::{NoMemory, PageResult, links_of};
 use std::alloc::Global;
 
-/// The URLs out of this origin that links of the pages lead to, ascending by their bytes, each with how many links lead to it. A
+/// The URLs not below the top that links of the pages lead to, ascending by their bytes, each with how many links lead to it. A
 /// link that stands twice in a page counts twice.
 ///
 /// # Errors
 /// Where a growth was refused.
 pub(crate) fn external_links(
     alloc: Global,
-    origin: &[u8],
+    top: &CanonUrl,
     pages: &[PageResult],
 ) -> Result<Vec<External>, NoMemory>
-    ensures { IfOk result (λ all. AreExternal origin.now pages.now (map row_of all.items)) }
+    ensures { IfOk result (λ all. AreExternal top.now pages.now (map row_of all.items)) }
 {
-    let mut urls = outside_links(alloc, origin, pages)?;
+    let mut urls = outside_links(alloc, top, pages)?;
     urls.sort_by(|a, b| a.cmp(b))?;
     runs(alloc, urls.as_slice())
 }
 
-/// The links that lead out of the origin.
+/// The links that lead out of the site.
 fn outside_links<'r>(
     alloc: Global,
-    origin: &[u8],
+    top: &CanonUrl,
     pages: &'r [PageResult],
 ) -> Result<Vec<&'r CanonUrl>, NoMemory>
-    ensures { IfOk result (λ urls. pointed urls.items ≡ outside_links origin.now pages.now) }
+    ensures { IfOk result (λ urls. pointed urls.items ≡ outside_links top.now pages.now) }
 {
     let mut urls = Vec::new(alloc);
     for one in pages {
-        push_outside(origin, links_of(&one.page), &mut urls)?;
+        push_outside(top, links_of(&one.page), &mut urls)?;
     }
     Ok(urls)
 }
 
 fn push_outside<'r>(
-    origin: &[u8],
+    top: &CanonUrl,
     links: &'r [CanonUrl],
     urls: &mut Vec<&'r CanonUrl>,
 ) -> Result<(), NoMemory>
-    ensures { OnOk result (pointed urls.new.items ≡ pointed urls.old.items ++ outside origin.now links.now) }
+    ensures { OnOk result (pointed urls.new.items ≡ pointed urls.old.items ++ outside top.now links.now) }
 {
     for link in links {
-        if !is_own(origin, link) {
+        if !is_own(top, link) {
             urls.push(link)?;
         }
     }

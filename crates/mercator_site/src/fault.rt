@@ -20,7 +20,7 @@ pub enum SiteFault {
     BadHost,
     /// The folder has no file.
     NoFiles,
-    /// A seed leads to no URL of the top's scheme, host and port.
+    /// A seed leads to no URL below the top.
     BadSeed,
     /// The web has more bytes than a crawl takes.
     TooLarge,

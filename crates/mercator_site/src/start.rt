@@ -4,11 +4,11 @@ ghost use Rattle.crawl_keys.specs.CanonicalText.{canonical, resolve};
 ghost use Rattle.mercator.specs.WebCrawl.{AreSeeds};
 ghost use Rattle.mercator_site.specs.Checks.{starts};
 ghost use Rattle.mercator_site.specs.Faults.{status_of};
-ghost use Rattle.mercator_site.specs.Own.{AreOwn, origin_of};
+ghost use Rattle.mercator_site.specs.Own.{AreOwn};
 ghost use Rattle.saved_site.specs.Below.{begins};
 
 use crate::fault::SiteFault;
-use crate::own::{is_own, origin_of};
+use crate::own::is_own;
 use crawl_keys::{CanonUrl, KeyError, resolve};
 use std::alloc::Global;
 
@@ -19,7 +19,7 @@ pub(crate) fn starts(
     links: &[String],
 ) -> Result<Vec<CanonUrl>, SiteFault>
     ensures begun { IfOk result (λ seeds. map (resolve top.now) (starts (map string_bytes links.now)) ≡ map Ok seeds.items) }
-    ensures own { IfOk result (λ seeds. AreOwn (origin_of top.now) seeds.items) }
+    ensures own { IfOk result (λ seeds. AreOwn top.now seeds.items) }
     ensures stable { IfOk result (λ seeds. AreSeeds seeds.items seeds.items) }
     ensures plain { IfErr result (λ fault. status_of fault ≡ 1) }
 {
@@ -31,7 +31,7 @@ pub(crate) fn starts(
 
 fn top_alone(alloc: Global, top: &CanonUrl) -> Result<Vec<CanonUrl>, SiteFault>
     ensures resolved { IfOk result (λ seeds. map (resolve top.now) ([] ∷ []) ≡ map Ok seeds.items) }
-    ensures own { IfOk result (λ seeds. AreOwn (origin_of top.now) seeds.items) }
+    ensures own { IfOk result (λ seeds. AreOwn top.now seeds.items) }
     ensures stable { IfOk result (λ seeds. AreSeeds seeds.items seeds.items) }
     ensures plain { IfErr result (λ fault. status_of fault ≡ 1) }
 {
@@ -42,7 +42,7 @@ fn top_alone(alloc: Global, top: &CanonUrl) -> Result<Vec<CanonUrl>, SiteFault>
 
 fn seeds_of(alloc: Global, top: &CanonUrl, links: &[String]) -> Result<Vec<CanonUrl>, SiteFault>
     ensures resolved { IfOk result (λ seeds. map (resolve top.now) (map string_bytes links.now) ≡ map Ok seeds.items) }
-    ensures own { IfOk result (λ seeds. AreOwn (origin_of top.now) seeds.items) }
+    ensures own { IfOk result (λ seeds. AreOwn top.now seeds.items) }
     ensures stable { IfOk result (λ seeds. AreSeeds seeds.items seeds.items) }
     ensures plain { IfErr result (λ fault. status_of fault ≡ 1) }
 {
@@ -56,12 +56,12 @@ fn seeds_of(alloc: Global, top: &CanonUrl, links: &[String]) -> Result<Vec<Canon
 /// The URL of a link of the top, which has to be one of the site.
 fn seed_of(alloc: Global, top: &CanonUrl, link: &str) -> Result<CanonUrl, SiteFault>
     ensures resolved { IfOk result (λ seed. resolve top.now link.now ≡ Ok seed) }
-    ensures own { IfOk result (λ seed. begins (origin_of top.now) seed ≡ true) }
+    ensures own { IfOk result (λ seed. begins top.now seed ≡ true) }
     ensures stable { IfOk result (λ seed. canonical seed ≡ Ok seed) }
     ensures plain { IfErr result (λ fault. status_of fault ≡ 1) }
 {
     match resolve(alloc, top, link) {
-        Ok(url) if is_own(origin_of(top), &url) => Ok(stable(url)),
+        Ok(url) if is_own(top, &url) => Ok(stable(url)),
         Err(KeyError::NoMemory) => Err(SiteFault::NoMemory),
         _ => Err(SiteFault::BadSeed),
     }

@@ -106,11 +106,7 @@ fn line_of(alloc: Global, name: &str, fault: SiteFault) -> Result<String, AllocE
             "its host is not letters, digits, - and . alone",
         ),
         SiteFault::NoFiles => name_line(alloc, name, "no files"),
-        SiteFault::BadSeed => name_line(
-            alloc,
-            "LINK",
-            "no URL of the scheme, host and port of BASE",
-        ),
+        SiteFault::BadSeed => name_line(alloc, "LINK", "no URL below BASE"),
         SiteFault::TooLarge => name_line(alloc, name, "more than 1073741824 bytes of links"),
         SiteFault::Crawl(fault) => fault_line(alloc, name, fault),
         SiteFault::CannotWrite => fault_line(alloc, name, Fault::CannotWrite),

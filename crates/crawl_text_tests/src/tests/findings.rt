@@ -64,7 +64,7 @@ redirects to mend:
 pages that no link leads to:
   x␉.html
 
-links to other hosts, not looked at:
+links out of the site, not looked at:
   3 http://o.test/?a&b
   1 https://p.test/
 
@@ -135,7 +135,7 @@ x␉.html
 </pre>
 </section>
 <section id=external aria-labelledby=h-external>
-<h2 id=h-external>Links to other hosts, not looked at</h2>
+<h2 id=h-external>Links out of the site, not looked at</h2>
 <pre>
 http://o.test/?a&amp;b\t3
 https://p.test/\t1

@@ -10,7 +10,7 @@ use Rattle.site_check.specs.Told.{rows_in, way_of}
 use Rattle.site_check.specs.Totals.{totals_of}
 use Rattle.mercator_site.specs.Checks.{AreOthersAsked, IsTopCrawl}
 use Rattle.mercator_site.specs.External.{row_of}
-use Rattle.mercator_site.specs.Own.{origin_of, own_of}
+use Rattle.mercator_site.specs.Own.{own_of}
 use Rattle.mercator_site.proofs.TopCrawls.{same_url}
 use Rattle.mercator_site.proofs.check.report_of_found.Goals as goal
 
@@ -24,10 +24,9 @@ returns-clause-named g c = λ web crawled.
     let C : List PageResult → Type 0 = λ ps. IsTopCrawl top web links ps in
     let crawl = subst C (sym c.pages.ensures) crawled in
     let same_top : c.in_ok-url.url ≡ crawl.url = same_url _ _ _ (ap canonical (sym c.top.ensures) ∙ c.in_ok-url.ensures.canon) crawl.canon in
-    let same_origin = c.origin_of-origin.ensures ∙ ap origin_of same_top in
     let others = option_map (λ (urls : Vec External Global). map row_of urls.items) c.in_ok-others.others in
     let D : List ℕ → Type 0 = λ o. AreOthersAsked external o pages others in
-    let d = subst D same_origin c.in_ok-others.ensures in
+    let d = subst D same_top c.in_ok-others.ensures in
     let front = c.args.settings.front.now in
     let entries = map string_bytes c.args.settings.ignores.now in
     let asked = c.asked_of-asked.result in
@@ -40,7 +39,7 @@ returns-clause-named g c = λ web crawled.
         pages = all;
         crawled = crawl;
         own = pages;
-        are_own = c.own_results-pages.ensures crawl.crawl.found.ascends ∙ ap (λ o. own_of o all) same_origin;
+        are_own = c.own_results-pages.ensures crawl.crawl.found.ascends ∙ ap (λ o. own_of o all) same_top;
         found = told.found;
         rows =
             ap rows_in told.rows ∙ c.in_ok-checked.ensures.broken ∙ ap (λ f. broken_of f (map string_bytes asked.ignores.now) pages) same_front
@@ -61,7 +60,7 @@ returns-clause-named g c = λ web crawled.
         told = told.told;
         unreached = told.unreached;
         folder = told.folder;
-        others = subst (λ rows. AreOthersAsked external (origin_of crawl.url) pages rows) (sym told.others_told) d;
+        others = subst (λ rows. AreOthersAsked external crawl.url pages rows) (sym told.others_told) d;
         written = told.written;
       };
       base = told.base;

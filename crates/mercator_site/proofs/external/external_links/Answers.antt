@@ -14,7 +14,7 @@ pub returns : goal.returns
 returns c =
     let found = c.in_ok-urls.urls.items in
     let urls = c.sort_by.new.self.items in
-    rows_of_links c.runs.result c.args.origin.now c.args.pages.now (pointed urls)
+    rows_of_links c.runs.result c.args.top.now c.args.pages.now (pointed urls)
     (subst (λ us. IsPermutation us (pointed urls)) c.in_ok-urls.ensures (IsPermutation-map (λ (u : Bor (List ℕ)). u.now) found urls c.sort_by.ensures.permutation))
     (sorted_pointed urls
     (c.in_ok-sort_by.ensures.sorted (λ (a b : Bor (List ℕ)). is_lt (slice_cmp nat_cmp a.now b.now)) (ranks_by nat_list_cmp_total (λ (u : Bor (List ℕ)). u.now))

@@ -3,4 +3,4 @@ use Rattle.mercator_site.specs.Own.{from_own}
 use Rattle.mercator_site.proofs.own.from_own.Given as goal
 
 abbrev pub invariant-loop-index : goal.invariant-loop-index
-invariant-loop-index l = from_own l.origin l.results ≡ from_own l.origin (drop l.index l.results)
+invariant-loop-index l = from_own l.top l.results ≡ from_own l.top (drop l.index l.results)

@@ -1,16 +1,16 @@
 use Rattle.std.proofs.Common.{◌≡◌, ℕ, true, List, [], arith, subst, sym}
 use Rattle.std.proofs.lemmas.Grind.{common_steps}
 use Rattle.std.proofs.lemmas.List.Elements.{All-append, All-cons, All-nil}
-use Rattle.mercator_site.specs.Own.{AreOwn, origin_of}
+use Rattle.mercator_site.specs.Own.{AreOwn}
 use Rattle.saved_site.specs.Below.{begins}
 use Rattle.mercator_site.proofs.start.seeds_of.Goals as goal
 
 pub loop-link-preserved : goal.loop-link-preserved
 loop-link-preserved c =
-    let origin = origin_of c.args.top.now in
-    let IsOwn : List ℕ → Type 0 = λ url. begins origin url ≡ true in
+    let top = c.args.top.now in
+    let IsOwn : List ℕ → Type 0 = λ url. begins top url ≡ true in
     record {
       resolved = grind (arith, common_steps);
       stable = grind (arith, common_steps);
-      own = subst (AreOwn origin) (sym c.in_ok-push.ensures.items) (All-append IsOwn _ _ c.loop-link.invariant.own (All-cons IsOwn _ [] c.in_ok-seed_of.ensures.own (All-nil IsOwn)));
+      own = subst (AreOwn top) (sym c.in_ok-push.ensures.items) (All-append IsOwn _ _ c.loop-link.invariant.own (All-cons IsOwn _ [] c.in_ok-seed_of.ensures.own (All-nil IsOwn)));
     }
