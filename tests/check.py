@@ -144,10 +144,11 @@ def compare_folder(series: Series, call: str, folder: str, asked: Asked) -> Coun
 
 def drawn_question(draw: Random) -> Asked:
     """What is asked of a drawn folder."""
-    ignores = draw.choice([(), (), (BASE + "gone",), (BASE + "a", "x", BASE + "sub/#")])
+    base = draw.choice((BASE, BASE, BASE + "manual/"))
+    ignores = draw.choice([(), (), (base + "gone",), (base + "a", "x", base + "sub/#")])
     anchors, unreached, exact = draw.random() < 0.8, draw.random() < 0.5, draw.random() < 0.2
     seeds = draw.choice([(), (), ("sub/",), ("#x", "a.html?b", "gone/../b.html")])
-    return Asked(BASE, ignores=ignores, anchors=anchors, unreached=unreached, exact=exact, external=draw.random() < 0.5, seeds=seeds)
+    return Asked(base, ignores=ignores, anchors=anchors, unreached=unreached, exact=exact, external=draw.random() < 0.5, seeds=seeds)
 
 
 def compare_drawn(call: str, count: int, seed: int) -> int:
