@@ -52,7 +52,7 @@ _PIECE = 16_384
 # So many URLs are offered before another thread has its turn.
 _SLICE = 4_096
 
-# A text is cut here: from 4,097 bytes on its line is answered "line too long" all the same.
+# A text or a base is cut here: a line of 4,097 bytes is answered "line too long" all the same.
 _LONGEST = 5_000
 
 _READ_SIZE = 65_536
@@ -506,7 +506,7 @@ def request_lines(word: str, texts: List[str]) -> bytes:
 
 def link_word(base: str) -> str:
     """What stands before a link's text. A base ends at its first space, so its own are escaped."""
-    return f"link {base.strip(_TRIMMED).translate(_IN_BASE)} "
+    return f"link {base.strip(_TRIMMED).translate(_IN_BASE)[:_LONGEST]} "
 
 
 def _offers_in(answers: List[bytes]) -> List[Offer]:

@@ -7,6 +7,7 @@ import os
 import signal
 import threading
 import time
+import tracemalloc
 from typing import List
 
 from mercator_frontier import (
@@ -55,6 +56,18 @@ def client_values(trial: Trial) -> None:
         frontier.offer("http://a.test/")
         taken = [frontier.try_take(queue) for queue in (0, 1)]
         expect("http://a.test/" in taken and Pending(2) in taken, f"pending: {taken}")
+
+
+def long_base(trial: Trial) -> None:
+    """A page with a base of a megabyte: its links have no room, and cost little."""
+    trial.want_link()
+    with Frontier(1, program=trial.program) as frontier:
+        tracemalloc.start()
+        told = frontier.links("http://a.test/" + "x" * 10**6, ["y"] * 200)
+        most = tracemalloc.get_traced_memory()[1]
+        tracemalloc.stop()
+    expect(told == [Refusal.TOO_LONG] * 200, f"links: {told[:3]}")
+    expect(most < 2 * 10**7, f"they take {most} bytes")
 
 
 def client_ends(trial: Trial) -> None:
