@@ -36,7 +36,7 @@ PARTS: Tuple[Callable[[Trial], None], ...] = (
     sessions.long_line,
     logs.killed_sessions, logs.refused_logs, logs.full_disk, logs.compacted_logs, logs.logs_of_parts,
     clients.client_values, clients.long_base, clients.client_ends, clients.interrupted_call,
-    clients.client_small_pipes, clients.log_in_use, clients.words_like_options,
+    clients.interrupted_close, clients.client_small_pipes, clients.log_in_use, clients.words_like_options,
     crawls.crawls, crawls.killed_crawls,
     crawlers.crawler, crawlers.bash_crawler, crawlers.killed_crawler, crawlers.polite_crawler,
     crawlers.hostile_hosts, crawlers.saved_documentation,

@@ -271,8 +271,10 @@ class Frontier:
         A call that waits, or that comes later, raises `FrontierEnded`.
         """
         with self._lock:
-            self._channel.close()
-            self._wake(range(self.workers))
+            try:
+                self._channel.close()
+            finally:
+                self._wake(range(self.workers))
 
     def __enter__(self) -> Frontier:
         return self
@@ -454,6 +456,8 @@ class Channel:
     def _ended(self, why: str = "") -> FrontierEnded:
         """Sees the process to its end, and what it said of it."""
         assert self._process.stdin and self._process.stdout
+        # Where this is interrupted, later calls have to leave the pipes' numbers alone, too.
+        self._end = FrontierEnded(why or f"{self._program} has ended")
         self._process.stdin.close()
         self._process.stdout.close()
         try:

@@ -8,7 +8,7 @@ import signal
 import threading
 import time
 import tracemalloc
-from typing import List
+from typing import Callable, List
 
 from mercator_frontier import (
     Accepted, Closed, Frontier, FrontierEnded, LogInUse, NoSuchQueue, NothingTaken, Pending,
@@ -138,25 +138,45 @@ def wait(frontier: Frontier, queue: int, ends: List[FrontierEnded]) -> None:
 
 def interrupted_call(trial: Trial) -> None:
     """Ctrl-C in the midst of a call, whose answers nobody reads, ends the frontier."""
-    # A shell's background job, which these tests may be, ignores the signal.
-    before = signal.signal(signal.SIGINT, signal.default_int_handler)
-    try:
-        interrupt_a_call(trial)
-    finally:
-        signal.signal(signal.SIGINT, before)
-
-
-def interrupt_a_call(trial: Trial) -> None:
     with Frontier(2, program=trial.program) as frontier:
         os.kill(pid_of(frontier), signal.SIGSTOP)
-        threading.Timer(0.2, signal.pthread_kill, (threading.get_ident(), signal.SIGINT)).start()
-        try:
-            frontier.offer("http://a.test/")
-        except KeyboardInterrupt:
-            pass
-        else:
-            raise Differs("the call was not interrupted")
+        interrupt(lambda: frontier.offer("http://a.test/"))
         expect_error(FrontierEnded, lambda: frontier.offer("http://b.test/"))
+
+
+def interrupted_close(trial: Trial) -> None:
+    """Ctrl-C while the program is ended: who waits is told, and no request goes to another file."""
+    frontier = Frontier(2, program=trial.program)
+    ends: List[FrontierEnded] = []
+    fetcher = threading.Thread(target=wait, args=(frontier, 0, ends), daemon=True)
+    fetcher.start()
+    time.sleep(0.1)
+    os.kill(pid_of(frontier), signal.SIGSTOP)
+    interrupt(frontier.close)
+    # They have the numbers that the pipes had.
+    others = [open(trial.folder / f"other-{number}", "w+b", buffering=0) for number in range(4)]
+    expect_error(FrontierEnded, lambda: frontier.offer("http://a.test/"))
+    expect(not any(other.seek(0, os.SEEK_END) for other in others), "a request is in another file")
+    for other in others:
+        other.close()
+    fetcher.join(1)
+    expect(len(ends) == 1, "a fetcher waits for ever")
+    frontier._channel._process.kill()
+    frontier._channel._process.wait()
+
+
+def interrupt(call: Callable[[], object]) -> None:
+    """Calls, with a Ctrl-C soon after."""
+    # A shell's background job, which these tests may be, ignores the signal.
+    before = signal.signal(signal.SIGINT, signal.default_int_handler)
+    threading.Timer(0.2, signal.pthread_kill, (threading.get_ident(), signal.SIGINT)).start()
+    try:
+        call()
+        raise Differs("the call was not interrupted")
+    except KeyboardInterrupt:
+        return
+    finally:
+        signal.signal(signal.SIGINT, before)
 
 
 def pid_of(frontier: Frontier) -> int:
