@@ -17,7 +17,7 @@ at a time. It fetches the URL, offers the links of the page, and is done with it
 - With `log=`, a crawl that was cut off goes on: start it again with the same words.
 
 The frontier itself is proved; this client, and what a fetcher does with a URL, is not. All calls
-may come from any threads. The client needs Linux and Python 3.9, and nothing else.
+may come from any threads, but not from a process that was forked. The client needs Linux and Python 3.9, and nothing else.
 `docs/SESSION.md` has the protocol.
 """
 
@@ -33,6 +33,7 @@ import subprocess
 import tempfile
 import threading
 import time
+import weakref
 from functools import partial
 from types import TracebackType
 from typing import (
@@ -387,6 +388,7 @@ class Channel:
         self._received: List[bytes] = []
         self._owed = 0  # so many answers are to be read
         self._end: Optional[FrontierEnded] = None
+        _channels.add(self)
 
     def exchange(self, requests: bytes, count: int) -> List[bytes]:
         """Sends so many lines, and answers the lines that they are answered, without their ends."""
@@ -413,6 +415,14 @@ class Channel:
         """Ends the process, if it has not ended."""
         if not self._end:
             self._ended("the frontier was closed by its crawler")
+
+    def leave(self) -> None:
+        """Leaves the program to the process that started it, of which this one is a fork."""
+        if not self._end:
+            self._end = FrontierEnded("the frontier is that of another process")
+            for pipe in (self._process.stdin, self._process.stdout, self._told):
+                assert pipe
+                pipe.close()
 
     def _send_all(self, view: memoryview, requests: bytes) -> None:
         """Sends piece by piece, each once every answer is read but those to the piece before it."""
@@ -472,6 +482,18 @@ class Channel:
         why = why or f"{self._program} ended {how}"
         self._end = FrontierEnded(f"{why}: {told}" if told else why, status, told)
         return self._end
+
+
+_channels: weakref.WeakSet[Channel] = weakref.WeakSet()
+
+
+def _leave_all() -> None:
+    for channel in list(_channels):
+        channel.leave()
+
+
+# The program ends with its input, which no process that was forked may hold open.
+os.register_at_fork(after_in_child=_leave_all)
 
 
 def _wait_for(log: Union[str, os.PathLike[str]]) -> None:

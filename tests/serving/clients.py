@@ -150,7 +150,8 @@ def interrupted_close(trial: Trial) -> None:
     ends: List[FrontierEnded] = []
     fetcher = threading.Thread(target=wait, args=(frontier, 0, ends), daemon=True)
     fetcher.start()
-    time.sleep(0.1)
+    while not frontier._waiting:
+        time.sleep(0.01)
     os.kill(pid_of(frontier), signal.SIGSTOP)
     interrupt(frontier.close)
     # They have the numbers that the pipes had.
@@ -181,6 +182,37 @@ def interrupt(call: Callable[[], object]) -> None:
 
 def pid_of(frontier: Frontier) -> int:
     return frontier._channel._process.pid
+
+
+def forked_process(trial: Trial) -> None:
+    """A process that was forked has no frontier, and does not keep the program from its end."""
+    with Frontier(1, program=trial.program) as frontier:
+        read, written = os.pipe()
+        child = os.fork()
+        if not child:
+            os.write(written, word_of(lambda: frontier.offer("http://a.test/")).encode())
+            time.sleep(SECONDS)
+            os._exit(0)
+        try:
+            told = os.read(read, 1000).decode()
+            expect(told == "FrontierEnded", f"an offer of the other process: {told}")
+            expect(frontier.offer("http://a.test/") == Accepted(0, 0), "an offer of its own")
+            frontier.close()
+            status = frontier._channel._process.returncode
+            expect(status == 0, f"the program, which was closed, has status {status}")
+        finally:
+            os.kill(child, signal.SIGKILL)
+            os.waitpid(child, 0)
+            os.close(read)
+            os.close(written)
+
+
+def word_of(call: Callable[[], object]) -> str:
+    """What a call answers, or what it raises."""
+    try:
+        return str(call())
+    except Exception as error:
+        return type(error).__name__
 
 
 def client_small_pipes(trial: Trial) -> None:
