@@ -37,7 +37,7 @@ PARTS: Tuple[Callable[[Trial], None], ...] = (
     logs.killed_sessions, logs.refused_logs, logs.full_disk, logs.compacted_logs, logs.logs_of_parts,
     clients.client_values, clients.long_base, clients.client_ends, clients.interrupted_call,
     clients.interrupted_close, clients.forked_process, clients.client_small_pipes, clients.log_in_use,
-    clients.words_like_options,
+    clients.log_that_cannot_be, clients.words_like_options,
     crawls.crawls, crawls.killed_crawls,
     crawlers.crawler, crawlers.bash_crawler, crawlers.killed_crawler, crawlers.polite_crawler,
     crawlers.hostile_hosts, crawlers.saved_documentation,

@@ -272,6 +272,7 @@ class Frontier:
         A call that waits, or that comes later, raises `FrontierEnded`.
         """
         with self._lock:
+            self._cut_off.clear()
             try:
                 self._channel.close()
             finally:
@@ -500,8 +501,8 @@ def _wait_for(log: Union[str, os.PathLike[str]]) -> None:
     """Waits until no program has the log. That of a crawler that was killed has it a moment."""
     try:
         file = os.open(log, os.O_RDONLY)
-    except FileNotFoundError:
-        return
+    except OSError:
+        return  # a new log, or one of which the program tells what is wrong
     end = time.monotonic() + _SECONDS_TO_END
     try:
         while True:
@@ -510,7 +511,7 @@ def _wait_for(log: Union[str, os.PathLike[str]]) -> None:
                 return
             except BlockingIOError:
                 if time.monotonic() > end:
-                    raise LogInUse(os.fspath(log)) from None
+                    raise LogInUse(f"another program has {os.fsdecode(log)}") from None
                 time.sleep(0.02)
     finally:
         os.close(file)

@@ -104,7 +104,11 @@ def log_in_use(trial: Trial) -> None:
     with Frontier(1, log=log, sync=trial.has_sync, program=trial.program) as frontier:
         frontier.offer("http://a.test/")
         expect(frontier.take(0) == "http://a.test/", "take")
-        expect_error(LogInUse, lambda: Frontier(1, log=log, program=trial.program))
+        error = expect_error(LogInUse, lambda: Frontier(1, log=log, program=trial.program))
+        expect(str(error) == f"another program has {log}", f"told: {error}")
+    frontier = Frontier(1, log=log, program=trial.program)
+    frontier.close()
+    expect_error(FrontierEnded, lambda: frontier.take(0))
     for _ in range(2):
         with Frontier(1, log=log, program=trial.program) as frontier:
             expect(frontier.again(0) == "http://a.test/", "again")
@@ -113,6 +117,16 @@ def log_in_use(trial: Trial) -> None:
     with Frontier(1, log=log, program=trial.program) as frontier:
         expect(frontier.done(0) == 1, "done of the URL that was in hand")
         expect((frontier.again(0), frontier.try_take(0)) == (None, Pending(1)), "nothing more")
+
+
+def log_that_cannot_be(trial: Trial) -> None:
+    """The program tells what is wrong with a log's name."""
+    trial.want_log()
+    file = trial.folder / "file"
+    file.touch()
+    for log in (file / "log", trial.folder, trial.folder / "none" / "log", trial.folder / ("x" * 300)):
+        error = expect_error(FrontierEnded, lambda: Frontier(1, log=log, program=trial.program))
+        expect("cannot open" in str(error), f"{log}: {error}")
 
 
 def words_like_options(trial: Trial) -> None:

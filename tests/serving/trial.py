@@ -34,13 +34,13 @@ def expect(is_so: bool, text: str) -> None:
         raise Differs(text)
 
 
-def expect_error(kind: type, call: Callable[[], object]) -> None:
+def expect_error(kind: type, call: Callable[[], object]) -> FrontierError:
     try:
         answer = call()
     except FrontierError as error:
         expect(type(error) is kind, f"{kind.__name__} wanted: {error!r}")
-    else:
-        raise Differs(f"{kind.__name__} wanted: {answer!r}")
+        return error
+    raise Differs(f"{kind.__name__} wanted: {answer!r}")
 
 
 class Serve:
