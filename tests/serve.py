@@ -38,7 +38,7 @@ PARTS: Tuple[Callable[[Trial], None], ...] = (
     clients.client_values, clients.long_base, clients.client_ends, clients.interrupted_call,
     clients.interrupted_close, clients.forked_process, clients.client_small_pipes, clients.log_in_use,
     clients.log_that_cannot_be, clients.words_like_options,
-    crawls.crawls, crawls.killed_crawls,
+    crawls.crawls, crawls.asyncio_crawls, crawls.killed_crawls,
     crawlers.crawler, crawlers.bash_crawler, crawlers.killed_crawler, crawlers.polite_crawler,
     crawlers.hostile_hosts, crawlers.saved_documentation,
 )

@@ -15,10 +15,18 @@ at a time. It fetches the URL, offers the links of the page, and is done with it
 - All URLs of a host are in one queue, so no two fetchers visit one host at a time.
 - `take` answers None when every accepted URL is done, and then for good.
 - With `log=`, a crawl that was cut off goes on: start it again with the same words.
+- While a URL is not done, `take` does not answer None: a fetcher that gives up closes the frontier.
+
+In asyncio `take` wants a thread for each queue, since it keeps one while it waits, and asyncio's own
+are too few. The other calls are short::
+
+    with ThreadPoolExecutor(4) as threads, Frontier(workers=4) as frontier:
+        ...                                    # in a task for each queue:
+        while (url := await loop.run_in_executor(threads, frontier.take, queue)) is not None:
 
 The frontier itself is proved; this client, and what a fetcher does with a URL, is not. All calls
-may come from any threads, but not from a process that was forked. The client needs Linux and Python 3.9, and nothing else.
-`docs/SESSION.md` has the protocol.
+may come from any threads, but not from a process that was forked. The client needs Linux and Python
+3.9, and nothing else. `docs/SESSION.md` has the protocol.
 """
 
 from __future__ import annotations

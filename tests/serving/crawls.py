@@ -2,10 +2,12 @@
 
 from __future__ import annotations
 
+import asyncio
 import os
 import signal
 import threading
 from collections import Counter
+from concurrent.futures import ThreadPoolExecutor
 from random import Random
 from typing import List, Optional, Set
 from urllib.parse import urljoin
@@ -13,7 +15,7 @@ from urllib.parse import urljoin
 import drawn
 from mercator_frontier import Frontier, FrontierEnded
 from serving.clients import pid_of
-from serving.trial import SECONDS, Trial, expect
+from serving.trial import SECONDS, Differs, Trial, expect
 
 
 class Web:
@@ -128,6 +130,38 @@ def crawls(trial: Trial) -> None:
             crawl = Crawl(Web(draw), trial)
             expect(crawl.run(workers), "a fetcher was not told that it is over")
             expect(crawl.fetched == Counter(crawl.web.reached), f"crawl {number} of {workers}: other URLs")
+
+
+def asyncio_crawls(trial: Trial) -> None:
+    """A task for each queue, of more queues than asyncio has threads; one that gives up ends all."""
+    trial.want_link()
+    web = Web(trial.draw("asyncio"))
+    fetched = asyncio.run(crawl_by_tasks(web, trial.program, 64))
+    expect(sorted(fetched) == sorted(web.reached), "other URLs")
+    try:
+        asyncio.run(crawl_by_tasks(web, trial.program, 64, gives_up=True))
+    except ZeroDivisionError:
+        return
+    raise Differs("a task that gives up ends nothing")
+
+
+async def crawl_by_tasks(web: Web, program: str, workers: int, gives_up: bool = False) -> List[str]:
+    """The URLs that were fetched, by one task a queue."""
+    fetched: List[str] = []
+    loop = asyncio.get_running_loop()
+
+    async def work(queue: int) -> None:
+        while (url := await loop.run_in_executor(threads, frontier.take, queue)) is not None:
+            fetched.append(url)
+            await asyncio.sleep(0.001 / (not gives_up))
+            frontier.links(url, web.links[url])
+            frontier.done(queue)
+
+    with ThreadPoolExecutor(workers) as threads, Frontier(workers, within="test", program=program) as frontier:
+        frontier.offer_all(web.seeds)
+        frontier.end_seeds()
+        await asyncio.wait_for(asyncio.gather(*map(work, range(workers))), SECONDS)
+    return fetched
 
 
 def killed_crawls(trial: Trial) -> None:
