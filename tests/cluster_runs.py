@@ -793,6 +793,23 @@ def locked_redis(trial: Trial) -> None:
         redis.Redis(port=trial.server.port, password="right").config_set("requirepass", "")
 
 
+def interrupted(trial: Trial) -> None:
+    """Ctrl-C ends `examples/crawl_cluster.py` at once, however long its fetches wait."""
+    words = ["--name", "interrupted", "--log", str(trial.folder / "interrupted"), "--delay", "3600"]
+    with Folder(ROOT / "examples/site") as site:
+        # A shell's background job, which this script may be, ignores the signal.
+        process = crawler(
+            trial, *words, site.url, preexec_fn=lambda: signal.signal(signal.SIGINT, signal.SIG_DFL)
+        )
+        try:
+            time.sleep(2)
+            process.send_signal(signal.SIGINT)
+            _, errors = process.communicate(timeout=5)
+            expect(process.returncode == 2 and not errors, f"status {process.returncode}: {errors}")
+        finally:
+            process.kill()
+
+
 def gone_redis(trial: Trial) -> None:
     """A cut after a long crawl does not end `run`; a Redis that does not answer for long does."""
     web = drawn_web(trial.draw("gone redis"), 1, 2)
@@ -848,7 +865,7 @@ def speed(trial: Trial) -> None:
 PARTS: Tuple[Callable[[Trial], None], ...] = (
     plain, killed, twice_and_late, lost_redis, lost_at_the_end, full, one_host, many_queues,
     refused, full_redis, http, words_like_options, told_seeds, absent_redis,
-    locked_redis, gone_redis, speed,
+    locked_redis, interrupted, gone_redis, speed,
 )
 
 

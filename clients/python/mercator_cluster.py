@@ -47,9 +47,9 @@ from __future__ import annotations
 import contextlib
 import logging
 import os
+import threading
 import time
 from collections import deque
-from concurrent.futures import ThreadPoolExecutor
 from dataclasses import dataclass
 from itertools import islice
 from queue import Empty, SimpleQueue
@@ -758,43 +758,64 @@ def _started(start: Callable[[], Part]) -> Part:
 
 
 def _crawl(part: Part, fetch: Fetch) -> None:
-    ended: SimpleQueue[Union[Fetched, BaseException]] = SimpleQueue()
-
-    def work(taken: Taken) -> None:
-        try:
-            base, texts = fetch(taken.queue, taken.url)
-            ended.put(Fetched(taken.queue, base, texts))
-        except BaseException as error:
-            ended.put(error)
-
-    pool = ThreadPoolExecutor(part.workers)
+    fetchers = _Fetchers(fetch, part.workers)
     try:
         fetched: List[Fetched] = []
-        while True:
-            some = part.round(fetched)
-            if some is None:
-                return
+        while (some := part.round(fetched)) is not None:
             for taken in some:
-                pool.submit(work, taken)
-            fetched = list(_ended(ended, _BUSY)) if part.in_hand else []
-    finally:
+                fetchers.start(taken)
+            fetched = list(fetchers.ended(_BUSY)) if part.in_hand else []
+    except Exception:
         # No fetch outlives its part: the next one fetches from the same hosts.
-        pool.shutdown(cancel_futures=True)
+        fetchers.end()
+        raise
+    fetchers.end()
 
 
-def _ended(
-    ended: SimpleQueue[Union[Fetched, BaseException]], seconds: float
-) -> Iterator[Fetched]:
-    """The fetches that ended, at least one of them if it does so in time."""
-    try:
-        page = ended.get(timeout=seconds)
-        while True:
-            if isinstance(page, BaseException):
-                raise page
-            yield page
-            page = ended.get_nowait()
-    except Empty:
-        return
+class _Fetchers:
+    """Threads, one for each fetch at a time. What they wait for does not hold up a Ctrl-C."""
+
+    def __init__(self, fetch: Fetch, most: int) -> None:
+        self._fetch, self._most = fetch, most
+        self._threads: List[threading.Thread] = []
+        self._begun: SimpleQueue[Optional[Taken]] = SimpleQueue()
+        self._ended: SimpleQueue[Union[Fetched, BaseException]] = SimpleQueue()
+
+    def start(self, taken: Taken) -> None:
+        self._begun.put(taken)
+        if len(self._threads) < self._most:
+            self._threads.append(threading.Thread(target=self._work, daemon=True))
+            self._threads[-1].start()
+
+    def _work(self) -> None:
+        while (taken := self._begun.get()) is not None:
+            try:
+                base, texts = self._fetch(taken.queue, taken.url)
+                self._ended.put(Fetched(taken.queue, base, texts))
+            except BaseException as error:
+                self._ended.put(error)
+
+    def ended(self, seconds: float) -> Iterator[Fetched]:
+        """The fetches that ended, at least one of them if it does so in time."""
+        try:
+            page = self._ended.get(timeout=seconds)
+            while True:
+                if isinstance(page, BaseException):
+                    raise page
+                yield page
+                page = self._ended.get_nowait()
+        except Empty:
+            return
+
+    def end(self) -> None:
+        """Waits for the fetches that are under way; the others do not begin."""
+        with contextlib.suppress(Empty):
+            while True:
+                self._begun.get_nowait()
+        for _ in self._threads:
+            self._begun.put(None)
+        for thread in self._threads:
+            thread.join()
 
 
 # ---- Redis
