@@ -147,7 +147,7 @@ class Server:
         self.process = subprocess.Popen(
             ["redis-server", "--port", str(self.port), "--bind", "127.0.0.1", "--save", "",
              "--dir", str(self.folder), "--appendonly", "yes", "--appendfsync", "everysec",
-             "--maxmemory-policy", "noeviction"],
+             "--unixsocket", str(self.folder / "socket"), "--maxmemory-policy", "noeviction"],
             stdout=subprocess.DEVNULL,
         )
         end = time.monotonic() + SECONDS
@@ -793,6 +793,17 @@ def locked_redis(trial: Trial) -> None:
         redis.Redis(port=trial.server.port, password="right").config_set("requirepass", "")
 
 
+def unix_socket(trial: Trial) -> None:
+    """A Redis that is named by its socket."""
+    draw = trial.draw("socket")
+    web = drawn_web(draw, 20, 100)
+    shared = trial.new(web, 2, 3, Faults())
+    wanted = wanted_of(web, trial.program, shared.folder)
+    crawl = shared.crawl._replace(redis=f"unix://{trial.server.folder}/socket")
+    shared = shared._replace(crawl=crawl)
+    trial.compare(shared, wanted, Crawling(shared, trial.server, draw).run(wanted))
+
+
 def interrupted(trial: Trial) -> None:
     """Ctrl-C ends `examples/crawl_cluster.py` at once, however long its fetches wait."""
     words = ["--name", "interrupted", "--log", str(trial.folder / "interrupted"), "--delay", "3600"]
@@ -865,7 +876,7 @@ def speed(trial: Trial) -> None:
 PARTS: Tuple[Callable[[Trial], None], ...] = (
     plain, killed, twice_and_late, lost_redis, lost_at_the_end, full, one_host, many_queues,
     refused, full_redis, http, words_like_options, told_seeds, absent_redis,
-    locked_redis, interrupted, gone_redis, speed,
+    locked_redis, unix_socket, interrupted, gone_redis, speed,
 )
 
 

@@ -832,7 +832,9 @@ def _connected(url: str) -> Any:
         connection.on_connect()
 
     options: Any = {"redis_connect_func": connect, "socket_timeout": _PATIENCE}
-    server: Any = redis.Redis.from_url(url, socket_keepalive=True, **options)
+    if not url.startswith("unix:"):
+        options["socket_keepalive"] = True
+    server: Any = redis.Redis.from_url(url, **options)
     policy = server.info("memory").get("maxmemory_policy", "noeviction")
     if policy.startswith("allkeys"):
         raise UnsafeRedis(f"maxmemory-policy is {policy}, which would evict streams")
