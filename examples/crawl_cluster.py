@@ -28,7 +28,7 @@ import logging
 import sys
 from collections import defaultdict
 from pathlib import Path
-from typing import DefaultDict, Dict, List, Tuple
+from typing import DefaultDict, List, Tuple
 
 import crawl_http
 
@@ -70,7 +70,7 @@ def main() -> int:
     logging.basicConfig(format="crawl_cluster: %(message)s")
     part, parts = words.part
     crawl = Crawl(parts, words.workers, words.within, words.name, words.redis)
-    hosts: DefaultDict[int, Dict[str, crawl_http.Host]] = defaultdict(dict)
+    known: DefaultDict[int, crawl_http.Known] = defaultdict(crawl_http.Known)
 
     def start() -> Part:
         return Part(
@@ -78,7 +78,7 @@ def main() -> int:
         )
 
     def fetch(queue: int, url: str) -> Tuple[str, List[str]]:
-        status, base, texts = crawl_http.visited(url, hosts[queue], words)
+        status, base, texts = crawl_http.visited(url, known[queue], words)
         sys.stdout.write(f"{status} {len(texts)} {url}\n")
         sys.stdout.flush()
         return base, texts

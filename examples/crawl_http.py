@@ -134,12 +134,15 @@ def body_of(answer: http.client.HTTPResponse, largest: int) -> bytes:
     return body
 
 
-class Host:
-    """What a fetcher knows of a host that it visits: its robots.txt, and when it was asked last."""
+class Site:
+    """What a fetcher knows of a scheme, host and port: its robots.txt, and the delay."""
 
-    def __init__(self, site: str, agent: str, delay: float) -> None:
+    def __init__(
+        self, site: str, asked: Dict[Optional[str], float], agent: str, delay: float
+    ) -> None:
+        """`asked` has the moments at which hosts were asked last, on whatever port."""
+        self.host, self.asked = urlsplit(site).hostname, asked
         self.agent, self.delay = agent, delay
-        self.asked = time.monotonic() - delay
         self.robots = RobotFileParser()
         reply = Reply("301", site + "/robots.txt")
         for _ in range(6):
@@ -150,9 +153,9 @@ class Host:
         self.is_shut = reply.status == "failed" or reply.status.startswith("5")
         try:
             self.robots.parse(reply.text.splitlines())
-            asked = int(self.robots.crawl_delay(agent) or 0)
-            self.delay = max(delay, asked)
-            self.is_shut = self.is_shut or asked > DAY
+            wanted = int(self.robots.crawl_delay(agent) or 0)
+            self.delay = max(delay, wanted)
+            self.is_shut = self.is_shut or wanted > DAY
         except ValueError:
             self.is_shut = True
 
@@ -164,11 +167,20 @@ class Host:
 
     def fetch(self, url: str, largest: int) -> Reply:
         """Fetches, once the delay since the last request is over."""
-        time.sleep(max(0.0, self.asked + self.delay - time.monotonic()))
+        if self.host in self.asked:
+            time.sleep(max(0.0, self.asked[self.host] + self.delay - time.monotonic()))
         try:
             return fetch(url, self.agent, largest)
         finally:
-            self.asked = time.monotonic()
+            self.asked[self.host] = time.monotonic()
+
+
+class Known:
+    """What a fetcher knows of all that it visits."""
+
+    def __init__(self) -> None:
+        self.sites: Dict[str, Site] = {}
+        self.asked: Dict[Optional[str], float] = {}
 
 
 class Visit(NamedTuple):
@@ -179,14 +191,15 @@ class Visit(NamedTuple):
     texts: List[str]
 
 
-def visited(url: str, hosts: Dict[str, Host], words: argparse.Namespace) -> Visit:
-    """Fetches the URL, where its host allows; `hosts` are those that this fetcher knows."""
-    site = "{0.scheme}://{0.netloc}".format(urlsplit(url))
-    if site not in hosts:
-        hosts[site] = Host(site, words.agent, words.delay)
+def visited(url: str, known: Known, words: argparse.Namespace) -> Visit:
+    """Fetches the URL, where its host allows."""
+    name = "{0.scheme}://{0.netloc}".format(urlsplit(url))
+    if name not in known.sites:
+        known.sites[name] = Site(name, known.asked, words.agent, words.delay)
+    site = known.sites[name]
     reply = Reply("robots")
-    if hosts[site].allows(url):
-        reply = hosts[site].fetch(url, words.largest)
+    if site.allows(url):
+        reply = site.fetch(url, words.largest)
     links = Links(url, reply.text if reply.kind in PAGES else "")
     texts = links.texts if reply.leads_to is None else [reply.leads_to]
     return Visit(reply.status, links.base, texts)
@@ -217,10 +230,10 @@ class Crawl:
             self.stopped.set()
 
     def work(self, queue: int) -> None:
-        hosts: Dict[str, Host] = {}
+        known = Known()
         try:
             while (url := self.frontier.take(queue)) is not None:
-                self.visit(url, hosts)
+                self.visit(url, known)
                 self.frontier.done(queue)
                 self.count()
         except Exception as error:  # whatever it is, the other fetchers would wait for this one
@@ -228,9 +241,9 @@ class Crawl:
                 self.failed = error
             self.stopped.set()
 
-    def visit(self, url: str, hosts: Dict[str, Host]) -> None:
+    def visit(self, url: str, known: Known) -> None:
         """Fetches the URL, offers its links, and tells of it."""
-        status, base, texts = visited(url, hosts, self.words)
+        status, base, texts = visited(url, known, self.words)
         offers = self.frontier.links(base, texts)
         with self.lock:
             print(status, sum(map(bool, offers)), url, flush=True)

@@ -200,6 +200,7 @@ class Polite(http.server.BaseHTTPRequestHandler):
 def polite_crawler(trial: Trial) -> None:
     """robots.txt, the delay, redirects, and a page without an end."""
     trial.want_link()
+    Polite.asked.clear()
     server = http.server.ThreadingHTTPServer(("127.0.0.1", 0), Polite)
     threading.Thread(target=server.serve_forever, daemon=True).start()
     site = f"http://127.0.0.1:{server.server_port}"
@@ -212,6 +213,22 @@ def polite_crawler(trial: Trial) -> None:
     paths = [path for _, path, _ in Polite.asked]
     expect(paths[0] == "/robots.txt" and sorted(paths[1:]) == sorted(set(wanted) - {"/private/x"}), f"asked: {paths}")
     expect({agent for _, _, agent in Polite.asked} == {"bell"}, "the agent")
+    times = [when for when, _, _ in Polite.asked]
+    expect(all(later - earlier >= 0.19 for earlier, later in zip(times, times[1:])), f"the delay: {times}")
+
+
+def polite_to_ports(trial: Trial) -> None:
+    """The delay is a host's, not that of each of its ports."""
+    trial.want_link()
+    Polite.asked.clear()
+    servers = [http.server.ThreadingHTTPServer(("127.0.0.1", 0), Polite) for _ in range(3)]
+    for server in servers:
+        threading.Thread(target=server.serve_forever, daemon=True).start()
+    seeds = [f"http://127.0.0.1:{server.server_port}/none" for server in servers]
+    done = run_crawler(crawler_words(trial, "--delay", "0.2", *seeds))
+    for server in servers:
+        server.shutdown()
+    expect(dict(told_by_crawler(done.stdout)) == dict.fromkeys(seeds, "404"), f"{done.stdout!r}")
     times = [when for when, _, _ in Polite.asked]
     expect(all(later - earlier >= 0.19 for earlier, later in zip(times, times[1:])), f"the delay: {times}")
 
