@@ -93,24 +93,34 @@ def connected(parts: SplitResult) -> http.client.HTTPConnection:
     return http.client.HTTPConnection(parts.hostname or "", port, timeout=SECONDS)
 
 
-def fetch(url: str, agent: str, largest: int) -> Reply:
+def fetch(url: str, agent: str, largest: int, is_robots: bool = False) -> Reply:
     try:
         parts = urlsplit(url)
         with closing(connected(parts)) as connection:
             target = parts.path + ("?" + parts.query if parts.query else "")
             connection.request("GET", target, headers={"User-Agent": agent})
-            return reply_of(connection.getresponse(), largest)
+            return reply_of(connection.getresponse(), largest, is_robots)
     except (OSError, ValueError, LookupError, http.client.HTTPException):
         return Reply("failed")
 
 
-def reply_of(answer: http.client.HTTPResponse, largest: int) -> Reply:
+def reply_of(answer: http.client.HTTPResponse, largest: int, is_robots: bool) -> Reply:
     if answer.status in REDIRECTS:
-        return Reply(str(answer.status), answer.getheader("Location"))
+        return Reply(str(answer.status), location_of(answer))
     kind = answer.headers.get_content_type()
-    if answer.status != 200 or kind not in (*PAGES, "text/plain"):
+    # A robots.txt holds whatever kind of text it is said to be.
+    if answer.status != 200 or not (is_robots or kind in PAGES):
         return Reply(str(answer.status))
     return Reply("200", None, kind, text_of(answer, largest))
+
+
+def location_of(answer: http.client.HTTPResponse) -> Optional[str]:
+    """Where a redirect leads to. Hosts write it in UTF-8, and Python reads it as Latin-1."""
+    text = answer.getheader("Location")
+    try:
+        return text and text.encode("latin-1").decode()
+    except UnicodeError:
+        return text
 
 
 def text_of(answer: http.client.HTTPResponse, largest: int) -> str:
@@ -148,7 +158,7 @@ class Site:
         for _ in range(6):
             if reply.leads_to is None:
                 break
-            reply = self.fetch(joined(site, reply.leads_to), 500_000)
+            reply = self.fetch(joined(site, reply.leads_to), 500_000, is_robots=True)
         # No answer, or that of a broken host, may hide a robots.txt that forbids all.
         self.is_shut = reply.status == "failed" or reply.status.startswith("5")
         try:
@@ -165,12 +175,12 @@ class Site:
         except ValueError:
             return False  # urllib cannot read the URL
 
-    def fetch(self, url: str, largest: int) -> Reply:
+    def fetch(self, url: str, largest: int, is_robots: bool = False) -> Reply:
         """Fetches, once the delay since the last request is over."""
         if self.host in self.asked:
             time.sleep(max(0.0, self.asked[self.host] + self.delay - time.monotonic()))
         try:
-            return fetch(url, self.agent, largest)
+            return fetch(url, self.agent, largest, is_robots)
         finally:
             self.asked[self.host] = time.monotonic()
 

@@ -163,20 +163,21 @@ def killed_crawler(trial: Trial) -> None:
 
 
 class Polite(http.server.BaseHTTPRequestHandler):
-    """A host with robots.txt, a redirect, a page without an end, and a page of all its links."""
+    """A host with robots.txt, redirects, a page without an end, and a page of all its links."""
 
     asked: List[Tuple[float, str, str]] = []
     pages = {
         "/robots.txt": "User-agent: *\nDisallow: /private\n",
         "/": "<a href=/private/x>x</a><A HREF='moved'>m</A><a href=endless>e</a><base href=/d/><a href=y&amp;z>y</a>",
     }
+    moved = {"/d/moved": "../to?q#f", "/to?q": "to/\u00fc".encode().decode("latin-1"), "/to/%C3%BC": "\u00e9"}
 
     def do_GET(self) -> None:
         Polite.asked.append((time.monotonic(), self.path, self.headers["User-Agent"]))
         page = Polite.pages.get(self.path)
-        if self.path == "/moved":
+        if self.path in Polite.moved:
             self.send_response(301)
-            self.send_header("Location", "../to?q#f")
+            self.send_header("Location", Polite.moved[self.path])
             self.end_headers()
         elif self.path == "/d/endless":
             self.send_response(200)
@@ -207,7 +208,8 @@ def polite_crawler(trial: Trial) -> None:
     words = crawler_words(trial, "--delay", "0.2", "--largest", "100000", "--agent", "bell", "--within", "127.0.0.1", f"{site}/")
     done = run_crawler(words)
     server.shutdown()
-    wanted = {"/": "200", "/private/x": "robots", "/d/moved": "404", "/d/endless": "200", "/d/y&z": "404", "/n": "404"}
+    wanted = {"/": "200", "/private/x": "robots", "/d/endless": "200", "/d/y&z": "404", "/n": "404"}
+    wanted.update({"/d/moved": "301", "/to?q": "301", "/to/%C3%BC": "301", "/to/%C3%A9": "404"})
     told = {url[len(site):]: status for url, status in told_by_crawler(done.stdout)}
     expect(told == wanted and done.returncode == 0, f"{told}, status {done.returncode}: {done.stderr.decode()}")
     paths = [path for _, path, _ in Polite.asked]
@@ -236,9 +238,9 @@ def polite_to_ports(trial: Trial) -> None:
 class HostileHost(http.server.ThreadingHTTPServer):
     """A host with a rule in its robots.txt, and a page with a reference that Python does not read."""
 
-    def __init__(self, rule: str, charset: str = "utf-8") -> None:
+    def __init__(self, rule: str, charset: str = "utf-8", kind: str = "text/plain") -> None:
         super().__init__(("127.0.0.1", 0), HostileAnswer)
-        self.url, self.charset = f"http://127.0.0.1:{self.server_port}/", charset
+        self.url, self.charset, self.kind = f"http://127.0.0.1:{self.server_port}/", charset, kind
         page = f'<a href=/x><a href=/y><a href="&#{"9" * 5_000};">'
         self.pages = {"/robots.txt": f"User-agent: *\n{rule}\n", "/": page}
         threading.Thread(target=self.serve_forever, daemon=True).start()
@@ -248,7 +250,7 @@ class HostileAnswer(http.server.BaseHTTPRequestHandler):
     def do_GET(self) -> None:
         assert isinstance(self.server, HostileHost)
         self.send_response(200)
-        kind = "text/html" if self.path == "/" else "text/plain"
+        kind = "text/html" if self.path == "/" else self.server.kind
         self.send_header("Content-Type", f"{kind}; charset={self.server.charset}")
         self.end_headers()
         self.wfile.write(self.server.pages.get(self.path, "").encode())
@@ -268,6 +270,7 @@ def hostile_hosts(trial: Trial) -> None:
     )
     shut = [HostileHost(rule) for rule in rules]
     read = [HostileHost("Disallow: /y", charset) for charset in ("utf-8", "bogus", "base64", "idna", "x\0y")]
+    read += [HostileHost("Disallow: /y", kind=kind) for kind in ("application/octet-stream", "text/robots")]
     wanted = {host.url: "robots" for host in shut}
     wanted.update({host.url + path: "robots" if path == "y" else "200" for host in read for path in ("", "x", "y")})
     hosts = [*shut, *read]
