@@ -10,7 +10,7 @@ URL. The status is `robots` where robots.txt forbids the URL, and `failed` where
 - It keeps to robots.txt, and waits between two requests to a host: --delay seconds, or the
   Crawl-delay of robots.txt where that is longer. It leaves a host alone whose robots.txt asks for
   more than a day, or cannot be read.
-- It reads --largest bytes of a page at most, in at most SECONDS.
+- It reads --largest bytes of a page at most, in at most SECONDS. A host has twice as long in all.
 - It offers where a redirect leads to, and does not follow it.
 - With --log it goes on where it was ended, by Ctrl-C, `kill -9` or a crash: give the same words.
 
@@ -21,13 +21,14 @@ from __future__ import annotations
 
 import argparse
 import http.client
+import socket
 import sys
 import threading
 import time
-from contextlib import closing
+from contextlib import closing, contextmanager, suppress
 from html.parser import HTMLParser
 from pathlib import Path
-from typing import Dict, List, NamedTuple, Optional, Tuple
+from typing import Dict, Iterator, List, NamedTuple, Optional, Tuple
 from urllib.parse import SplitResult, urljoin, urlsplit
 from urllib.robotparser import RobotFileParser
 
@@ -96,12 +97,30 @@ def connected(parts: SplitResult) -> http.client.HTTPConnection:
 def fetch(url: str, agent: str, largest: int, is_robots: bool = False) -> Reply:
     try:
         parts = urlsplit(url)
-        with closing(connected(parts)) as connection:
+        with closing(connected(parts)) as connection, in_time(connection):
             target = parts.path + ("?" + parts.query if parts.query else "")
             connection.request("GET", target, headers={"User-Agent": agent})
             return reply_of(connection.getresponse(), largest, is_robots)
     except (OSError, ValueError, LookupError, http.client.HTTPException):
         return Reply("failed")
+
+
+@contextmanager
+def in_time(connection: http.client.HTTPConnection) -> Iterator[None]:
+    """Cuts a host off that answers byte by byte, by which no wait of the socket's gets too long."""
+    connection.connect()
+    watch = threading.Timer(2 * SECONDS, cut_off, (connection.sock,))
+    watch.daemon = True
+    watch.start()
+    try:
+        yield
+    finally:
+        watch.cancel()
+
+
+def cut_off(end: socket.socket) -> None:
+    with suppress(OSError):
+        end.shutdown(socket.SHUT_RDWR)
 
 
 def reply_of(answer: http.client.HTTPResponse, largest: int, is_robots: bool) -> Reply:

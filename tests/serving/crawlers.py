@@ -7,12 +7,15 @@ import http.server
 import importlib
 import re
 import shutil
+import socket
 import subprocess
 import sys
 import threading
 import time
+from contextlib import suppress
 from pathlib import Path
 from typing import Dict, List, Optional, Tuple
+from unittest import mock
 from urllib.parse import urlsplit
 
 import drawn
@@ -285,6 +288,28 @@ def hostile_hosts(trial: Trial) -> None:
     for url, end in ends.items():
         one = connected(urlsplit(url))
         expect((one.host, one.port) == end, f"{url}: {one.host}, {one.port}")
+
+
+def dribbling_hosts(trial: Trial) -> None:
+    """A host that answers byte by byte, in its headers or in the size of a chunk, is cut off."""
+    sys.path.insert(0, str(CRAWLER.parent))
+    crawl_http = importlib.import_module(CRAWLER.stem)
+    heads = (b"HTTP/1.1 200 OK\r\nX: ", b"HTTP/1.1 200 OK\r\nContent-Type: text/html\r\nTransfer-Encoding: chunked\r\n\r\n")
+    for head in heads:
+        with socket.create_server(("127.0.0.1", 0)) as server, mock.patch.object(crawl_http, "SECONDS", 0.5):
+            threading.Thread(target=dribble, args=(server, head), daemon=True).start()
+            begun = time.monotonic()
+            reply = crawl_http.fetch(f"http://127.0.0.1:{server.getsockname()[1]}/", "bell", 1000)
+            took = time.monotonic() - begun
+        expect(not reply.text and took < 5, f"{reply} after {took} s")
+
+
+def dribble(server: socket.socket, head: bytes) -> None:
+    with server.accept()[0] as client, suppress(OSError):
+        client.sendall(head)
+        for _ in range(100):
+            time.sleep(0.1)
+            client.sendall(b"0")
 
 
 def saved_documentation(trial: Trial) -> None:
