@@ -29,6 +29,7 @@ import sys
 import tempfile
 import time
 import traceback
+import tracemalloc
 from collections import Counter, defaultdict
 from pathlib import Path
 from typing import Any, Callable, Dict, Iterable, List, NamedTuple, Optional, Set, Tuple, Type
@@ -39,7 +40,7 @@ sys.path[:0] = [str(ROOT / "tests"), str(ROOT / "clients/python")]
 import mercator_cluster  # noqa: E402
 import redis  # noqa: E402
 from mercator_cluster import (  # noqa: E402
-    Crawl, Cut, Fetched, OtherCrawl, Part, UnsafeRedis, run,
+    Crawl, Cut, Fetched, OtherCrawl, Part, Taken, UnsafeRedis, run,
 )
 from mercator_frontier import FrontierEnded  # noqa: E402
 from serving.crawlers import Folder, found_by_search  # noqa: E402
@@ -793,6 +794,20 @@ def locked_redis(trial: Trial) -> None:
         redis.Redis(port=trial.server.port, password="right").config_set("requirepass", "")
 
 
+def long_base(trial: Trial) -> None:
+    """A page with a base of a megabyte: its links have no room, and cost little."""
+    shared = trial.new(Web({}, ["http://a.test/"]), 1, 1, Faults())
+    with started(shared, 0) as made:
+        taken: List[Taken] = []
+        while not taken:
+            taken = made.round() or []
+        tracemalloc.start()
+        made.round([Fetched(0, "http://a.test/" + "x" * 10**6, ["y"] * 200)])
+        most = tracemalloc.get_traced_memory()[1]
+        tracemalloc.stop()
+        expect(made.counts.pages == 1 and most < 2 * 10**7, f"they take {most} bytes")
+
+
 def unix_socket(trial: Trial) -> None:
     """A Redis that is named by its socket."""
     draw = trial.draw("socket")
@@ -876,7 +891,7 @@ def speed(trial: Trial) -> None:
 PARTS: Tuple[Callable[[Trial], None], ...] = (
     plain, killed, twice_and_late, lost_redis, lost_at_the_end, full, one_host, many_queues,
     refused, full_redis, http, words_like_options, told_seeds, absent_redis,
-    locked_redis, unix_socket, interrupted, gone_redis, speed,
+    locked_redis, long_base, unix_socket, interrupted, gone_redis, speed,
 )
 
 

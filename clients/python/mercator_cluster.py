@@ -83,8 +83,9 @@ _RECENT = 100_000
 # So many requests of a log are run at a time, to see what was for other parts.
 _SLICE = 1_000
 
-# The longest URL that `offer` has room for: a request has 4,096 bytes at most.
-_LONGEST_URL = 4_096 - len("offer ")
+# The longest request, and the longest URL that `offer` has room for.
+_LONGEST = 4_096
+_LONGEST_URL = _LONGEST - len("offer ")
 
 # Seconds that an idle part waits for an entry before it looks again.
 _IDLE = 1.0
@@ -609,10 +610,10 @@ class Part:
         if owner is None:
             raise NothingTaken(f"queue {page.queue} has given no URL that is to be done")
         owner.is_fetched = True
-        if not page.texts:
+        word = link_word(page.base)
+        if not page.texts or len(word) > _LONGEST:  # then each of them is "line too long"
             return []
-        requests = request_lines(link_word(page.base), page.texts)
-        return [_Offers(owner, requests, len(page.texts))]
+        return [_Offers(owner, request_lines(word, page.texts), len(page.texts))]
 
     def _offer(self, todo: List[_Offers], sync: bytes) -> List[List[bytes]]:
         """Asks, and sees to each answer; for each owner the lines that found no room."""

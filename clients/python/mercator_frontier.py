@@ -17,8 +17,8 @@ at a time. It fetches the URL, offers the links of the page, and is done with it
 - With `log=`, a crawl that was cut off goes on: start it again with the same words.
 - While a URL is not done, `take` does not answer None: a fetcher that gives up closes the frontier.
 
-In asyncio `take` wants a thread for each queue, since it keeps one while it waits, and asyncio's own
-are too few. The other calls are short::
+In asyncio `take` wants a thread for each queue, since it keeps one while it waits, and asyncio has
+too few of its own. The other calls are short::
 
     with ThreadPoolExecutor(4) as threads, Frontier(workers=4) as frontier:
         ...                                    # in a task for each queue:
