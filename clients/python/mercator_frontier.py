@@ -192,8 +192,10 @@ class Frontier:
         command += [] if log is None else [f"--log={os.fsdecode(log)}"]
         command += ["--sync"] if sync else []
         self.workers = workers
-        # One lock for the process. Each queue's condition stands on it, and `take` waits there.
-        self._lock = threading.Lock()
+        # One lock for the process. Each queue's condition stands on it, and `take` waits there. A
+        # signal may come while it is held, and its handler may close the frontier.
+        self._lock = threading.RLock()
+        self._asking: Optional[int] = None  # the thread that waits for answers
         self._changed = [threading.Condition(self._lock) for _ in range(workers)]
         self._waiting = 0
         self._channel = Channel(command, log)
@@ -279,6 +281,8 @@ class Frontier:
 
         A call that waits, or that comes later, raises `FrontierEnded`.
         """
+        if self._asking == threading.get_ident():  # so this is a handler, and it ends the call
+            raise FrontierEnded("the frontier was closed in the midst of a call")
         with self._lock:
             self._cut_off.clear()
             try:
@@ -353,11 +357,14 @@ class Frontier:
         return self._ask_all(request, 1)[0]
 
     def _ask_all(self, requests: bytes, count: int) -> List[bytes]:
+        self._asking = threading.get_ident()
         try:
             return self._channel.exchange(requests, count)
         except BaseException:
             self._wake(range(self.workers))  # so that those that wait find out too
             raise
+        finally:
+            self._asking = None
 
     def _wake(self, queues: Iterable[int]) -> None:
         if self._waiting:

@@ -198,6 +198,29 @@ def pid_of(frontier: Frontier) -> int:
     return frontier._channel._process.pid
 
 
+def closing_handler(trial: Trial) -> None:
+    """A signal whose handler closes the frontier ends the call that it comes in."""
+    for is_stopped in (True, False):
+        with Frontier(1, program=trial.program) as frontier:
+            handlers = {signal.SIGUSR1: lambda *_: frontier.close(), signal.SIGALRM: late}
+            before = {number: signal.signal(number, handler) for number, handler in handlers.items()}
+            if is_stopped:
+                os.kill(pid_of(frontier), signal.SIGSTOP)
+            threading.Timer(0.2, signal.pthread_kill, (threading.get_ident(), signal.SIGUSR1)).start()
+            signal.alarm(15)
+            try:
+                expect_error(FrontierEnded, lambda: frontier.take(0))
+                expect_error(FrontierEnded, lambda: frontier.offer("http://a.test/"))
+            finally:
+                signal.alarm(0)
+                for number, handler in before.items():
+                    signal.signal(number, handler)
+
+
+def late(*_: object) -> None:
+    raise Differs("the handler waits for ever")
+
+
 def forked_process(trial: Trial) -> None:
     """A process that was forked has no frontier, and does not keep the program from its end."""
     with Frontier(1, program=trial.program) as frontier:
