@@ -2,7 +2,7 @@
 
     SCHEDULER = "mercator_scrapy.MercatorScheduler"
 
-The folder of this file has to be in PYTHONPATH.
+Where pip has not installed it, the folder of this file has to be in PYTHONPATH.
 
 Each URL is fetched once, whatever its spelling, and each host is asked for one URL at a time. The
 program `mercator` decides both, by the canonical form of the URL Standard. This module, the client
