@@ -633,6 +633,16 @@ class Tests:
         count, _ = self.crawl(site, MERCATOR, {"settings": settings})
         self.check("missing program: nothing is asked for", not count.asked, count.asked)
 
+    def refused_settings(self) -> None:
+        """The program refuses its words: the spider is closed, and the log has no other fault."""
+        site = Site((address_of(0), "/"))
+        count, told = self.crawl(site, MERCATOR, {"settings": {"MERCATOR_WORKERS": 513}})
+        reason = told["stats"].get("finish_reason")
+        self.check("refused settings: told", reason == "mercator_ended" and not count.asked, reason)
+        log = (self.kept / f"{self.crawls}.log").read_text(encoding="utf-8")
+        faults = re.findall(r"^.*(?:CRITICAL:|Error\b).*", log, re.M)
+        self.check("refused settings: why", len(faults) == 1 and "513" in faults[0], faults)
+
 
 def main() -> int:
     parser = argparse.ArgumentParser(
@@ -652,7 +662,7 @@ def main() -> int:
     tests = Tests(str(Path(program).resolve()), kept)
     for test in (tests.shipped_site, tests.drawn_sites, tests.odd_requests, tests.small_frontier,
                  tests.within, tests.priorities, tests.idle_spider, tests.closed_spider,
-                 tests.lost_frontier, tests.missing_program):
+                 tests.lost_frontier, tests.missing_program, tests.refused_settings):
         test()
     if asked.keep or tests.failed:
         print(f"the logs of the crawls are in {kept}")

@@ -115,6 +115,7 @@ class MercatorScheduler(BaseScheduler):
         self._max_pending = max_pending
         self._within = within
         self._frontier: Optional[Frontier] = None
+        self._is_lost = False
         self._queues: List[_Queue] = []
         # Those that the frontier had no room for.
         self._overflow: Deque[Request] = deque()
@@ -181,8 +182,8 @@ class MercatorScheduler(BaseScheduler):
         return closed
 
     def has_pending_requests(self) -> bool:
-        """Whether requests wait here or in the frontier."""
-        return self._frontier is not None and self._length > 0
+        """Whether requests wait here or in the frontier. A spider that has lost it is not idle."""
+        return self._is_lost or (self._frontier is not None and self._length > 0)
 
     def __len__(self) -> int:
         """How many requests wait."""
@@ -386,8 +387,15 @@ class MercatorScheduler(BaseScheduler):
         """Closes the spider, since without the frontier no URL can be told from another."""
         logger.critical("The frontier ended: %s", error)
         self._frontier = None
+        self._is_lost = True
         frontier.close()
-        self.crawler.engine.close_spider(self.spider, "mercator_ended")
+        # Not within this call, which comes from an engine that goes on with the spider.
+        from twisted.internet import reactor
+        reactor.callLater(0, self._close_spider)  # type: ignore[attr-defined]
+
+    def _close_spider(self) -> None:
+        if self.crawler.engine.slot is not None:
+            self.crawler.engine.close_spider(self.spider, "mercator_ended")
 
 
 def _is_web(request: Request) -> bool:
