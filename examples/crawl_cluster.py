@@ -45,11 +45,13 @@ def words_of_command_line() -> argparse.Namespace:
     option = parser.add_argument
     option("--part", required=True, type=part_of, metavar="I/K", help="this part, and how many")
     option("--log", required=True, metavar="FILE", help="what this part goes on from")
-    option("--redis", default="redis://127.0.0.1:6379/0", metavar="URL", help="where Redis is")
+    option("--redis", default="redis://127.0.0.1:6379/0", type=redis_of, metavar="URL",
+           help="where Redis is: redis://HOST:PORT/0, rediss:// or unix://PATH")
     option("--name", default="crawl", metavar="NAME", help="what the crawl's keys begin with")
     option("--workers", type=int, default=4, metavar="N", help="fetchers of each part; 4")
     option("--within", metavar="SUFFIX", help="only this host and those that end with a dot and it")
-    option("--max-pending", type=int, metavar="M", help="the most URLs of a part that are not done")
+    option("--max-pending", type=most_of, metavar="M",
+           help="the most URLs of a part that are not done; at least 2")
     option("--delay", type=float, default=1, metavar="S", help="between two requests to a host; 1")
     option("--largest", type=int, default=5_000_000, metavar="BYTES", help="of a page; 5000000")
     option("--agent", default="crawl_http", metavar="NAME", help="User-Agent: name yourself")
@@ -63,6 +65,18 @@ def part_of(text: str) -> Tuple[int, int]:
     if not 0 <= int(part) < int(parts):
         raise ValueError(text)
     return int(part), int(parts)
+
+
+def redis_of(url: str) -> str:
+    if not url.startswith(("redis://", "rediss://", "unix://")):
+        raise ValueError(url)
+    return url
+
+
+def most_of(text: str) -> int:
+    if int(text) < 2:
+        raise ValueError(text)
+    return int(text)
 
 
 def main() -> int:
@@ -85,7 +99,7 @@ def main() -> int:
 
     try:
         run(start, fetch)
-    except (FrontierError, redis.RedisError) as error:
+    except (FrontierError, redis.RedisError, OSError) as error:
         print(f"crawl_cluster: {error}", file=sys.stderr)
         return 1
     except KeyboardInterrupt:

@@ -742,6 +742,23 @@ def words_like_options(trial: Trial) -> None:
     expect((folder / "--x").exists(), "no log")
 
 
+def refused_words(trial: Trial) -> None:
+    """Words that `examples/crawl_cluster.py` cannot use, and an output that is closed."""
+    for number, words in enumerate((["--redis", "127.0.0.1:6379"], ["--max-pending", "1"])):
+        log = trial.folder / f"words-{number}"
+        process = crawler(trial, "--log", str(log), *words, "http://a.test/")
+        _, errors = process.communicate(timeout=SECONDS)
+        is_told = f"argument {words[0]}: invalid" in errors and words[1] in errors
+        expect(process.returncode == 2 and is_told, f"status {process.returncode}: {errors}")
+    log = trial.folder / "closed"
+    process = crawler(trial, "--name", "closed", "--log", str(log), "http://127.0.0.1:0/")
+    assert process.stdout and process.stderr
+    process.stdout.close()
+    errors = process.stderr.read()
+    is_told = errors == "crawl_cluster: [Errno 32] Broken pipe\n"
+    expect(process.wait(SECONDS) == 1 and is_told, f"status {process.returncode}: {errors}")
+
+
 def told_seeds(trial: Trial) -> None:
     """`examples/crawl_cluster.py` tells seeds that no part takes, as `crawl_http.py` does."""
     seeds = ["notaurl", "ftp://a.test/", "", "http://a.test/", "http://127.0.0.1:0/" + "x" * 5_000]
@@ -890,7 +907,7 @@ def speed(trial: Trial) -> None:
 
 PARTS: Tuple[Callable[[Trial], None], ...] = (
     plain, killed, twice_and_late, lost_redis, lost_at_the_end, full, one_host, many_queues,
-    refused, full_redis, http, words_like_options, told_seeds, absent_redis,
+    refused, full_redis, http, words_like_options, refused_words, told_seeds, absent_redis,
     locked_redis, long_base, unix_socket, interrupted, gone_redis, speed,
 )
 
