@@ -1,7 +1,7 @@
 -- What a session tells, by its plan.
-use Rattle.std.proofs.Common.{◌≡◌, ◌⊎◌, inl, inr, ℕ, List, [], ◌++◌, false, IfSome, Result, Ok, Err, IfErr, Option, String, Global, refl, sym, subst, ◌∙◌}
+use Rattle.std.proofs.Common.{◌≡◌, ◌⊎◌, inl, inr, ℕ, List, [], ◌++◌, false, IfSome, Result, Ok, Err, IfOk, IfErr, Option, String, Global, refl, sym, subst, ◌∙◌}
 use Rattle.std.specs.Io.KnownBytes.{Appends}
-use Rattle.std.proofs.KnownBytes.{Appends-trans}
+use Rattle.std.proofs.KnownBytes.{Appends-nil, Appends-trans}
 use Rattle.std.specs.Str.Lines.{lines}
 use Rattle.crawl_core.specs.Shows.{Shows}
 use Rattle.crawl_core.specs.State.{start}
@@ -17,9 +17,9 @@ use Rattle.crawl_session.proofs.Compacted.{compacts_both}
 use Rattle.mercator.specs.Compaction.{Compacted, IsCompacted}
 use Rattle.mercator.specs.Ending.{Begins}
 use Rattle.mercator.specs.Faults.{of_session, status_of_fault}
-use Rattle.mercator.specs.LogFile.{IsLogFault}
+use Rattle.mercator.specs.LogFile.{IsBreak, IsLogFault}
 use Rattle.mercator.specs.Plans.{IsTelling, IsWithinLimits, has_log, is_bad_suffix, queues_of, suffixes_of}
-use Rattle.mercator.specs.Told.{EndsBy, Fails, FailsLog, Gains, IsDoneWithNote, MayNote, TellsFault, no_identity, part_of, settings_of}
+use Rattle.mercator.specs.Told.{BreaksOff, EndsBy, Fails, FailsLog, Gains, IsDoneWithNote, MayNote, TellsFault, no_identity, part_of, settings_of}
 use Rattle.mercator.specs.declared.commands.fault.Fault.{Fault}
 use Rattle.mercator.specs.declared.commands.fault.Fault.TheVariants as wrong
 use Rattle.mercator.specs.declared.commands.log_file.LogFault.TheVariants as unlogged
@@ -51,9 +51,9 @@ breaks_off asked input serving.CannotRead Unwritten good = inr (inr good)
 breaks_off asked input why Unwritten good = inr (inr good)
 
 -- a session that went on from a log, and was served to the end of its input
-pub gains_on : (session : SessionView) (asked : LogPlan) (identity : List ℕ) (resumed : SessionView) (input given out_old out_new : Option (List ℕ)) (new : SessionView) → Shows session.core (start (queues_of asked.session) asked.session.max) → session.settings ≡ settings_of asked.session identity
-    → is_bad_suffix asked.session.within ≡ false → (bytes : List ℕ) × Reruns session (lines bytes) resumed → given ≡ input → ServesInput resumed given out_old out_new new → Gains (asks.ServeLog asked) input out_old out_new
-gains_on session asked identity resumed input given out_old out_new new shown is good log same served =
+gains_on : (session : SessionView) (asked : LogPlan) (identity : List ℕ) (resumed : SessionView) (input out_old out_new : Option (List ℕ)) (new : SessionView) → Shows session.core (start (queues_of asked.session) asked.session.max) → session.settings ≡ settings_of asked.session identity
+    → is_bad_suffix asked.session.within ≡ false → (bytes : List ℕ) × Reruns session (lines bytes) resumed → ServesInput resumed input out_old out_new new → Gains (asks.ServeLog asked) input out_old out_new
+gains_on session asked identity resumed input out_old out_new new shown is good log served =
     let begun = start (queues_of asked.session) asked.session.max in
     let behind : Shows resumed.core (state_after session.settings begun (lines log.0)) = log.1.comes begun shown in
     let told : served.text ≡ answer_lines (answers resumed.settings (state_after session.settings begun (lines log.0)) (lines served.bytes)) =
@@ -67,19 +67,47 @@ gains_on session asked identity resumed input given out_old out_new new shown is
           identity = identity;
           log = log.0;
           bytes = served.bytes;
-          read = subst (λ i. IfSome i (λ known. served.bytes ≡ known)) same served.read;
+          read = served.read;
           answered = subst (λ s. served.text ≡ answer_lines (answers s (state_after s begun (lines log.0)) (lines served.bytes))) is own;
         },
       );
       gained = served.written;
     }
 
+pub gains_logged : (session : SessionView) (asked : LogPlan) (resumed : SessionView) (input out_old out_new : Option (List ℕ)) (new : SessionView) (how : Result (Unit {0}) Fault) → Shows session.core (start (queues_of asked.session) asked.session.max)
+    → (identity : List ℕ) × (session.settings ≡ settings_of asked.session identity) → is_bad_suffix asked.session.within ≡ false → (bytes : List ℕ) × Reruns session (lines bytes) resumed → IfOk how (λ _. ServesInput resumed input out_old out_new new)
+    → IfOk how (λ _. Gains (asks.ServeLog asked) input out_old out_new)
+gains_logged session asked resumed input out_old out_new new (Ok done) shown is good log served = gains_on session asked is.0 resumed input out_old out_new new shown is.1 good log served
+gains_logged session asked resumed input out_old out_new new (Err fault) shown is good log served = tt
+
 -- one that broke off
-pub breaks_off_log : (asked : LogPlan) (input : Option (List ℕ)) (why : ServeError) (fault : Fault) (Unwritten : Type 0) → is_bad_suffix asked.session.within ≡ false → (fault ≡ of_session why) ⊎ (fault ≡ wrong.Log unlogged.CannotWrite)
-    → EndsBy (asks.ServeLog asked) input fault Unwritten
-breaks_off_log asked input serving.CannotRead fault Unwritten good (inl is) = subst (λ f. EndsBy (asks.ServeLog asked) input f Unwritten) (sym is) (inr (inr good))
-breaks_off_log asked input why fault Unwritten good (inl is) = subst (λ f. EndsBy (asks.ServeLog asked) input f Unwritten) (sym is) (inr (inr good))
-breaks_off_log asked input why fault Unwritten good (inr is) = subst (λ f. EndsBy (asks.ServeLog asked) input f Unwritten) (sym is) (inr (inr good))
+pub is_break : (why : ServeError) (fault : Fault) → (fault ≡ of_session why) ⊎ (fault ≡ wrong.Log unlogged.CannotWrite) → IsBreak fault
+is_break serving.CannotRead fault (inl is) = subst (λ f. IsBreak f) (sym is) tt
+is_break serving.CannotWrite fault (inl is) = subst (λ f. IsBreak f) (sym is) tt
+is_break serving.NoMemory fault (inl is) = subst (λ f. IsBreak f) (sym is) tt
+is_break why fault (inr is) = subst (λ f. IsBreak f) (sym is) tt
+
+breaks_off_log : (asked : LogPlan) (fault : Fault) → is_bad_suffix asked.session.within ≡ false → IsBreak fault → BreaksOff (asks.ServeLog asked) fault
+breaks_off_log asked wrong.CannotRead good is = good
+breaks_off_log asked wrong.CannotWrite good is = good
+breaks_off_log asked wrong.NoMemory good is = good
+breaks_off_log asked (wrong.Log unlogged.CannotWrite) good is = good
+breaks_off_log asked fault good is = absurd is
+
+pub ends_logged : (asked : LogPlan) (input : Option (List ℕ)) (how : Result (Unit {0}) Fault) (Unwritten : Type 0) → is_bad_suffix asked.session.within ≡ false → IfErr how (λ fault. IsBreak fault) → IfErr how (λ fault. EndsBy (asks.ServeLog asked) input fault Unwritten)
+ends_logged asked input (Ok done) Unwritten good is = tt
+ends_logged asked input (Err fault) Unwritten good is = inr (inr (breaks_off_log asked fault good is))
+
+plain_break : (fault : Fault) → IsBreak fault → status_of_fault fault ≡ 1
+plain_break wrong.CannotRead is = refl
+plain_break wrong.CannotWrite is = refl
+plain_break wrong.NoMemory is = refl
+plain_break (wrong.Log why) is = refl
+plain_break fault is = absurd is
+
+pub plain_logged : (how : Result (Unit {0}) Fault) → IfErr how (λ fault. IsBreak fault) → IfErr how (λ fault. status_of_fault fault ≡ 1)
+plain_logged (Ok done) is = tt
+plain_logged (Err fault) is = plain_break fault is
 
 -- one that did not begin
 pub log_fails : (within : Option (String Global)) (fault : Fault) → is_bad_suffix within ≡ false → IsLogFault fault → FailsLog within fault
@@ -89,6 +117,13 @@ log_fails within fault good is = absurd is
 
 pub fails_log : (asked : LogPlan) (input : Option (List ℕ)) (fault : Fault) (Unwritten : Type 0) → is_bad_suffix asked.session.within ≡ false → IsLogFault fault → Unwritten → EndsBy (asks.ServeLog asked) input fault Unwritten
 fails_log asked input fault Unwritten good is none = inl (log_fails asked.session.within fault good is, none)
+
+-- it has status 1
+pub plain_fails : (within : Option (String Global)) (fault : Fault) → FailsLog within fault → status_of_fault fault ≡ 1
+plain_fails within wrong.BadSuffix fails = refl
+plain_fails within (wrong.Log why) fails = refl
+plain_fails within wrong.NoMemory fails = refl
+plain_fails within fault fails = absurd fails
 
 -- what is the log's fault has status 1
 pub plain_log : (fault : Fault) → IsLogFault fault → status_of_fault fault ≡ 1
@@ -127,9 +162,17 @@ compacted_more had old next mid last new out_old out_mid out_new one two = recor
   compacts = compacts_both had old one.requests one.text next mid two.requests two.text last new one.compacts two.compacts;
 }
 
+pub done_compacting : (log : LogPlan) (file : String Global) (r : Result (Unit {0}) Fault) → is_bad_suffix log.session.within ≡ false → IfOk r (λ _. (input out : Option (List ℕ)) → Gains (asks.Compact log file) input out out)
+done_compacting log file (Ok done) good = λ input out. record { text = []; told = (good, refl); gained = Appends-nil out }
+done_compacting log file (Err fault) good = tt
+
 pub fails_compacting : (log : LogPlan) (file : String Global) (r : Result (Unit {0}) Fault) → is_bad_suffix log.session.within ≡ false → IfErr r IsLogFault → IfErr r (λ fault. (input : Option (List ℕ)) → Fails (asks.Compact log file) input fault)
 fails_compacting log file (Ok done) good is = tt
 fails_compacting log file (Err fault) good is = λ input. log_fails log.session.within fault good is
+
+pub plain_compacting : (r : Result (Unit {0}) Fault) → IfErr r IsLogFault → IfErr r (λ fault. status_of_fault fault ≡ 1)
+plain_compacting (Ok done) is = tt
+plain_compacting (Err fault) is = plain_log fault is
 
 pub ends_compacting : (plan : Plan) (log : LogPlan) (file : String Global) (r : Result (Unit {0}) Fault) (input : Option (List ℕ)) (Unwritten : Type 0) → plan ≡ asks.Compact log file → IfErr r (λ fault. (input : Option (List ℕ)) → Fails (asks.Compact log file) input fault) → Unwritten
     → IfErr r (λ fault. EndsBy plan input fault Unwritten)

@@ -6,6 +6,7 @@ use Rattle.std.specs.Str.Lines.{lines}
 use Rattle.crawl_session.specs.Input.{held_limit}
 use Rattle.mercator.specs.declared.commands.fault.Fault.{Fault}
 use Rattle.mercator.specs.declared.commands.fault.Fault.TheVariants as wrong
+use Rattle.mercator.specs.declared.commands.log_file.LogFault.TheVariants as unlogged
 use Rattle.mercator.specs.declared.commands.window.Window.{Window}
 
 -- the bytes that were read and not handed on
@@ -41,3 +42,12 @@ abbrev pub IsLogFault : Fault → Type 0
 IsLogFault (wrong.Log why) = Unit {0}
 IsLogFault wrong.NoMemory = Unit {0}
 IsLogFault fault = ⊥
+
+-- a session with a log breaks off by this fault: its input cannot be read, an answer or the log cannot be written, or want of
+-- memory
+abbrev pub IsBreak : Fault → Type 0
+IsBreak wrong.CannotRead = Unit {0}
+IsBreak wrong.CannotWrite = Unit {0}
+IsBreak wrong.NoMemory = Unit {0}
+IsBreak (wrong.Log unlogged.CannotWrite) = Unit {0}
+IsBreak fault = ⊥

@@ -1,6 +1,6 @@
 //! Kinds of arguments, as `clap` knows them.
 use clap::builder::ValueParser;
-use clap::{Arg, ArgAction};
+use clap::{Arg, ArgAction, Command};
 use crawl_limits::WORKER_LIMIT;
 use std::alloc::{AllocError, Global};
 
@@ -10,14 +10,53 @@ pub struct Flag {
     pub help: &'static str,
 }
 
+/// A command with these arguments.
+pub fn command_with<'a>(
+    alloc: Global,
+    name: &'a str,
+    about: &'a str,
+    help: &'a str,
+    args: Vec<Arg<'a>>,
+) -> Result<Command<'a>, AllocError> {
+    Command::new(alloc, name)
+        .about(about)
+        .after_help(help)
+        .args(args)
+}
+
+/// Puts an argument behind the others.
+pub fn push<'a>(args: &mut Vec<Arg<'a>>, arg: Arg<'a>) -> Result<(), AllocError> {
+    args.push(arg)?;
+    Ok(())
+}
+
+/// An option with a value, as a row of a table.
+pub struct Valued {
+    pub name: &'static str,
+    pub value: &'static str,
+    pub help: &'static str,
+}
+
 /// Puts the options of the table behind the arguments.
+pub fn push_options<'a>(
+    alloc: Global,
+    args: &mut Vec<Arg<'a>>,
+    options: &[Valued],
+) -> Result<(), AllocError> {
+    for one in options {
+        push(args, option(alloc, one.name, one.value, one.help))?;
+    }
+    Ok(())
+}
+
+/// The same of options that stand alone.
 pub fn push_flags<'a>(
     alloc: Global,
     args: &mut Vec<Arg<'a>>,
     flags: &[Flag],
 ) -> Result<(), AllocError> {
     for one in flags {
-        args.push(flag_of(alloc, one.name, one.help))?;
+        push(args, flag_of(alloc, one.name, one.help))?;
     }
     Ok(())
 }

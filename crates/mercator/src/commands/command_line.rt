@@ -1,5 +1,7 @@
 //! The commands and options as `clap` knows them, and their help.
-use crate::commands::arguments::{Flag, flag_of, option, push_flags, word, workers};
+use crate::commands::arguments::{
+    Flag, Valued, command_with, flag_of, option, push, push_flags, push_options, word, workers,
+};
 use crate::commands::folder_words::{check_command, site_command};
 use crate::commands::report_words::PART_FLAGS;
 use clap::builder::ValueParser;
@@ -46,26 +48,26 @@ Any other line is answered 'bad line', 'line too long' or 'not UTF-8'.";
 
 /// The whole command line.
 pub fn command_line<'a>(alloc: Global) -> Result<Command<'a>, AllocError> {
+    let mut commands = Vec::new(alloc);
+    push_commands(alloc, &mut commands)?;
     Command::new(alloc, NAME)
         .about("The URL frontier of a web crawler: crawls saved webs, by any number of workers")
         .version(VERSION)
         .after_help(STATUSES)
         .subcommand_required(true)
-        .subcommands(commands(alloc)?)
+        .subcommands(commands)
 }
 
-fn commands<'a>(alloc: Global) -> Result<Vec<Command<'a>>, AllocError> {
-    let mut commands = Vec::new(alloc);
-    push(&mut commands, crawl_command(alloc))?;
-    push(&mut commands, key_command(alloc))?;
-    push(&mut commands, replay_command(alloc))?;
-    push(&mut commands, serve_command(alloc))?;
-    push(&mut commands, site_command(alloc))?;
-    push(&mut commands, check_command(alloc))?;
-    Ok(commands)
+fn push_commands<'a>(alloc: Global, commands: &mut Vec<Command<'a>>) -> Result<(), AllocError> {
+    push_command(commands, crawl_command(alloc))?;
+    push_command(commands, key_command(alloc))?;
+    push_command(commands, replay_command(alloc))?;
+    push_command(commands, serve_command(alloc))?;
+    push_command(commands, site_command(alloc))?;
+    push_command(commands, check_command(alloc))
 }
 
-fn push<'a>(
+fn push_command<'a>(
     commands: &mut Vec<Command<'a>>,
     made: Result<Command<'a>, AllocError>,
 ) -> Result<(), AllocError> {
@@ -74,32 +76,31 @@ fn push<'a>(
 }
 
 fn crawl_command<'a>(alloc: Global) -> Result<Command<'a>, AllocError> {
-    let args = crawl_args(alloc)?;
-    Command::new(alloc, "crawl")
-        .about("Crawls a saved web from its seeds, and writes the report")
-        .after_help(CRAWL_HELP)
-        .args(args)
+    let mut args = Vec::new(alloc);
+    push_crawl_args(alloc, &mut args)?;
+    let about = "Crawls a saved web from its seeds, and writes the report";
+    command_with(alloc, "crawl", about, CRAWL_HELP, args)
 }
 
-fn crawl_args<'a>(alloc: Global) -> Result<Vec<Arg<'a>>, AllocError> {
-    let mut args = crawl_numbers(alloc)?;
-    push_flags(alloc, &mut args, QUEUE_FLAGS)?;
-    push_flags(alloc, &mut args, PART_FLAGS)?;
-    push_flags(alloc, &mut args, TELLING_FLAGS)?;
-    args.append(&mut crawl_inputs(alloc)?)?;
-    Ok(args)
+fn push_crawl_args<'a>(alloc: Global, args: &mut Vec<Arg<'a>>) -> Result<(), AllocError> {
+    let help = "Workers, each with a thread and a subqueue of its own: 1 to 512";
+    push_numbers(alloc, args, help)?;
+    push_flags(alloc, args, QUEUE_FLAGS)?;
+    push_flags(alloc, args, PART_FLAGS)?;
+    push_flags(alloc, args, TELLING_FLAGS)?;
+    push_options(alloc, args, CRAWL_OPTIONS)?;
+    push(args, file(alloc, "The saved web, or - for standard input"))?;
+    push(args, seeds(alloc)?)
 }
 
-/// How a crawl runs.
-fn crawl_numbers<'a>(alloc: Global) -> Result<Vec<Arg<'a>>, AllocError> {
-    Ok(vec![in alloc;
-        workers(
-            alloc,
-            "4",
-            "Workers, each with a thread and a subqueue of its own: 1 to 512",
-        ),
-        max_pending(alloc),
-    ]?)
+/// How many workers a frontier has, and the most URLs.
+fn push_numbers<'a>(
+    alloc: Global,
+    args: &mut Vec<Arg<'a>>,
+    help: &'a str,
+) -> Result<(), AllocError> {
+    push(args, workers(alloc, "4", help))?;
+    push(args, max_pending(alloc))
 }
 
 /// What is told of how it ran.
@@ -124,31 +125,34 @@ const TELLING_FLAGS: &[Flag] = &[
     },
 ];
 
-/// What a crawl reads.
-fn crawl_inputs<'a>(alloc: Global) -> Result<Vec<Arg<'a>>, AllocError> {
-    let seeds = seeds(alloc)?;
-    Ok(vec![in alloc;
-        within(alloc),
-        option(
-            alloc,
-            "seeds",
-            "LIST",
-            "A file of seeds, one a line, before those given here; or - for standard input",
-        ),
-        file(alloc, "The saved web, or - for standard input"),
-        seeds,
-    ]?)
-}
+/// What a crawl reads beside its web.
+const CRAWL_OPTIONS: &[Valued] = &[
+    WITHIN,
+    Valued {
+        name: "seeds",
+        value: "LIST",
+        help: "A file of seeds, one a line, before those given here; or - for standard input",
+    },
+];
+
+const WITHIN: Valued = Valued {
+    name: "within",
+    value: "SUFFIX",
+    help: "Crawls only hosts that are SUFFIX or end with a dot and it",
+};
 
 fn key_command<'a>(alloc: Global) -> Result<Command<'a>, AllocError> {
-    let args = vec![in alloc;
-        word(alloc, "url", "URL", "The URL, with http or https").required(true),
-        workers(alloc, "4", "Among how many subqueues: 1 to 512"),
-    ]?;
-    Command::new(alloc, "key")
-        .about("Writes a URL's canonical text, host key and subqueue")
-        .after_help(KEY_HELP)
-        .args(args)
+    let mut args = Vec::new(alloc);
+    push_key_args(alloc, &mut args)?;
+    let about = "Writes a URL's canonical text, host key and subqueue";
+    command_with(alloc, "key", about, KEY_HELP, args)
+}
+
+fn push_key_args<'a>(alloc: Global, args: &mut Vec<Arg<'a>>) -> Result<(), AllocError> {
+    let url = word(alloc, "url", "URL", "The URL, with http or https");
+    push(args, url.required(true))?;
+    let help = "Among how many subqueues: 1 to 512";
+    push(args, workers(alloc, "4", help))
 }
 
 fn replay_command<'a>(alloc: Global) -> Result<Command<'a>, AllocError> {
@@ -159,39 +163,34 @@ fn replay_command<'a>(alloc: Global) -> Result<Command<'a>, AllocError> {
 }
 
 fn serve_command<'a>(alloc: Global) -> Result<Command<'a>, AllocError> {
-    Command::new(alloc, "serve")
-        .about("Answers requests on standard input, one a line, by a frontier")
-        .after_help(SERVE_HELP)
-        .args(serve_args(alloc)?)
+    let mut args = Vec::new(alloc);
+    push_serve_args(alloc, &mut args)?;
+    let about = "Answers requests on standard input, one a line, by a frontier";
+    command_with(alloc, "serve", about, SERVE_HELP, args)
 }
 
-fn serve_args<'a>(alloc: Global) -> Result<Vec<Arg<'a>>, AllocError> {
-    let sync = sync(alloc)?;
-    let compact = compact(alloc)?;
-    Ok(vec![in alloc;
-        workers(
-            alloc,
-            "4",
-            "Workers, each with a subqueue of its own: 1 to 512"
-        ),
-        max_pending(alloc),
-        within(alloc),
-        option(
-            alloc,
-            "part",
-            "I/K",
-            "Is part I, from 0, of K frontiers with N workers each that share a crawl",
-        ),
-        option(
-            alloc,
-            "log",
-            "FILE",
-            "Appends each request to FILE before it is answered, and begins where FILE ends",
-        ),
-        sync,
-        compact,
-    ]?)
+fn push_serve_args<'a>(alloc: Global, args: &mut Vec<Arg<'a>>) -> Result<(), AllocError> {
+    let help = "Workers, each with a subqueue of its own: 1 to 512";
+    push_numbers(alloc, args, help)?;
+    push_options(alloc, args, SERVE_OPTIONS)?;
+    push(args, sync(alloc)?)?;
+    push(args, compact(alloc)?)
 }
+
+/// What a session is of.
+const SERVE_OPTIONS: &[Valued] = &[
+    WITHIN,
+    Valued {
+        name: "part",
+        value: "I/K",
+        help: "Is part I, from 0, of K frontiers with N workers each that share a crawl",
+    },
+    Valued {
+        name: "log",
+        value: "FILE",
+        help: "Appends each request to FILE before it is answered, and begins where FILE ends",
+    },
+];
 
 fn sync<'a>(alloc: Global) -> Result<Arg<'a>, AllocError> {
     flag_of(
@@ -221,15 +220,6 @@ fn max_pending<'a>(alloc: Global) -> Arg<'a> {
     )
     .value_parser(ValueParser::unsigned(1, PENDING_LIMIT))
     .default_value("1048576")
-}
-
-fn within<'a>(alloc: Global) -> Arg<'a> {
-    option(
-        alloc,
-        "within",
-        "SUFFIX",
-        "Crawls only hosts that are SUFFIX or end with a dot and it",
-    )
 }
 
 fn file<'a>(alloc: Global, help: &'a str) -> Arg<'a> {

@@ -10,11 +10,9 @@ ghost use Rattle.mercator.specs.declared.commands.planned.Plan.TheVariants as as
 
 use crate::commands::fault::Fault;
 use crate::commands::log_file::{LockFile, LogFault};
-use crate::commands::opening::{OpenedLog, open_log};
+use crate::commands::opening::{OpenedLog, open_session};
 use crate::commands::planned::LogPlan;
 use crate::commands::platform::Platform;
-use crate::commands::serving::session_of;
-use crate::commands::tell::filter_of;
 use crate::commands::window::READ_SIZE;
 use crawl_session::{Compactor, Session, whole_len};
 use std::alloc::Global;
@@ -37,16 +35,27 @@ pub fn compact_log<R: Files, L: LockFile<R::File>, V>(
     ensures refused { is_bad_suffix asked.now.session.within ≡ true → IsErr result }
     ensures plain { IfErr result (λ fault. status_of_fault fault ≡ 1) }
 {
-    let filter = filter_of(alloc, &asked.session.within)?;
-    let mut log = open_log(platform, alloc, asked, false)?;
-    let mut session = session_of(alloc, &asked.session, filter, log.identity.as_str())?;
-    let Ok(mut file) = File::create_new(platform.rt, new.as_str()) else {
+    let (mut log, mut session) = open_session(platform, alloc, asked, false)?;
+    compact_as(platform.rt, alloc, &mut session, &mut log, new.as_str())
+}
+
+/// Writes them to a new file of this name, which stays where all was written.
+fn compact_as<R: Files, F: Read + Seek>(
+    rt: &R,
+    alloc: Global,
+    session: &mut Session,
+    log: &mut OpenedLog<F>,
+    name: &str,
+) -> Result<(), Fault>
+    ensures { IfErr result IsLogFault }
+{
+    let Ok(mut file) = File::create_new(rt, name) else {
         return Err(Fault::Log(LogFault::CannotMakeNew));
     };
-    let written = compact_to(alloc, &mut session, &mut log, &mut file);
+    let written = compact_to(alloc, session, log, &mut file);
     let synced = file.sync_all();
     if written.is_err() || synced.is_err() {
-        let _ = fs::remove_file(platform.rt, new.as_str());
+        let _ = fs::remove_file(rt, name);
     }
     finish(written, synced)
 }

@@ -1,5 +1,5 @@
 //! The texts of faults.
-ghost use Rattle.std.specs.Prelude.{◌≡◌, Some};
+ghost use Rattle.std.specs.Prelude.{◌≡◌, ◌++◌, Some, codes};
 ghost use Rattle.mercator.specs.FaultText.{fault_text, line_text, words_text, log_text, web_text, seeds_text, script_text, crawl_text, finish_text, cert_text};
 
 use crate::commands::fault::Fault;
@@ -36,19 +36,22 @@ impl fmt::Display for FaultText<'_> {
             Fault::BadSuffix => f.write_str("bad suffix"),
             Fault::Url(why) => write!(f, "URL: {why}"),
             Fault::Seed(number, why) => write!(f, "seed {number}: {why}"),
-            Fault::Seeds(fault) => {
-                let words = seeds_words(fault);
-                write!(f, "seeds: {words}")
+            Fault::Seeds(fault) => About {
+                what: "seeds",
+                words: seeds_words(fault),
             }
+            .fmt(f),
             Fault::NoSeed => f.write_str("seeds: no seed"),
-            Fault::Web(fault) => {
-                let words = web_words(fault);
-                write!(f, "saved web: {words}")
+            Fault::Web(fault) => About {
+                what: "saved web",
+                words: web_words(fault),
             }
-            Fault::Script(fault) => {
-                let words = script_words(fault);
-                write!(f, "script: {words}")
+            .fmt(f),
+            Fault::Script(fault) => About {
+                what: "script",
+                words: script_words(fault),
             }
+            .fmt(f),
             Fault::Crawl(error) => CrawlText(error).fmt(f),
             Fault::Log(fault) => {
                 let (file, words) = (self.file, log_words(fault));
@@ -74,6 +77,22 @@ impl fmt::Display for Words {
             Some(number) => write!(f, "line {number}: {words}"),
             None => f.write_str(words),
         }
+    }
+}
+
+/// Words, behind what they are about.
+#[derive(Clone, Copy)]
+struct About {
+    what: &'static str,
+    words: Words,
+}
+
+impl fmt::Display for About {
+    ghost output = { λ told. Some (told.what.now ++ codes ": " ++ words_text told.words.line told.words.words.now) };
+
+    fn fmt<W: fmt::Write>(&self, f: &mut fmt::Formatter<W>) -> fmt::Result {
+        let (what, words) = (self.what, self.words);
+        write!(f, "{what}: {words}")
     }
 }
 
@@ -176,10 +195,11 @@ impl fmt::Display for CrawlText {
                 let text = FinishText(error);
                 write!(f, "incomplete: {text}")
             }
-            CrawlError::Cert(error) => {
-                let words = cert_words(error);
-                write!(f, "incomplete: {words}")
+            CrawlError::Cert(error) => About {
+                what: "incomplete",
+                words: cert_words(error),
             }
+            .fmt(f),
             CrawlError::NoMemory => f.write_str("out of memory"),
         }
     }

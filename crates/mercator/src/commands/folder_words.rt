@@ -1,5 +1,7 @@
 //! The commands over a folder as `clap` knows them. The crate `mercator_site` runs them.
-use crate::commands::arguments::{Flag, option, push_flags, word, workers};
+use crate::commands::arguments::{
+    Flag, Valued, command_with, option, push, push_flags, push_options, word, workers,
+};
 use clap::{Arg, ArgAction, ArgGroup, Command};
 use std::alloc::{AllocError, Global};
 
@@ -15,30 +17,26 @@ Example: mercator check examples/site";
 
 /// `site`: a folder's saved web.
 pub fn site_command<'a>(alloc: Global) -> Result<Command<'a>, AllocError> {
-    let args = site_args(alloc)?;
-    Command::new(alloc, "site")
-        .about("Writes the saved web of a folder of HTML pages")
-        .after_help(SITE_HELP)
-        .args(args)
+    let mut args = Vec::new(alloc);
+    push_site_args(alloc, &mut args)?;
+    let about = "Writes the saved web of a folder of HTML pages";
+    command_with(alloc, "site", about, SITE_HELP, args)
 }
 
-fn site_args<'a>(alloc: Global) -> Result<Vec<Arg<'a>>, AllocError> {
-    let mut args = Vec::new(alloc);
-    push_flags(alloc, &mut args, SPELLING_FLAGS)?;
-    args.push(folder(alloc))?;
-    args.push(base(alloc).required(true))?;
-    Ok(args)
+fn push_site_args<'a>(alloc: Global, args: &mut Vec<Arg<'a>>) -> Result<(), AllocError> {
+    push_flags(alloc, args, SPELLING_FLAGS)?;
+    push(args, folder(alloc))?;
+    push(args, base(alloc).required(true))
 }
 
 /// `check`: which links of a folder are broken.
 pub fn check_command<'a>(alloc: Global) -> Result<Command<'a>, AllocError> {
-    let args = check_args(alloc)?;
+    let mut args = Vec::new(alloc);
+    push_check_args(alloc, &mut args)?;
+    let about = "Tells which links of a folder of HTML pages are broken, and where they stand";
+    let command = command_with(alloc, "check", about, CHECK_HELP, args)?;
     let forms = forms(alloc)?;
-    Command::new(alloc, "check")
-        .about("Tells which links of a folder of HTML pages are broken, and where they stand")
-        .after_help(CHECK_HELP)
-        .args(args)?
-        .group(forms)
+    command.group(forms)
 }
 
 /// What a check is told as in place of a text for people: one of these.
@@ -49,16 +47,15 @@ fn forms<'a>(alloc: Global) -> Result<ArgGroup<'a>, AllocError> {
         .arg("html")
 }
 
-fn check_args<'a>(alloc: Global) -> Result<Vec<Arg<'a>>, AllocError> {
-    let mut args = Vec::new(alloc);
-    args.push(workers(alloc, "1", "Workers that crawl the site's web: 1 to 512"))?;
-    push_flags(alloc, &mut args, CHECK_FLAGS)?;
-    args.push(known(alloc))?;
-    args.push(seed(alloc))?;
-    push_flags(alloc, &mut args, SPELLING_FLAGS)?;
-    args.push(folder(alloc))?;
-    args.push(base(alloc))?;
-    Ok(args)
+fn push_check_args<'a>(alloc: Global, args: &mut Vec<Arg<'a>>) -> Result<(), AllocError> {
+    let help = "Workers that crawl the site's web: 1 to 512";
+    push(args, workers(alloc, "1", help))?;
+    push_flags(alloc, args, CHECK_FLAGS)?;
+    push_options(alloc, args, KNOWN_OPTIONS)?;
+    push(args, seed(alloc))?;
+    push_flags(alloc, args, SPELLING_FLAGS)?;
+    push(args, folder(alloc))?;
+    push(args, base(alloc))
 }
 
 /// How a check is told, and what is told.
@@ -93,6 +90,13 @@ const CHECK_FLAGS: &[Flag] = &[
     },
 ];
 
+/// What is known before.
+const KNOWN_OPTIONS: &[Valued] = &[Valued {
+    name: "ignore",
+    value: "LIST",
+    help: "A file of targets that are known to be broken, or of what they begin with, one a line",
+}];
+
 /// Which spellings of a URL are a page's.
 const SPELLING_FLAGS: &[Flag] = &[
     Flag {
@@ -104,15 +108,6 @@ const SPELLING_FLAGS: &[Flag] = &[
         help: "A ? in a file's name begins the query",
     },
 ];
-
-fn known<'a>(alloc: Global) -> Arg<'a> {
-    option(
-        alloc,
-        "ignore",
-        "LIST",
-        "A file of targets that are known to be broken, or of what they begin with, one a line",
-    )
-}
 
 fn seed<'a>(alloc: Global) -> Arg<'a> {
     option(

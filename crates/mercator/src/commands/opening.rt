@@ -1,14 +1,20 @@
 //! The file of a log, as it is opened.
-ghost use Rattle.std.specs.Prelude.{IfErr};
+ghost use Rattle.std.specs.Prelude.{◌≡◌, ℕ, List, false, IfErr, IfOk};
+ghost use Rattle.crawl_core.specs.Shows.{Shows};
+ghost use Rattle.crawl_core.specs.State.{start};
 ghost use Rattle.mercator.specs.LogFile.{IsLogFault};
+ghost use Rattle.mercator.specs.Plans.{IsSessionPlan, is_bad_suffix, queues_of};
+ghost use Rattle.mercator.specs.Told.{FailsLog, settings_of};
 
 use crate::commands::fault::Fault;
 use crate::commands::log_file::{LockFile, LogFault};
 use crate::commands::planned::LogPlan;
 use crate::commands::platform::Platform;
+use crate::commands::serving::session_of;
+use crate::commands::tell::filter_of;
 use crate::commands::window::READ_SIZE;
 use crawl_replay::Header;
-use crawl_session::{settings_line, start_text, whole_len};
+use crawl_session::{Session, settings_line, start_text, whole_len};
 use std::alloc::{AllocError, Global};
 use std::fs::{self, Files, OpenOptions};
 use std::io::{self, Read, Seek, SeekFrom};
@@ -31,11 +37,33 @@ pub struct OpenedLog<F> {
     pub len: u64,
 }
 
-/// Opens the log, which is made where there is none and it is to be made.
+/// Opens the log, which is made where there is none and it is to be made, and makes its plan's session. A bad suffix opens no log.
+///
+/// # Errors
+/// `BadSuffix`; those of [`open_log`].
+pub fn open_session<R: Files, L: LockFile<R::File>, V>(
+    platform: &Platform<'_, R, L, V>,
+    alloc: Global,
+    asked: &LogPlan,
+    makes: bool,
+) -> Result<(OpenedLog<R::File>, Session), Fault>
+    requires { IsSessionPlan asked.now.session }
+    ensures suffix { IfOk result (λ _. is_bad_suffix asked.now.session.within ≡ false) }
+    ensures start { IfOk result (λ r. Shows r.1.core (start (queues_of asked.now.session) asked.now.session.max)) }
+    ensures settings { IfOk result (λ r. (identity : List ℕ) × (r.1.settings ≡ settings_of asked.now.session identity)) }
+    ensures fault { IfErr result (FailsLog asked.now.session.within) }
+{
+    let filter = filter_of(alloc, &asked.session.within)?;
+    let opened = open_log(platform, alloc, asked, makes)?;
+    let session = session_of(alloc, &asked.session, filter, opened.identity.as_str())?;
+    Ok((opened, session))
+}
+
+/// The log's file, whose beginning is the plan's.
 ///
 /// # Errors
 /// `CannotOpen`, `InUse`; `OtherSettings` where it begins otherwise; `CannotRead`; `NoMemory`.
-pub fn open_log<R: Files, L: LockFile<R::File>, V>(
+fn open_log<R: Files, L: LockFile<R::File>, V>(
     platform: &Platform<'_, R, L, V>,
     alloc: Global,
     asked: &LogPlan,

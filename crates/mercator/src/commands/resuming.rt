@@ -1,23 +1,21 @@
 //! A session that goes on from its log.
-ghost use Rattle.std.specs.Prelude.{◌≡◌, ◌≤◌, ◌⊎◌, ℕ, List, length, true, string_bytes, IfOk, IfErr, IsErr, OnOk};
+ghost use Rattle.std.specs.Prelude.{◌≡◌, ℕ, List, true, string_bytes, IfOk, IfErr, IsErr, OnOk};
 ghost use Rattle.std.specs.Str.Lines.{lines};
+ghost use Rattle.crawl_session.specs.Input.{ServesInput};
 ghost use Rattle.crawl_session.specs.Logs.{Reruns};
 ghost use Rattle.mercator.specs.Ending.{Begins};
 ghost use Rattle.mercator.specs.FaultText.{torn_line};
 ghost use Rattle.mercator.specs.Faults.{status_of_fault};
-ghost use Rattle.mercator.specs.LogFile.{IsLogFault};
+ghost use Rattle.mercator.specs.LogFile.{IsBreak, IsLogFault};
 ghost use Rattle.mercator.specs.Plans.{IsSessionPlan, is_bad_suffix};
 ghost use Rattle.mercator.specs.Told.{EndsBy, Gains};
 ghost use Rattle.mercator.specs.declared.commands.planned.Plan.TheVariants as asks;
-ghost use Rattle.mercator.specs.declared.commands.fault.Fault.TheVariants as wrong;
 
 use crate::commands::fault::Fault;
 use crate::commands::log_file::{LockFile, Log, LogFault, LoggedInput};
-use crate::commands::opening::{OpenedLog, open_log};
+use crate::commands::opening::{OpenedLog, open_session};
 use crate::commands::planned::LogPlan;
 use crate::commands::platform::Platform;
-use crate::commands::serving::session_of;
-use crate::commands::tell::filter_of;
 use crate::commands::writing::begin;
 use crawl_session::{ServeError, Session, serve};
 use std::alloc::{AllocError, Global};
@@ -45,13 +43,26 @@ pub fn serve_log<R: Files, L: LockFile<R::File>, V, I: Read, O: Write, E: Write>
     ensures unread { is_bad_suffix asked.now.session.within ≡ true → input.new ≡ input.old }
     ensures noted { Begins (E.contents err.old) (E.contents err.new) (torn_line (string_bytes asked.now.file)) }
 {
-    let filter = filter_of(alloc, &asked.session.within)?;
-    let opened = open_log(platform, alloc, asked, true)?;
-    let mut session = session_of(alloc, &asked.session, filter, opened.identity.as_str())?;
+    let (opened, mut session) = open_session(platform, alloc, asked, true)?;
     let log = resume(alloc, asked, opened, &mut session, err)?;
     let syncs = asked.session.part.is_some();
+    serve_logged(alloc, &mut session, log, syncs, input, out)
+}
+
+/// Answers the requests of the input to its end. The log, which may wait for the disk at a `sync`, gains each line before.
+fn serve_logged<F: Write + OpenFile + Drop, I: Read, O: Write>(
+    alloc: Global,
+    session: &mut Session,
+    log: Log<F>,
+    syncs: bool,
+    input: &mut I,
+    out: &mut O,
+) -> Result<(), Fault>
+    ensures served { IfOk result (λ _. ServesInput session.old (I.remaining input.old) (O.contents out.old) (O.contents out.new) session.new) }
+    ensures fault { IfErr result IsBreak }
+{
     let mut logged = LoggedInput::new(alloc, input, log, syncs)?;
-    match serve(alloc, &mut session, &mut logged, out) {
+    match serve(alloc, session, &mut logged, out) {
         Ok(()) => Ok(()),
         Err(why) => Err(logged.fault_of(why)),
     }
