@@ -693,8 +693,20 @@ def entries_below(folder: bytes, web: Web) -> list[bytes]:
             elif os.path.isfile(path):
                 found.append(place + name)
             else:
-                web.tell("left out, neither a file nor a folder", os.fsdecode(place + name))
+                why = "it cannot be read" if is_hidden(path) else "neither a file nor a folder"
+                web.tell(f"left out, {why}", os.fsdecode(place + name))
     return sorted(found)
+
+
+def is_hidden(path: bytes) -> bool:
+    """Whether the system does not let one look at what has this path."""
+    try:
+        os.stat(path)
+    except PermissionError:
+        return True
+    except OSError:
+        pass
+    return False
 
 
 def kind_of(name: bytes) -> tuple[Optional[str], bool]:

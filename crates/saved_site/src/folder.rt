@@ -228,7 +228,7 @@ impl<R: Files> DiskFolders<'_, R> {
             Ok(found) if found.is_file() => inside.push(name),
             Ok(found) if found.is_symlink() => self.add_linked(above, path.as_str(), name, inside),
             Ok(_) => inside.tell(Left::NoFile, name),
-            Err(error) => inside.tell_unread(&error, Left::NoFile, name),
+            Err(error) => inside.tell_unread(&error, left_by(&error), name),
         }
     }
 
@@ -259,7 +259,7 @@ impl<R: Files> DiskFolders<'_, R> {
             }
             Ok(found) if found.is_file() => inside.push(name),
             Ok(_) => inside.tell(Left::NoFile, name),
-            Err(error) => inside.tell_unread(&error, Left::NoFile, name),
+            Err(error) => inside.tell_unread(&error, left_by(&error), name),
         }
     }
 
@@ -280,6 +280,14 @@ impl<R: Files> DiskFolders<'_, R> {
                 inside.tell_unread(&error, Left::FolderUnread, name)
             }
         }
+    }
+}
+
+/// Why a name is left out of which the system does not tell what it is.
+fn left_by(error: &io::Error) -> Left {
+    match error.kind() {
+        ErrorKind::PermissionDenied => Left::Unread,
+        _ => Left::NoFile,
     }
 }
 

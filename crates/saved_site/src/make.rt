@@ -37,7 +37,12 @@ pub(crate) struct Given<'a> {
 impl Given<'_> {
     /// The index of a task's file, where it has one.
     pub(crate) fn file_of(&self, task: &Task) -> Option<usize> {
-        match self.site.entries.get(task.entry).map(|entry| &entry.source) {
+        self.file_at(task.entry)
+    }
+
+    /// The index of the file of the site's page with this number, where it has one.
+    fn file_at(&self, entry: usize) -> Option<usize> {
+        match self.site.entries.get(entry).map(|entry| &entry.source) {
             Some(Source::File(index)) => Some(*index),
             _ => None,
         }
@@ -132,7 +137,7 @@ fn linked_page(
         encoding,
         has_base,
     } = document;
-    let notes = document_notes(alloc, task, counts, encoding)?;
+    let notes = document_notes(alloc, given, task, counts, encoding)?;
     let found = if differs_in_query(given, task) {
         Vec::new(alloc)
     } else {
@@ -149,20 +154,49 @@ fn linked_page(
 /// What is told of a document, whose encoding has this name where it is not known here.
 fn document_notes(
     alloc: Global,
+    given: Given<'_>,
     task: &Task,
     counts: LinkCounts,
     encoding: Option<String>,
 ) -> Result<Vec<Note>, AllocError> {
     let mut notes = Vec::new(alloc);
     if let Some(name) = encoding {
-        let place = format!(in alloc; "{} ({name})", task.url.as_str())?;
-        let left = Left::Encoding;
-        notes.push(Note { left, place })?;
+        tell_encoding(alloc, given, task, name.as_str(), &mut notes)?;
     }
     if counts.left_out > 0 {
         notes.push(Note::at(alloc, Left::LongLinks, &task.url)?)?;
     }
     Ok(notes)
+}
+
+/// Tells that the encoding of a document is not known here, on the first page of its file.
+fn tell_encoding(
+    alloc: Global,
+    given: Given<'_>,
+    task: &Task,
+    name: &str,
+    notes: &mut Vec<Note>,
+) -> Result<(), AllocError> {
+    if is_first(given, task)? {
+        let place = format!(in alloc; "{} ({name})", task.url.as_str())?;
+        let left = Left::Encoding;
+        notes.push(Note { left, place })?;
+    }
+    Ok(())
+}
+
+/// Whether a page is the first of its file: that of an index file comes behind that of its folder, and other spellings come last.
+fn is_first(given: Given<'_>, task: &Task) -> Result<bool, AllocError> {
+    let Some(name) = given.name_of(task) else {
+        return Ok(true);
+    };
+    if !task.is_plain {
+        return Ok(false);
+    }
+    match given.site.folder_page(name, given.rules)? {
+        Some(page) => Ok(page == task.entry || given.file_at(page) != given.file_of(task)),
+        None => Ok(true),
+    }
 }
 
 /// Whether a URL differs from that of the site's page in its query alone: links of both lead to the same pages, whose spellings

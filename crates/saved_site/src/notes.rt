@@ -10,6 +10,8 @@ pub enum Left {
     NotUtf8,
     /// Neither a file nor a folder.
     NoFile,
+    /// What it is cannot be read.
+    Unread,
     /// A folder that leads back up.
     LeadsUp,
     /// A folder that cannot be read.
@@ -33,6 +35,7 @@ impl fmt::Display for Left {
         f.write_str(match self {
             Left::NotUtf8 => "name left out, it is not UTF-8",
             Left::NoFile => "left out, neither a file nor a folder",
+            Left::Unread => "left out, it cannot be read",
             Left::LeadsUp => "folder not entered, it leads back up",
             Left::FolderUnread => "folder not entered, it cannot be read",
             Left::FileUnread => "links not read, the file cannot be read",

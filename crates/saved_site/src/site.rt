@@ -230,6 +230,20 @@ impl Site {
         self.top.as_str()
     }
 
+    /// The page of the folder whose index file has this name, by its index.
+    pub(crate) fn folder_page(
+        &self,
+        name: &str,
+        rules: &Rules,
+    ) -> Result<Option<usize>, AllocError> {
+        let (path, query) = split_name(name, rules.queries);
+        let Some(folder) = folder_of(path, rules) else {
+            return Ok(None);
+        };
+        let url = self.url_of(folder, query)?;
+        Ok(self.find(url.as_str()))
+    }
+
     /// The page with this URL, by its index.
     pub(crate) fn find(&self, url: &str) -> Option<usize> {
         self.entries
