@@ -82,7 +82,7 @@ const CHECK_FLAGS: &[Flag] = &[
     },
     Flag {
         name: "external",
-        help: "Tells where links to other hosts lead, which are not looked at",
+        help: "Tells where links out of the site lead, which are not looked at",
     },
     Flag {
         name: "no-anchors",
