@@ -112,7 +112,7 @@ def filled(worked: Worked, top: Path) -> str:
     """A folder with the files."""
     for name, text in worked.files.items():
         (top / name).parent.mkdir(parents=True, exist_ok=True)
-        (top / name).write_bytes(text.encode())
+        (top / name).write_bytes(text if isinstance(text, bytes) else text.encode())
     return str(top)
 
 

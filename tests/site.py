@@ -34,7 +34,7 @@ DOCUMENTS = (
 # What the program does otherwise, and why; the reckoning below does the same.
 DEPARTURES = """\
 a name that is not UTF-8 is left out and told, because no library call names its file
-a document in an encoding other than UTF-8, UTF-16 and windows-1252 is read as windows-1252 and told
+no encoding but UTF-8, UTF-16 and windows-1252 is known
 the bytes 81, 8D, 8F, 90 and 9D of windows-1252 are C1 controls, as the Encoding Standard has them"""
 
 
@@ -144,12 +144,7 @@ class Reckoning:
         names = self.tool.charset_names
 
         def known_names(body: bytes, charset: str | None) -> list[str]:
-            try:
-                body.decode("utf-8")
-                other = "utf-8"
-            except UnicodeError:
-                other = "cp1252"
-            return [self.KNOWN.get(name, other) for name in names(body, charset) if name]
+            return [self.KNOWN.get(name, "unheard") for name in names(body, charset) if name]
 
         self.tool.charset_names = known_names
         text_of = self.tool.text_of
@@ -196,9 +191,10 @@ NAMES = """index.html a.html b.htm c d.txt e%20f.html g h.html \u00fc.html i?j.h
 t=u.html v@w.html x:y.html ~z.html %.html %zz.html A.HTML .html .hidden ...html caf\u00e9 \u65e5\u672c.html a\tb.html a\nb.html 'q'.html
 "q".html <r>.html {s}.html |t|.html ^u.html `v`.html \\w.html \u0085.html x.xhtml y.svg z.css index.htm INDEX.HTML a.html.gz""".split(" ")
 FOLDERS = ["", "", "", "sub/", "sub/deep/", "a.html.d/", "e f/", "%41/", "\u00e4/", "q?r/"]
-BASES = ["", "sub/", "/", "http://docs.test/sub/", "//other.test/x/", "mailto:x", "data:x", "x y", "?q", "#f", "https:g", "../..", "http://"]
+BASES = ["", "sub/", "/", "http://docs.test/sub/", "//other.test/x/", "mailto:x", "data:x", "x y", "?q", "#f", "https:g", "../..", "http://", "\u00fc/", "sub/#\u00fc"]
 HEADS = ["", "", "", "<!doctype html>", "<html>", "\n<!-- c --><!DOCTYPE HTML>", "<?xml version='1.0'?><html>", "<!-- --> -->\n<html>"]
 DECLARED = ["", "", "", "<meta charset=utf-8>", '<meta charset="windows-1252">', "<meta charset=iso-8859-1>", "<meta charset=koi8-r>", "<meta charset=utf-16>",
+            "<meta charset=windows-1251>", "<meta charset=shift_jis>", "<meta charset=iso-8859-15>",
             '<meta name=a content="charset=l1">', "<!-- <meta charset=l1> --><!--><META/charset=' L1 '>", '<meta charset=utf8 content="charset=l1">',
             "<meta http-equiv=Content-Type content='a; charset Charset = l1;b'>", '<p x="<meta charset=l1>"></p x=">"><meta charset=x>', "<meta charset=''>",
             "<meta http-equiv=content-type content='charset=\"cp819\"' charset>", "<meta content=charset='l1 http-equiv=content-TYPE>", "<?x <meta charset=l1>"]
@@ -213,10 +209,10 @@ def drawn_link(draw: random.Random, names: list[str]) -> str:
     if kind < 0.6:
         return "".join(f"%{ord(c):02x}" if c.isascii() and draw.random() < 0.3 else c for c in name)
     if kind < 0.8:
-        return name + draw.choice(["?", "?a=b", "?\u00fc", "#f", "?x#y", "/", "/../" + name, "?" + "x" * draw.choice([10, 4080, 4090, 5000])])
+        return name + draw.choice(["?", "?a=b", "?\u00fc", "?&uuml;&#1092;", "#f", "#\u00fc", "?x#y", "/", "/../" + name, "?" + "x" * draw.choice([10, 4080, 4090, 5000])])
     if kind < 0.9:
         return draw.choice(["/" + name, "//docs.test/" + name, "http://DOCS.test:80/" + name, "http://docs.test/sub", "/sub?x", "e%20f?a%20b"])
-    return draw.choice(["", " ", "\n x \t", "javascript:x", "data:," + "y" * 5000, "x#" + "z" * 5000, "mailto:\u00e9" + "\u00fc" * 3000, "%", "%f", "a\tb\nc", "http://[::1]/"])
+    return draw.choice(["", " ", "\n x \t", "javascript:x", "data:," + "y" * 5000, "x#" + "z" * 5000, "mailto:\u00e9" + "\u00fc" * 3000, "%", "%f", "a\tb\nc", "http://[::1]/", "http:x", "&#128;"])
 
 
 def drawn_file(draw: random.Random, links: Any, names: list[str]) -> bytes:

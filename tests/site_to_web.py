@@ -671,6 +671,19 @@ class Documents(Converting):
             with self.subTest(name):
                 self.assertEqual(self.links(document), [f"link {expected}"])
 
+    def test_of_an_encoding_that_is_not_known_ascii_is_read(self) -> None:
+        links = b'<a href="\xe9"><a href="a#\xe9"><a href="&eacute;?&eacute;"><img srcset="\xe9 1x, b 2x"><a href="c?\xe9#d">'
+        self.assertEqual(self.links(b'<meta charset="unheard">' + links), ["link a#", "link \u00e9?%E9", "link b"])
+        self.assertIn("only ASCII read, the encoding is not known: http://a.test/dir/page.html\n", self.told)
+        for base, expected in {
+            b"/\xe9/": ["http://a.test/c", "mailto:m"],
+            b"/d/#\xe9": ["http://a.test/d/a", "http://a.test/c", "http://a.test/d/e", "mailto:m"],
+        }.items():
+            with self.subTest(base):
+                links = b'<a href="a"><a href="http://a.test/c"><a href="http:e"><a href="mailto:m">'
+                document = b'<meta charset="unheard"><base href="' + base + b'">' + links
+                self.assertEqual(self.links(document), [f"link {text}" for text in expected])
+
     def test_what_is_told_has_no_control_characters(self) -> None:
         self.links(f'<a href="a\x1b[2J{"x" * 9000}">')
         self.assertIn("page.html links to a\\x1b[2Jxxx", self.told)

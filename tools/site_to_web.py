@@ -65,6 +65,8 @@ links: the URL of each element that loads or leads to another document (a, area,
   host, nor of forms and quotations, nor what scripts make. Each is written as it
   stands, character references decoded, so that the reader resolves it, except that
   - tabs and line breaks are taken out, and spaces at the ends, as URL parsers do;
+  - of a page in an encoding that Python does not know ASCII is read: a link with
+    other bytes is left out, or loses its fragment where that alone has them;
   - the query of a page that is not UTF-8 is percent-encoded in the page's encoding;
   - after `<base href>` the resolved text is written, since the format resolves
     against the page. Where the base is neither http nor https, a relative link is
@@ -87,6 +89,8 @@ STYLE_KIND = "text/css"
 # Python's own table of suffixes, without the machine's, so that it is the same everywhere
 KINDS = mimetypes.MimeTypes()
 BYTE_ORDER_MARKS = ((b"\xef\xbb\xbf", "utf-8"), (b"\xff\xfe", "utf-16-le"), (b"\xfe\xff", "utf-16-be"))
+NOT_KNOWN = "not known"  # in place of an encoding's name
+UNKNOWN = "\x80"  # in place of a byte beyond ASCII of such a document; no character reference stands for it
 EDGE = "".join(map(chr, range(0x21)))  # what a URL parser takes off both ends of a text
 PORTS = {"http": 80, "https": 443}
 GREATEST_PORT = 65535
@@ -497,7 +501,8 @@ def text_of(body: bytes, charset: Optional[str]) -> tuple[str, str]:
     for mark, name in BYTE_ORDER_MARKS:
         if body.startswith(mark):
             return body[len(mark) :].decode(name, "replace"), "utf-8"
-    for name in charset_names(body, charset):
+    names = [name for name in charset_names(body, charset) if name]
+    for name in names:
         try:
             return body.decode(name, "replace"), name
         except (LookupError, ValueError):
@@ -506,7 +511,31 @@ def text_of(body: bytes, charset: Optional[str]) -> tuple[str, str]:
     try:
         return body.decode("utf-8"), "utf-8"
     except UnicodeError:
+        if names:
+            return re.sub("[^\0-\x7f]", UNKNOWN, body.decode("latin-1")), NOT_KNOWN
         return body.decode("cp1252", "replace"), "cp1252"
+
+
+def known_part(link: str) -> Optional[str]:
+    """As much of a link as is known: all, or up to its `#` where its fragment is not; None where less is known."""
+    front, mark, fragment = link.partition("#")
+    if UNKNOWN in front:
+        return None
+    return front + mark if UNKNOWN in fragment else link
+
+
+def is_absolute(link: str) -> bool:
+    """Whether a link means the same against every base."""
+    link = link.strip(EDGE)
+    scheme = scheme_of(link)
+    return scheme is not None and (not is_web(scheme) or re.match(r"[/\\]{2}", link[len(scheme) + 1 :]) is not None)
+
+
+def known_links(links: list[str], base: Optional[str]) -> tuple[list[str], Optional[str]]:
+    """What is known of the links and the base of a document in an encoding that is not known."""
+    if base is not None and UNKNOWN in base.partition("#")[0]:
+        links, base = list(filter(is_absolute, links)), None
+    return [known for known in map(known_part, links) if known is not None], base
 
 
 def with_query_in(text: str, charset: str) -> str:
@@ -552,6 +581,10 @@ def links_of(body: bytes, url: Url, kind: Optional[str], web: Web, charset: Opti
         given, base = reader.links, reader.base
     else:
         return []
+    if charset == NOT_KNOWN:
+        web.tell("only ASCII read, the encoding is not known", url.text())
+        given, base = known_links(given, base)
+        charset = "cp1252"
     web.count("links over several lines, put into one", sum("\n" in link.strip(EDGE) for link in given))
     links = [with_query_in(cleaned(link), charset) for link in given]
     return links if base is None else with_base(links, base, url)

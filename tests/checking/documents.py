@@ -16,6 +16,7 @@ MARKS = ((b"\xef\xbb\xbf", "utf-8"), (b"\xff\xfe", "utf-16-le"), (b"\xfe\xff", "
 # Names of windows-1252, as Python has them and as the Encoding Standard does
 WINDOWS = {"cp1252", "windows-1252", "1252"}
 UTF_8 = {"utf-8", "utf_8", "u8"}
+UNKNOWN = "\x80"  # in place of a byte beyond ASCII of a document in another encoding; no character reference stands for it
 
 
 class Link(NamedTuple):
@@ -26,7 +27,7 @@ class Link(NamedTuple):
 class Document(NamedTuple):
     links: Tuple[Link, ...]
     base: Optional[str]
-    ids: FrozenSet[str]
+    ids: Optional[FrozenSet[str]]  # None where one is not known
     lines: "Lines"
     charset: str
 
@@ -55,11 +56,12 @@ BYTES = {character(byte): bytes([byte]) for byte in range(256)}
 
 
 def text_of(body: bytes) -> Tuple[str, str]:
-    """A document's text and its encoding: by its mark, its head, UTF-8, or windows-1252 for any other."""
+    """A document's text and its encoding: by its mark, its head, UTF-8, or windows-1252. Of any other ASCII is read."""
     for mark, name in MARKS:
         if body.startswith(mark):
             return body[len(mark):].decode(name, "replace"), "utf-8"
-    for name in filter(None, TOOL.charset_names(body, None)):
+    names = list(filter(None, TOOL.charset_names(body, None)))
+    for name in names:
         if name in UTF_8:
             return body.decode("utf-8", "replace"), "utf-8"
         if name in WINDOWS:
@@ -67,7 +69,29 @@ def text_of(body: bytes) -> Tuple[str, str]:
     try:
         return body.decode("utf-8"), "utf-8"
     except UnicodeError:
-        return "".join(map(character, body)), "windows-1252"
+        of_byte = ascii_character if names else character
+        return "".join(map(of_byte, body)), "other" if names else "windows-1252"
+
+
+def ascii_character(byte: int) -> str:
+    """The character of a byte where ASCII alone is known."""
+    return chr(byte) if byte < 128 else UNKNOWN
+
+
+def is_absolute(link: str) -> bool:
+    """Whether a link means the same whatever its base is."""
+    found = re.match(r"([A-Za-z][A-Za-z0-9+.-]*):([/\\]{2})?", link.strip(TOOL.EDGE))
+    return bool(found) and (found[2] is not None or found[1].lower() not in ("http", "https"))
+
+
+def in_ascii(document: Document) -> Document:
+    """What is known of a document of which ASCII is read."""
+    links, base, ids = document.links, document.base, document.ids
+    if base is not None and UNKNOWN in base.split("#")[0]:
+        links, base = tuple(link for link in links if is_absolute(link.text)), None
+    links = tuple(link._replace(text=re.sub(f"#.*{UNKNOWN}.*", "#", link.text, flags=re.S)) for link in links)
+    links = tuple(link for link in links if UNKNOWN not in link.text)
+    return document._replace(links=links, base=base, ids=None if any(UNKNOWN in one for one in ids or ()) else ids)
 
 
 def with_query_in(text: str, charset: str) -> str:
@@ -135,4 +159,5 @@ def document_of(body: bytes) -> Document:
             ids.add(found["id"].value)
         if tag.name == "a" and "name" in found:
             ids.add(found["name"].value)
-    return Document(tuple(links), base, frozenset(ids), Lines(text), charset)
+    document = Document(tuple(links), base, frozenset(ids), Lines(text), charset)
+    return in_ascii(document) if charset == "other" else document

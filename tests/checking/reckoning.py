@@ -217,7 +217,8 @@ class Reckoning:
             if target is None:
                 self.skipped += TOOL.scheme_of(front + text) not in (None, "http", "https") or is_short("link", text)
             elif is_short("link", target if has_base else text.partition("#")[0]):
-                yield Lead(target, fragment_of(link.text), Place(name, *document.lines.place(link.at)))
+                fragment = None if document.ids is None else fragment_of(link.text)
+                yield Lead(target, fragment, Place(name, *document.lines.place(link.at)))
 
     def rows(self) -> List[Row]:
         """The rows that the program prints as JSON."""
@@ -312,9 +313,9 @@ class Reckoning:
         return {(firsts[name], fragment): linked for (name, fragment), linked in missing.items()}
 
     def has_anchor(self, name: bytes, fragment: str) -> bool:
-        """Whether a file has an anchor, or is no document."""
+        """Whether a file has an anchor, or is no document whose anchors are known."""
         document = self.site.document(name)
-        return document is None or is_there(fragment, document.ids)
+        return document is None or document.ids is None or is_there(fragment, document.ids)
 
     def names(self) -> Dict[str, Tuple[str, str]]:
         """The pages whose file name no other page of the site has, by that name, and their files."""

@@ -2,12 +2,12 @@
 
 from __future__ import annotations
 
-from typing import Dict, List, NamedTuple
+from typing import Dict, List, NamedTuple, Union
 
 
 class Worked(NamedTuple):
     name: str
-    files: Dict[str, str]
+    files: Dict[str, Union[str, bytes]]
     broken: List[str]  # TARGET FILE:LINE:COLUMN, TARGET alone where no link leads to it; an anchor has a `#`
 
 
@@ -30,6 +30,26 @@ WORKED = [
     Worked("a reference is read", {"index.html": "<a href='x&amp;y&copy=1'>"}, ["x&y&copy=1 index.html:1:10"]),
     Worked("a tag that the end cuts off is none", {"index.html": "<a href=x><a href='y"}, ["x index.html:1:9"]),
     Worked("a space before a fragment", {"index.html": "<a href=' x #y '>"}, ["x%20 index.html:1:10"]),
+    Worked(
+        "of another encoding ASCII is read",
+        {"index.html": b"<meta charset=koi8-r><a href=\xc1><a href=x><a href='&#1092;'><a href='y#\xc1'>"},
+        ["%D1%84 index.html:1:51", "x index.html:1:40", "y index.html:1:69"],
+    ),
+    Worked(
+        "a base that is not known",
+        {"index.html": b"<meta charset=koi8-r><base href='\xc1/'><a href=x><a href=http://docs.test/y>"},
+        ["y index.html:1:56"],
+    ),
+    Worked(
+        "a part that is not known",
+        {"index.html": "<a href='a.html#\u00fc'><a href=a.html#y>", "a.html": b"<meta charset=koi8-r><p id=x><a name=\xc1><a href=#z>"},
+        [],
+    ),
+    Worked(
+        "parts that are known",
+        {"index.html": "<a href=a.html#x><a href=a.html#y>", "a.html": b"<meta charset=koi8-r><p id=x>\xc1<a href=#z>"},
+        ["a.html#y index.html:1:26", "a.html#z a.html:1:39"],
+    ),
     Worked("a folder without an index", {"index.html": "<a href=f>", "f/a.html": ""}, ["f/ index.html:1:9"]),
     Worked("a folder with one", {"index.html": "<a href=f>", "f/index.html": "<a href=a>"}, ["f/a f/index.html:1:9"]),
     Worked("a base", {"index.html": "<base href=f/><a href=a.html><a href=b.html>", "f/a.html": ""}, ["f/b.html index.html:1:38"]),

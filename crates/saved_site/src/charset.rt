@@ -23,7 +23,7 @@ pub(crate) enum Charset {
     Utf16Le,
     Utf16Be,
     Windows1252,
-    /// Another one, which is read as Windows' own.
+    /// Another one, of which ASCII is read.
     Other,
 }
 

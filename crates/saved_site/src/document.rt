@@ -9,6 +9,7 @@ use crate::kinds::start_of;
 use crate::link_lines::LinkLines;
 use crate::make::Given;
 use crate::texts::{LinkCounts, Read, links_at};
+use crate::unknown::ascii_text;
 use crawl_keys::CanonUrl;
 use std::alloc::{AllocError, Global};
 
@@ -17,7 +18,7 @@ use std::alloc::{AllocError, Global};
 pub(crate) struct Document {
     pub(crate) links: LinkLines,
     pub(crate) counts: LinkCounts,
-    /// Its anchors, where they are wanted.
+    /// Its anchors, where they are wanted and known.
     pub(crate) anchors: Option<Anchors>,
     /// Where its links stand, where that is wanted.
     pub(crate) indices: Vec<u32>,
@@ -92,8 +93,12 @@ pub(crate) fn made_text(
         Charset::Utf8 => mended(alloc, without_mark(body)),
         Charset::Utf16Le => wide_text(alloc, body, true),
         Charset::Utf16Be => wide_text(alloc, body, false),
-        Charset::Windows1252 | Charset::Other => {
+        Charset::Windows1252 => {
             let text = from_windows(alloc, body)?;
+            Ok(Some(text))
+        }
+        Charset::Other => {
+            let text = ascii_text(alloc, body)?;
             Ok(Some(text))
         }
     }

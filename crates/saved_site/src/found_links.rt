@@ -15,6 +15,15 @@ pub(crate) struct Piece {
 }
 
 impl Piece {
+    /// Its first bytes.
+    pub(crate) fn front(self, count: usize) -> Piece {
+        Piece {
+            begin: self.begin,
+            end: self.begin.saturating_add(count),
+            index: self.index,
+        }
+    }
+
     /// The piece without its first bytes.
     pub(crate) fn behind(self, count: usize) -> Piece {
         Piece {
@@ -90,12 +99,15 @@ fn push_piece(
 #[derive(Drop)]
 pub(crate) struct FoundIds {
     pub(crate) ids: Ids,
+    /// Whether one of them is not known.
+    pub(crate) has_unknown: bool,
 }
 
 impl FoundIds {
     pub(crate) fn new(alloc: Global) -> FoundIds {
         FoundIds {
             ids: Ids::new(alloc),
+            has_unknown: false,
         }
     }
 }

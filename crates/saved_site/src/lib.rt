@@ -36,6 +36,7 @@ mod targets;
 mod tasks;
 mod text;
 mod texts;
+mod unknown;
 mod walk;
 mod web;
 

@@ -71,7 +71,7 @@ pub(crate) struct Made {
     pub(crate) byte_count: usize,
     pub(crate) spellings: Vec<Spelling>,
     pub(crate) counts: LinkCounts,
-    /// Its anchors, where they are wanted and the page is a document.
+    /// Its anchors, where they are wanted and known and the page is a document.
     pub(crate) anchors: Option<Anchors>,
     /// Where its links stand, where that is wanted.
     pub(crate) indices: Vec<u32>,

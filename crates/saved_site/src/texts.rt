@@ -15,6 +15,7 @@ use crate::link_lines::LinkLines;
 use crate::make;
 use crate::site::Rules;
 use crate::text::{LINK_FRONT, TEXT_LIMIT, fits, fits_plainly};
+use crate::unknown::{has_unknown, keep_known};
 use crate::web::WEB_LIMIT;
 use crawl_keys::CanonUrl;
 use html_links::{Base, read_links, read_page, read_places};
@@ -58,8 +59,8 @@ pub(crate) struct Texts {
     indices: Option<Indices>,
 }
 
-/// What a document in UTF-8 at a URL has: the lines of its links, and its anchors and where links stand where the rules want
-/// them; `charset` is the encoding that it had. In `found` is room for what is found.
+/// What is known of a document in UTF-8 at a URL: the lines of its links, and its anchors and where links stand where the rules
+/// want them; `charset` is the encoding that it had. In `found` is room for what is found.
 ///
 /// # Errors
 /// Where a growth was refused.
@@ -74,13 +75,14 @@ pub(crate) fn links_at(
     let rules = given.rules;
     let mut ids = FoundIds::new(alloc);
     found.clear();
-    let base = found_in(alloc, text, rules, found, &mut ids)?;
+    let base = known_in(alloc, text, charset, rules, found, &mut ids)?;
     let mut texts = texts_of(alloc, charset, base, url, found, rules.places)?;
     let lines = texts.take_lines();
     let indices = texts.take_indices();
     let counts = texts.counts;
     let has_base = !matches!(texts.given, Given::None);
-    let anchors = if rules.anchors {
+    // Where an id is not known, no link to a part can be told to lead to none.
+    let anchors = if rules.anchors && !ids.has_unknown {
         Some(anchors_of(alloc, &ids.ids, found, given.site, texts, url)?)
     } else {
         None
@@ -130,6 +132,25 @@ fn room_of(found: &Found) -> usize {
         .texts
         .len()
         .saturating_add(found.pieces.len().saturating_mul(around))
+}
+
+/// Finds what is known of the links of a document, and of its ids where its anchors are wanted.
+fn known_in(
+    alloc: Global,
+    text: &[u8],
+    charset: Charset,
+    rules: &Rules,
+    found: &mut Found,
+    ids: &mut FoundIds,
+) -> Result<Base, AllocError> {
+    let base = found_in(alloc, text, rules, found, ids)?;
+    match charset {
+        Charset::Other => {
+            ids.has_unknown = has_unknown(&ids.ids);
+            keep_known(base, found)
+        }
+        _ => Ok(base),
+    }
 }
 
 /// Finds the links of a document, and its ids where its anchors are wanted.

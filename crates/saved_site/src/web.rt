@@ -37,7 +37,7 @@ pub struct Web {
     pub summary: Summary,
     /// What is not written as it was found, in the order of names and then of URLs.
     pub notes: Vec<Note>,
-    /// The anchors of its documents where the rules want them, ascending by URL.
+    /// The anchors of its documents where the rules want them and they are known, ascending by URL.
     pub anchors: Vec<PageAnchors>,
     /// Where the links of its documents stand where the rules want that, ascending by URL.
     pub places: Vec<LinkPlaces>,
