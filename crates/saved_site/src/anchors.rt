@@ -72,10 +72,40 @@ impl Anchors {
         })
     }
 
+    /// No links, of a document with these ids.
+    fn with(ids: Ids, alloc: Global) -> Anchors {
+        Anchors {
+            ids,
+            groups: Vec::new(alloc),
+            links: Vec::new(alloc),
+            fragments: Vec::new(alloc),
+        }
+    }
+
+    /// Appends the links of the document at a URL, which stand in the order of their targets' numbers.
+    fn push_all(
+        &mut self,
+        found: &Found,
+        site: &Site,
+        url: &CanonUrl,
+        targets: Vec<Option<Target>>,
+        links: &[Numbered],
+    ) -> Result<(), AllocError> {
+        let mut rest = links;
+        for (number, target) in targets.into_iter().enumerate() {
+            let (own, behind) = split_number(number, rest);
+            rest = behind;
+            if let Some(to) = target {
+                let is_own = is_at(&to, site, url);
+                self.push_group(found, to, is_own, own)?;
+            }
+        }
+        Ok(())
+    }
+
     /// Appends links to a page, which is the document itself or not.
     fn push_group(
         &mut self,
-        alloc: Global,
         found: &Found,
         to: Target,
         is_own: bool,
@@ -84,7 +114,7 @@ impl Anchors {
         let begin = self.links.len();
         for link in links {
             let fragment = trimmed_end(found.text(link.fragment));
-            self.push_link(alloc, fragment, link.fragment.index, is_own)?;
+            self.push_link(fragment, link.fragment.index, is_own)?;
         }
         let end = self.links.len();
         if begin < end {
@@ -96,26 +126,23 @@ impl Anchors {
     }
 
     /// Appends a link, unless the document itself has the part.
-    fn push_link(
-        &mut self,
-        alloc: Global,
-        fragment: &[u8],
-        index: usize,
-        is_own: bool,
-    ) -> Result<(), AllocError> {
+    fn push_link(&mut self, fragment: &[u8], index: usize, is_own: bool) -> Result<(), AllocError> {
         let begin = self.fragments.len();
         push_without_breaks(fragment, &mut self.fragments)?;
-        if is_own {
-            let clean = self.fragments.as_slice().get(begin..).unwrap_or(&[]);
-            if is_indicated(alloc, &self.ids, clean)? {
-                self.fragments.truncate(begin);
-                return Ok(());
-            }
+        if is_own && self.has_part(begin)? {
+            self.fragments.truncate(begin);
+            return Ok(());
         }
         let fragment = in_four_bytes(begin)?;
         let index = u32::try_from(index).unwrap_or(FAR);
         self.links.push(KeptLink { fragment, index })?;
         Ok(())
+    }
+
+    /// Whether the document has the part that the last fragment indicates, which begins here.
+    fn has_part(&self, begin: usize) -> Result<bool, AllocError> {
+        let fragment = self.fragments.as_slice().get(begin..).unwrap_or(&[]);
+        is_indicated(*self.fragments.allocator(), &self.ids, fragment)
     }
 
     /// They are kept long, and there are many.
@@ -150,23 +177,11 @@ pub(crate) fn anchors_of(
     texts: Texts,
     url: &CanonUrl,
 ) -> Result<Anchors, AllocError> {
-    let mut anchors = Anchors {
-        ids: ids.ascending(alloc)?,
-        groups: Vec::new(alloc),
-        links: Vec::new(alloc),
-        fragments: Vec::new(alloc),
-    };
     let mut targets = Targets::new(alloc, site, texts, url)?;
-    let numbered = by_target(alloc, found, &mut targets)?;
-    let mut rest = numbered.as_slice();
-    for (number, target) in targets.into_targets().into_iter().enumerate() {
-        let (own, behind) = split_number(number, rest);
-        rest = behind;
-        if let Some(to) = target {
-            let is_own = is_at(&to, site, url);
-            anchors.push_group(alloc, found, to, is_own, own)?;
-        }
-    }
+    let links = by_target(alloc, found, &mut targets)?;
+    let targets = targets.into_targets();
+    let mut anchors = Anchors::with(ids.ascending(alloc)?, alloc);
+    anchors.push_all(found, site, url, targets, links.as_slice())?;
     anchors.shrink_to_fit();
     Ok(anchors)
 }

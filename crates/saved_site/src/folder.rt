@@ -224,25 +224,12 @@ impl<R: Files> DiskFolders<'_, R> {
         let name = format!(in self.alloc; "{}{own}", above.name())?;
         let path = format!(in self.alloc; "{}/{name}", self.top)?;
         match fs::symlink_metadata(self.rt, path.as_str()) {
-            Ok(found) if found.is_dir() => self.add_folder(above, own, name, inside),
+            Ok(found) if found.is_dir() => add_folder(above, own, name, inside),
             Ok(found) if found.is_file() => inside.push(name),
             Ok(found) if found.is_symlink() => self.add_linked(above, path.as_str(), name, inside),
             Ok(_) => inside.tell(Left::NoFile, name),
             Err(error) => inside.tell_unread(&error, left_by(&error), name),
         }
-    }
-
-    /// Adds a folder that is no link, so that its own path is that of the one above and its own name.
-    fn add_folder(
-        &self,
-        above: Above<'_>,
-        own: &str,
-        name: String,
-        inside: &mut Inside,
-    ) -> Result<(), AllocError> {
-        let front = above.real().trim_end_matches('/');
-        let real = format!(in self.alloc; "{front}/{own}")?;
-        inside.push_folder(above, with_slash(name)?, real.as_str())
     }
 
     /// Adds what a link leads to, where that is a file or a folder.
@@ -281,6 +268,24 @@ impl<R: Files> DiskFolders<'_, R> {
             }
         }
     }
+}
+
+/// Adds a folder that is no link, so that its own path is that of the one above and its own name.
+fn add_folder(
+    above: Above<'_>,
+    own: &str,
+    name: String,
+    inside: &mut Inside,
+) -> Result<(), AllocError> {
+    let name = with_slash(name)?;
+    let real = path_in(*inside.names.allocator(), above.real(), own)?;
+    inside.push_folder(above, name, real.as_str())
+}
+
+/// The path of what has this name in the folder with this path. That of the root alone ends in a slash.
+fn path_in(alloc: Global, folder: &str, own: &str) -> Result<String, AllocError> {
+    let front = folder.strip_suffix("/").unwrap_or(folder);
+    format!(in alloc; "{front}/{own}")
 }
 
 /// Why a name is left out of which the system does not tell what it is.

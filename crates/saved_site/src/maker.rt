@@ -5,6 +5,7 @@ use crate::found_links::Found;
 use crate::linked::Linker;
 use crate::make::{Given, Made, Task, page_of};
 use crate::notes::Note;
+use crate::page::SitePage;
 use crate::web::Summary;
 use std::alloc::{AllocError, Global};
 use std::sync::atomic::{AtomicUsize, Ordering};
@@ -161,8 +162,7 @@ impl Maker {
 
     /// Makes the page of the task with this number from what was read, and gives how many bytes it has in a web, at least.
     fn make(&mut self, given: Given<'_>, number: usize, task: &Task) -> Result<usize, AllocError> {
-        let body = self.body.as_slice();
-        let mut page = page_of(self.alloc, given, task, body, &mut self.found)?;
+        let mut page = self.page_of(given, task)?;
         page.number = number;
         let byte_count = page.byte_count;
         self.link(&mut page)?;
@@ -170,19 +170,37 @@ impl Maker {
         Ok(byte_count)
     }
 
+    /// Makes the page of a task from what was read.
+    fn page_of(&mut self, given: Given<'_>, task: &Task) -> Result<Made, AllocError> {
+        page_of(
+            self.alloc,
+            given,
+            task,
+            self.body.as_slice(),
+            &mut self.found,
+        )
+    }
+
     /// Looks up where a page leads, where that is wanted. The page is taken then, and counted.
     fn link(&mut self, made: &mut Made) -> Result<(), AllocError> {
-        let Some(linker) = self.linker.take() else {
+        if self.linker.is_none() {
+            return Ok(());
+        }
+        let Some(page) = made.page.take() else {
             return Ok(());
         };
-        match made.page.take() {
-            Some(page) => {
-                self.summary.add(&page, made.counts);
-                self.linker = Some(linker.with_page(&page)?);
-            }
-            None => self.linker = Some(linker),
-        }
+        self.summary.add(&page, made.counts);
+        let linker = self.linker.take();
+        self.linker = with_page(linker, &page)?;
         Ok(())
+    }
+}
+
+/// The same with a page more, where there is one.
+fn with_page(linker: Option<Linker>, page: &SitePage) -> Result<Option<Linker>, AllocError> {
+    match linker {
+        Some(linker) => Ok(Some(linker.with_page(page)?)),
+        None => Ok(None),
     }
 }
 
@@ -233,10 +251,15 @@ impl Batch {
     /// Adds what one of them made.
     fn add(&mut self, maker: Maker, unread: &mut Vec<Unread>) -> Result<(), AllocError> {
         let mut maker = maker;
-        self.made.append(&mut maker.made)?;
-        unread.append(&mut maker.unread)?;
+        self.take_made(&mut maker, unread)?;
         self.makers.push(maker)?;
         Ok(())
+    }
+
+    /// Takes the pages that one of them made.
+    fn take_made(&mut self, maker: &mut Maker, unread: &mut Vec<Unread>) -> Result<(), AllocError> {
+        self.made.append(&mut maker.made)?;
+        unread.append(&mut maker.unread)
     }
 
     fn sort(&mut self) -> Result<(), AllocError> {

@@ -107,11 +107,7 @@ fn texts_of(
     places: bool,
 ) -> Result<Texts, AllocError> {
     let mut texts = Texts::under(alloc, charset, base, url)?;
-    texts.links = LinkLines::with_room(alloc, room_of(found))?;
-    if places {
-        texts.indices = Some(Indices::new(alloc, url, found.pieces.len())?);
-    }
-    texts.push_all(found, byte_limit(url))?;
+    texts.read(url, found, places)?;
     Ok(texts)
 }
 
@@ -193,6 +189,15 @@ impl Texts {
             None => Given::None,
         };
         Ok(Texts::new(alloc, charset, given))
+    }
+
+    /// The lines of these links of the page at a URL, and where they stand if that is wanted.
+    fn read(&mut self, url: &CanonUrl, found: &Found, places: bool) -> Result<(), AllocError> {
+        self.links = LinkLines::with_room(self.alloc, room_of(found))?;
+        if places {
+            self.indices = Some(Indices::new(self.alloc, url, found.pieces.len())?);
+        }
+        self.push_all(found, byte_limit(url))
     }
 
     /// The lines of these links, up to that with which they have more bytes than this.

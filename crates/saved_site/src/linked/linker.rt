@@ -1,6 +1,10 @@
 //! The pages that one thread makes, with the indices of their links' URLs.
-ghost use Rattle.std.specs.Prelude.{◌≡◌, [], true, IfOk};
+ghost use Rattle.std.specs.Prelude.{◌≡◌, [], true, IfOk, OnOk};
+ghost use Rattle.crawl_web.specs.Ahead.{KeepIndices};
 ghost use Rattle.saved_site.specs.Linked.{AreKept, found_of, is_kept, with_found};
+ghost use Rattle.saved_site.specs.LinkedPages.{IsLed, IsLonger, IsPageList, page_led};
+ghost use Rattle.saved_site.specs.LinkTables.{IsTableOf};
+ghost use Rattle.saved_site.specs.Meaning.{under_page};
 
 use crate::base_href::base_of;
 use crate::below::is_below;
@@ -74,6 +78,7 @@ impl Linker {
     {
         // For the proof: it stands in lines.
         page.stands();
+        let base = base_of(self.alloc, page.url())?;
         let Linker {
             alloc,
             top,
@@ -81,11 +86,9 @@ impl Linker {
             last,
             pages,
         } = self;
-        let base = base_of(alloc, page.url())?;
-        let mut table = table.turned(alloc, &last, &base);
-        let leads = table.leads(alloc, &base, page.under())?;
-        let url = page.url().clone()?;
-        let pages = pages.with_page(LinkedPage { url, leads })?;
+        let table = table.turned(alloc, &last, &base);
+        let both = with_led(alloc, table, pages, &base, page)?;
+        let (table, pages) = both;
         Ok(Linker {
             alloc,
             top,
@@ -111,6 +114,43 @@ impl Linker {
         let LinkTable { urls, .. } = table;
         Part::new(urls.into_urls(), pages)
     }
+}
+
+/// The pages with one more, whose links are looked up in a table, and that.
+fn with_led(
+    alloc: Global,
+    table: LinkTable,
+    pages: PageList,
+    base: &Base,
+    page: &SitePage,
+) -> Result<(LinkTable, PageList), AllocError>
+    requires table { IsTableOf base.now table }
+    requires pages { IsPageList pages }
+    ensures { IfOk result (λ both. IsLonger base.now page.now table.urls pages.list.items both.0 both.1) }
+{
+    let mut table = table;
+    let one = led(alloc, &mut table, base, page)?;
+    let pages = pages.with_page(one)?;
+    Ok((table, pages))
+}
+
+/// The page, whose links are looked up.
+fn led(
+    alloc: Global,
+    table: &mut LinkTable,
+    base: &Base,
+    page: &SitePage,
+) -> Result<LinkedPage, AllocError>
+    requires { IsTableOf base.now table.old }
+    ensures url { IfOk result (λ one. one.url ≡ page.now.url) }
+    ensures leads { IfOk result (λ one. page_led table.new.urls one.leads ≡ under_page base.now page.now.under) }
+    ensures there { IfOk result (λ one. IsLed table.new.urls one.leads) }
+    ensures keep { KeepIndices table.old.urls table.new.urls }
+    ensures known { OnOk result (IsTableOf base.now table.new) }
+{
+    let leads = table.leads(alloc, base, page.under())?;
+    let url = page.url().clone()?;
+    Ok(LinkedPage { url, leads })
 }
 
 /// Whether a URL is that of a page of the site's web.
