@@ -51,14 +51,6 @@ impl Chains {
         Ok(chains)
     }
 
-    /// The subqueue of the URL.
-    pub fn queue_of(&self, url: &CanonUrl) -> u32 {
-        if self.workers < 2 {
-            return 0;
-        }
-        hash(url.host_key()) % self.workers
-    }
-
     // Adds the entries of a subqueue, of which the first has this index among all.
     fn add(&mut self, queue: u32, first: usize, entries: &[Entry]) {
         for behind in 0..entries.len() {
@@ -109,33 +101,36 @@ impl<'c> Heads<'c> {
 
     /// The subqueue of the URL.
     pub fn queue_of(&self, url: &CanonUrl) -> u32 {
-        self.chains.queue_of(url)
+        let workers = self.chains.workers;
+        if workers < 2 {
+            return 0;
+        }
+        hash(url.host_key()) % workers
     }
 
-    /// The subqueue where the worker's first entry that was not passed may have the URL, if there is one.
-    pub fn queue_with(&self, worker: u32, url: &CanonUrl) -> Option<u32> {
+    /// The pair of the worker and a subqueue whose first entry that was not passed may have the URL, if there is one.
+    pub fn pair_with(&self, worker: u32, url: &CanonUrl) -> Option<usize> {
+        let worker = u64::from(worker);
         if self.hashes.is_empty() {
-            return Some(self.queue_of(url));
+            return Some(self.chains.pair(worker, self.queue_of(url)));
         }
         let hash = url.text_hash();
         for queue in 0..self.chains.workers {
-            let pair = self.chains.pair(u64::from(worker), queue);
+            let pair = self.chains.pair(worker, queue);
             if self.hashes.get(pair) == Some(&hash) {
-                return Some(queue);
+                return Some(pair);
             }
         }
         None
     }
 
-    /// The index of the first entry that the worker sent to the subqueue and that was not passed, or one that no entry has.
-    pub fn head(&self, worker: u32, queue: u32) -> usize {
-        let pair = self.chains.pair(u64::from(worker), queue);
+    /// The index of the first entry of the pair that was not passed, or one that no entry has.
+    pub fn head(&self, pair: usize) -> usize {
         at(&self.heads, pair)
     }
 
     /// Passes that entry.
-    pub fn pass(&mut self, worker: u32, queue: u32) {
-        let pair = self.chains.pair(u64::from(worker), queue);
+    pub fn pass(&mut self, pair: usize) {
         let next = at(&self.chains.nexts, at(&self.heads, pair));
         if let Some(head) = self.heads.get_mut(pair) {
             *head = next;

@@ -50,8 +50,7 @@ pub fn in_order(alloc: Global, results: Vec<PageResult>) -> Result<Vec<PageResul
 {
     let mut pages = with_numbers(alloc, results)?;
     sort_from(pages.as_mut_slice(), 0, LEVELS);
-    let sorted = without_numbers(alloc, pages)?;
-    Ok(sorted)
+    without_numbers(alloc, pages)
 }
 
 /// The results in any order, each beside a number that says nothing yet. The memory that they leave is given back meanwhile.

@@ -143,16 +143,16 @@ fn mark_next(
     ensures long { length linked.new ≡ length linked.old }
     ensures marks { (holds : Entry → Bool) → ((e : Entry) → e.url ≡ link.now → e.hops ≡ hops + 1 → holds e ≡ true) → MarksOnly holds accepted.now linked.old → MarksOnly holds accepted.now linked.new }
 {
-    let Some(queue) = heads.queue_with(worker, link) else {
+    let Some(pair) = heads.pair_with(worker, link) else {
         return;
     };
-    let index = heads.head(worker, queue);
+    let index = heads.head(pair);
     let Some(entry) = accepted.with_url(index, link) else {
         return;
     };
     if is_next(hops, entry) {
         linked[index] = true;
-        heads.pass(worker, queue);
+        heads.pass(pair);
     }
 }
 

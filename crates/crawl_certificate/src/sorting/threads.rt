@@ -30,8 +30,7 @@ pub fn in_order_by_threads<R: Threads + Sync>(
 {
     let mut pages = with_numbers(alloc, results)?;
     sort_in_threads(rt, HALVINGS, pages.as_mut_slice(), 0, LEVELS);
-    let sorted = without_numbers(alloc, pages)?;
-    Ok(sorted)
+    without_numbers(alloc, pages)
 }
 
 /// As [`super::sort_from`], by threads where there are many.
