@@ -128,8 +128,7 @@ pub fn check_site<'f, R: Threads + Sync, B: Bodies + Sync>(
     let all = linked.as_slice();
     let sought = sought_by(rt, alloc, asked, site, all)?;
     let places = locate_by(rt, alloc, site, sought.leads.as_slice(), bodies)?;
-    let checked = told(alloc, asked, site, all, &sought, places)?;
-    Ok(checked)
+    told(alloc, asked, site, all, &sought, places)
 }
 
 /// The results of a crawl of a site, and its files.
@@ -203,8 +202,7 @@ fn page_leads<'p, R: Threads + Sync>(
         numbers: &numbers,
         indices: &indices,
     };
-    let all = leads_by(rt, alloc, maps, site.pages.results, site.files.threads())?;
-    Ok(all)
+    leads_by(rt, alloc, maps, site.pages.results, site.files.threads())
 }
 
 /// What a check tells where the links that were sought stand at these places.
@@ -302,8 +300,7 @@ fn unused_entries(
 {
     let told = texts_of(alloc, parts)?;
     let pages = missing_texts(alloc, asked.front, linked)?;
-    let all = unused(alloc, asked.ignores, told.as_slice(), pages.as_slice())?;
-    Ok(all)
+    unused(alloc, asked.ignores, told.as_slice(), pages.as_slice())
 }
 
 fn texts_of(alloc: Global, parts: &[ToldPart]) -> Result<Vec<&str>, NoMemory>

@@ -35,8 +35,7 @@ pub(crate) fn linked_results<'a, R: Threads + Sync>(
 {
     let unfound = unfound(alloc, results)?;
     let halvings = if count < 4 { 0 } else { HALVINGS };
-    let all = linked_in(rt, alloc, halvings, unfound.as_slice(), results)?;
-    Ok(all)
+    linked_in(rt, alloc, halvings, unfound.as_slice(), results)
 }
 
 /// Each of these, with how many of some results have its URL among their links, by a thread for each half of the results, as often

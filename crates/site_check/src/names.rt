@@ -108,8 +108,7 @@ pub(crate) fn same_name<'n>(
     if name.is_empty() {
         return Ok(None);
     }
-    let told = only_told(alloc, front, named, name, places)?;
-    Ok(told)
+    only_told(alloc, front, named, name, places)
 }
 
 /// The only page with this name, unless one of the places is in its file.
@@ -124,10 +123,7 @@ fn only_told<'n>(
     ensures { IfOk result (λ told. option_map string_bytes told ≡ only_told front.now named.entry.files.now places.now (filter (has_name name.now) (pages_of named.entry.files.now))) }
 {
     match named.names.get(&name) {
-        Some(Namesakes::One(number)) => {
-            let told = page_told(alloc, front, named.files, *number, places)?;
-            Ok(told)
-        }
+        Some(Namesakes::One(number)) => { page_told(alloc, front, named.files, *number, places) }
         Some(Namesakes::Several) => Ok(None),
         None => Ok(None),
     }
@@ -144,10 +140,7 @@ fn page_told(
     ensures { (page : PageFile) → slice_get (pages_of files.now) number ≡ Some page → IfOk result (λ told. option_map string_bytes told ≡ only_told front.now files.now places.now (page ∷ [])) }
 {
     match files.page(number) {
-        Some((url, file)) => {
-            let told = file_told(alloc, front, files, url, file, places)?;
-            Ok(told)
-        }
+        Some((url, file)) => { file_told(alloc, front, files, url, file, places) }
         None => Ok(None),
     }
 }
@@ -164,10 +157,7 @@ fn file_told(
     ensures { IfOk result (λ told. option_map string_bytes told ≡ page_told front.now files.now places.now url.now file) }
 {
     match file {
-        Some(index) => {
-            let told = unless_within(alloc, shown(front, url), files.name(index), places)?;
-            Ok(told)
-        }
+        Some(index) => { unless_within(alloc, shown(front, url), files.name(index), places) }
         None => Ok(None),
     }
 }

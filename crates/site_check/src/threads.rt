@@ -72,8 +72,7 @@ pub(crate) fn leads_by<'p, R: Threads + Sync>(
         start: 0,
         results,
     };
-    let all = leads_of_part(rt, alloc, halvings, part)?;
-    Ok(all)
+    leads_of_part(rt, alloc, halvings, part)
 }
 
 /// Those of a part, by a thread for each half of it, as often as it is halved. Where none can be started this one looks at both.
