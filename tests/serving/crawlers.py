@@ -313,16 +313,15 @@ def dribble(server: socket.socket, head: bytes) -> None:
 
 
 def saved_documentation(trial: Trial) -> None:
-    """Python's documentation by `http.server`, and from its folder by `mercator crawl`: the same URLs.
-
-    Where no documentation is installed, the shipped site stands in.
-    """
+    """Python's documentation by `http.server`, and from its folder by `mercator crawl`: the same URLs."""
     trial.want_link()
     said = subprocess.run([trial.program, "crawl", "--help"], capture_output=True, check=False)
     if said.returncode:
         raise Skipped("the program has no `crawl`")
     installed = sorted(Path("/usr/share/doc").glob("python3*/html/library/index.html"))
-    site = installed[0].parent.parent.resolve() if installed else ROOT / "examples/site"
+    if not installed:
+        raise Skipped("Debian's python3-doc is not installed")
+    site = installed[0].parent.parent.resolve()
     with Folder(site) as folder:
         wanted = found_in_saved_web(trial, site, folder.url)
         words = ("--delay", "0", "--largest", "100000000", "--within", "127.0.0.1", folder.url)
