@@ -268,7 +268,7 @@ WHERE = (
 PHRASES = (
     phrase(VERBS, "tell", r"\b(?:tells?|told|telling)\b", "report, print, list, show"),
     phrase(VERBS, "stand", r"(?<!-)\b(?:stands?|stood|standing)\b(?!-)", "be, appear; match"),
-    phrase(VERBS, "want", r"(?<!you )\b(?:wants?|wanted)\b", "need, require"),
+    phrase(VERBS, "want", r"(?<!you )(?<!who )\b(?:wants?|wanted)\b", "need, require"),
     phrase(VERBS, "answer (of a function)", r"\banswer(?:s|ed|ing)?\b", "return"),
     phrase(VERBS, "asked", r"\basked\b", "target; requested; called"),
     phrase(VERBS, "go on", r"\b(?:go|goes|going|went|gone) on\b", "resume, continue"),
