@@ -18,8 +18,9 @@ Each document is checked for:
 
 Three groups of files (see GROUPS) are searched for phrases that a reader has to translate (see
 PHRASES). In documents they are also searched for table cells of more than CELL_WORDS words, and
-sentences of more than SENTENCE_WORDS; code in backticks counts as one word. The table CEILINGS has
-the most that a group may have of each. These numbers may be lowered, but not raised.
+sentences of more than SENTENCE_WORDS; code in backticks counts as one word. Phrases in quotation
+marks do not count. The table CEILINGS has the most that a group may have of each. These numbers may
+be lowered, but not raised.
 
 The last line is `N passed, M failed`. The commands that the pages show are run by `tests/cases.py`.
 """
@@ -53,6 +54,7 @@ ENTRY = re.compile(r"^- .*\n(?:(?!- |#).+\n?)*", re.M)
 LINK = re.compile(r"\]\(([^)#\s]*)(?:#([^)\s]*))?\)")
 HEADING = re.compile(r"^#+ (.*)$", re.M)
 TICKED = re.compile(r"`([^`]+)`")
+QUOTATION = re.compile(r'"[^"]*"')
 PATH = re.compile(r"(?:[\w.-]+/)+[\w.-]*")
 NAME = re.compile(r"(?:[A-Za-z_]\w*(?:::|\.))*([A-Za-z_]\w{4,})(?:\(.*\)|!)?")
 WORD = re.compile(r"[A-Za-z_]\w*")
@@ -358,10 +360,11 @@ def is_meant(it: Phrase, file: str, unit: Unit) -> bool:
 def phrases_in(file: str, text: str) -> Iterator[Found]:
     for unit in units_of(file, text):
         said = re.sub(r"\s+", " ", unit.text)
+        searched = QUOTATION.sub('""', said) if file.endswith(".md") else said
         for it in PHRASES:
-            for match in it.pattern.finditer(said):
+            for match in it.pattern.finditer(searched):
                 if not is_meant(it, file, unit):
-                    around = said[max(0, match.start() - 40):match.end() + 40]
+                    around = searched[max(0, match.start() - 40):match.end() + 40]
                     yield Found(file, unit.line, it.name, around.strip())
         if file.endswith((".md", ".1")):
             yield from too_long(file, unit, said)
