@@ -61,7 +61,7 @@ def told_by(call: str, asked: Asked, folder: str) -> List[Row]:
     rows = [json.loads(line) for line in done.stdout.splitlines()]
     status = 4 if any(row["kind"] == "broken" for row in rows) else 0
     if done.returncode != status or not rows:
-        return [{"kind": "status", "given": done.returncode, "wanted": status, "told": done.stderr.decode(errors="replace")}]
+        return [{"kind": "status", "actual": done.returncode, "expected": status, "message": done.stderr.decode(errors="replace")}]
     for row in rows:
         row.pop("base", None)
     return rows
