@@ -1,11 +1,10 @@
 #!/usr/bin/env python3
-"""Compares what `mercator check --json` tells of folders with a reckoning of its own: check.py [OPTION..] [FOLDER ..].
+"""Compares the output of `mercator check --json` with an independent model: check.py [OPTION..] [FOLDER ..].
 
-The reckoning (tests/checking/) has its own tokenizer, server, search and anchors, after the standards. Compared are small
-folders worked by hand, the shipped site, each FOLDER and drawn folders of nasty documents. Without a FOLDER those of site.py
-that are installed are taken. With --tags the reckoning's tags are compared with those of
-html5lib (Debian's python3-html5lib). PROGRAM in the environment is the program, else crates/mercator_cli's is taken. With
---reckoning it is not asked, and the worked folders are reckoned alone.
+The model (tests/checking/) has its own tokenizer, server, search and anchors, written from the standards. The script compares
+small folders with known results, the shipped site, each FOLDER, and random folders of difficult documents. Without a FOLDER it
+takes the documentation folders of site.py that are installed. The environment variable PROGRAM names the program to test; the
+default is the one built in crates/mercator_cli.
 """
 
 from __future__ import annotations
@@ -29,19 +28,19 @@ from checking.worked import WORKED, Worked
 
 BASE = "http://docs.test/"
 BUILT = loading.ROOT / "crates/mercator_cli/out/mercator_cli"
-TOLD = 5  # so many differences are told
+SHOWN = 5  # the number of differences that a series prints
 
 
 def program() -> str:
-    """The program; `rt run -- --help` in its crate builds it."""
+    """The path of the program."""
     given = os.environ.get("PROGRAM", str(BUILT))
     if not os.path.isfile(given):
-        sys.exit(f"{given} is not there: `rt run -- --help` in crates/mercator_cli builds it")
+        sys.exit(f"no such file: {given} (run `rt run -- --help` in crates/mercator_cli to build it)")
     return given
 
 
 def words_of(asked: Asked, folder: str, scratch: str, form: str = "--json") -> List[str]:
-    """The words of the command that asks for this."""
+    """The command's arguments."""
     words = ["check", form]
     words += [] if asked.anchors else ["--no-anchors"]
     words += ["--unreached"] if asked.unreached else []
@@ -56,60 +55,60 @@ def words_of(asked: Asked, folder: str, scratch: str, form: str = "--json") -> L
 
 
 def told_by(call: str, asked: Asked, folder: str) -> List[Row]:
-    """The rows that the program prints, whose status is 4 where there are broken links, and else 0."""
+    """The rows that the program prints. Its exit status must be 4 if there are broken links, and 0 if not."""
     with tempfile.TemporaryDirectory() as scratch:
         done = subprocess.run([call, *words_of(asked, folder, scratch)], capture_output=True, check=False)
     rows = [json.loads(line) for line in done.stdout.splitlines()]
     status = 4 if any(row["kind"] == "broken" for row in rows) else 0
     if done.returncode != status or not rows:
-        return [{"kind": "status", "given": done.returncode, "wanted": status, "told": done.stderr.decode(errors="replace")}]
+        return [{"kind": "status", "actual": done.returncode, "expected": status, "message": done.stderr.decode(errors="replace")}]
     for row in rows:
         row.pop("base", None)
     return rows
 
 
 def difference(given: List[Row], wanted: List[Row]) -> Optional[str]:
-    """The first row that the program prints otherwise."""
+    """The first row in which the program's output differs from the model's."""
     for one, other in zip(given, wanted):
         if one != other:
-            return f"\n  given  {json.dumps(one)}\n  wanted {json.dumps(other)}"
+            return f"\n  actual   {json.dumps(one)}\n  expected {json.dumps(other)}"
     if len(given) != len(wanted):
         more = [*given, *wanted][min(len(given), len(wanted))] if len(given) > len(wanted) else wanted[len(given)]
-        return f"{len(given)} rows given, {len(wanted)} wanted; the first more is {json.dumps(more)}"
+        return f"{len(given)} rows, {len(wanted)} expected; the first extra row is {json.dumps(more)}"
     return None
 
 
 class Series:
-    """Counts what passed and failed, and tells the first that failed."""
+    """Counts comparisons that passed and failed, and prints the first failures."""
 
     def __init__(self, name: str) -> None:
         self.name, self.passed, self.failed, self.left = name, 0, 0, 0
 
     def add(self, what: str, fault: Optional[str]) -> None:
-        """Counts one."""
+        """Counts one comparison."""
         if fault is None:
             self.passed += 1
             return
         self.failed += 1
-        if self.failed <= TOLD:
+        if self.failed <= SHOWN:
             print(f"{self.name}, {what}: {fault}")
 
     def end(self) -> int:
-        """Tells the counts; how many failed. Where none passed, one has."""
-        left = f", {self.left} left out" if self.left else ""
+        """Prints the counts and returns the number of failures, at least 1 if nothing passed."""
+        left = f", {self.left} skipped" if self.left else ""
         print(f"{self.name}: {self.passed} passed, {self.failed} failed{left}")
         return self.failed or not self.passed
 
 
 def told(rows: List[Row]) -> List[str]:
-    """What is broken, as the worked folders tell it."""
+    """The broken links, in the form of worked.py."""
     found = [f"{row['target']} {row['file']}:{row['line']}:{row['column']}" for row in rows if row["kind"] == "place"]
     placed = {row["target"] for row in rows if row["kind"] == "place"}
     return sorted(found + [row["target"] for row in rows if row["kind"] == "broken" and row["target"] not in placed])
 
 
 def filled(worked: Worked, top: Path) -> str:
-    """A folder with the files."""
+    """Writes the files to a folder and returns its path."""
     for name, text in worked.files.items():
         (top / name).parent.mkdir(parents=True, exist_ok=True)
         (top / name).write_bytes(text if isinstance(text, bytes) else text.encode())
@@ -117,22 +116,22 @@ def filled(worked: Worked, top: Path) -> str:
 
 
 def compare_worked(call: Optional[str]) -> int:
-    """Compares the worked folders with the reckoning, and with the program where there is one."""
-    series = Series("worked folders")
+    """Compares the folders with known results with the model, and the model with the program, if there is one."""
+    series = Series("folders with known results")
     for worked in WORKED:
         with tempfile.TemporaryDirectory() as scratch:
             folder = filled(worked, Path(scratch))
             asked = Asked(BASE, front=BASE)
             rows = Reckoning(folder, asked).rows()
             wanted = sorted(worked.broken)
-            series.add(worked.name, None if told(rows) == wanted else f"reckoned {told(rows)}, wanted {wanted}")
+            series.add(worked.name, None if told(rows) == wanted else f"model {told(rows)}, expected {wanted}")
             if call:
                 series.add(worked.name, difference(told_by(call, Asked(BASE), folder), Reckoning(folder, Asked(BASE)).rows()))
     return series.end()
 
 
 def compare_folder(series: Series, call: str, folder: str, asked: Asked) -> Counter[str]:
-    """Compares a folder; how many rows of each kind it has."""
+    """Compares a folder, and returns the number of rows of each kind."""
     try:
         wanted = Reckoning(folder, asked).rows()
     except drawn.NotPlain:
@@ -143,7 +142,7 @@ def compare_folder(series: Series, call: str, folder: str, asked: Asked) -> Coun
 
 
 def drawn_question(draw: Random) -> Asked:
-    """What is asked of a drawn folder."""
+    """Random settings for a check."""
     base = draw.choice((BASE, BASE, BASE + "manual/"))
     ignores = draw.choice([(), (), (base + "gone",), (base + "a", "x", base + "sub/#")])
     anchors, unreached, exact = draw.random() < 0.8, draw.random() < 0.5, draw.random() < 0.2
@@ -152,8 +151,8 @@ def drawn_question(draw: Random) -> Asked:
 
 
 def compare_drawn(call: str, count: int, seed: int) -> int:
-    """Compares drawn folders."""
-    series, draw = Series("drawn folders"), Random(seed)
+    """Compares random folders."""
+    series, draw = Series("random folders"), Random(seed)
     kinds: Counter[str] = Counter()
     for number in range(count):
         with tempfile.TemporaryDirectory() as above:
@@ -161,12 +160,12 @@ def compare_drawn(call: str, count: int, seed: int) -> int:
             folder.mkdir()
             drawing.draw_folder(draw, folder)
             kinds += compare_folder(series, call, str(folder), drawn_question(draw))
-    print("rows of drawn folders:", dict(kinds))
+    print("rows of random folders:", dict(kinds))
     return series.end()
 
 
 def compare_changed(call: str, count: int, seed: int) -> int:
-    """Compares folders of the shipped site in which each document is changed at one place."""
+    """Compares copies of the shipped site in which each document has one change."""
     series, draw = Series("changed folders"), Random(seed)
     kinds: Counter[str] = Counter()
     for number in range(count):
@@ -179,7 +178,7 @@ def compare_changed(call: str, count: int, seed: int) -> int:
 
 
 def compare_large(call: str, count: int) -> int:
-    """Compares a folder of many pages."""
+    """Compares a folder with many pages."""
     series = Series("large folders")
     with tempfile.TemporaryDirectory() as folder:
         drawing.fill_large(Path(folder), count)
@@ -188,7 +187,7 @@ def compare_large(call: str, count: int) -> int:
 
 
 def compare_folders(call: str, folders: List[str]) -> int:
-    """Compares folders as they stand."""
+    """Compares existing folders."""
     series = Series("folders")
     for folder in folders:
         kinds = compare_folder(series, call, folder, Asked(BASE, unreached=True, external=True))
@@ -197,7 +196,7 @@ def compare_folders(call: str, folders: List[str]) -> int:
 
 
 def compare_forms(call: str, folder: str) -> int:
-    """Compares a folder's page with its rows, and its text on a terminal with that of a pipe."""
+    """Compares the HTML page of a folder with its rows, and the text on a terminal with the text in a pipe."""
     series, asked = Series("forms"), Asked(BASE, unreached=True, external=True)
     with tempfile.TemporaryDirectory() as scratch:
         page = subprocess.run([call, *words_of(asked, folder, scratch, "--html")], capture_output=True, check=False).stdout
@@ -207,7 +206,7 @@ def compare_forms(call: str, folder: str) -> int:
 
 
 def compare_tags(count: int, seed: int) -> int:
-    """Compares the tags of drawn documents with those of html5lib."""
+    """Compares the tags that the model reads in random documents with those of html5lib."""
     links = loading.script("html_links", "tests/html_links.py")
     from html5lib import _tokenizer
     from html5lib.constants import tokenTypes
@@ -229,20 +228,27 @@ def compare_tags(count: int, seed: int) -> int:
     for number in range(count):
         text = links.drawn_document(draw, number % 2 == 1)
         ours = [(tag.name, {one.name: one.value for one in reversed(tag.attributes)}) for tag in start_tags(text)]
-        series.add(repr(text), None if ours == theirs(text) else f"reckoned {ours}, wanted {theirs(text)}")
+        series.add(repr(text), None if ours == theirs(text) else f"model {ours}, expected {theirs(text)}")
     return series.end()
 
 
 def main() -> int:
-    """Compares all."""
+    """Runs the comparisons."""
     words = argparse.ArgumentParser(description=__doc__, formatter_class=argparse.RawDescriptionHelpFormatter)
-    words.add_argument("folders", nargs="*", metavar="FOLDER")
-    words.add_argument("--drawn", type=int, default=1000, metavar="COUNT")
-    words.add_argument("--changed", type=int, default=100, metavar="COUNT")
-    words.add_argument("--large", type=int, default=0, metavar="PAGES", help="a folder of so many pages too")
-    words.add_argument("--seed", type=int, default=1)
-    words.add_argument("--tags", type=int, default=0, metavar="COUNT", help="documents whose tags are compared with html5lib's")
-    words.add_argument("--reckoning", action="store_true", help="without the program")
+    words.add_argument("folders", nargs="*", metavar="FOLDER", help="folder to compare")
+    words.add_argument("--drawn", type=int, default=1000, metavar="COUNT", help="number of random folders (default: 1000)")
+    words.add_argument(
+        "--changed", type=int, default=100, metavar="COUNT", help="number of changed copies of the shipped site (default: 100)"
+    )
+    words.add_argument("--large", type=int, default=0, metavar="PAGES", help="also compare a folder with this number of pages")
+    words.add_argument("--seed", type=int, default=1, help="seed of the random folders (default: 1)")
+    words.add_argument(
+        "--tags", type=int, default=0, metavar="COUNT",
+        help="also compare the tags of this number of random documents with html5lib (Debian's python3-html5lib)",
+    )
+    words.add_argument(
+        "--reckoning", action="store_true", help="test only the model, on the folders with known results, without the program"
+    )
     given = words.parse_args()
     call = None if given.reckoning else program()
     failed = compare_worked(call)

@@ -1,13 +1,16 @@
 #!/usr/bin/env python3
-"""Opens a page of `mercator check --html` in Debian's headless Chromium: check_page.py [PAGE.html | FOLDER] [--shots FOLDER].
+"""Tests a page of `mercator check --html` in headless Chromium (Debian's chromium): check_page.py [PAGE.html | FOLDER] [--shots FOLDER].
 
-PAGE is such a page; of a FOLDER the program makes it, with --unreached and --external. Without a word it is that of the shipped
-site. PROGRAM in the environment is the program, else crates/mercator_cli's is taken.
+PAGE is a report. For a FOLDER, by default the shipped site, the program makes the report with --unreached and --external. The
+environment variable PROGRAM names the program; the default is the one built in crates/mercator_cli.
 
-The page is searched, turned and narrowed, and each step is told with its time; pictures go to the folder of --shots. Status 1
-where the console is not empty, the script does not run, what Chromium reads in the plain lists is not what Python's html.parser
-reads, a search draws other rows than the lists have, the bars are not those of the list of other hosts, an element is not the
-page's own, a link is neither http nor a fragment, or the page is wider than a narrow screen.
+The script searches the page, changes its views and narrows the window, and prints the time of each step. With --shots it saves
+screenshots. The exit status is 1 if
+- the console is not empty, or the page's script does not run,
+- Chromium reads other text in the plain lists than Python's html.parser,
+- a search shows other rows than the lists have, or the bars do not match the list of external hosts,
+- the page has an unexpected element, or a link that is neither http nor a fragment,
+- the page is wider than a narrow screen.
 """
 
 from __future__ import annotations
@@ -67,18 +70,18 @@ class Browser:
         self.events: List[Dict[str, Any]] = []
 
     def read(self) -> Dict[str, Any]:
-        """The next message."""
+        """Returns the next message."""
         while b"\0" not in self.rest:
             more = os.read(self.back, 1 << 20)
             if not more:
-                sys.exit("chromium ended")
+                sys.exit("chromium exited")
             self.rest += more
         one, self.rest = self.rest.split(b"\0", 1)
         message: Dict[str, Any] = json.loads(one)
         return message
 
     def call(self, method: str, **parameters: Any) -> Dict[str, Any]:
-        """What a method answers."""
+        """Calls a method and returns its result."""
         self.number += 1
         message = {"id": self.number, "method": method, "params": parameters}
         message.update({"sessionId": self.session} if self.session else {})
@@ -93,7 +96,7 @@ class Browser:
             self.events.append(got)
 
     def open(self, page: str) -> float:
-        """Opens a page; how many seconds that took."""
+        """Opens a page and returns the seconds that it took."""
         target = self.call("Target.createTarget", url="about:blank")["targetId"]
         self.session = self.call("Target.attachToTarget", targetId=target, flatten=True)["sessionId"]
         for domain in ("Page", "Runtime", "Log"):
@@ -106,21 +109,21 @@ class Browser:
         return time.time() - begin
 
     def size(self, width: int, height: int, mobile: bool) -> None:
-        """Makes the screen so large."""
+        """Sets the size of the screen."""
         self.call("Emulation.setDeviceMetricsOverride", width=width, height=height, deviceScaleFactor=1, mobile=mobile)
 
     def ask(self, code: str) -> Any:
-        """The value of an expression in the page."""
+        """Returns the value of an expression in the page."""
         answer = self.call("Runtime.evaluate", expression=code, returnByValue=True, awaitPromise=True)
         return answer["result"].get("value")
 
     def change(self, field: str, value: str) -> float:
-        """Writes into a field of the search; how many milliseconds that took."""
+        """Sets a field of the search form and returns the milliseconds that it took."""
         took: float = self.ask(CHANGE.format(field, json.dumps(value)))
         return took
 
     def close(self) -> None:
-        """Ends it."""
+        """Closes the browser."""
         self.session = ""
         self.call("Browser.close")
         self.process.wait()
@@ -128,20 +131,20 @@ class Browser:
 
 
 class Faults:
-    """What is wrong with a page."""
+    """Counts and prints the errors of a page."""
 
     def __init__(self) -> None:
         self.count = 0
 
     def want(self, what: str, given: object, wanted: object) -> None:
-        """Tells where something is otherwise than it is to be."""
+        """Prints an error if two values differ."""
         if given != wanted:
             self.count += 1
-            print(f"FAULT: {what}: given {str(given)[:500]}, wanted {str(wanted)[:500]}")
+            print(f"ERROR: {what}: actual {str(given)[:500]}, expected {str(wanted)[:500]}")
 
 
 def hosts_of(text: str) -> Dict[str, int]:
-    """How many links lead to each host of a list of URLs."""
+    """Returns the number of links to each host in a list of URLs."""
     hosts: Counter[str] = Counter()
     for line in text.split("\n"):
         url, tab, links = line.partition("\t")
@@ -151,7 +154,7 @@ def hosts_of(text: str) -> Dict[str, int]:
 
 
 def targets_of(text: str) -> List[str]:
-    """Each target of the list of broken links, with its places, as it is searched."""
+    """Returns the text of each target in the list of broken links, with its locations, in which a search looks."""
     targets: List[str] = []
     for line in text.split("\n"):
         if line.startswith("\t"):
@@ -162,7 +165,7 @@ def targets_of(text: str) -> List[str]:
 
 
 def look_at_lists(browser: Browser, page: str, faults: Faults) -> Dict[str, str]:
-    """Compares the plain lists with what Python reads of the page, and the bars with the list of other hosts."""
+    """Compares the plain lists with the text that Python reads in the page, and the bars with the list of external links."""
     read = Lines()
     read.feed(Path(page).read_text("utf-8"))
     faults.want("plain lists", browser.ask(LISTS), read.texts)
@@ -174,22 +177,23 @@ def look_at_lists(browser: Browser, page: str, faults: Faults) -> Dict[str, str]
 
 
 def search(browser: Browser, text: str, faults: Faults) -> None:
-    """Searches the list of broken links, and draws it in each order."""
+    """Searches the list of broken links, and shows it in each view and order."""
     targets = targets_of(text)
+    counted = f"{len(targets)} target{'' if len(targets) == 1 else 's'}"
     print("by target:", browser.ask(DRAWN))
     for words in ["html", targets[0].split("\n")[0], "no such anchor", "\u2400nowhere"]:
         took = browser.change("q", words)
         found = sum(all(word in target for word in words.lower().split()) for target in targets)
-        faults.want(f"search for {words!r}", browser.ask(FOUND), f"{found} of {len(targets)} targets")
+        faults.want(f"search for {words!r}", browser.ask(FOUND), f"{found} of {counted}")
         print(f"search for {words!r}: {browser.ask(DRAWN)}; {took:.0f} ms")
-    for field, value in [("q", ""), ("by", "page"), ("order", "most"), ("by", "target")]:
+    for field, value in [("q", ""), ("by", "file"), ("order", "most"), ("by", "target")]:
         took = browser.change(field, value)
         print(f"{field}={value}: {browser.ask(DRAWN)}; {took:.0f} ms")
-    faults.want("all again", browser.ask(FOUND), f"{len(targets)} of {len(targets)} targets")
+    faults.want("all targets again", browser.ask(FOUND), f"{len(targets)} of {counted}")
 
 
 def look(page: str, shots: Optional[str]) -> int:
-    """Opens and tries a page; how many faults it has."""
+    """Tests a page and returns the number of errors."""
     browser, faults = Browser(), Faults()
 
     def shot(name: str) -> None:
@@ -216,20 +220,22 @@ def look(page: str, shots: Optional[str]) -> int:
 
 
 def made_of(folder: str, page: str) -> None:
-    """Lets the program make the page of a folder."""
+    """Makes the report of a folder."""
     call = os.environ.get("PROGRAM", str(BUILT))
     words = [call, "check", "--html", "--unreached", "--external", folder, "http://docs.test/"]
     with open(page, "wb") as file:
         status = subprocess.run(words, stdout=file, stderr=subprocess.DEVNULL, check=False).returncode
     if status not in (0, 4):
-        sys.exit(f"{call}: status {status}")
+        sys.exit(f"{call}: exit status {status}")
 
 
 def main() -> int:
-    """Opens the page that is asked for."""
+    """Tests the page that the command line names."""
     words = argparse.ArgumentParser(description=__doc__, formatter_class=argparse.RawDescriptionHelpFormatter)
-    words.add_argument("page", nargs="?", default=str(loading.ROOT / "examples/site"), metavar="PAGE|FOLDER")
-    words.add_argument("--shots", metavar="FOLDER", help="where pictures go")
+    words.add_argument(
+        "page", nargs="?", default=str(loading.ROOT / "examples/site"), metavar="PAGE|FOLDER", help="report, or folder to check"
+    )
+    words.add_argument("--shots", metavar="FOLDER", help="save screenshots in this folder")
     given = words.parse_args()
     with tempfile.TemporaryDirectory() as scratch:
         page = given.page
@@ -237,7 +243,7 @@ def main() -> int:
             page = os.path.join(scratch, "page.html")
             made_of(given.page, page)
         count = look(page, given.shots)
-    print(f"{count} faults")
+    print(f"{count} errors")
     return 1 if count else 0
 
 

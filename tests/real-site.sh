@@ -1,9 +1,9 @@
 #!/bin/bash
-# Crawls real sites from their folders: the shipped one, and Python's documentation where its package is installed (or in the
-# folder that DOCUMENTATION names). Each is converted by tools/site_to_web.py and crawled with 1 and 4 workers. The shipped
-# site's report is a stored one; each site's is also that of an independent search (tests/searched_web.py), which leaves links out
-# before both, and says how many. The lines of sources are held against the stored ones and the search's too.
-# Wants `rt` (where the program is not built) and Python 3.9.
+# Crawls real sites: the shipped one, and Python's documentation if its package is installed or DOCUMENTATION names its folder.
+# tools/site_to_web.py converts each folder, and the program crawls it with 1 and 4 workers. The report of the shipped site must be
+# the stored one. The report of each site must be that of an independent search (tests/searched_web.py). Links that the search
+# cannot handle are removed first, and it prints their number. The lines of --sources are compared in the same way.
+# Requires Python 3.9 or later, and `rt` if the program is not built.
 set -euo pipefail
 cd "$(dirname "$0")/.."
 program=${PROGRAM:-$PWD/crates/mercator_cli/out/mercator_cli}
@@ -15,7 +15,7 @@ if [ ! -x "$program" ]; then
     (cd crates/mercator_cli && rt run -- key http://a.test/ > /dev/null)
 fi
 
-# Written by hand from the site's files.
+# Found by hand in the files of the site.
 cat > "$made/stored.sources" <<'SOURCES'
 from 1 http://site.test/ http://cogs.test/wheels
 from 1 http://site.test/api/v2/types.html http://site.test/api/v1/types.html
@@ -28,7 +28,7 @@ SOURCES
 
 status=0
 
-# tells where two files differ
+# prints the first differences of two files: NAME EXPECTED ACTUAL
 same() {
     if ! diff "$2" "$3" > "$made/differ"; then
         echo "$1: differs:" >&2
@@ -37,17 +37,17 @@ same() {
     fi
 }
 
-# crawls a saved web from a seed with 1 and 4 workers: NAME WEB SEED REPORT SOURCES
+# crawls a saved web from a seed with 1 and 4 workers, and compares the output: NAME WEB SEED REPORT SOURCES
 crawls() {
-    cat "$4" "$5" > "$made/wanted"
+    cat "$4" "$5" > "$made/expected"
     local workers
     for workers in 1 4; do
-        "$program" crawl --sources --workers "$workers" - "$3" < "$2" > "$made/told"
-        same "$1, $workers workers" "$made/wanted" "$made/told"
+        "$program" crawl --sources --workers "$workers" - "$3" < "$2" > "$made/actual"
+        same "$1, $workers workers" "$made/expected" "$made/actual"
     done
 }
 
-# converts a folder, and crawls the saved web without the links that the search leaves out: NAME FOLDER SEED
+# converts a folder, removes the links that the search cannot handle, and compares the crawl with the search: NAME FOLDER SEED
 searched() {
     python3 tools/site_to_web.py "$2" "$3" > "$made/web" 2> "$made/left"
     echo -n "$1: "
@@ -68,7 +68,7 @@ done
 if [ -n "$found" ]; then
     searched "Python's documentation" "$found" http://docs.test/
 else
-    echo "Python's documentation is not installed: not crawled"
+    echo "Python's documentation is not installed, so it is skipped"
 fi
-if [ "$status" = 0 ]; then echo "all as wanted"; fi
+if [ "$status" = 0 ]; then echo "all as expected"; fi
 exit "$status"

@@ -1,14 +1,14 @@
 #!/usr/bin/env python3
-"""Compares the program's saved webs of folders with the converter's: site.py [--drawn COUNT] [--seed SEED] [FOLDER ..].
+"""Compares the saved webs of `mercator site` with those of a converter in Python: site.py [--drawn COUNT] [--seed SEED] [FOLDER ..].
 
-PROGRAM in the environment is the program, else crates/mercator_cli's is taken; it is called as `PROGRAM site FOLDER BASE`.
-Each FOLDER is compared byte for byte with tools/site_to_web.py as it stands, and so are the shipped site and drawn
-documents with elements whose content is text. Without a FOLDER those of Debian's python3.11-doc, apache2-doc and
-postgresql-doc-15 that are installed are taken.
+The environment variable PROGRAM names the program to test; the default is the one built in crates/mercator_cli. The script
+compares the shipped site, random documents with elements that contain only text, and each FOLDER byte for byte with the output
+of the converter, tools/site_to_web.py. Without a FOLDER it takes the folders of Debian's python3.11-doc, apache2-doc and
+postgresql-doc-15 that are installed.
 
-Drawn folders are nasty: names with every odd byte, links, FIFOs, documents in several encodings with broken markup. There
-the converter reads documents by html5lib's tokenizer (Debian's python3-html5lib), because its own leaves the Standard. The
-program departs from it in what DEPARTURES names.
+Random folders are difficult: names with unusual bytes, symbolic links, FIFOs, documents in several encodings and with broken
+markup. For these the converter reads documents with html5lib's tokenizer (Debian's python3-html5lib), because its own differs
+from the HTML Standard. The known differences of the program are at the end of this help.
 """
 
 from __future__ import annotations
@@ -31,15 +31,16 @@ DOCUMENTS = (
     "/usr/share/doc/apache2-doc/manual",
     "/usr/share/doc/postgresql-doc-15/html",
 )
-# What the program does otherwise, and why; the reckoning below does the same.
+# The known differences of the program; the model below has them, too.
 DEPARTURES = """\
-a name that is not UTF-8 is left out and told, because no library call names its file
-no encoding but UTF-8, UTF-16 and windows-1252 is known
-the bytes 81, 8D, 8F, 90 and 9D of windows-1252 are C1 controls, as the Encoding Standard has them"""
+differences of the program:
+  a name that is not UTF-8 is skipped with a note, because no library call can open its file
+  the only known encodings are UTF-8, UTF-16 and windows-1252
+  the bytes 81, 8D, 8F, 90 and 9D of windows-1252 are C1 controls, as in the Encoding Standard"""
 
 
 def load(name: str, path: pathlib.Path) -> Any:
-    """A script as a module."""
+    """Loads a script as a module."""
     spec = importlib.util.spec_from_file_location(name, path)
     assert spec is not None and spec.loader is not None
     module = importlib.util.module_from_spec(spec)
@@ -49,32 +50,32 @@ def load(name: str, path: pathlib.Path) -> Any:
 
 
 def program() -> str:
-    """The program; `rt run -- --help` in its crate builds it."""
+    """The path of the program; `rt run -- --help` in crates/mercator_cli builds it."""
     return os.environ.get("PROGRAM") or str(TOP / "crates/mercator_cli/out/mercator_cli")
 
 
 def web_of(call: str, folder: str, words: list[str]) -> bytes:
-    """The program's web of a folder."""
+    """The program's saved web of a folder."""
     done = subprocess.run([call, "site", *words, folder, BASE], capture_output=True, check=False)
     if done.returncode != 0:
-        sys.exit(f"{folder}: status {done.returncode}\n{done.stderr.decode(errors='replace')}")
+        sys.exit(f"{folder}: exit status {done.returncode}\n{done.stderr.decode(errors='replace')}")
     return done.stdout
 
 
 def first_difference(given: bytes, wanted: bytes) -> str:
-    """Where two webs part, and the page above."""
+    """The first line in which two saved webs differ, and its page."""
     ours, theirs = given.split(b"\n"), wanted.split(b"\n")
     page = b""
     for number, (one, other) in enumerate(zip(ours, theirs), 1):
         if one != other:
-            return f"line {number}, {page.decode()}\n  given  {one!r}\n  wanted {other!r}"
+            return f"line {number}, {page.decode()}\n  actual   {one!r}\n  expected {other!r}"
         if one.startswith(b"page "):
             page = one
-    return f"{len(ours)} lines given, {len(theirs)} wanted"
+    return f"{len(ours)} lines, {len(theirs)} expected"
 
 
 def compare_as_it_stands(call: str, folder: str) -> bool:
-    """Compares the webs of a folder; the converter runs as it stands."""
+    """Compares the saved web of a folder with the output of the unchanged converter."""
     words = [sys.executable, str(TOP / "tools/site_to_web.py"), "--quiet", folder, BASE]
     wanted = subprocess.run(words, capture_output=True, check=True).stdout
     given = web_of(call, folder, [])
@@ -87,14 +88,14 @@ IN_TEXTS = ["<a href=in>", "<img src=in>", "</a>", "</p>", "<!", "-->", "<", ">"
 
 
 def drawn_texts(draw: random.Random) -> str:
-    """Elements whose content is text, some of them not ended, and a link behind each."""
+    """Elements that contain only text, some without an end tag, and a link after each."""
     text = "<!doctype html><a href=first>"
     for number in range(draw.randint(1, 6)):
         name = draw.choice([*TEXTS, "plaintext"] if draw.random() < 0.1 else TEXTS)
         name = draw.choice([name, name.upper(), name.title()])
         is_script = name.lower() == "script"
         inside = "".join(draw.choice(IN_TEXTS if is_script else [*IN_TEXTS, "<!--"]) for _ in range(draw.randint(0, 6)))
-        # Behind a script that is not ended a comment may begin within it, which the converter does not know.
+        # In a script without an end tag a comment may start, which the converter does not know.
         is_ended = draw.random() < 0.9 or is_script
         end = f"</{name.swapcase()}{draw.choice(['', ' ', chr(10), '/', ' x=y', ' x'])}>" if is_ended else ""
         text += f"<{name}{draw.choice(['', ' id=a', '/', ' src=own'])}>{inside}{end}<a href=behind{number}>"
@@ -107,11 +108,11 @@ def draw_texts(draw: random.Random, top: pathlib.Path) -> None:
         (top / f"{number}.html").write_text(drawn_texts(draw), "utf-8")
 
 
-# ---------------------------------------------------------------- the reckoning of drawn folders
+# ---------------------------------------------------------------- the model for random folders
 
 
 class Reckoning:
-    """The converter over html5lib's tokens, with the program's departures."""
+    """The converter with html5lib's tokenizer and the known differences of the program."""
 
     KNOWN = {"utf_8": "utf-8", "u8": "utf-8", "windows-1252": "cp1252", "1252": "cp1252", "utf-8": "utf-8", "cp1252": "cp1252"}
 
@@ -129,7 +130,7 @@ class Reckoning:
                 self.read(data)
 
             def flush(self, style: Any) -> None:
-                """Gives no links of styles."""
+                """Ignores styles."""
 
             def read_tag(self, tag: str, found: dict[str, str], tokens: Any) -> None:
                 if tag == "base" and self.base is None:
@@ -137,7 +138,7 @@ class Reckoning:
                 super().read_tag(tag, {name: found[name] for name in found if name != "style"}, tokens)
 
             def close(self) -> None:
-                """Nothing is kept back."""
+                """Does nothing, since nothing is buffered."""
 
         self.tool.LinkReader = Reader
         self.tool.without_long_references = lambda text: text
@@ -160,7 +161,7 @@ class Reckoning:
         self.bytes = {self.character(byte): bytes([byte]) for byte in range(256)}
 
     def with_query_in(self, text: str, charset: str) -> str:
-        """The link with the letters of its query percent-encoded in windows-1252."""
+        """The link with its query percent-encoded in windows-1252."""
         front, hash_mark, fragment = text.partition("#")
         path, mark, query = front.partition("?")
         if charset == "utf-8" or front.isascii() or not self.tool.is_web(self.tool.scheme_of(text)):
@@ -170,14 +171,14 @@ class Reckoning:
 
     @staticmethod
     def character(byte: int) -> str:
-        """The character of a byte in windows-1252, as the Encoding Standard has it."""
+        """The character of a byte in windows-1252, by the Encoding Standard."""
         try:
             return bytes([byte]).decode("cp1252")
         except UnicodeError:
             return chr(byte)
 
     def web(self, folder: str, words: list[str]) -> bytes:
-        """The converter's web of a folder."""
+        """The converter's saved web of a folder."""
         given = self.tool.command_line().parse_args(["--quiet", *words, folder, BASE])
         web = self.tool.Web(given)
         base = self.tool.base_of(BASE, self.tool.command_line())
@@ -201,7 +202,7 @@ DECLARED = ["", "", "", "<meta charset=utf-8>", '<meta charset="windows-1252">',
 
 
 def drawn_link(draw: random.Random, names: list[str]) -> str:
-    """A link's text: another file's name in some spelling, or anything."""
+    """A random link: another file's name in some spelling, or anything."""
     kind = draw.random()
     name = draw.choice(names)
     if kind < 0.4:
@@ -216,7 +217,7 @@ def drawn_link(draw: random.Random, names: list[str]) -> str:
 
 
 def drawn_file(draw: random.Random, links: Any, names: list[str]) -> bytes:
-    """A file's bytes."""
+    """The bytes of a random file."""
     if draw.random() < 0.1:
         return draw.choice([b"", b"plain", bytes(draw.randrange(256) for _ in range(200)), b"<html", b"\xef\xbb\xbf<html>"])
     text = draw.choice(HEADS) + draw.choice(DECLARED)
@@ -232,7 +233,7 @@ def drawn_file(draw: random.Random, links: Any, names: list[str]) -> bytes:
 
 
 def draw_folder(draw: random.Random, links: Any, top: pathlib.Path) -> None:
-    """Fills a folder."""
+    """Fills a folder with random files."""
     names = sorted({draw.choice(FOLDERS) + draw.choice(NAMES) for _ in range(draw.randint(1, 14))})
     for name in names:
         path = top / name
@@ -249,7 +250,7 @@ def draw_folder(draw: random.Random, links: Any, top: pathlib.Path) -> None:
 
 
 def compare_drawn(call: str, count: int, seed: int) -> int:
-    """Compares drawn folders; how many differ."""
+    """Compares random folders and returns the number of differences."""
     reckoning = Reckoning()
     draw = random.Random(seed)
     failed = 0
@@ -264,16 +265,16 @@ def compare_drawn(call: str, count: int, seed: int) -> int:
                 failed += 1
                 if failed <= 5:
                     print(f"folder {number} {words}: {first_difference(given, wanted)}")
-    print(f"{count - failed} drawn folders the same, {failed} differ")
+    print(f"{count - failed} random folders the same, {failed} differ")
     return failed
 
 
 def main() -> int:
-    """Compares all."""
+    """Runs the comparisons."""
     words = argparse.ArgumentParser(description=__doc__, formatter_class=argparse.RawDescriptionHelpFormatter, epilog=DEPARTURES)
-    words.add_argument("folders", nargs="*", metavar="FOLDER")
-    words.add_argument("--drawn", type=int, default=1000, metavar="COUNT")
-    words.add_argument("--seed", type=int, default=1)
+    words.add_argument("folders", nargs="*", metavar="FOLDER", help="folder to compare")
+    words.add_argument("--drawn", type=int, default=1000, metavar="COUNT", help="number of random folders (default: 1000)")
+    words.add_argument("--seed", type=int, default=1, help="seed of the random folders (default: 1)")
     given = words.parse_args()
     call = program()
     folders = given.folders or [folder for folder in DOCUMENTS if os.path.isdir(folder)]

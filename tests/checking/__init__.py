@@ -1,1 +1,1 @@
-"""A reckoning of its own of what `mercator check` tells of a folder."""
+"""An independent model of `mercator check`."""

@@ -1,4 +1,4 @@
-"""The links and ids of a document, each link with the line and column where its value begins."""
+"""The links and ids of a document, each link with the line and column of its value."""
 
 from __future__ import annotations
 
@@ -13,10 +13,10 @@ from checking.tags import SPACE, Attribute, Tag, start_tags
 TOOL: Any = loading.script("site_to_web", "tools/site_to_web.py")
 REFRESH = re.compile(r"[\t\n\f\r ]*[0-9.]+(?=[;,\t\n\f\r ])[\t\n\f\r ]*[;,]?[\t\n\f\r ]*(.*)", re.DOTALL)
 MARKS = ((b"\xef\xbb\xbf", "utf-8"), (b"\xff\xfe", "utf-16-le"), (b"\xfe\xff", "utf-16-be"))
-# Names of windows-1252, as Python has them and as the Encoding Standard does
+# Names of windows-1252 in Python and in the Encoding Standard
 WINDOWS = {"cp1252", "windows-1252", "1252"}
 UTF_8 = {"utf-8", "utf_8", "u8"}
-UNKNOWN = "\x80"  # in place of a byte beyond ASCII of a document in another encoding; no character reference stands for it
+UNKNOWN = "\x80"  # replaces bytes beyond ASCII in an unknown encoding; no character reference gives this character
 
 
 class Link(NamedTuple):
@@ -27,25 +27,25 @@ class Link(NamedTuple):
 class Document(NamedTuple):
     links: Tuple[Link, ...]
     base: Optional[str]
-    ids: Optional[FrozenSet[str]]  # None where one is not known
+    ids: Optional[FrozenSet[str]]  # None if some id is not known
     lines: "Lines"
     charset: str
 
 
 class Lines:
-    """Where the lines of a text begin."""
+    """The positions at which the lines of a text start."""
 
     def __init__(self, text: str) -> None:
         self.begins = [0] + [found.end() for found in re.finditer("\n", text)]
 
     def place(self, at: int) -> Tuple[int, int]:
-        """The line and the character in it, both from 1."""
+        """The line and the column of a position, both from 1."""
         line = bisect_right(self.begins, at)
         return line, at - self.begins[line - 1] + 1
 
 
 def character(byte: int) -> str:
-    """The character of a byte in windows-1252, as the Encoding Standard has it."""
+    """The character of a byte in windows-1252, by the Encoding Standard."""
     try:
         return bytes([byte]).decode("cp1252")
     except UnicodeError:
@@ -56,11 +56,14 @@ BYTES = {character(byte): bytes([byte]) for byte in range(256)}
 
 
 def text_of(body: bytes) -> Tuple[str, str]:
-    """A document's text and its encoding: by its mark, its head, UTF-8, or windows-1252. Of any other ASCII is read."""
+    """A document's text and encoding, by its byte order mark, its head, or as UTF-8 or windows-1252.
+
+    In any other encoding only ASCII is read.
+    """
     for mark, name in MARKS:
         if body.startswith(mark):
             return body[len(mark):].decode(name, "replace"), "utf-8"
-    names = list(filter(None, TOOL.charset_names(body, None)))
+    names: List[str] = list(filter(None, TOOL.charset_names(body, None)))
     for name in names:
         if name in UTF_8:
             return body.decode("utf-8", "replace"), "utf-8"
@@ -74,18 +77,18 @@ def text_of(body: bytes) -> Tuple[str, str]:
 
 
 def ascii_character(byte: int) -> str:
-    """The character of a byte where ASCII alone is known."""
+    """The character of a byte if only ASCII is known."""
     return chr(byte) if byte < 128 else UNKNOWN
 
 
 def is_absolute(link: str) -> bool:
-    """Whether a link means the same whatever its base is."""
+    """Whether a link does not depend on the base."""
     found = re.match(r"([A-Za-z][A-Za-z0-9+.-]*):([/\\]{2})?", link.strip(TOOL.EDGE))
-    return bool(found) and (found[2] is not None or found[1].lower() not in ("http", "https"))
+    return found is not None and (found[2] is not None or found[1].lower() not in ("http", "https"))
 
 
 def in_ascii(document: Document) -> Document:
-    """What is known of a document of which ASCII is read."""
+    """What is known of a document in which only ASCII is read."""
     links, base, ids = document.links, document.base, document.ids
     if base is not None and UNKNOWN in base.split("#")[0]:
         links, base = tuple(link for link in links if is_absolute(link.text)), None
@@ -95,7 +98,7 @@ def in_ascii(document: Document) -> Document:
 
 
 def with_query_in(text: str, charset: str) -> str:
-    """The link with the letters of its query percent-encoded in windows-1252, where the document has that."""
+    """The link with its query percent-encoded in windows-1252, if that is the document's encoding."""
     front, hash_mark, fragment = text.partition("#")
     path, mark, query = front.partition("?")
     if charset == "utf-8" or front.isascii() or not TOOL.is_web(TOOL.scheme_of(text)):
@@ -105,7 +108,7 @@ def with_query_in(text: str, charset: str) -> str:
 
 
 def firsts(tag: Tag) -> Dict[str, Attribute]:
-    """The first attribute of each name."""
+    """The first attribute with each name."""
     found: Dict[str, Attribute] = {}
     for attribute in tag.attributes:
         found.setdefault(attribute.name, attribute)
@@ -113,12 +116,12 @@ def firsts(tag: Tag) -> Dict[str, Attribute]:
 
 
 def words_of(text: str) -> List[str]:
-    """The words of a list, in lower case."""
+    """The words of a list in lower case."""
     return [word.lower() for word in re.split(f"[{SPACE}]+", text) if word]
 
 
 def target_of(text: str) -> List[str]:
-    """The target of a refresh, by the Standard's steps."""
+    """The target of a refresh, by the steps of the HTML Standard."""
     time = REFRESH.match(text)
     target = re.sub(r"\A[uU][rR][lL][\t\n\f\r ]*=[\t\n\f\r ]*", "", time[1]) if time else ""
     if target[:1] in ("'", '"'):
@@ -145,7 +148,7 @@ def texts_of(tag: str, found: Dict[str, Attribute]) -> List[Link]:
 
 
 def document_of(body: bytes) -> Document:
-    """What a document has."""
+    """Reads a document."""
     text, charset = text_of(body)
     links: List[Link] = []
     ids = set()

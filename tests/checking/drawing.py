@@ -1,4 +1,4 @@
-"""Folders of nasty documents: those of site.py with ids and fragments, documents with one change, and many files."""
+"""Random folders: those of site.py with ids and fragments, copies with one change per document, and folders of many files."""
 
 from __future__ import annotations
 
@@ -36,17 +36,17 @@ PIECES = [
 
 
 class Documents:
-    """Draws the bodies of documents for site.py."""
+    """Makes random documents for site.py."""
 
     def __init__(self, wild: float) -> None:
         self.wild = wild
 
     def drawn_document(self, draw: Random, _: bool) -> str:
-        """A document with links to files that may be there, fragments and ids."""
+        """A random document with ids, fragments and links to files that may exist."""
         return "".join(self.piece(draw) for _ in range(draw.randint(1, 20)))
 
     def piece(self, draw: Random) -> str:
-        """A part of a document."""
+        """A random piece of a document."""
         if draw.random() < self.wild:
             return draw.choice(PIECES)
         quote = draw.choice(["'", '"'])
@@ -59,7 +59,7 @@ class Documents:
 
 
 def draw_folder(draw: Random, top: Path) -> None:
-    """Fills a folder. Half of those without an index get one that links to their documents."""
+    """Fills a folder. Half of the folders without an index file get one that links to their documents."""
     SITE.draw_folder(draw, Documents(draw.choice([0.1, 0.3, 0.6])), top)
     if draw.random() < 0.2:
         add_odd(top)
@@ -70,12 +70,12 @@ def draw_folder(draw: Random, top: Path) -> None:
 
 
 def add_odd(top: Path) -> None:
-    """Adds what a folder seldom has: the longest name, a socket, and links that lead nowhere or to themselves."""
+    """Adds rare things: a name of the greatest length, a socket, and symbolic links to nothing or to themselves."""
     (top / ("n" * 250 + ".html")).write_text("<a href=x#y>", "utf-8")
     os.symlink("itself.html", top / "itself.html")
     os.symlink("gone.html", top / "dead.html")
     here = os.getcwd()
-    os.chdir(top)  # for a socket's path is short
+    os.chdir(top)  # because the path of a socket must be short
     try:
         with socket.socket(socket.AF_UNIX) as made:
             made.bind("socket.html")
@@ -84,21 +84,21 @@ def add_odd(top: Path) -> None:
 
 
 def change_folder(draw: Random, given: Path, top: Path) -> None:
-    """Fills a folder with the files of another, each document changed at one place."""
+    """Copies a folder and makes one change in each document."""
     shutil.copytree(given, top, dirs_exist_ok=True)
     for path in sorted(top.rglob("*.html")):
         path.write_bytes(changed(draw, path.read_bytes()))
 
 
 def changed(draw: Random, body: bytes) -> bytes:
-    """A body that ends at one place, or has other bytes there."""
+    """A body that is cut off, or has bytes replaced, added or removed, at a random position."""
     at, more = draw.randrange(len(body) + 1), draw.randrange(1, 4)
     some = bytes(draw.choice(b"<>\"'=&#/!- \n\0ax\xc3\xff") for _ in range(more))
     return draw.choice([body[:at], body[:at] + some + body[at:], body[:at] + some + body[at + more:], body[:at] + body[at + more:]])
 
 
 def fill_large(top: Path, count: int) -> None:
-    """Fills a folder with so many pages, each with links to the next, to an anchor of it, and to one that is not there."""
+    """Fills a folder with `count` pages, each with a link to an anchor of the next and one to a missing anchor; some have broken links."""
     for number in range(count):
         folder = top / str(number // 1000)
         folder.mkdir(exist_ok=True)

@@ -1,4 +1,4 @@
-"""The forms in which a check is told beside JSON: colour on a terminal, and the page."""
+"""The output forms of a check other than JSON: colour on a terminal, and the HTML page."""
 
 from __future__ import annotations
 
@@ -19,7 +19,7 @@ SCRIPT = re.compile(r"<script>(.*?)</script>", re.S)
 
 
 def on_terminal(words: List[str], **named: str) -> bytes:
-    """What a program writes to a terminal, with these names in its environment."""
+    """What a program writes to a terminal, with these environment variables."""
     ours, theirs = pty.openpty()
     running = subprocess.Popen(words, stdout=theirs, stderr=subprocess.DEVNULL, env={**os.environ, **named})
     os.close(theirs)
@@ -38,21 +38,21 @@ def on_terminal(words: List[str], **named: str) -> bytes:
 
 
 def colour_fault(call: str, folder: str) -> Optional[str]:
-    """What is wrong with the colour: it is on a terminal alone, never with NO_COLOR, and changes nothing else."""
+    """An error in the use of colour. Only a terminal gets it, not with NO_COLOR, and it changes nothing else."""
     words = [call, "check", folder]
     plain = subprocess.run(words, capture_output=True, check=False).stdout
     if CODES.search(plain):
-        return "a pipe has colour"
+        return "the output to a pipe has colour"
     if on_terminal(words, NO_COLOR="1") != plain:
-        return "NO_COLOR has colour"
+        return "the output with NO_COLOR has colour"
     coloured = on_terminal(words, NO_COLOR="")
     if not CODES.search(coloured) or CODES.sub(b"", coloured) != plain:
-        return f"a terminal has {coloured!r}"
+        return f"the output on a terminal is {coloured!r}"
     return None
 
 
 class Lines(HTMLParser):
-    """Reads the lines of the page's lists, by the part in which they stand."""
+    """Reads the lists of the page, by section."""
 
     def __init__(self) -> None:
         super().__init__()
@@ -74,18 +74,18 @@ class Lines(HTMLParser):
 
 
 def wrong(row: Row) -> str:
-    """What is wrong with a target, and the page with its name."""
-    same = f" (same name: {row['same_name']})" if row["same_name"] else ""
+    """What is wrong with a target, and the page that is suggested."""
+    same = f" (did you mean {row['same_name']}?)" if row["same_name"] else ""
     return f"no such {row['missing']}{same}"
 
 
 def shown(text: str) -> str:
-    """A text with its control bytes as pictures."""
+    """A text with symbols for its control characters."""
     return re.sub("[\0-\x1f\x7f]", lambda one: chr(0x2421 if one[0] == "\x7f" else 0x2400 + ord(one[0])), text)
 
 
 def line_of(row: Row) -> Tuple[str, str]:
-    """The part of a row in the page, and its line there."""
+    """The section of the page that has a row, and the row's line there."""
     row = {key: shown(value) if isinstance(value, str) else value for key, value in row.items()}
     kind = row["kind"]
     if kind == "broken":
@@ -95,18 +95,26 @@ def line_of(row: Row) -> Tuple[str, str]:
     if kind == "worst":
         return kind, f"{row['file']}\t{row['links']}"
     if kind == "redirect":
-        return "redirects", f"{row['page']}\tto {row['to'] or '-'}\tlinked from {row['pages']}"
+        pages = "1 page" if row["pages"] == 1 else f"{row['pages']} pages"
+        return "redirects", f"{row['page']}\tto {row['to'] or '-'}\tlinked from {pages}"
     if kind == "external":
         return kind, f"{row['url']}\t{row['links']}"
     return kind, row["name"]
 
 
+def heading(total: Row) -> str:
+    """The text of the heading."""
+    return f"<b>{total['broken']}</b> broken link{'' if total['broken'] == 1 else 's'}</h1>"
+
+
 def page_fault(page: bytes, rows: List[Row]) -> Optional[str]:
-    """What is wrong with a page that tells these rows."""
+    """An error in the page of these rows."""
     text = page.decode("utf-8")
     policy, script = POLICY.search(text), SCRIPT.search(text)
     if policy is None or script is None or base64.b64encode(hashlib.sha256(script[1].encode()).digest()).decode() != policy[1]:
         return "its policy does not allow its script"
+    if heading(rows[0]) not in text:
+        return f"its heading is not {heading(rows[0])}"
     read = Lines()
     read.feed(text)
     wanted: Dict[str, str] = {}
@@ -115,5 +123,5 @@ def page_fault(page: bytes, rows: List[Row]) -> Optional[str]:
             part, line = line_of(row)
             wanted[part] = wanted.get(part, "\n") + line + "\n"
     if read.texts != wanted:
-        return f"given {read.texts}, wanted {wanted}"
+        return f"actual {read.texts}, expected {wanted}"
     return None

@@ -1,6 +1,6 @@
-"""What is broken in a folder, reckoned by a plain static server and a search from its top.
+"""The broken links of a folder, by a model of a plain static server and a search from the top.
 
-The URLs are read by drawn.py, which raises NotPlain where it takes tables that it has not.
+drawn.py parses the URLs. It raises NotPlain if a URL needs tables that it does not have.
 """
 
 from __future__ import annotations
@@ -16,13 +16,13 @@ import drawn
 from checking.documents import TOOL, Document, document_of, with_query_in
 
 Row = Dict[str, Any]
-FRAGMENT = "\"<>`"  # what a fragment percent-encodes beside controls, spaces and what is beyond ASCII
-MOST_FILES = 10  # that are told to have most broken links
-LINE_LIMIT = 4096  # bytes of a line of a saved web
+FRAGMENT = "\"<>`"  # percent-encoded in a fragment, in addition to controls, spaces and everything beyond ASCII
+MOST_FILES = 10  # the number of files in the list of files with the most broken links
+LINE_LIMIT = 4096  # the most bytes in a line of a saved web
 
 
 class Found(NamedTuple):
-    name: bytes  # of the file, below the folder
+    name: bytes  # the file's path in the folder
 
 
 class Moved(NamedTuple):
@@ -39,7 +39,7 @@ class Place(NamedTuple):
 
 
 class Lead(NamedTuple):
-    """Where a link of a page leads."""
+    """A link of a page: its target and its location."""
 
     url: str
     fragment: Optional[str]
@@ -47,27 +47,27 @@ class Lead(NamedTuple):
 
 
 class Asked(NamedTuple):
-    """What a check is asked for."""
+    """The settings of a check."""
 
     base: str
-    front: str = ""  # what is left out at the front of a URL
+    front: str = ""  # the prefix that is removed from URLs in the report
     ignores: Tuple[str, ...] = ()
     anchors: bool = True
     unreached: bool = False
     exact: bool = False
     external: bool = False
-    seeds: Tuple[str, ...] = ()  # links of the top, where the search begins
+    seeds: Tuple[str, ...] = ()  # links on the top at which the search starts
 
 
 def url_of(text: str, base: drawn.Url) -> Optional[str]:
-    """The URL of a link without its fragment, where it is http or https."""
+    """The URL of a link without its fragment, or None if it is not http or https."""
     text, mark, _ = TOOL.cleaned(text).partition("#")
     if not text:
         return str(base)
     if mark:
-        # What stands before a fragment is no end of the text, where spaces would be cut off
+        # Spaces before a fragment are not at the end of the text, so they are not removed
         text = re.sub(r"[\0-\x20]+\Z", lambda run: quote(run[0]), text)
-    # All pages of a folder have one answer to such a text
+    # The result is the same for all pages of a folder
     return resolved(text, base if text[0] == "?" else base._replace(path=(*base.path[:-1], ""), query=""))
 
 
@@ -77,48 +77,48 @@ def resolved(text: str, base: drawn.Url) -> Optional[str]:
     if not TOOL.is_web(TOOL.scheme_of(text)):
         return None
     path, mark, query = text.partition("?")
-    # The newer text of the Standard has this letter as an escape, which drawn.py leaves open
+    # The current URL Standard escapes this character, and drawn.py rejects it
     url = drawn.url_or_none(path.replace("^", "%5E") + mark + query, base)
     return None if url is None else str(url)
 
 
 def is_short(word: str, text: str) -> bool:
-    """Whether the line of a saved web with this word and text is short enough."""
+    """Whether a line of a saved web with this word and text is within the limit."""
     return len(f"{word} {text}".encode("utf-8", "replace")) <= LINE_LIMIT
 
 
 def fragment_of(text: str) -> Optional[str]:
-    """What stands behind the `#` of a link, where it has one."""
+    """The text after the `#` of a link, or None if it has none."""
     _, mark, fragment = TOOL.cleaned(text).partition("#")
     return fragment if mark else None
 
 
 def is_there(text: str, ids: AbstractSet[str]) -> bool:
-    """Whether a document with these ids has the part that is indicated by what stands behind a `#`."""
+    """Whether a document with these ids has the anchor that the text after a `#` names."""
     fragment = drawn.encoded(text, FRAGMENT).partition(":~:")[0]
     read = unquote_to_bytes(fragment).decode("utf-8", "replace")
     return not fragment or fragment in ids or read in ids or read.lower() == "top"
 
 
 def last_of(url: str) -> str:
-    """The last part of a URL's path."""
+    """The last segment of a URL's path."""
     return re.split("[?]", url)[0].rpartition("/")[2]
 
 
 def in_bytes(row: Tuple[Tuple[str, str], object]) -> Tuple[bytes, bytes]:
-    """The key of an order by the bytes of a page and a fragment."""
+    """A sort key: the bytes of a page's URL and of a fragment."""
     return row[0][0].encode(), row[0][1].encode("utf-8", "replace")
 
 
 class Silent:
-    """Hears what the converter's walk tells."""
+    """Takes the converter's notes."""
 
     def tell(self, what: str, where: str) -> None:
-        """Tells nothing."""
+        """Drops a note."""
 
 
 class Site:
-    """The pages of a folder, as a plain static server answers them."""
+    """The pages of a folder, as a plain static server returns them."""
 
     def __init__(self, folder: str, asked: Asked) -> None:
         self.folder = os.fsencode(folder)
@@ -128,17 +128,17 @@ class Site:
         self.documents: Dict[bytes, Optional[Document]] = {}
 
     def own(self, name: bytes) -> str:
-        """The URL of a file, or of a folder with its slash, as a server spells it."""
+        """The URL of a file, or of a folder with its slash, in a server's spelling."""
         return str(self.base) + quote(name, safe=TOOL.IN_NAME + "/")
 
     def pages(self) -> List[Tuple[str, bytes]]:
-        """The pages of files, in order: each file, and each folder with an index."""
+        """The pages in order: each file, and each folder with an index file."""
         found = [(self.own(name), name) for name in self.names if not name.endswith(b"/")]
         found += [(self.own(name[:-10]), name) for _, name in found if os.path.basename(name) == b"index.html"]
         return sorted(found)
 
     def answer(self, url: str) -> Answer:
-        """What a server answers at a URL."""
+        """What a server returns for a URL."""
         asked = drawn.url_of(url)
         front = self.base.path[:-1]
         if asked._replace(path=(), query="") != self.base._replace(path=(), query=""):
@@ -157,7 +157,7 @@ class Site:
         return Found(name) if name in self.names else None
 
     def document(self, name: bytes) -> Optional[Document]:
-        """The document that a file is, if it is one."""
+        """The document in a file, or None if the file is not a document."""
         if name not in self.documents:
             kind, packed = TOOL.kind_of(name)
             with open(os.path.join(self.folder, name), "rb") as file:
@@ -168,7 +168,7 @@ class Site:
 
 
 class Reckoning:
-    """A search from the top of a folder, and what it finds broken."""
+    """A search from the top of a folder, and the broken links that it finds."""
 
     def __init__(self, folder: str, asked: Asked) -> None:
         self.asked, self.site = asked, Site(folder, asked)
@@ -183,11 +183,11 @@ class Reckoning:
                 waiting += self.followed(url)
 
     def is_within(self, url: str) -> bool:
-        """Whether a URL lies below the top."""
+        """Whether a URL is below the top."""
         return url.startswith(str(self.site.base))
 
     def followed(self, url: str) -> Set[str]:
-        """The URLs that a page leads to."""
+        """The URLs that a page links or redirects to."""
         answer = self.answers[url]
         if isinstance(answer, Moved):
             return {answer.url}
@@ -198,9 +198,9 @@ class Reckoning:
         return {lead.url for lead in self.leads[url]}
 
     def leads_of(self, document: Document, url: str, name: str) -> Iterator[Lead]:
-        """Where the links of a page lead."""
+        """The links of a page with their targets."""
         page = base = drawn.url_of(url)
-        front = ""  # what is put before a link without a scheme
+        front = ""  # goes before a link without a scheme
         has_base = False
         if document.base is not None:
             try:
@@ -245,7 +245,7 @@ class Reckoning:
         return [total, *broken, *worst, *redirects, *names, *external, *self.unused()]
 
     def linked(self) -> Dict[str, Set[str]]:
-        """The pages that link to each URL. A page that has moved links to where it moved."""
+        """The pages that link to each URL. A redirect counts as a link to its target."""
         linked: Dict[str, Set[str]] = {}
         for page, leads in self.leads.items():
             for lead in leads:
@@ -256,15 +256,15 @@ class Reckoning:
         return linked
 
     def told(self, url: str) -> str:
-        """A URL as it is printed."""
+        """A URL as the report prints it."""
         return (url[len(self.asked.front):] or "./") if url.startswith(self.asked.front) else url
 
     def is_ignored(self, target: str) -> bool:
-        """Whether a target is known to be broken."""
+        """Whether a target is on the ignore list."""
         return any(target.startswith(entry) for entry in self.asked.ignores)
 
     def missing_pages(self, linked: Dict[str, Set[str]]) -> Iterator[Row]:
-        """The rows of pages that are not there, with the places of links to them and to pages that moved to them."""
+        """The rows of missing pages, with the locations of links to them and to redirects to them."""
         names = self.names()
         ends = {url: answer.url for url, answer in self.answers.items() if isinstance(answer, Moved)}
         places: Dict[str, Set[Place]] = {}
@@ -282,7 +282,7 @@ class Reckoning:
     def broken_rows(
         self, target: str, missing: str, pages: int, places: "Set[Place] | Tuple[()]", same_name: Optional[str]
     ) -> Iterator[Row]:
-        """The row of a target that is not there, as it is told, and those of the links to it."""
+        """The row of a missing target and the rows of the links to it."""
         told = {"target": target, "missing": missing}
         same = None if same_name is None else self.told(same_name)
         yield {"kind": "broken", **told, "pages": pages, "same_name": same}
@@ -290,14 +290,17 @@ class Reckoning:
             yield {"kind": "place", **told, **place._asdict()}
 
     def missing_anchors(self) -> Iterator[Row]:
-        """The rows of anchors that are not there, of pages that are."""
+        """The rows of missing anchors in existing pages."""
         for (url, fragment), (pages, places) in sorted(self.anchors_missing().items(), key=in_bytes):
             target = f"{self.told(url)}#{fragment}"
             if not self.is_ignored(target):
                 yield from self.broken_rows(target, "anchor", len(pages), places, None)
 
     def anchors_missing(self) -> Dict[Tuple[str, str], Tuple[Set[str], Set[Place]]]:
-        """By page and fragment what is not there, which pages link to it, and where; of a file's such pages the first is told."""
+        """The missing anchors by page and fragment, each with the pages that link to it and the locations.
+
+        If a file has several such pages, the first stands for all.
+        """
         missing: Dict[Tuple[bytes, str], Tuple[Set[str], Set[Place]]] = {}
         firsts: Dict[bytes, str] = {}
         for page, leads in self.leads.items():
@@ -313,18 +316,18 @@ class Reckoning:
         return {(firsts[name], fragment): linked for (name, fragment), linked in missing.items()}
 
     def has_anchor(self, name: bytes, fragment: str) -> bool:
-        """Whether a file has an anchor, or is no document whose anchors are known."""
+        """Whether a file has an anchor. True if its anchors are not known or it is not a document."""
         document = self.site.document(name)
         return document is None or document.ids is None or is_there(fragment, document.ids)
 
     def names(self) -> Dict[str, Tuple[str, str]]:
-        """The pages whose file name no other page of the site has, by that name, and their files."""
+        """The pages with a unique file name, by that name, and their files."""
         pages = [(url, name.decode()) for url, name in self.site.pages() if last_of(url)]
         counts = Counter(last_of(url) for url, _ in pages)
         return {last_of(url): (url, name) for url, name in pages if counts[last_of(url)] == 1}
 
     def unreached(self) -> Iterator[str]:
-        """The files of which no page was reached, each by its first page."""
+        """The unreached files, each by the first of its pages."""
         reached = {answer.name for answer in self.answers.values() if isinstance(answer, Found)}
         for url, name in self.site.pages():
             if name not in reached:
@@ -332,12 +335,12 @@ class Reckoning:
                 yield self.told(url)
 
     def external(self) -> List[Row]:
-        """The rows of where links that lead elsewhere lead."""
+        """The rows of external links."""
         urls = Counter(lead.url for leads in self.leads.values() for lead in leads if not self.is_within(lead.url))
         return [{"kind": "external", "url": url, "links": count} for url, count in sorted(urls.items(), key=lambda row: row[0].encode())]
 
     def unused(self) -> Iterator[Row]:
-        """The entries of what is known to be broken that nothing matched."""
+        """The rows of ignore entries that match nothing."""
         texts = [self.told(url) for url, answer in self.answers.items() if answer is None]
         if self.asked.anchors:
             texts += [f"{self.told(url)}#{fragment}" for url, fragment in self.anchors_missing()]

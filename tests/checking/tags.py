@@ -1,4 +1,4 @@
-"""The start tags of an HTML document by the HTML Standard's tokenizer, each value with the place where it begins."""
+"""The start tags of an HTML document by the HTML Standard's tokenizer, each value with its position."""
 
 from __future__ import annotations
 
@@ -20,7 +20,7 @@ RAW = ("title", "textarea", "style", "xmp", "iframe", "noembed", "noframes")
 REFERENCE = re.compile(r"&(?:#([0-9]+);?|#[xX]([0-9A-Fa-f]+);?|([0-9A-Za-z]+;?))")
 NAMED = html.entities.html5
 LONGEST_NAME = max(map(len, NAMED))
-# The code points that a reference by number stands for in place of itself
+# The code points that some numeric references give instead of their number
 C1 = dict(zip(range(0x80, 0xA0), (
     0x20AC, 0x81, 0x201A, 0x192, 0x201E, 0x2026, 0x2020, 0x2021, 0x2C6, 0x2030, 0x160, 0x2039, 0x152, 0x8D, 0x17D, 0x8F,
     0x90, 0x2018, 0x2019, 0x201C, 0x201D, 0x2022, 0x2013, 0x2014, 0x2DC, 0x2122, 0x161, 0x203A, 0x153, 0x9D, 0x17E, 0x178,
@@ -29,8 +29,8 @@ C1 = dict(zip(range(0x80, 0xA0), (
 
 class Attribute(NamedTuple):
     name: str
-    value: str  # with its references read
-    at: int  # where the value begins
+    value: str  # with character references replaced
+    at: int  # the position of the value
 
 
 class Tag(NamedTuple):
@@ -39,21 +39,21 @@ class Tag(NamedTuple):
 
 
 def lower(text: str) -> str:
-    """The text with the letters of ASCII in lower case, and U+FFFD for NUL."""
+    """The text with ASCII letters in lower case and U+FFFD for NUL."""
     if text.isalpha() and text.isascii():
         return text.lower()
     return re.sub("[A-Z]+", lambda run: run[0].lower(), text).replace("\0", "\ufffd")
 
 
 def number_read(number: int) -> str:
-    """What a reference with this number stands for."""
+    """The character of a numeric reference."""
     if number == 0 or number > 0x10FFFF or 0xD800 <= number < 0xE000:
         return "\ufffd"
     return chr(C1.get(number, number))
 
 
 def name_read(text: str, behind: str) -> str:
-    """What `&` and a run of letters and digits stand for in a value, before what stands behind the run."""
+    """The text of `&` and a run of letters and digits in a value, if `behind` follows the run."""
     for end in range(min(len(text), LONGEST_NAME), 0, -1):
         if text[:end] in NAMED:
             more = text[end:] + behind
@@ -64,7 +64,7 @@ def name_read(text: str, behind: str) -> str:
 
 
 def decoded(value: str) -> str:
-    """A value with its references read."""
+    """A value with its character references replaced."""
     value = value.replace("\r\n", "\n").replace("\r", "\n").replace("\0", "\ufffd")
 
     def one(found: "re.Match[str]") -> str:
@@ -78,7 +78,7 @@ def decoded(value: str) -> str:
 
 
 def attributes_from(text: str, at: int) -> Tuple[Tuple[Attribute, ...], int]:
-    """The attributes of a tag from behind its name, and where the tag ends: behind the text where it is cut off."""
+    """The attributes after a tag's name, and the position after the tag, which is after the text if the tag is cut off."""
     found: list[Attribute] = []
     cut = len(text) + 1
     while True:
@@ -107,7 +107,7 @@ def attributes_from(text: str, at: int) -> Tuple[Tuple[Attribute, ...], int]:
 
 
 def script_end(text: str, at: int) -> int:
-    """Where the end tag of a script begins, by its escaped states; behind the text where none does."""
+    """The position of a script's end tag, by the escaped states of the Standard, or after the text if there is none."""
     escaped = doubly = False
     while True:
         mark = SCRIPT_MARK.search(text, at)
@@ -115,7 +115,7 @@ def script_end(text: str, at: int) -> int:
             return len(text) + 1
         at = mark.end()
         if mark[0] == "<!--":
-            # Its dashes may be those of an end, too
+            # Its dashes may also be those of the end of a comment
             at = mark.end() - 2
             escaped = True
         elif mark[0] == "-->":
@@ -130,7 +130,7 @@ def script_end(text: str, at: int) -> int:
 
 
 def content_end(name: str, text: str, at: int) -> int:
-    """Where markup goes on behind a start tag with this name."""
+    """The position at which markup resumes after a start tag with this name."""
     if name == "plaintext":
         return len(text) + 1
     if name == "script":

@@ -1,4 +1,4 @@
--- A row as a command that GitHub's jobs show beside a file.
+-- A row as a GitHub annotation.
 use Rattle.std.specs.Prelude.{ℕ, ◌-◌, ◌==◌, List, [], ◌++◌, codes, drop, length, nat_eq, nat_lt, slice_get, string_bytes, if◌then◌else◌, Option, None, Some}
 use Rattle.std.specs.List.{starts_with}
 use Rattle.std.specs.Str.{bytes_eq}
@@ -10,24 +10,24 @@ use Rattle.check_report.specs.declared.escape.Escape.TheVariants as escape
 use Rattle.check_report.specs.declared.value.Broken.{Broken}
 use Rattle.check_report.specs.declared.value.Place.{Place}
 
--- a target, and what is wrong with it
+-- a target and what is missing
 abbrev pub message_line : Broken → List ℕ
 message_line b = escaped escape.Data (string_bytes b.target) ++ codes ": " ++ wrong_of escape.Data b ++ codes "\n"
 
--- a folder without the `./` that it may begin with
+-- a folder without a leading `./`
 abbrev pub behind_here : List ℕ → List ℕ
 behind_here folder = if starts_with nat_eq folder (codes "./") then drop 2 folder else folder
 
--- what is lacking behind a folder that ends so
+-- the slash to put after a folder with this last byte
 abbrev pub slash_behind : Option ℕ → List ℕ
 slash_behind None = []
 slash_behind (Some last) = if last == 47 then [] else codes "/"
 
--- what stands before the names of a folder's files: nothing where the folder is empty or the one that the program runs in
+-- the text before the names of a folder's files: nothing for an empty name and for the current folder
 abbrev pub front_of : List ℕ → List ℕ
 front_of folder = if bytes_eq folder (codes ".") then [] else folder ++ slash_behind (slice_get folder (length folder - 1))
 
--- where a link stands
+-- the location of a link
 abbrev pub at_place : List ℕ → Place → List ℕ
 at_place folder p =
     codes "::error file=" ++ escaped escape.Property (front_of (behind_here folder) ++ string_bytes p.file) ++ counted (codes ",line=") p.line ++ counted (codes ",col=") p.column
@@ -35,7 +35,7 @@ at_place folder p =
 abbrev pub place_annotation : List ℕ → Broken → Place → List ℕ
 place_annotation folder b p = at_place folder p ++ codes "::" ++ message_line b
 
--- a target to which no link leads
+-- a target without locations
 abbrev pub broken_annotation : Broken → List ℕ
 broken_annotation b = if nat_lt 0 (length b.places.items) then [] else codes "::error::" ++ message_line b
 

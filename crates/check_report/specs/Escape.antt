@@ -1,10 +1,10 @@
--- Texts of others, made harmless.
+-- Escapes of untrusted texts.
 use Rattle.std.specs.Prelude.{ℕ, ◌+◌, ◌==◌, Bool, true, false, ◌&&◌, ◌||◌, not, List, [], ◌∷◌, codes, nat_le, nat_lt, if◌then◌else◌}
 use Rattle.std.specs.List.{flat_map}
 use Rattle.check_report.specs.declared.escape.Escape.{Escape}
 use Rattle.check_report.specs.declared.escape.Escape.TheVariants as escape
 
--- a control byte is its picture (U+2400 and on), so that a name can neither end a line nor steer a terminal
+-- a control byte is shown as its symbol (U+2400 and on), so that a name can neither end a line nor control a terminal
 abbrev pub shown_byte : ℕ → List ℕ
 shown_byte b = if nat_lt b 32 then 226 ∷ 144 ∷ (128 + b) ∷ [] else (if b == 127 then 226 ∷ 144 ∷ 161 ∷ [] else b ∷ [])
 
@@ -12,7 +12,7 @@ shown_byte b = if nat_lt b 32 then 226 ∷ 144 ∷ (128 + b) ∷ [] else (if b =
 abbrev pub data_byte : ℕ → List ℕ
 data_byte b = if b == 37 then codes "%25" else (if b == 13 then codes "%0D" else (if b == 10 then codes "%0A" else b ∷ []))
 
--- in a property of one
+-- in a property of a GitHub command
 abbrev pub property_byte : ℕ → List ℕ
 property_byte b = if b == 58 then codes "%3A" else (if b == 44 then codes "%2C" else data_byte b)
 
@@ -31,7 +31,7 @@ escaped_byte escape.Html b = html_byte b
 abbrev pub is_c1 : ℕ → Bool
 is_c1 code = nat_le 128 code && nat_le code 159
 
--- a C1 control, as UTF-8 has it, begins the text
+-- the text starts with a C1 control in UTF-8
 abbrev pub begins_with_c1 : List ℕ → Bool
 begins_with_c1 [] = false
 begins_with_c1 (b ∷ []) = false
@@ -43,28 +43,28 @@ without_c1 [] = []
 without_c1 (b ∷ []) = b ∷ []
 without_c1 (b ∷ code ∷ rest) = if begins_with_c1 (b ∷ code ∷ rest) then 239 ∷ 191 ∷ 189 ∷ without_c1 rest else b ∷ without_c1 (code ∷ rest)
 
--- where people read the text, so that a C1 control could steer what shows it
+-- the forms that people read in a terminal or a browser, which a C1 control could affect
 abbrev pub hides_c1 : Escape → Bool
 hides_c1 escape.Shown = true
 hides_c1 escape.Data = false
 hides_c1 escape.Property = false
 hides_c1 escape.Html = true
 
--- C1 controls go first, where they are hidden, and then each byte is escaped
+-- first C1 controls are replaced, if the form hides them, and then each byte is escaped
 abbrev pub escaped : Escape → List ℕ → List ℕ
 escaped how text = flat_map (escaped_byte how) (if hides_c1 how then without_c1 text else text)
 
--- ---- what stays in its place
+-- ---- what an escaped text cannot contain
 
--- from - on without : ; < = > and DEL, and not the first byte of a C1 control: in each place such a byte stays
+-- from - on, except : ; < = > and DEL and the first byte of a C1 control: such a byte is the same in every form
 abbrev pub is_plain : ℕ → Bool
 is_plain b = nat_le 45 b && not ((nat_le 58 b && nat_le b 62) || (b == 127) || (b == 194))
 
--- neither a control byte nor delete
+-- neither a control byte nor DEL
 abbrev pub is_shown : ℕ → Bool
 is_shown b = not (nat_lt b 32) && not (b == 127)
 
--- no C1 control stands in the text
+-- the text has no C1 control
 abbrev pub has_no_c1 : List ℕ → Bool
 has_no_c1 [] = true
 has_no_c1 (b ∷ rest) = not (begins_with_c1 (b ∷ rest)) && has_no_c1 rest
@@ -86,11 +86,11 @@ begins_with [] text = true
 begins_with (c ∷ cs) [] = false
 begins_with (c ∷ cs) (b ∷ bs) = (b == c) && begins_with cs bs
 
--- what stands behind the & of a reference
+-- the text after the & of a character reference
 abbrev pub is_reference : List ℕ → Bool
 is_reference text = begins_with (codes "amp;") text || begins_with (codes "lt;") text || begins_with (codes "gt;") text || begins_with (codes "#34;") text || begins_with (codes "#39;") text
 
--- nothing of < > " ' stands in the text, and each & begins a reference
+-- the text has no < > " ' and each & starts a character reference
 abbrev pub is_inert : List ℕ → Bool
 is_inert [] = true
 is_inert (b ∷ bs) = (if b == 38 then is_reference bs else not (is_markup b)) && is_inert bs

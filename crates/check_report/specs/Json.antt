@@ -1,4 +1,4 @@
--- A row as a JSON object in a line of its own.
+-- A row as a JSON object on its own line.
 use Rattle.std.specs.Prelude.{ℕ, Bool, true, false, List, [], ◌∷◌, ◌++◌, codes, decimal, string_bytes, if◌then◌else◌, Option, None, Some}
 use Rattle.std.specs.Option.{option_map}
 use Rattle.json.specs.Json.{Json, null, string, number, object, Members, no_members, member}
@@ -23,17 +23,17 @@ text_at key text rest = member key (string text) rest
 abbrev pub count_at : List ℕ → ℕ → Members → Members
 count_at key count rest = member key (number (decimal count)) rest
 
--- a count, where there is one
+-- a count if there is one, otherwise nothing
 abbrev pub count_if_at : List ℕ → Option ℕ → Members → Members
 count_if_at key None rest = rest
 count_if_at key (Some count) rest = count_at key count rest
 
--- its tokens
+-- the tokens of such a count
 abbrev pub count_tokens : List ℕ → Option ℕ → List Token
 count_tokens name None = []
 count_tokens name (Some count) = Token.key name ∷ Token.number (decimal count) ∷ []
 
--- a text, or `null` where there is none
+-- a text, or `null` if there is none
 abbrev pub text_or_null : Option (List ℕ) → Json
 text_or_null None = null
 text_or_null (Some text) = string text
@@ -43,16 +43,16 @@ kind word rest = text_at (codes "kind") word rest
 
 -- ---- rows
 
--- what is not there, in a word
+-- what is missing, in a word
 abbrev pub missing : Kind → List ℕ
 missing NoPage = codes "page"
 missing NoAnchor = codes "anchor"
 
--- the target, and what of it is not there
+-- the target and what is missing
 abbrev pub target_at : Broken → Members → Members
 target_at b rest = text_at (codes "target") (string_bytes b.target) (text_at (codes "missing") (missing b.kind) rest)
 
--- what kind of row stands in a part
+-- the kind of the rows in a section
 abbrev pub row_kind : Part → List ℕ
 row_kind part.Broken = codes "broken"
 row_kind part.Worst = codes "worst"
@@ -61,11 +61,11 @@ row_kind part.Unreached = codes "unreached"
 row_kind part.External = codes "external"
 row_kind part.Unused = codes "unused"
 
--- the counts of what is broken
+-- the counts of broken links
 abbrev pub broken_counts : Totals → Members
 broken_counts t = count_at (codes "broken") t.broken_links (count_at (codes "missing_pages") t.broken_urls (count_at (codes "missing_anchors") t.broken_anchors no_members))
 
--- the counts that are told, and those of what is broken
+-- the optional counts, and then the counts of broken links
 abbrev pub told_counts : Totals → Counts → Members
 told_counts t c = count_if_at (codes "unreached") c.unreached (count_if_at (codes "external") c.external (broken_counts t))
 
@@ -90,7 +90,7 @@ members_of (line.external e) = kind (codes "external") (text_at (codes "url") (s
 members_of (line.name of_part text) = kind (row_kind of_part) (text_at (codes "name") text no_members)
 members_of line.last = no_members
 
--- the row is an object
+-- whether the row has an object
 abbrev pub is_object : Line → Bool
 is_object (line.total base totals counts) = true
 is_object (line.begin of_part) = false
@@ -104,7 +104,7 @@ is_object (line.external e) = true
 is_object (line.name of_part text) = true
 is_object line.last = false
 
--- an object with no space, and LF
+-- an object without spaces, and LF
 abbrev pub object_line : Members → List ℕ
 object_line members = print (json_tokens (object members)) ++ 10 ∷ []
 

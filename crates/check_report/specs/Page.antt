@@ -1,10 +1,10 @@
--- A row in the HTML page. What is a text of others stands in an element, escaped.
-use Rattle.std.specs.Prelude.{ℕ, List, [], ◌++◌, codes, decimal, nat_lt, string_bytes, if◌then◌else◌, Option, None, Some}
+-- A row of the HTML page. Untrusted texts are only in elements, and escaped.
+use Rattle.std.specs.Prelude.{ℕ, ◌==◌, List, [], ◌++◌, codes, decimal, nat_lt, string_bytes, if◌then◌else◌, Option, None, Some}
 use Rattle.std.specs.Option.{option_map}
 use Rattle.check_report.specs.Escape.{escaped}
 use Rattle.check_report.specs.Rows as line
 use Rattle.check_report.specs.Rows.{Line}
-use Rattle.check_report.specs.Text.{counted, redirect_target, wrong_of}
+use Rattle.check_report.specs.Text.{counted, linked_from, redirect_target, wrong_of}
 use Rattle.check_report.specs.declared.as_page.parts.TheConstants.{HEAD, SCRIPT, STYLE, TAIL, TOOLS}
 use Rattle.check_report.specs.declared.escape.Escape.TheVariants as escape
 use Rattle.check_report.specs.declared.row.Counts.{Counts}
@@ -17,7 +17,7 @@ use Rattle.check_report.specs.declared.value.Place.{Place}
 use Rattle.check_report.specs.declared.value.Redirect.{Redirect}
 use Rattle.check_report.specs.declared.value.Totals.{Totals}
 
--- ---- fixed parts
+-- ---- fixed texts
 
 unfoldable pub head_part : List ℕ
 head_part = HEAD.now
@@ -39,17 +39,20 @@ tail_part = TAIL.now
 abbrev pub html : List ℕ → List ℕ
 html text = escaped escape.Html text
 
--- up to the body, with the title
+abbrev pub links_noun : ℕ → List ℕ
+links_noun n = if n == 1 then codes " broken link" else codes " broken links"
+
+-- the page up to its body, with the title
 abbrev pub page_start : List ℕ → Totals → List ℕ
-page_start base t = head_part ++ decimal t.broken_links ++ codes " broken links - " ++ html base ++ style_part
+page_start base t = head_part ++ decimal t.broken_links ++ links_noun t.broken_links ++ codes " - " ++ html base ++ style_part
 
 abbrev pub verdict_start : Totals → List ℕ
 verdict_start t = if nat_lt 0 t.broken_links then codes "</p>\n<h1 class=bad><b>" else codes "</p>\n<h1 class=good><b>"
 
 abbrev pub page_heading : List ℕ → Totals → List ℕ
-page_heading base t = script_part ++ html base ++ verdict_start t ++ decimal t.broken_links ++ codes "</b> broken links</h1>\n<ul>\n"
+page_heading base t = script_part ++ html base ++ verdict_start t ++ decimal t.broken_links ++ codes "</b>" ++ links_noun t.broken_links ++ codes "</h1>\n<ul>\n"
 
--- a count that stands in a list of totals
+-- an item in the list of totals
 abbrev pub total_item : List ℕ → ℕ → List ℕ
 total_item word n = counted word n ++ codes "</b></li>\n"
 
@@ -59,13 +62,13 @@ site_items t = total_item (codes "<li>pages <b>") t.pages ++ total_item (codes "
 abbrev pub broken_items : Totals → List ℕ
 broken_items t = total_item (codes "<li>missing pages <b>") t.broken_urls ++ total_item (codes "<li>missing anchors <b>") t.broken_anchors
 
--- a count, where there is one
+-- an item if there is a count, otherwise nothing
 abbrev pub item_if : List ℕ → Option ℕ → List ℕ
 item_if word None = []
 item_if word (Some n) = total_item word n
 
 abbrev pub told_items : Counts → List ℕ
-told_items c = item_if (codes "<li>unreached <b>") c.unreached ++ item_if (codes "<li>external <b>") c.external
+told_items c = item_if (codes "<li>unreached files <b>") c.unreached ++ item_if (codes "<li>external URLs <b>") c.external
 
 abbrev pub count_items : Totals → Counts → List ℕ
 count_items t c = site_items t ++ broken_items t ++ told_items c
@@ -73,15 +76,15 @@ count_items t c = site_items t ++ broken_items t ++ told_items c
 unfoldable pub page_total : List ℕ → Totals → Counts → List ℕ
 page_total base t c = page_start base t ++ page_heading base t ++ count_items t c ++ tools_part
 
--- ---- parts
+-- ---- sections
 
 abbrev pub section_start : Part → List ℕ
 section_start part.Broken = codes "<section id=broken aria-labelledby=h-broken>\n<h2 id=h-broken>Broken links</h2>\n<pre class=plain>\n"
-section_start part.Worst = codes "<section id=worst aria-labelledby=h-worst>\n<h2 id=h-worst>Files with most broken links</h2>\n<pre>\n"
-section_start part.Redirects = codes "<section id=redirects aria-labelledby=h-redirects>\n<h2 id=h-redirects>Redirects to mend</h2>\n<pre>\n"
-section_start part.Unreached = codes "<section id=unreached aria-labelledby=h-unreached>\n<h2 id=h-unreached>Pages that no link leads to</h2>\n<pre>\n"
-section_start part.External = codes "<section id=external aria-labelledby=h-external>\n<h2 id=h-external>Links out of the site, not looked at</h2>\n<pre>\n"
-section_start part.Unused = codes "<section id=unused aria-labelledby=h-unused>\n<h2 id=h-unused>Ignored, but not found</h2>\n<pre>\n"
+section_start part.Worst = codes "<section id=worst aria-labelledby=h-worst>\n<h2 id=h-worst>Files with the most broken links</h2>\n<pre>\n"
+section_start part.Redirects = codes "<section id=redirects aria-labelledby=h-redirects>\n<h2 id=h-redirects>Links to redirects</h2>\n<pre>\n"
+section_start part.Unreached = codes "<section id=unreached aria-labelledby=h-unreached>\n<h2 id=h-unreached>Unreached files</h2>\n<pre>\n"
+section_start part.External = codes "<section id=external aria-labelledby=h-external>\n<h2 id=h-external>External links (not checked)</h2>\n<pre>\n"
+section_start part.Unused = codes "<section id=unused aria-labelledby=h-unused>\n<h2 id=h-unused>Unused --ignore entries</h2>\n<pre>\n"
 
 -- ---- rows
 
@@ -99,7 +102,7 @@ worst_row c = html (string_bytes c.file) ++ counted (codes "\t") c.links ++ code
 
 abbrev pub redirect_row : Redirect → List ℕ
 redirect_row r =
-    html (string_bytes r.page) ++ codes "\tto " ++ redirect_target escape.Html (option_map string_bytes r.target) ++ counted (codes "\tlinked from ") r.pages ++ codes "\n"
+    html (string_bytes r.page) ++ codes "\tto " ++ redirect_target escape.Html (option_map string_bytes r.target) ++ codes "\t" ++ linked_from r.pages ++ codes "\n"
 
 abbrev pub external_row : External → List ℕ
 external_row e = html (string_bytes e.url) ++ counted (codes "\t") e.links ++ codes "\n"

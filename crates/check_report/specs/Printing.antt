@@ -1,4 +1,4 @@
--- What is printed: the bytes of rows, one behind the other.
+-- The bytes of a report: those of its rows, in order.
 use Rattle.std.specs.Prelude.{◌≡◌, ℕ, Bool, true, List, ◌++◌}
 use Rattle.std.specs.List.{flat_map}
 use Rattle.check_report.specs.Annotations.{annotation_line}
@@ -17,7 +17,7 @@ bytes_of form.Json line = json_line line
 bytes_of (form.Annotations folder) line = annotation_line folder.now line
 bytes_of form.Page line = page_line line
 
--- these rows are printed behind the bytes
+-- the second bytes are the first followed by these rows
 abbrev pub Adds : Form → List ℕ → List ℕ → List Line → Type 0
 Adds how out more lines = more ≡ out ++ flat_map (bytes_of how) lines
 
@@ -25,18 +25,18 @@ Adds how out more lines = more ≡ out ++ flat_map (bytes_of how) lines
 abbrev pub printed : Form → Bool → Told → Findings → List ℕ
 printed how all told f = flat_map (bytes_of how) (rows_of all told f)
 
--- as text for people, with three places of each target or with all, and with colour or without
+-- as text, with three locations of each target or with all, and with or without colour
 abbrev pub printed_text : Bool → Bool → Told → Findings → List ℕ
 printed_text all colour told f = printed (form.Text colour) all told f
 
--- as JSON, with all places
+-- as JSON, with all locations
 abbrev pub printed_json : Told → Findings → List ℕ
 printed_json told f = printed form.Json true told f
 
--- as commands that GitHub's jobs show beside files, with all places
+-- as GitHub annotations, with all locations
 abbrev pub printed_annotations : Told → Findings → List ℕ
 printed_annotations told f = printed (form.Annotations told.folder) true told f
 
--- as one HTML page, with all places
+-- as an HTML page, with all locations
 abbrev pub printed_page : Told → Findings → List ℕ
 printed_page told f = printed form.Page true told f

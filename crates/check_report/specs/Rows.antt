@@ -1,4 +1,4 @@
--- Which rows a report has, in which order.
+-- The rows of a report, in order.
 use Rattle.std.specs.Prelude.{ℕ, ◌-◌, Bool, true, false, List, [], ◌∷◌, ◌++◌, length, map, take, nat_lt, String, string_bytes, if◌then◌else◌, Option, None, Some}
 use Rattle.std.specs.List.{flat_map}
 use Rattle.std.specs.Option.{option_map}
@@ -17,26 +17,26 @@ use Rattle.check_report.specs.declared.row.Part.TheVariants as part
 use Rattle.check_report.specs.declared.row.Row.{Row}
 use Rattle.check_report.specs.declared.row.Row.TheVariants as row
 
--- what a row says
+-- a row
 pub data Line : Type 0 where
-  -- the site, and what was counted
+  -- the site and the counts
   total : List ℕ → Totals → Counts → Line
-  -- a part of the report, which has rows, begins and ends
+  -- the start and the end of a section that has rows
   begin : Part → Line
   finish : Part → Line
   broken : Broken → Line
-  -- where a link to what is not there stands
+  -- a broken link: its target and its location
   place : Broken → Place → Line
-  -- how many places are left out
+  -- the number of locations that are not listed
   more : ℕ → Line
   worst : FileCount → Line
   redirect : Redirect → Line
   external : External → Line
-  -- a text that is a row of the part
+  -- a name or an entry in a section
   name : Part → List ℕ → Line
   last : Line
 
--- what a row of the program says
+-- the row of a value of the program
 abbrev pub line_of : Row → Line
 line_of (row.Total base totals counts) = total base.now totals counts
 line_of (row.Begin of_part) = begin of_part
@@ -52,12 +52,12 @@ line_of row.Last = last
 
 -- ---- broken links
 
--- three places, or all of them
+-- the first three locations, or all of them
 abbrev pub shown_places : Bool → List Place → List Place
 shown_places true places = places
 shown_places false places = take 3 places
 
--- how many places are left out, where some are
+-- the number of locations that are not listed, if there are any
 abbrev pub left_out : Bool → ℕ → List Line
 left_out true places = []
 left_out false places = if nat_lt 3 places then more (places - 3) ∷ [] else []
@@ -73,11 +73,11 @@ broken_lines all targets = flat_map (target_lines all) targets
 
 -- ---- the report
 
--- the line, where there are rows
+-- the line if there are rows, otherwise nothing
 abbrev pub edge : ℕ → Line → List Line
 edge rows line = if nat_lt 0 rows then line ∷ [] else []
 
--- a part begins and ends, where it has rows
+-- the lines of a section, with its start and end if it has rows
 abbrev pub in_part : Part → ℕ → List Line → List Line
 in_part of_part rows lines = edge rows (begin of_part) ++ lines ++ edge rows (finish of_part)
 
@@ -96,7 +96,7 @@ name_part of_part texts = in_part of_part (length texts) (map (λ text. name of_
 abbrev pub external_part : List External → List Line
 external_part urls = in_part part.External (length urls) (map external urls)
 
--- the names, where they are told
+-- the names if they are listed, otherwise none
 abbrev pub if_told : Bool → List (String Global) → List (String Global)
 if_told true names = names
 if_told false names = []
@@ -105,7 +105,7 @@ abbrev pub count_if : Bool → ℕ → Option ℕ
 count_if true count = Some count
 count_if false count = None
 
--- what is counted beside the totals is what is told
+-- the optional counts: those of the lists that the report has
 abbrev pub counts_of : Told → Findings → Counts
 counts_of told f = record { unreached = count_if told.unreached (length f.unreached.now); external = option_map (λ urls. length urls.now) told.external }
 

@@ -1,5 +1,5 @@
--- A row as text for people.
-use Rattle.std.specs.Prelude.{ℕ, Bool, true, false, List, [], ◌∷◌, ◌++◌, codes, length, nat_lt, decimal, string_bytes, if◌then◌else◌, Option, None, Some}
+-- A row of the text report.
+use Rattle.std.specs.Prelude.{ℕ, ◌==◌, Bool, true, false, List, [], ◌∷◌, ◌++◌, codes, length, nat_lt, decimal, string_bytes, if◌then◌else◌, Option, None, Some}
 use Rattle.std.specs.Option.{option_map}
 use Rattle.check_report.specs.Escape.{escaped}
 use Rattle.check_report.specs.Rows as line
@@ -18,7 +18,7 @@ use Rattle.check_report.specs.declared.value.Place.{Place}
 use Rattle.check_report.specs.declared.value.Redirect.{Redirect}
 use Rattle.check_report.specs.declared.value.Totals.{Totals}
 
--- ---- texts of others
+-- ---- untrusted texts
 
 abbrev pub shown : List ℕ → List ℕ
 shown text = escaped escape.Shown text
@@ -37,7 +37,7 @@ green = 27 ∷ codes "[32m"
 abbrev pub plain : List ℕ
 plain = 27 ∷ codes "[0m"
 
--- a code, where colour is asked for
+-- an escape code, if the report has colour
 abbrev pub code : Bool → List ℕ → List ℕ
 code true text = text
 code false text = []
@@ -50,45 +50,45 @@ message NoAnchor = codes "no such anchor"
 
 abbrev pub same_name_text : Escape → Option (List ℕ) → List ℕ
 same_name_text how None = []
-same_name_text how (Some page) = codes " (same name: " ++ escaped how page ++ codes ")"
+same_name_text how (Some page) = codes " (did you mean " ++ escaped how page ++ codes "?)"
 
 abbrev pub redirect_target : Escape → Option (List ℕ) → List ℕ
 redirect_target how None = codes "-"
 redirect_target how (Some page) = escaped how page
 
--- what is wrong with a target, and the page with its name
+-- what is missing, and the page that is suggested
 abbrev pub wrong_of : Escape → Broken → List ℕ
 wrong_of how b = message b.kind ++ same_name_text how (option_map string_bytes b.same_name)
 
--- a count behind a word
+-- a word and a count
 abbrev pub counted : List ℕ → ℕ → List ℕ
 counted word n = word ++ decimal n
 
--- the same, where there is a count
+-- the same if there is a count, otherwise nothing
 abbrev pub counted_if : List ℕ → Option ℕ → List ℕ
 counted_if word None = []
 counted_if word (Some n) = counted word n
 
--- what is wrong
+-- what is missing
 abbrev pub wrong_text : Bool → Kind → List ℕ
 wrong_text colour kind = code colour red ++ message kind ++ code colour plain
 
--- a target, what is wrong with it, and the page with its name
+-- a target, what is missing, and the page that is suggested
 abbrev pub target_text : Bool → Broken → List ℕ
 target_text colour b = shown (string_bytes b.target) ++ codes ": " ++ wrong_text colour b.kind ++ same_name_text escape.Shown (option_map string_bytes b.same_name) ++ codes "\n"
 
--- as compilers print a place
+-- a location, as compilers print it
 abbrev pub place_start : Place → List ℕ
 place_start p = shown (string_bytes p.file) ++ counted (codes ":") p.line ++ counted (codes ":") p.column ++ codes ": "
 
 abbrev pub place_text : Bool → Broken → Place → List ℕ
 place_text colour b p = code colour bold ++ place_start p ++ code colour plain ++ target_text colour b
 
--- a target to which no link leads stands in a line of its own
+-- a target without locations has its own line
 abbrev pub broken_text : Bool → Broken → List ℕ
 broken_text colour b = if nat_lt 0 (length b.places.items) then [] else target_text colour b
 
--- red, where a link is broken
+-- red if a link is broken, otherwise green
 abbrev pub verdict : Totals → List ℕ
 verdict t = if nat_lt 0 t.broken_links then red else green
 
@@ -102,34 +102,41 @@ broken_total colour t =
 abbrev pub site_total : Totals → Counts → List ℕ
 site_total t c =
     counted (codes "pages ") t.pages ++ counted (codes ", links ") t.links ++ counted (codes ", redirects ") t.moved
-    ++ counted_if (codes ", unreached ") c.unreached ++ counted_if (codes ", external ") c.external
+    ++ counted_if (codes ", unreached files ") c.unreached ++ counted_if (codes ", external URLs ") c.external
 
 abbrev pub total_text : Bool → Totals → Counts → List ℕ
 total_text colour t c = site_total t c ++ codes "\n" ++ broken_total colour t ++ codes "\n"
 
 abbrev pub title : Part → List ℕ
 title part.Broken = []
-title part.Worst = codes "files with most broken links:\n"
-title part.Redirects = codes "redirects to mend:\n"
-title part.Unreached = codes "pages that no link leads to:\n"
-title part.External = codes "links out of the site, not looked at:\n"
-title part.Unused = codes "ignored, but not found:\n"
+title part.Worst = codes "files with the most broken links:\n"
+title part.Redirects = codes "links to redirects:\n"
+title part.Unreached = codes "unreached files:\n"
+title part.External = codes "external links (not checked):\n"
+title part.Unused = codes "unused --ignore entries:\n"
 
--- an empty line, and the title
+-- an empty line and the title
 abbrev pub begin_text : Bool → Part → List ℕ
 begin_text colour of_part = codes "\n" ++ code colour bold ++ title of_part ++ code colour plain
 
 abbrev pub worst_text : FileCount → List ℕ
 worst_text c = counted (codes "  ") c.links ++ codes " " ++ shown (string_bytes c.file) ++ codes "\n"
 
--- a page, and where it moved to
+-- a redirect and its target
 abbrev pub moves_text : Redirect → List ℕ
 moves_text r = codes "  " ++ shown (string_bytes r.page) ++ codes " -> " ++ redirect_target escape.Shown (option_map string_bytes r.target)
 
-abbrev pub redirect_text : Redirect → List ℕ
-redirect_text r = moves_text r ++ counted (codes " (linked from ") r.pages ++ codes ")\n"
+abbrev pub pages_noun : ℕ → List ℕ
+pages_noun n = if n == 1 then codes " page" else codes " pages"
 
--- how many links lead to a URL out of the site
+-- the number of pages that link to a redirect
+abbrev pub linked_from : ℕ → List ℕ
+linked_from n = counted (codes "linked from ") n ++ pages_noun n
+
+abbrev pub redirect_text : Redirect → List ℕ
+redirect_text r = moves_text r ++ codes " (" ++ linked_from r.pages ++ codes ")\n"
+
+-- the number of links to an external URL
 abbrev pub external_text : External → List ℕ
 external_text e = counted (codes "  ") e.links ++ codes " " ++ shown (string_bytes e.url) ++ codes "\n"
 

@@ -1,4 +1,4 @@
-//! A row as a command that GitHub's jobs show beside a file.
+//! Prints a row as a GitHub annotation.
 ghost use Rattle.std.specs.Prelude.{◌≡◌, ◌-◌, ◌++◌, OnOk, length, slice_get};
 ghost use Rattle.check_report.specs.Annotations.{annotation_line, at_place, behind_here, broken_annotation, front_of, message_line, place_annotation, slash_behind};
 ghost use Rattle.check_report.specs.Escape.{escaped};
@@ -11,7 +11,7 @@ use crate::put::{NoMemory, put, put_counted};
 use crate::row::Row;
 use crate::value::{Broken, Place};
 
-/// The row at the end, its file in the folder.
+/// Appends the annotation of a row; the path of its file starts with the folder.
 pub fn put_annotation(out: &mut Vec<u8>, folder: &str, row: Row<'_>) -> Result<(), NoMemory>
     ensures { OnOk result (out.new.items ≡ out.old.items ++ annotation_line folder.now (line_of row.entry)) }
 {
@@ -63,14 +63,14 @@ fn put_at(out: &mut Vec<u8>, folder: &str, place: &Place) -> Result<(), NoMemory
     put_counted(out, ",col=", place.column)
 }
 
-/// The folder without the `./` that it may begin with.
+/// The folder without a leading `./`.
 fn behind_here(folder: &str) -> &str
     ensures { result.now ≡ behind_here folder.now }
 {
     folder.strip_prefix("./").unwrap_or(folder)
 }
 
-/// The folder and a slash, so that names can stand behind them; nothing of the folder that the program runs in.
+/// Appends the folder and a slash, or nothing for the current folder.
 fn put_front(out: &mut Vec<u8>, folder: &str) -> Result<(), NoMemory>
     ensures { OnOk result (out.new.items ≡ out.old.items ++ escaped escape.Property (front_of folder.now)) }
 {
@@ -81,7 +81,7 @@ fn put_front(out: &mut Vec<u8>, folder: &str) -> Result<(), NoMemory>
     put_escaped(out, Escape::Property, slash_behind(folder))
 }
 
-/// The slash that is lacking behind the folder.
+/// The slash to put after the folder, if it does not end with one.
 fn slash_behind(folder: &str) -> &str
     ensures { result.now ≡ slash_behind (slice_get folder.now (length folder.now - 1)) }
 {

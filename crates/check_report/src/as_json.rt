@@ -1,4 +1,4 @@
-//! A row as a JSON object.
+//! Prints a row as a JSON object.
 ghost use Rattle.std.specs.Prelude.{◌≡◌, ◌++◌, ◌∷◌, [], OnOk, IfOk, decimal, codes, string_bytes};
 ghost use Rattle.std.specs.Option.{option_map};
 ghost use Rattle.json.specs.Json.{object};
@@ -13,7 +13,7 @@ use crate::row::{Counts, Part, Row};
 use crate::value::{Broken, External, FileCount, Kind, Place, Redirect, Totals};
 use json::Writer;
 
-/// The bytes, and behind them the row's object with no space, ended by LF, if the row is one.
+/// Appends the row as an object without spaces and LF, if the row has an object.
 pub fn with_json(out: Vec<u8>, row: Row<'_>) -> Result<Vec<u8>, NoMemory>
     ensures { IfOk result (λ more. more.items ≡ out.items ++ json_line (line_of row.entry)) }
 {
@@ -52,7 +52,7 @@ fn with_object(out: Vec<u8>, row: Row<'_>) -> Result<Vec<u8>, NoMemory>
     Ok(out)
 }
 
-// The object is begun, and not ended.
+// The object has been started and is not ended here.
 fn put_row(out: &mut Writer, row: Row<'_>) -> Result<(), NoMemory>
     requires { out.old.tokens ≡ begin_object ∷ [] }
     ensures tokens { OnOk result (out.new.tokens ++ end_object ∷ [] ≡ json_tokens (object (members_of (line_of row.entry)))) }
@@ -88,7 +88,7 @@ fn put_total(out: &mut Writer, base: &str, totals: Totals, counts: Counts) -> Re
     put_told_counts(out, totals, counts)
 }
 
-// The counts that are told, and those of what is broken, which are the last.
+// The optional counts, and then the counts of broken links.
 fn put_told_counts(out: &mut Writer, totals: Totals, counts: Counts) -> Result<(), NoMemory>
     ensures tokens { OnOk result (out.new.tokens ++ end_object ∷ [] ≡ out.old.tokens ++ members_tokens (told_counts totals counts)) }
     ensures before { out.new.before ≡ out.old.before }
@@ -190,7 +190,7 @@ fn row_kind(part: Part) -> &'static str
     }
 }
 
-// The row's kind, the target, and what of it is not there.
+// The kind of the row, the target, and what is missing.
 fn put_target(out: &mut Writer, kind: &str, broken: &Broken) -> Result<(), NoMemory>
     ensures tokens { OnOk result (out.new.tokens ≡ out.old.tokens ++ key (codes "kind") ∷ string kind.now ∷ key (codes "target") ∷ string (string_bytes broken.now.target) ∷ key (codes "missing") ∷ string (missing broken.now.kind) ∷ []) }
     ensures before { out.new.before ≡ out.old.before }

@@ -1,11 +1,11 @@
-//! A row in the HTML page.
+//! Prints a row in the HTML page.
 ghost use Rattle.std.specs.Prelude.{◌≡◌, ◌++◌, OnOk, codes};
-ghost use Rattle.check_report.specs.Page.{broken_items, broken_row, count_items, external_row, head_part, html, item_if, more_row, page_heading, page_line, page_start, page_total, place_row, redirect_row, script_part, section_start, site_items, style_part, tail_part, told_items, tools_part, total_item, verdict_start, worst_row};
+ghost use Rattle.check_report.specs.Page.{broken_items, broken_row, count_items, external_row, head_part, html, item_if, links_noun, more_row, page_heading, page_line, page_start, page_total, place_row, redirect_row, script_part, section_start, site_items, style_part, tail_part, told_items, tools_part, total_item, verdict_start, worst_row};
 ghost use Rattle.check_report.specs.Rows.{line_of};
 
 mod parts;
 
-use crate::as_text::{put_redirect_target, put_wrong_of};
+use crate::as_text::{put_linked_from, put_redirect_target, put_wrong_of};
 use crate::escape::{Escape, put_escaped};
 use crate::put::{NoMemory, put, put_count, put_counted};
 use crate::row::{Counts, Part, Row};
@@ -34,7 +34,7 @@ pub fn put_page(out: &mut Vec<u8>, row: Row<'_>) -> Result<(), NoMemory>
     }
 }
 
-// ---- fixed parts
+// ---- fixed texts
 
 fn head_part() -> &'static str
     ensures { result.now ≡ head_part }
@@ -73,15 +73,15 @@ fn section_start(part: Part) -> &'static str
         Part::Broken =>
             "<section id=broken aria-labelledby=h-broken>\n<h2 id=h-broken>Broken links</h2>\n<pre class=plain>\n",
         Part::Worst =>
-            "<section id=worst aria-labelledby=h-worst>\n<h2 id=h-worst>Files with most broken links</h2>\n<pre>\n",
+            "<section id=worst aria-labelledby=h-worst>\n<h2 id=h-worst>Files with the most broken links</h2>\n<pre>\n",
         Part::Redirects =>
-            "<section id=redirects aria-labelledby=h-redirects>\n<h2 id=h-redirects>Redirects to mend</h2>\n<pre>\n",
+            "<section id=redirects aria-labelledby=h-redirects>\n<h2 id=h-redirects>Links to redirects</h2>\n<pre>\n",
         Part::Unreached =>
-            "<section id=unreached aria-labelledby=h-unreached>\n<h2 id=h-unreached>Pages that no link leads to</h2>\n<pre>\n",
+            "<section id=unreached aria-labelledby=h-unreached>\n<h2 id=h-unreached>Unreached files</h2>\n<pre>\n",
         Part::External =>
-            "<section id=external aria-labelledby=h-external>\n<h2 id=h-external>Links out of the site, not looked at</h2>\n<pre>\n",
+            "<section id=external aria-labelledby=h-external>\n<h2 id=h-external>External links (not checked)</h2>\n<pre>\n",
         Part::Unused =>
-            "<section id=unused aria-labelledby=h-unused>\n<h2 id=h-unused>Ignored, but not found</h2>\n<pre>\n",
+            "<section id=unused aria-labelledby=h-unused>\n<h2 id=h-unused>Unused --ignore entries</h2>\n<pre>\n",
     }
 }
 
@@ -101,7 +101,8 @@ fn put_start(out: &mut Vec<u8>, base: &str, totals: Totals) -> Result<(), NoMemo
 {
     put(out, head_part())?;
     put_count(out, totals.broken_links)?;
-    put(out, " broken links - ")?;
+    put(out, links_noun(totals.broken_links))?;
+    put(out, " - ")?;
     put_html(out, base)?;
     put(out, style_part())
 }
@@ -113,7 +114,19 @@ fn put_heading(out: &mut Vec<u8>, base: &str, totals: Totals) -> Result<(), NoMe
     put_html(out, base)?;
     put(out, verdict_start(totals))?;
     put_count(out, totals.broken_links)?;
-    put(out, "</b> broken links</h1>\n<ul>\n")
+    put(out, "</b>")?;
+    put(out, links_noun(totals.broken_links))?;
+    put(out, "</h1>\n<ul>\n")
+}
+
+fn links_noun(count: u64) -> &'static str
+    ensures { result.now ≡ links_noun count }
+{
+    if count == 1 {
+        " broken link"
+    } else {
+        " broken links"
+    }
 }
 
 fn verdict_start(totals: Totals) -> &'static str
@@ -152,8 +165,8 @@ fn put_broken_items(out: &mut Vec<u8>, totals: Totals) -> Result<(), NoMemory>
 fn put_told_items(out: &mut Vec<u8>, counts: Counts) -> Result<(), NoMemory>
     ensures { OnOk result (out.new.items ≡ out.old.items ++ told_items counts) }
 {
-    put_item_if(out, "<li>unreached <b>", counts.unreached)?;
-    put_item_if(out, "<li>external <b>", counts.external)
+    put_item_if(out, "<li>unreached files <b>", counts.unreached)?;
+    put_item_if(out, "<li>external URLs <b>", counts.external)
 }
 
 fn put_item_if(out: &mut Vec<u8>, word: &str, count: Option<usize>) -> Result<(), NoMemory>
@@ -221,7 +234,8 @@ fn put_redirect(out: &mut Vec<u8>, page: &Redirect) -> Result<(), NoMemory>
     put_html(out, page.page.as_str())?;
     put(out, "\tto ")?;
     put_redirect_target(out, Escape::Html, &page.target)?;
-    put_counted(out, "\tlinked from ", page.pages)?;
+    put(out, "\t")?;
+    put_linked_from(out, page.pages)?;
     put(out, "\n")
 }
 

@@ -1,8 +1,8 @@
-//! A row as text for people.
+//! Prints a row as text.
 ghost use Rattle.std.specs.Prelude.{◌≡◌, ◌++◌, OnOk, string_bytes};
 ghost use Rattle.std.specs.Option.{option_map};
 ghost use Rattle.check_report.specs.Rows.{line_of};
-ghost use Rattle.check_report.specs.Text.{begin_text, broken_text, broken_total, external_text, message, more_text, moves_text, name_text, place_start, place_text, redirect_target, redirect_text, same_name_text, site_total, target_text, text_line, title, total_text, verdict, worst_text, wrong_of, wrong_text};
+ghost use Rattle.check_report.specs.Text.{begin_text, broken_text, broken_total, external_text, linked_from, message, more_text, moves_text, name_text, pages_noun, place_start, place_text, redirect_target, redirect_text, same_name_text, site_total, target_text, text_line, title, total_text, verdict, worst_text, wrong_of, wrong_text};
 
 use crate::escape::{Escape, put_escaped, put_shown};
 use crate::put::{NoMemory, put, put_code, put_counted, put_counted_if};
@@ -54,8 +54,8 @@ fn put_site_total(out: &mut Vec<u8>, totals: Totals, counts: Counts) -> Result<(
     put_counted(out, "pages ", totals.pages)?;
     put_counted(out, ", links ", totals.links)?;
     put_counted(out, ", redirects ", totals.moved)?;
-    put_counted_if(out, ", unreached ", counts.unreached)?;
-    put_counted_if(out, ", external ", counts.external)
+    put_counted_if(out, ", unreached files ", counts.unreached)?;
+    put_counted_if(out, ", external URLs ", counts.external)
 }
 
 fn put_broken_total(out: &mut Vec<u8>, totals: Totals, colour: bool) -> Result<(), NoMemory>
@@ -68,7 +68,7 @@ fn put_broken_total(out: &mut Vec<u8>, totals: Totals, colour: bool) -> Result<(
     put_counted(out, ", missing anchors ", totals.broken_anchors)
 }
 
-/// Red, where a link is broken.
+/// Red if a link is broken, otherwise green.
 fn verdict(totals: Totals) -> &'static str
     ensures { result.now ≡ verdict totals }
 {
@@ -89,11 +89,11 @@ fn title(part: Part) -> &'static str
 {
     match part {
         Part::Broken => "",
-        Part::Worst => "files with most broken links:\n",
-        Part::Redirects => "redirects to mend:\n",
-        Part::Unreached => "pages that no link leads to:\n",
-        Part::External => "links out of the site, not looked at:\n",
-        Part::Unused => "ignored, but not found:\n",
+        Part::Worst => "files with the most broken links:\n",
+        Part::Redirects => "links to redirects:\n",
+        Part::Unreached => "unreached files:\n",
+        Part::External => "external links (not checked):\n",
+        Part::Unused => "unused --ignore entries:\n",
     }
 }
 
@@ -157,7 +157,7 @@ fn message(kind: Kind) -> &'static str
     }
 }
 
-/// What is wrong with the target, and the page with its name.
+/// Appends what is missing, and the page that is suggested.
 pub fn put_wrong_of(out: &mut Vec<u8>, how: Escape, broken: &Broken) -> Result<(), NoMemory>
     ensures { OnOk result (out.new.items ≡ out.old.items ++ wrong_of how broken.now) }
 {
@@ -170,9 +170,9 @@ fn put_same_name(out: &mut Vec<u8>, how: Escape, page: &Option<String>) -> Resul
 {
     match page {
         Some(page) => {
-            put(out, " (same name: ")?;
+            put(out, " (did you mean ")?;
             put_escaped(out, how, page.as_str())?;
-            put(out, ")")
+            put(out, "?)")
         }
         None => Ok(()),
     }
@@ -198,7 +198,8 @@ fn put_redirect(out: &mut Vec<u8>, redirect: &Redirect) -> Result<(), NoMemory>
     ensures { OnOk result (out.new.items ≡ out.old.items ++ redirect_text redirect.now) }
 {
     put_moves(out, redirect)?;
-    put_counted(out, " (linked from ", redirect.pages)?;
+    put(out, " (")?;
+    put_linked_from(out, redirect.pages)?;
     put(out, ")\n")
 }
 
@@ -211,7 +212,7 @@ fn put_moves(out: &mut Vec<u8>, redirect: &Redirect) -> Result<(), NoMemory>
     put_redirect_target(out, Escape::Shown, &redirect.target)
 }
 
-/// Where a page moved to.
+/// Appends the target of a redirect.
 pub fn put_redirect_target(
     out: &mut Vec<u8>,
     how: Escape,
@@ -223,6 +224,20 @@ pub fn put_redirect_target(
         Some(page) => put_escaped(out, how, page.as_str()),
         None => put(out, "-"),
     }
+}
+
+/// Appends the number of pages that link to a redirect.
+pub fn put_linked_from(out: &mut Vec<u8>, pages: u64) -> Result<(), NoMemory>
+    ensures { OnOk result (out.new.items ≡ out.old.items ++ linked_from pages) }
+{
+    put_counted(out, "linked from ", pages)?;
+    put(out, pages_noun(pages))
+}
+
+fn pages_noun(count: u64) -> &'static str
+    ensures { result.now ≡ pages_noun count }
+{
+    if count == 1 { " page" } else { " pages" }
 }
 
 fn put_external(out: &mut Vec<u8>, url: &External) -> Result<(), NoMemory>

@@ -1,4 +1,4 @@
-//! Texts of others, made harmless.
+//! Escapes untrusted texts.
 ghost use Rattle.std.specs.Prelude.{◌≡◌, ◌-◌, ◌≤◌, ◌&&◌, ◌++◌, IfOk, OnOk, length};
 ghost use Rattle.std.specs.List.{take_while};
 ghost use Rattle.check_report.specs.Escape.{begins_with_c1, data_byte, escaped, escaped_byte, hides_c1, html_byte, is_plain, property_byte, shown_byte};
@@ -6,27 +6,27 @@ ghost use Rattle.check_report.specs.Text.{shown};
 
 use crate::put::{NoMemory, put};
 
-/// Where a text is to stand.
+/// The place that a text is escaped for.
 #[derive(Clone, Copy)]
 pub enum Escape {
-    /// In a line for people.
+    /// A line of text.
     Shown,
-    /// In the message of a GitHub command.
+    /// The message of a GitHub command.
     Data,
-    /// In a property of one.
+    /// A property of a GitHub command.
     Property,
-    /// In an HTML element.
+    /// An HTML element.
     Html,
 }
 
-/// The text at the end, so that it does not leave its place.
+/// Appends a text, escaped for its place.
 pub fn put_escaped(out: &mut Vec<u8>, how: Escape, text: &str) -> Result<(), NoMemory>
     ensures { OnOk result (out.new.items ≡ out.old.items ++ escaped how text.now) }
 {
     put_bytes(out, how, text.as_bytes())
 }
 
-/// The text at the end, its control bytes as pictures, its C1 controls as U+FFFD.
+/// Appends a text with symbols for its control bytes and U+FFFD for its C1 controls.
 pub fn put_shown(out: &mut Vec<u8>, text: &str) -> Result<(), NoMemory>
     ensures { OnOk result (out.new.items ≡ out.old.items ++ shown text.now) }
 {
@@ -45,7 +45,7 @@ fn put_bytes(out: &mut Vec<u8>, how: Escape, bytes: &[u8]) -> Result<(), NoMemor
     Ok(())
 }
 
-/// How many bytes the text begins with that stay in each place.
+/// The number of bytes at the start of the text that are the same in every form.
 fn plain_len(bytes: &[u8]) -> usize
     ensures { result ≡ length (take_while is_plain bytes.now) }
 {
@@ -58,7 +58,7 @@ fn is_plain(byte: u8) -> bool
     byte >= b'-' && !matches!(byte, b':'..=b'>' | 127 | 194)
 }
 
-/// What stands for the first C1 control or byte at the end. What is left of the text.
+/// Appends the escaped form of the first C1 control or byte, and returns the rest of the text.
 fn put_first<'a>(out: &mut Vec<u8>, how: Escape, bytes: &'a [u8]) -> Result<&'a [u8], NoMemory>
     ensures text { IfOk result (λ rest. out.new.items ++ escaped how rest.now ≡ out.old.items ++ escaped how bytes.now) }
     ensures shorter { IfOk result (λ rest. length rest.now ≤ length bytes.now - 1) }
@@ -76,7 +76,7 @@ fn put_first<'a>(out: &mut Vec<u8>, how: Escape, bytes: &'a [u8]) -> Result<&'a 
     }
 }
 
-/// Whether U+FFFD stands for what the text begins with.
+/// Whether the start of the text is replaced by U+FFFD.
 fn hides_first(how: Escape, bytes: &[u8]) -> bool
     ensures { result ≡ (hides_c1 how && begins_with_c1 bytes.now) }
 {
@@ -92,7 +92,7 @@ fn hides_c1(how: Escape) -> bool
     }
 }
 
-/// Whether the text begins with one of U+0080 to U+009F.
+/// Whether the text starts with one of U+0080 to U+009F.
 fn begins_with_c1(bytes: &[u8]) -> bool
     ensures { result ≡ begins_with_c1 bytes.now }
 {

@@ -1,13 +1,13 @@
-//! The form in which rows are printed.
+//! The form of a report.
 
 #[derive(Clone, Copy)]
 pub enum Form<'a> {
-    /// For people, with colour or without.
+    /// Text, with or without colour.
     Text(bool),
-    /// JSON objects, one a line.
+    /// JSON, one object per line.
     Json,
-    /// Commands that GitHub's jobs show beside files of this folder.
+    /// GitHub annotations for the files of this folder.
     Annotations(&'a str),
-    /// One HTML page.
+    /// An HTML page.
     Page,
 }

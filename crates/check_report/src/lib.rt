@@ -1,4 +1,4 @@
-//! What a check of a site's links found, as a value, and every way to print it.
+//! The results of a check of a site's links, and the forms in which they are printed.
 #![tactic(auto)]
 
 mod as_annotations;
@@ -7,7 +7,7 @@ mod as_page;
 mod as_text;
 mod escape;
 mod form;
-/// What holds of what is printed.
+/// Laws about escaped texts.
 pub mod laws;
 mod printing;
 mod put;

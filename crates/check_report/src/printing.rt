@@ -1,4 +1,4 @@
-//! A report as bytes.
+//! Prints a report.
 ghost use Rattle.std.specs.Prelude.{◌≡◌, [], ◌∷◌, IfOk, length, map, string_bytes};
 ghost use Rattle.check_report.specs.Printing.{Adds, printed, printed_annotations, printed_json, printed_page, printed_text};
 ghost use Rattle.check_report.specs.Rows as line;
@@ -14,11 +14,11 @@ use crate::row::{Counts, Part, Row};
 use crate::value::{Broken, External, FileCount, Findings, Place, Redirect, Told};
 use std::alloc::Global;
 
-/// For people: the totals, each broken target with its places, the worst files, and the other parts that have rows.
-/// Three places of a target are told, or all of them. Colour is ANSI codes.
+/// Prints a report as text: the totals, the broken links, the files with the most of them, and the other sections that have rows.
+/// It lists three locations of each target, or all of them. Colour is ANSI escape codes.
 ///
 /// # Errors
-/// Out of memory alone.
+/// Out of memory.
 pub fn print_text(
     alloc: Global,
     findings: &Findings<'_>,
@@ -31,10 +31,10 @@ pub fn print_text(
     print(alloc, findings, told, all, Form::Text(colour))
 }
 
-/// For programs: a JSON object for each row, one a line.
+/// Prints a report as JSON, one object per line.
 ///
 /// # Errors
-/// Out of memory alone.
+/// Out of memory.
 pub fn print_json(
     alloc: Global,
     findings: &Findings<'_>,
@@ -45,10 +45,10 @@ pub fn print_json(
     print(alloc, findings, told, true, Form::Json)
 }
 
-/// For GitHub's jobs: an `::error` command for each place of a broken link, its file in the folder.
+/// Prints a report as GitHub annotations: an `::error` command for each location of a broken link.
 ///
 /// # Errors
-/// Out of memory alone.
+/// Out of memory.
 pub fn print_annotations(
     alloc: Global,
     findings: &Findings<'_>,
@@ -59,11 +59,11 @@ pub fn print_annotations(
     print(alloc, findings, told, true, Form::Annotations(told.folder))
 }
 
-/// One HTML page that needs no network. Without script it shows every row; its script draws broken links by target or by page,
-/// with search.
+/// Prints a report as an HTML page that loads nothing from the network. It shows every row without scripts. With scripts it shows
+/// the broken links by target or by file, and can search them.
 ///
 /// # Errors
-/// Out of memory alone.
+/// Out of memory.
 pub fn print_page(
     alloc: Global,
     findings: &Findings<'_>,
@@ -105,7 +105,7 @@ fn total_of<'r>(findings: &Findings<'r>, told: Told<'_>) -> Row<'r>
     }
 }
 
-/// What is counted beside the totals is what is told.
+/// The optional counts: those of the lists that the report has.
 fn counts_of(findings: &Findings<'_>, told: Told<'_>) -> Counts
     ensures { result ≡ counts_of told.entry findings.now }
 {
@@ -122,7 +122,7 @@ fn counts_of(findings: &Findings<'_>, told: Told<'_>) -> Counts
     }
 }
 
-/// The names, where they are told.
+/// The names if they are listed, otherwise none.
 fn if_told(told: bool, names: &[String]) -> &[String]
     ensures { result.now ≡ if_told told names.now }
 {
@@ -138,7 +138,7 @@ fn external_of(told: Told<'_>) -> &[External]
     }
 }
 
-/// The bytes, and behind them the row's.
+/// Appends a row.
 fn with(mut out: Vec<u8>, form: Form<'_>, row: Row<'_>) -> Result<Vec<u8>, NoMemory>
     ensures { IfOk result (λ more. Adds form.entry out.items more.items (line_of row.entry ∷ [])) }
 {
@@ -159,7 +159,7 @@ fn with(mut out: Vec<u8>, form: Form<'_>, row: Row<'_>) -> Result<Vec<u8>, NoMem
     }
 }
 
-/// The row, where a part has rows.
+/// Appends the start or the end of a section if the section has rows.
 fn with_edge(out: Vec<u8>, form: Form<'_>, row: Row<'_>, rows: usize) -> Result<Vec<u8>, NoMemory>
     ensures { IfOk result (λ more. Adds form.entry out.items more.items (edge rows (line_of row.entry))) }
 {
@@ -212,7 +212,7 @@ fn with_target(
     with_left_out(told, form, places.len(), all)
 }
 
-/// Three places, or all of them.
+/// The first three locations, or all of them.
 fn shown_places(places: &[Place], all: bool) -> &[Place]
     ensures { result.now ≡ shown_places all places.now }
 {

@@ -1,14 +1,14 @@
-//! Bytes behind bytes.
+//! Appends texts and numbers.
 ghost use Rattle.std.specs.Prelude.{◌≡◌, ◌++◌, OnOk, decimal};
 ghost use Rattle.check_report.specs.Text.{code, counted, counted_if};
 
 use itoa::Buffer;
 use std::alloc::AllocError;
 
-/// A growth was refused.
+/// An allocation failed.
 pub type NoMemory = AllocError;
 
-/// The text at the end.
+/// Appends a text.
 pub fn put(out: &mut Vec<u8>, text: &str) -> Result<(), NoMemory>
     ensures { OnOk result (out.new.items ≡ out.old.items ++ text.now) }
 {
@@ -22,7 +22,7 @@ pub fn put_count(out: &mut Vec<u8>, count: u64) -> Result<(), NoMemory>
     put(out, buffer.format(count))
 }
 
-/// The word, and a count behind it.
+/// Appends a word and a count.
 pub fn put_counted(out: &mut Vec<u8>, word: &str, count: u64) -> Result<(), NoMemory>
     ensures { OnOk result (out.new.items ≡ out.old.items ++ counted word.now count) }
 {
@@ -30,7 +30,7 @@ pub fn put_counted(out: &mut Vec<u8>, word: &str, count: u64) -> Result<(), NoMe
     put_count(out, count)
 }
 
-/// The word, and a count behind it, where there is one.
+/// Appends a word and a count if there is a count.
 pub fn put_counted_if(out: &mut Vec<u8>, word: &str, count: Option<usize>) -> Result<(), NoMemory>
     ensures { OnOk result (out.new.items ≡ out.old.items ++ counted_if word.now count) }
 {
@@ -40,7 +40,7 @@ pub fn put_counted_if(out: &mut Vec<u8>, word: &str, count: Option<usize>) -> Re
     }
 }
 
-/// The code, where colour is asked for.
+/// Appends an escape code if the report has colour.
 pub fn put_code(out: &mut Vec<u8>, colour: bool, text: &str) -> Result<(), NoMemory>
     ensures { OnOk result (out.new.items ≡ out.old.items ++ code colour text.now) }
 {

@@ -1,8 +1,8 @@
-//! A row of a report, whatever prints it.
+//! The rows of a report, independent of its form.
 
 use crate::value::{Broken, External, FileCount, Place, Redirect, Totals};
 
-/// A part of a report, which is printed where it has rows.
+/// A section of a report. It is printed if it has rows.
 #[derive(Clone, Copy)]
 pub enum Part {
     Broken,
@@ -13,17 +13,17 @@ pub enum Part {
     Unused,
 }
 
-/// What is counted beside the totals, where it is told.
+/// The optional counts of a report.
 #[derive(Clone, Copy)]
 pub struct Counts {
     pub unreached: Option<usize>,
     pub external: Option<usize>,
 }
 
-/// What a row says.
+/// A row of a report.
 #[derive(Clone, Copy)]
 pub enum Row<'r> {
-    /// The site, and what was counted.
+    /// The site and the counts.
     Total {
         base: &'r str,
         totals: Totals,
@@ -32,14 +32,14 @@ pub enum Row<'r> {
     Begin(Part),
     Finish(Part),
     Broken(&'r Broken),
-    /// Where a link to what is not there stands.
+    /// A broken link: its target and its location.
     Place(&'r Broken, &'r Place),
-    /// How many places are left out.
+    /// The number of locations that are not listed.
     More(usize),
     Worst(&'r FileCount),
     Redirect(&'r Redirect),
     External(&'r External),
-    /// A text that is a row of the part.
+    /// A name or an entry in a section.
     Name(Part, &'r str),
     Last,
 }

@@ -1,103 +1,103 @@
-//! What a check found.
+//! The results of a check.
 
-/// What a check of a site's links found. The lists are printed in the order given, and a part without rows is not printed.
+/// The results of a check. Each list is printed in the given order, under its own heading; an empty list is not printed.
 #[derive(Clone, Copy)]
 pub struct Findings<'a> {
-    /// The site: scheme, host and port, or a name of the folder.
+    /// The name of the site, such as its URL or its folder.
     pub base: &'a str,
     pub totals: Totals,
-    /// What links lead to and is not there.
+    /// The missing pages and anchors.
     pub broken: &'a [Broken],
-    /// The files with most broken links, most first; a caller gives as many as are to be printed, as ten.
+    /// The files with the most broken links, most first. All of them are printed, so a caller passes ten, say.
     pub worst: &'a [FileCount],
-    /// Pages that moved and are linked to.
+    /// The redirects that pages link to.
     pub redirects: &'a [Redirect],
-    /// Pages that no link leads to.
+    /// The unreached files.
     pub unreached: &'a [String],
-    /// Entries of what is known to be broken that nothing matched.
+    /// The entries of the ignore list that match nothing.
     pub unused_ignores: &'a [String],
 }
 
-/// What is told beside what is broken, where it is asked for.
+/// The optional contents of a report.
 #[derive(Clone, Copy)]
 pub struct Told<'a> {
-    /// Whether unreached pages are counted and told.
+    /// Whether the report counts and lists unreached files.
     pub unreached: bool,
-    /// Where links out of the site lead, if that is counted and told.
+    /// The external links, if the report counts and lists them.
     pub external: Option<&'a [External]>,
-    /// The folder that annotations tell before a file's name; empty where they tell the name alone.
+    /// The folder that annotations put before a file's name; empty for none.
     pub folder: &'a str,
 }
 
-/// How many there are of each.
+/// The counts of a check.
 #[derive(Clone, Copy)]
 pub struct Totals {
-    /// Pages that were read.
+    /// The URLs at which a file was found.
     pub pages: u64,
-    /// Links that stand in them.
+    /// The links in these pages.
     pub links: u64,
-    /// Links that lead to a page or an anchor that is not there.
+    /// The links to missing pages and anchors.
     pub broken_links: u64,
-    /// Pages that are not there and are linked to.
+    /// The missing pages.
     pub broken_urls: u64,
-    /// Anchors that are not there, of pages that are.
+    /// The missing anchors in pages that exist.
     pub broken_anchors: u64,
-    /// Pages that moved and are linked to.
+    /// The redirects that pages link to.
     pub moved: u64,
 }
 
-/// What is not there.
+/// What is missing.
 #[derive(Clone, Copy)]
 pub enum Kind {
     NoPage,
-    /// The page is there, and has no such anchor.
+    /// The page exists and does not have the anchor.
     NoAnchor,
 }
 
-/// A target of links that is not there.
+/// A missing page or anchor that links lead to.
 #[derive(Drop)]
 pub struct Broken {
-    /// The page, or the page, `#` and the anchor.
+    /// The page, or the page followed by `#` and the anchor.
     pub target: String,
     pub kind: Kind,
-    /// How many pages link to it.
+    /// The number of pages that link to it.
     pub pages: u64,
-    /// Where links to it stand. There is none where it is a start of the check that no page links to.
+    /// The locations of the links to it; empty for a page at which the check starts and that no page links to.
     pub places: Vec<Place>,
-    /// The one page of the site that has the same file name, if there is just one.
+    /// The page of the site with the same file name, if there is exactly one.
     pub same_name: Option<String>,
 }
 
-/// Where a link stands.
+/// The location of a link.
 #[derive(Drop)]
 pub struct Place {
-    /// The file's path in the folder.
+    /// The path of the file in the folder.
     pub file: String,
-    /// From 1.
+    /// The line, from 1.
     pub line: u64,
-    /// From 1.
+    /// The column in characters, from 1.
     pub column: u64,
 }
 
-/// A page that moved.
+/// A redirect.
 #[derive(Drop)]
 pub struct Redirect {
     pub page: String,
-    /// Where it moved to, if that has a URL.
+    /// The URL that it redirects to, if it is known.
     pub target: Option<String>,
-    /// How many pages link to it.
+    /// The number of pages that link to it.
     pub pages: u64,
 }
 
-/// A URL out of the site.
+/// An external URL.
 #[derive(Drop)]
 pub struct External {
     pub url: String,
-    /// How many links lead to it.
+    /// The number of links to it.
     pub links: u64,
 }
 
-/// A file, and how many broken links stand in it.
+/// A file and the number of broken links in it.
 #[derive(Drop)]
 pub struct FileCount {
     pub file: String,

@@ -1,4 +1,4 @@
--- What is asked of a check.
+-- The settings of a check.
 use Rattle.std.specs.Prelude.{ℕ, Bool, List, map, string_bytes}
 use Rattle.mercator_site.specs.declared.asked.CheckAsked.{CheckAsked}
 use Rattle.mercator_site.specs.declared.asked.CheckForm.{CheckForm}
@@ -6,21 +6,21 @@ use Rattle.mercator_site.specs.declared.check.CheckSettings.{CheckSettings}
 
 pub record Asks : Type 0 where
   pub form : CheckForm
-  -- whether all places of a link are told
+  -- whether all locations of a broken link are listed
   pub all : Bool
-  -- the folder that annotations tell before the names of its files
+  -- the folder that annotations put before the names of files
   pub folder : List ℕ
-  -- whether unreached pages, and where links out of the site lead, are told
+  -- whether unreached files and external links are listed
   pub unreached : Bool
   pub external : Bool
-  -- where the crawl begins, as links of the top; at the top itself where there is none
+  -- the links on the top at which the crawl starts; if there are none, it starts at the top
   pub seeds : List (List ℕ)
-  -- what is left out at the front of each URL
+  -- the prefix that is removed from each URL
   pub front : List ℕ
-  -- what is known to be broken
+  -- the entries of the ignore list
   pub entries : List (List ℕ)
 
--- by settings
+-- the settings of the library's caller
 abbrev pub asks_in : CheckSettings → Asks
 asks_in s = record {
   form = s.form;
@@ -33,7 +33,7 @@ asks_in s = record {
   entries = map string_bytes s.ignores.now;
 }
 
--- by words; the front and the entries come of BASE and of a file
+-- the settings of a command line, with this prefix and the entries of a file
 abbrev pub asks_of : CheckAsked → List ℕ → List (List ℕ) → Asks
 asks_of asked front entries = record {
   form = asked.form;

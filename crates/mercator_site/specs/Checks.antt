@@ -1,4 +1,4 @@
--- What a check of a folder's links tells.
+-- The report of a check of a folder's links.
 use Rattle.std.specs.Prelude.{◌≡◌, ◌==◌, ℕ, Bool, true, false, not, List, [], ◌∷◌, length, map, string_bytes, Ok, Option, Some, None, ⊤}
 use Rattle.std.specs.Option.{option_map}
 use Rattle.check_report.specs.Printing.{printed_text, printed_json, printed_annotations, printed_page}
@@ -23,19 +23,19 @@ use Rattle.site_check.specs.Told.{rows_in, way_of}
 use Rattle.site_check.specs.Totals.{totals_of}
 use Rattle.site_check.specs.declared.check.Checked.{Checked}
 
--- the findings in a form, and what is told beside them
+-- the results in a form, with the optional lists
 abbrev pub printed_check : CheckForm → Bool → Told → Findings → List ℕ
 printed_check (form.Text colour) all told f = printed_text all colour told f
 printed_check form.Json all told f = printed_json told f
 printed_check form.Annotations all told f = printed_annotations told f
 printed_check form.Page all told f = printed_page told f
 
--- the empty link leads to the top itself
+-- without links the crawl starts at the empty link, which leads to the top itself
 abbrev pub starts : List (List ℕ) → List (List ℕ)
 starts [] = [] ∷ []
 starts (link ∷ links) = link ∷ links
 
--- these pages were crawled of the web from the starts on the site's top, which are its own, within the top's host
+-- these pages were crawled in the saved web, from these links on the site's top, which lead below it, within the top's host
 pub record IsTopCrawl (top web : List ℕ) (links : List (List ℕ)) (pages : List PageResult) : Type 0 where
   pub url : List ℕ
   pub canon : canonical top ≡ Ok url
@@ -44,18 +44,18 @@ pub record IsTopCrawl (top web : List ℕ) (links : List (List ℕ)) (pages : Li
   pub own : AreOwn url begun
   pub crawl : IsSiteCrawl web [] begun (host_key url ∷ []) pages
 
--- these are the rows of the pages' links that lead out of the site, where they are asked for
+-- these are the rows of the pages' external links, if they are listed
 abbrev pub AreOthersAsked : Bool → List ℕ → List PageResult → Option (List Row) → Type 0
 AreOthersAsked true top pages (Some rows) = AreExternal top pages rows
 AreOthersAsked true top pages None = ⊥
 AreOthersAsked false top pages (Some rows) = ⊥
 AreOthersAsked false top pages None = ⊤
 
--- the rows of what is told beside findings
+-- the rows of external links in a report
 abbrev pub other_rows : Told → Option (List Row)
 other_rows told = option_map (λ urls. map row_of urls.now) told.external
 
--- the text tells what a check of a site of this name found and these rows of links out of it, and whether something is broken
+-- the text reports the results of a check of a site with this name, these external links, and whether something is broken
 pub record IsReport (checked : Checked) (others : Option (List Row)) (name : List ℕ) (asks : Asks) (broken : Bool) (text : List ℕ) : Type 0 where
   pub found : Findings
   pub base : found.base.now ≡ name
@@ -70,9 +70,9 @@ pub record IsReport (checked : Checked) (others : Option (List Row)) (name : Lis
   pub others_told : other_rows told ≡ others
   pub written : text ≡ printed_check asks.form asks.all told found
 
--- the text tells the missing and the moved pages of such a crawl that lie below the top, each with how
--- many pages link to it, and the entries that stand for nothing; its totals count the pages, their links and the rows; it tells
--- that something is broken where there is such a row
+-- the text reports the missing pages and the redirects of such a crawl below the top, each with the number of pages that link
+-- to it, and the entries that match nothing. Its totals count the pages, their links and the rows. Something is broken if there is
+-- a row of a missing page or anchor
 pub record IsCheck (top web : List ℕ) (asks : Asks) (broken : Bool) (text : List ℕ) : Type 0 where
   pub pages : List PageResult
   pub crawled : IsTopCrawl top web asks.seeds pages
@@ -82,7 +82,7 @@ pub record IsCheck (top web : List ℕ) (asks : Asks) (broken : Bool) (text : Li
   pub rows : rows_in found.broken.now ≡ broken_of asks.front asks.entries own
   pub ways : map way_of found.redirects.now ≡ redirects_of asks.front own
   pub totals : found.totals ≡ totals_of own found.broken.now found.redirects.now
-  -- the names that stand beside them are those of pages of a site with this top
+  -- the suggested pages are pages of a site with this top
   pub site : SiteFiles
   pub site_top : string_bytes site.site.top ≡ top
   pub names : AreNamed asks.front site found.broken.now
@@ -94,24 +94,24 @@ pub record IsCheck (top web : List ℕ) (asks : Asks) (broken : Bool) (text : Li
   pub others : AreOthersAsked asks.external crawled.url own (other_rows told)
   pub written : text ≡ printed_check asks.form asks.all told found
 
--- the same, where the text tells this name of the site
+-- the same, and the site has this name in the text
 pub record IsNamedCheck (name top web : List ℕ) (asks : Asks) (broken : Bool) (text : List ℕ) : Type 0 where
   pub check : IsCheck top web asks broken text
   pub base : check.found.base.now ≡ name
 
--- such a check of the saved web of a site
+-- such a check, of the saved web of a site
 pub record IsSiteCheck (asks : Asks) (broken : Bool) (text : List ℕ) : Type 0 where
   pub top : List ℕ
   pub web : List ℕ
   pub made : IsSiteWeb web
   pub checked : IsCheck top web asks broken text
 
--- the same, where the text tells this name of the site
+-- the same, and the site has this name in the text
 pub record IsNamedSiteCheck (name : List ℕ) (asks : Asks) (broken : Bool) (text : List ℕ) : Type 0 where
   pub site : IsSiteCheck asks broken text
   pub base : site.checked.found.base.now ≡ name
 
--- a check of a site whose pages lie below the top that BASE has
+-- such a check, of a site whose pages are below the top of BASE
 pub record IsSiteCheckAt (base : List ℕ) (asks : Asks) (broken : Bool) (text : List ℕ) : Type 0 where
   pub site : IsSiteCheck asks broken text
   pub is_top : IsTop base site.top

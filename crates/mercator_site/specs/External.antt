@@ -1,4 +1,4 @@
--- Where links that lead out of the site lead.
+-- The external links of a site.
 use Rattle.std.specs.Prelude.{◌≡◌, ℕ, ◌+◌, not, List, [], ◌∷◌, if◌then◌else◌, filter, string_bytes}
 use Rattle.std.specs.Cmp.Lexicographic.{slice_cmp}
 use Rattle.std.specs.List.{flat_map}
@@ -14,11 +14,11 @@ use Rattle.saved_site.specs.Below.{begins}
 abbrev pub outside : List ℕ → List (List ℕ) → List (List ℕ)
 outside top urls = filter (λ url. not (begins top url)) urls
 
--- those among the links of pages, each as often as it stands there
+-- those among the links of the pages, each as often as it occurs
 abbrev pub outside_links : List ℕ → List PageResult → List (List ℕ)
 outside_links top pages = flat_map (λ r. outside top (links_of r.page)) pages
 
--- a URL, and how many links lead to it
+-- a URL and the number of links to it
 pub record Row : Type 0 where
   pub url : List ℕ
   pub links : ℕ
@@ -29,7 +29,7 @@ row_of e = record { url = string_bytes e.url; links = e.links }
 abbrev pub row : List ℕ → ℕ → Row
 row url links = record { url = url; links = links }
 
--- the rows of equal URLs that stand behind one another: so many of the URL, and then these
+-- the rows of runs of equal URLs, after a run of this URL with this number of links
 abbrev pub runs_from : List ℕ → ℕ → List (List ℕ) → List Row
 runs_from url links [] = row url links ∷ []
 runs_from url links (next ∷ more) = if bytes_eq next url then runs_from url (links + 1) more else row url links ∷ runs_from next 1 more
@@ -38,7 +38,7 @@ abbrev pub runs : List (List ℕ) → List Row
 runs [] = []
 runs (url ∷ more) = runs_from url 1 more
 
--- these are the rows of the links that lead out of the site, in the order of their bytes
+-- these are the rows of the external links, in byte order
 pub record AreExternal (top : List ℕ) (pages : List PageResult) (rows : List Row) : Type 0 where
   pub urls : List (List ℕ)
   pub same : IsPermutation (outside_links top pages) urls

@@ -1,4 +1,4 @@
--- Why a command over a folder ends before it is done.
+-- The errors of the commands for a folder.
 use Rattle.std.specs.Prelude.{◌≡◌, ℕ, List, [], ◌∷◌, ◌++◌, codes, map, string_bytes, Ok}
 use Rattle.crawl_keys.specs.CanonicalText.{canonical, resolve}
 use Rattle.mercator.specs.FaultText.{fault_line}
@@ -15,7 +15,7 @@ use Rattle.saved_site.specs.Meaning.{IsSiteWeb}
 use Rattle.saved_site.specs.declared.error.SiteError.{SiteError}
 use Rattle.saved_site.specs.declared.error.SiteError.TheVariants as unmade
 
--- the fault that each refusal of a part leads to
+-- the error for each error of a part
 abbrev pub of_site : SiteError → SiteFault
 of_site unmade.BadBase = wrong.BadBase
 of_site unmade.NoFiles = wrong.NoFiles
@@ -27,29 +27,29 @@ abbrev pub of_crawl : Fault → SiteFault
 of_crawl ended.NoMemory = wrong.NoMemory
 of_crawl why = wrong.Crawl why
 
--- the status of a fault: 2 where a crawl is incomplete, else 1
+-- the exit status of an error: 2 if a crawl is incomplete, otherwise 1
 abbrev pub status_of : SiteFault → ℕ
 status_of (wrong.Crawl why) = status_of_fault why
 status_of fault = 1
 
--- the line that tells these words of what has this name
+-- a message about this name
 abbrev pub name_line : List ℕ → List ℕ → List ℕ
 name_line name words = codes "mercator: " ++ name ++ codes ": " ++ words ++ 10 ∷ []
 
--- the line that tells a fault, with the name that it speaks of
+-- the message of an error about this name
 abbrev pub site_line : List ℕ → SiteFault → List ℕ
 site_line name wrong.CannotReadFolder = fault_line name ended.CannotRead
 site_line name wrong.CannotReadKnown = fault_line name ended.CannotRead
-site_line name wrong.BadBase = name_line (codes "BASE") (codes "no http or https URL without a query")
-site_line name wrong.BadHost = name_line (codes "BASE") (codes "its host is not letters, digits, - and . alone")
+site_line name wrong.BadBase = name_line (codes "BASE") (codes "must be an http or https URL without a query")
+site_line name wrong.BadHost = name_line (codes "BASE") (codes "the host may contain only letters, digits, - and .")
 site_line name wrong.NoFiles = name_line name (codes "no files")
-site_line name wrong.BadSeed = name_line (codes "LINK") (codes "no URL below BASE")
+site_line name wrong.BadSeed = name_line (codes "--seed") (codes "not a URL below BASE")
 site_line name wrong.TooLarge = name_line name (codes "more than 1073741824 bytes of links")
 site_line name (wrong.Crawl why) = fault_line name why
 site_line name wrong.CannotWrite = fault_line name ended.CannotWrite
 site_line name wrong.NoMemory = fault_line name ended.NoMemory
 
--- a crawl of the web by so many workers, from the starts on the site's top, is incomplete
+-- a crawl of the saved web by this number of workers, from these links on the site's top, is incomplete
 pub record IsTopIncomplete (top web : List ℕ) (links : List (List ℕ)) (workers : ℕ) : Type 0 where
   pub url : List ℕ
   pub canon : canonical top ≡ Ok url
@@ -61,7 +61,7 @@ pub record IsTopIncomplete (top web : List ℕ) (links : List (List ℕ)) (worke
   pub incomplete : status_of_fault why ≡ 2
   pub refused : IsRefused workers max web [] begun why
 
--- one of the saved web of a site is, as a check makes it
+-- the crawl of a check is incomplete: that of the saved web of a site
 pub record IsSiteIncomplete (asked : CheckAsked) : Type 0 where
   pub top : List ℕ
   pub web : List ℕ

@@ -1,11 +1,11 @@
--- Sources of pages that stand for a saved web.
+-- Sources with the pages of a saved web.
 use Rattle.std.specs.Prelude.{◌≡◌, ℕ, List}
 use Rattle.std.specs.Str.Lines.{lines}
 use Rattle.crawl_web.specs.SavedWeb.{page_of}
 use Rattle.crawl_web.specs.WebFaults.{IsSound}
 use Rattle.crawl_web.specs.declared.page.Page.{Page}
 
--- the bytes are a saved web, which has at each URL the page that is meant
+-- the bytes are a saved web, which has this page at each URL
 pub record IsSourceOf (meaning : List ℕ → Page) (bytes : List ℕ) : Type 0 where
   pub sound : IsSound (lines bytes)
   pub same : (url : List ℕ) → meaning url ≡ page_of (lines bytes) url

@@ -1,73 +1,74 @@
-//! What a command line asks of a folder.
+//! The settings of `site` and `check`, as the command line gives them.
 use clap::ArgMatches;
 use crawl_limits::WORKER_LIMIT;
 use std::alloc::{AllocError, Global};
 
-/// The URL of the top where none is given.
+/// The URL of the top if no BASE is given.
 const LOCAL: &str = "http://localhost/";
 
-/// How what is found is told.
+/// The form of a report.
 #[derive(Clone, Copy, Debug, PartialEq, Eq)]
 pub enum CheckForm {
-    /// For people, with colour or without.
+    /// Text.
     Text {
-        /// Whether ANSI codes colour it.
+        /// Whether it has colour, as ANSI escape codes.
         colour: bool,
     },
-    /// A JSON object a line.
+    /// JSON, one object per line.
     Json,
-    /// Lines that GitHub's jobs show beside the file.
+    /// GitHub annotations.
     Annotations,
-    /// A page of HTML.
+    /// An HTML page.
     Page,
 }
 
-/// `site`: a folder as a saved web.
+/// The settings of `site`, which prints a folder as a saved web.
 #[derive(Debug, Drop)]
 pub struct SiteAsked {
     pub folder: String,
-    /// The URL of its top.
+    /// The URL of the top of the folder.
     pub base: String,
-    /// Whether other spellings of a page's URL are no pages.
+    /// Whether only the exact spelling of a page's URL is accepted.
     pub exact: bool,
-    /// Whether a `?` in a name begins the query.
+    /// Whether a `?` in a file name is the start of a query.
     pub queries: bool,
 }
 
-/// `check`: which links of a folder are broken.
+/// The settings of `check`, which reports the broken links of a folder.
 #[derive(Debug, Drop)]
 pub struct CheckAsked {
     pub site: SiteAsked,
-    /// Whether paths in the folder are told in place of URLs.
+    /// Whether the report has paths instead of URLs.
     pub paths: bool,
-    /// How many workers crawl: 1 to 512.
+    /// The number of workers, 1 to 512.
     pub workers: u32,
     pub form: CheckForm,
-    /// Whether all places of a link are told.
+    /// Whether all locations of a broken link are listed.
     pub all: bool,
-    /// Whether links to parts of pages are looked at.
+    /// Whether anchors are checked.
     pub anchors: bool,
-    /// Whether files that no link leads to are told.
+    /// Whether unreached files are listed.
     pub unreached: bool,
-    /// Whether it is told where links out of the site lead.
+    /// Whether external links are listed.
     pub external: bool,
-    /// Where the crawl begins, as links of the top; at the top itself where there is none.
+    /// The links on the top at which the crawl starts; if there are none, it starts at the top.
     pub seeds: Vec<String>,
-    /// The file of what is known to be broken.
+    /// The file with the ignore list.
     pub known: Option<String>,
 }
 
-/// What words ask of a folder.
+/// A command for a folder.
 #[derive(Debug, Drop)]
 pub enum SitePlan {
     Site(SiteAsked),
     Check(CheckAsked),
 }
 
-/// What the words ask for that `clap` read, where they ask for one of these commands; a text for people may have colour.
+/// The settings in a command line that `clap` has parsed, or nothing if it is another command. `colour` says whether a text report
+/// may have colour.
 ///
 /// # Errors
-/// Where a growth was refused.
+/// Out of memory.
 pub fn site_plan(
     alloc: Global,
     matches: &ArgMatches<'_>,

@@ -1,4 +1,4 @@
-//! The bytes of a site's files, in memory and on disk.
+//! The contents of a site's files, in memory or on disk.
 use crawl_web::NoMemory;
 use saved_site::{Body, folder_body};
 use site_check::Bodies;
@@ -6,14 +6,14 @@ use std::alloc::{AllocError, Global};
 use std::io::ErrorKind;
 use std::rt;
 
-/// Files in memory: their names and bytes, in the same order.
+/// Files in memory: their names and contents, in the same order.
 #[derive(Clone, Copy)]
 pub struct Files<'a> {
     pub names: &'a [String],
     pub bodies: &'a [Vec<u8>],
 }
 
-/// Gives files in memory.
+/// Reads files in memory.
 #[derive(Drop)]
 pub(crate) struct InMemory<'a> {
     pub(crate) files: Files<'a>,
@@ -34,7 +34,7 @@ impl Bodies for InMemory<'_> {
     }
 }
 
-/// Gives files below a folder.
+/// Reads files in a folder.
 #[derive(Drop)]
 pub(crate) struct OnDisk<'a, R> {
     pub(crate) rt: &'a R,

@@ -1,4 +1,4 @@
-//! A check of a site, from its files to the report.
+//! Checks a site: from its files to the report.
 ghost use Rattle.std.specs.Prelude.{◌≡◌, ℕ, List, IfErr, IfOk, map, string_bytes};
 ghost use Rattle.std.specs.Option.{option_map};
 ghost use Rattle.mercator_site.specs.Asks.{asks_in};
@@ -28,31 +28,31 @@ use std::mem::forget;
 use std::sync::Wait;
 use std::thread::Threads;
 
-/// How a check is made and told.
+/// The settings of a check.
 #[derive(Clone, Copy)]
 pub struct CheckSettings<'a> {
-    /// How many workers crawl the site's web.
+    /// The number of workers that crawl the site.
     pub workers: u32,
-    /// The site's name, as it is told.
+    /// The name of the site in the report.
     pub name: &'a str,
-    /// What is left out at the front of each URL that is told.
+    /// The prefix that is removed from each URL in the report.
     pub front: &'a str,
-    /// What is known to be broken: each entry stands for the targets that begin with it.
+    /// The ignore list: each entry matches the targets that begin with it.
     pub ignores: &'a [String],
-    /// Whether files that no link leads to are told.
+    /// Whether unreached files are listed.
     pub unreached: bool,
-    /// Whether it is told where links out of the site lead.
+    /// Whether external links are listed.
     pub external: bool,
-    /// Where the crawl begins, as links of the site's top; at the top itself where there is none.
+    /// The links on the site's top at which the crawl starts; if there are none, it starts at the top.
     pub seeds: &'a [String],
     pub form: CheckForm,
-    /// Whether all places of a link are told, and not three.
+    /// Whether all locations of a broken link are listed, not only three.
     pub all: bool,
-    /// The folder that annotations tell before the names of its files; empty for files in memory.
+    /// The folder that annotations put before the names of files; empty for files in memory.
     pub folder: &'a str,
 }
 
-/// What a check tells.
+/// The report of a check.
 #[derive(Drop)]
 pub struct CheckReport {
     pub text: Vec<u8>,
@@ -60,7 +60,7 @@ pub struct CheckReport {
     pub is_broken: bool,
 }
 
-/// What was crawled of a site, and what is known of its documents.
+/// The crawl of a site, and the anchors and link locations of its documents.
 #[derive(Drop)]
 struct FoundSite {
     crawled: Crawled,
@@ -68,10 +68,10 @@ struct FoundSite {
     places: Vec<LinkPlaces>,
 }
 
-/// The report of a check of the site whose files have these names and bytes.
+/// Checks a site whose files are in memory.
 ///
 /// # Errors
-/// `BadBase`, `NoFiles`, `TooLarge`, `BadHost`, `BadSeed`; `Crawl` where the crawl is incomplete; `NoMemory`.
+/// `BadBase`, `NoFiles`, `TooLarge`, `BadHost`, `BadSeed`, `NoMemory`; `Crawl` if the crawl is incomplete.
 pub fn report_of_files<R: Threads + Wait + Sync>(
     rt: &R,
     alloc: Global,
@@ -96,11 +96,11 @@ pub fn report_of_files<R: Threads + Wait + Sync>(
     report_of_pages(rt, alloc, site, &pages, &bodies, settings)
 }
 
-/// The report of a check of a site by its saved web: of the crawl of that web from its top or the seeds, within the top's host.
-/// The web's bytes are gone before pages are looked for in what was found.
+/// Checks a site by its saved web. The crawl starts at the top or at the seeds, and stays on the top's host. The bytes of the saved
+/// web are freed before the results are searched for pages.
 ///
 /// # Errors
-/// `BadHost`, `BadSeed`; `Crawl` where the crawl is incomplete; `NoMemory`.
+/// `BadHost`, `BadSeed`, `NoMemory`; `Crawl` if the crawl is incomplete.
 pub fn report_of_site<R: Threads + Wait + Sync, B: Bodies + Sync>(
     rt: &R,
     alloc: Global,
@@ -136,10 +136,11 @@ pub fn report_of_site<R: Threads + Wait + Sync, B: Bodies + Sync>(
     report_of_found(rt, alloc, found, files, bodies, settings)
 }
 
-/// As [`report_of_site`], by the site's pages in memory: they are those of some saved web, whose bytes are not needed.
+/// Checks a site by its pages in memory, as [`report_of_site`] does by its saved web. The pages are those of a saved web whose bytes
+/// are not needed.
 ///
 /// # Errors
-/// Those of [`report_of_site`].
+/// As for [`report_of_site`].
 pub fn report_of_pages<R: Threads + Wait + Sync, B: Bodies + Sync>(
     rt: &R,
     alloc: Global,
@@ -166,7 +167,7 @@ pub fn report_of_pages<R: Threads + Wait + Sync, B: Bodies + Sync>(
         settings.seeds,
         settings.workers,
     )?;
-    // As the rest is, once the report is made.
+    // Not freed, for the same reason as below.
     forget(pages);
     let found = FoundSite {
         crawled,
@@ -176,7 +177,7 @@ pub fn report_of_pages<R: Threads + Wait + Sync, B: Bodies + Sync>(
     report_of_found(rt, alloc, found, files, bodies, settings)
 }
 
-/// The report of a check of a site by what was crawled of it.
+/// Checks a site by the results of its crawl.
 fn report_of_found<R: Threads + Wait + Sync, B: Bodies + Sync>(
     rt: &R,
     alloc: Global,
@@ -199,7 +200,7 @@ fn report_of_found<R: Threads + Wait + Sync, B: Bodies + Sync>(
     let asked = asked_of(settings, anchors.as_slice(), places.as_slice());
     let checked = check_site(rt, alloc, pages, files, bodies, asked)?;
     let report = report_of(alloc, &checked, &others, settings)?;
-    // The process ends soon, and gives it back at once.
+    // Not freed: the process exits soon, and the system frees everything faster.
     forget(crawled);
     forget(anchors);
     forget(places);
@@ -207,7 +208,7 @@ fn report_of_found<R: Threads + Wait + Sync, B: Bodies + Sync>(
     Ok(report)
 }
 
-/// What is asked of a check by its settings and by what is known of the site's documents.
+/// The settings of the check of the results, with what is known of the site's documents.
 fn asked_of<'a>(
     settings: CheckSettings<'a>,
     anchors: &'a [PageAnchors],
@@ -225,7 +226,7 @@ fn asked_of<'a>(
     }
 }
 
-/// The report of what a check found and of where links out of the site lead.
+/// Prints the results of a check and the external links.
 fn report_of(
     alloc: Global,
     checked: &Checked,
@@ -247,7 +248,7 @@ fn report_of(
     })
 }
 
-/// Where links of the pages out of the site lead, where that is asked for.
+/// The external links of the pages, if they are listed.
 fn others_asked(
     alloc: Global,
     asked: bool,

@@ -1,4 +1,4 @@
-//! The crawl of a site: from its top or from links of it, within the top's host.
+//! Crawls a site, from its top or from links on it, within the top's host.
 ghost use Rattle.std.specs.Prelude.{◌≡◌, ℕ, ◌∷◌, List, [], IfErr, IfOk, map, string_bytes, Ok};
 ghost use Rattle.crawl_keys.specs.CanonicalText.{canonical};
 ghost use Rattle.mercator_site.specs.Checks.{IsTopCrawl};
@@ -15,7 +15,7 @@ use std::alloc::Global;
 use std::sync::Wait;
 use std::thread::Threads;
 
-/// What a crawl of a site's web finds from the links of its top, within the top's host.
+/// Crawls the saved web of a site from these links on its top, within the top's host.
 pub(crate) fn crawl_site<R: Threads + Wait + Sync>(
     rt: &R,
     alloc: Global,
@@ -36,7 +36,7 @@ pub(crate) fn crawl_site<R: Threads + Wait + Sync>(
     }
 }
 
-/// The same of a source that has the pages of that web.
+/// Crawls a source that has the pages of the saved web.
 pub(crate) fn crawl_source<F: SessionFetch + Sync, R: Threads + Wait + Sync>(
     rt: &R,
     alloc: Global,

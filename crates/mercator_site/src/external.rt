@@ -1,4 +1,4 @@
-//! Where links that lead out of the site lead.
+//! The external links of a site.
 ghost use Rattle.std.specs.Prelude.{◌≡◌, ◌≤◌, ◌++◌, ◌∷◌, [], OnOk, IfOk, map};
 ghost use Rattle.crawl_report.specs.Tallies.{pointed};
 ghost use Rattle.mercator_site.specs.External.{AreExternal, outside, outside_links, row, row_of, runs, runs_from};
@@ -9,11 +9,11 @@ use crawl_keys::CanonUrl;
 use crawl_web::{NoMemory, PageResult, links_of};
 use std::alloc::Global;
 
-/// The URLs not below the top that links of the pages lead to, ascending by their bytes, each with how many links lead to it. A
-/// link that stands twice in a page counts twice.
+/// The URLs outside the top that the pages link to, in byte order, each with the number of links. Two links in one page count as
+/// two.
 ///
 /// # Errors
-/// Where a growth was refused.
+/// Out of memory.
 pub(crate) fn external_links(
     alloc: Global,
     top: &CanonUrl,
@@ -26,7 +26,7 @@ pub(crate) fn external_links(
     runs(alloc, urls.as_slice())
 }
 
-/// The links that lead out of the site.
+/// The links to URLs outside the top.
 fn outside_links<'r>(
     alloc: Global,
     top: &CanonUrl,
@@ -56,7 +56,7 @@ fn push_outside<'r>(
     Ok(())
 }
 
-/// A row for each run of equal URLs.
+/// One row for each run of equal URLs.
 fn runs(alloc: Global, urls: &[&CanonUrl]) -> Result<Vec<External>, NoMemory>
     ensures { IfOk result (λ all. map row_of all.items ≡ runs (pointed urls.now)) }
 {
@@ -66,7 +66,7 @@ fn runs(alloc: Global, urls: &[&CanonUrl]) -> Result<Vec<External>, NoMemory>
     }
 }
 
-/// The rows of the URL and of those behind it.
+/// The rows of a URL and of the URLs after it.
 fn runs_from(alloc: Global, first: &CanonUrl, more: &[&CanonUrl]) -> Result<Vec<External>, NoMemory>
     ensures { IfOk result (λ all. map row_of all.items ≡ runs_from first.now 1 (pointed more.now)) }
 {

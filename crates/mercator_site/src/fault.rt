@@ -1,4 +1,4 @@
-//! Why a command over a folder ends before it is done.
+//! The errors of the commands for a folder.
 ghost use Rattle.std.specs.Prelude.{◌≡◌, ◌⊎◌};
 ghost use Rattle.mercator_site.specs.Faults.{of_crawl, of_site, status_of};
 ghost use Rattle.mercator_site.specs.declared.fault.SiteFault.TheVariants as wrong;
@@ -7,33 +7,33 @@ use mercator::Fault;
 use saved_site::SiteError;
 use std::alloc::{AllocError, AllocFailed};
 
-/// Why a command over a folder ends before it is done.
+/// An error of a command for a folder.
 #[derive(Clone, Copy, Debug, PartialEq, Eq)]
 pub enum SiteFault {
     /// The folder cannot be read.
     CannotReadFolder,
-    /// The file of what is known to be broken cannot be read.
+    /// The file with the ignore list cannot be read.
     CannotReadKnown,
-    /// The URL of the top is no http or https URL without a query.
+    /// BASE is not an http or https URL without a query.
     BadBase,
-    /// The host of the top is none that a filter takes.
+    /// The host of BASE has a character that a filter does not accept.
     BadHost,
-    /// The folder has no file.
+    /// The folder has no files.
     NoFiles,
-    /// A seed leads to no URL below the top.
+    /// A seed is not a URL below BASE.
     BadSeed,
-    /// The web has more bytes than a crawl takes.
+    /// The saved web exceeds the limit of a crawl.
     TooLarge,
-    /// The crawl of the site's web ended so.
+    /// The crawl of the site failed.
     Crawl(Fault),
     /// A write or a flush failed.
     CannotWrite,
-    /// A growth was refused.
+    /// An allocation failed.
     NoMemory,
 }
 
 impl SiteFault {
-    /// The status that tells this fault: 2 where a crawl is incomplete, else 1.
+    /// The exit status for this error: 2 if a crawl is incomplete, otherwise 1.
     pub fn status(self) -> u8
         ensures status { result ≡ status_of self }
         ensures unfinished { (result ≡ 1) ⊎ (result ≡ 2) }

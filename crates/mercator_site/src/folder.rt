@@ -1,4 +1,4 @@
-//! The commands over a folder, from its files to their texts.
+//! The commands for a folder, from its files to the output.
 ghost use Rattle.std.specs.Prelude.{◌≡◌, ℕ, List, [], None, IfErr, IfOk, if◌then◌else◌, map, string_bytes};
 ghost use Rattle.mercator_site.specs.Asks.{asks_in, asks_of};
 ghost use Rattle.mercator_site.specs.Checks.{IsSiteCheck};
@@ -23,7 +23,7 @@ use std::io::{Read, Write};
 use std::sync::Wait;
 use std::thread::Threads;
 
-/// How many threads read documents.
+/// The number of threads that read documents.
 const THREADS: usize = 4;
 
 fn rules_of(alloc: Global, asked: &SiteAsked) -> Result<Rules, AllocError> {
@@ -44,7 +44,7 @@ fn check_rules(alloc: Global, asked: &CheckAsked) -> Result<Rules, AllocError> {
     Ok(rules)
 }
 
-/// The saved web of a folder. What is not written as it was found is told to `err`.
+/// Makes the saved web of a folder. Notes about everything that is skipped or changed go to `err`.
 ///
 /// # Errors
 /// `CannotReadFolder`, `BadBase`, `NoFiles`, `TooLarge`, `NoMemory`.
@@ -71,11 +71,11 @@ pub fn web_of_folder<R: Files<File: Send, Dir: Send> + Threads + Sync, E: Write>
     Ok(bytes)
 }
 
-/// The report of a check of a folder. What is not read as it was found is told to `err`.
+/// Checks a folder. Notes about everything that is skipped or changed go to `err`.
 ///
 /// # Errors
-/// `CannotReadKnown`, `CannotReadFolder`, `BadBase`, `NoFiles`, `TooLarge`, `BadHost`, `BadSeed`; `Crawl` where the crawl is
-/// incomplete; `NoMemory`.
+/// `CannotReadKnown`, `CannotReadFolder`, `BadBase`, `NoFiles`, `TooLarge`, `BadHost`, `BadSeed`, `NoMemory`; `Crawl` if the crawl
+/// is incomplete.
 pub fn report_of_folder<R: Files<File: Send, Dir: Send> + Threads + Wait + Sync, E: Write>(
     rt: &R,
     alloc: Global,
@@ -122,7 +122,7 @@ fn report_of_names<R: Files<File: Send, Dir: Send> + Threads + Wait + Sync, E: W
     Ok(report)
 }
 
-/// Tells what is not read as it was found of pages, which are named as the report names them.
+/// Prints the notes about pages, which have the same names as in the report.
 fn tell_page_notes<E: Write>(
     alloc: Global,
     err: &mut E,
@@ -133,7 +133,7 @@ fn tell_page_notes<E: Write>(
     tell_notes(alloc, err, front_of(paths, files.top()), notes)
 }
 
-/// Tells that the crawl reaches nothing, where it begins at the top and the top has no index file.
+/// Prints a note if there is nothing to check: if the crawl starts at the top and the top has no index file.
 fn tell_no_index<E: Write>(
     alloc: Global,
     err: &mut E,
@@ -141,13 +141,13 @@ fn tell_no_index<E: Write>(
 ) -> Result<(), AllocError> {
     let index = input.rules.index.as_str();
     if input.seeds.is_empty() && !input.names.iter().any(|name| name.as_str() == index) {
-        let words = format!(in alloc; "no {index}, so nothing is crawled: see --seed")?;
+        let words = format!(in alloc; "no {index}, nothing to check (use --seed)")?;
         tell_note(alloc, err, "./", words.as_str())?;
     }
     Ok(())
 }
 
-/// How the check is made and told: without BASE the folder names the site, and what is behind the top's URL is told.
+/// The settings of the check. Without BASE the site has the name of the folder, and URLs are printed without the top's URL.
 fn settings_of<'a>(asked: &'a CheckAsked, top: &'a str, known: &'a [String]) -> CheckSettings<'a>
     ensures asks { asks_in result ≡ asks_of asked.now result.front.now (map string_bytes known.now) }
     ensures workers { result.workers ≡ asked.now.workers }
@@ -168,7 +168,7 @@ fn settings_of<'a>(asked: &'a CheckAsked, top: &'a str, known: &'a [String]) -> 
     }
 }
 
-/// How the site is named: by its folder where paths in it are told.
+/// The name of the site: the folder if the report has paths, otherwise the URL of the top.
 fn name_of<'a>(asked: &'a CheckAsked, top: &'a str) -> &'a str
     ensures { result.now ≡ (if asked.now.paths then string_bytes asked.now.site.folder else top.now) }
 {
@@ -179,14 +179,14 @@ fn name_of<'a>(asked: &'a CheckAsked, top: &'a str) -> &'a str
     }
 }
 
-/// What is left out at the front of each URL.
+/// The prefix that is removed from each URL.
 fn front_of(paths: bool, top: &str) -> &str
     ensures { result.now ≡ (if paths then top.now else []) }
 {
     if paths { top } else { "" }
 }
 
-/// The entries of the file of what is known to be broken; none where there is no such file.
+/// The entries of the ignore list, or none if no list is given.
 fn known_entries<R: Files>(
     rt: &R,
     alloc: Global,

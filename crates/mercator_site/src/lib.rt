@@ -1,4 +1,4 @@
-//! The commands over a folder: `site` writes its saved web, `check` tells which of its links are broken.
+//! The commands for a folder of HTML pages: `site` prints its saved web, `check` reports its broken links.
 #![tactic(auto)]
 
 mod asked;

@@ -1,4 +1,4 @@
-//! Which URLs are a site's own.
+//! The URLs of a site: those below its top.
 ghost use Rattle.std.specs.Prelude.{◌≡◌};
 ghost use Rattle.crawl_certificate.specs.Certificate.{IsAscending, result_urls};
 ghost use Rattle.mercator_site.specs.Own.{from_own, own_of, while_own};
@@ -7,7 +7,7 @@ ghost use Rattle.saved_site.specs.Below.{begins};
 use crawl_keys::CanonUrl;
 use crawl_web::PageResult;
 
-/// Whether the URL is one of the site with this top.
+/// Whether the URL belongs to the site with this top.
 pub(crate) fn is_own(top: &CanonUrl, url: &CanonUrl) -> bool
     ensures { result ≡ begins top.now url.now }
 {
@@ -15,14 +15,14 @@ pub(crate) fn is_own(top: &CanonUrl, url: &CanonUrl) -> bool
     url.as_str().as_bytes().starts_with(top)
 }
 
-/// The results of the site's own URLs: results ascend by URL, so these stand together.
+/// The results of the site's own URLs. Results are in the order of their URLs, so these are consecutive.
 pub(crate) fn own_results<'a>(top: &CanonUrl, results: &'a [PageResult]) -> &'a [PageResult]
     ensures { IsAscending (result_urls results.now) → result.now ≡ own_of top.now results.now }
 {
     while_own(top, from_own(top, results))
 }
 
-/// The results from the first of the site's own on.
+/// The results from the first of the site's own URLs on.
 fn from_own<'a>(top: &CanonUrl, results: &'a [PageResult]) -> &'a [PageResult]
     ensures { result.now ≡ from_own top.now results.now }
 {
@@ -34,7 +34,7 @@ fn from_own<'a>(top: &CanonUrl, results: &'a [PageResult]) -> &'a [PageResult]
     &[]
 }
 
-/// The results before the first that is not the site's own.
+/// The results before the first URL that is not the site's own.
 fn while_own<'a>(top: &CanonUrl, results: &'a [PageResult]) -> &'a [PageResult]
     ensures { result.now ≡ while_own top.now results.now }
 {

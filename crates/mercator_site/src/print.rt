@@ -1,4 +1,4 @@
-//! A check's findings in the form that is asked for.
+//! Prints the results of a check in the form that was chosen.
 ghost use Rattle.std.specs.Prelude.{◌≡◌, IfOk};
 ghost use Rattle.mercator_site.specs.Checks.{printed_check};
 
@@ -6,10 +6,10 @@ use crate::asked::CheckForm;
 use check_report::{Findings, Told, print_annotations, print_json, print_page, print_text};
 use std::alloc::{AllocError, Global};
 
-/// The text of the findings and of what is told beside them, with all places of a link or three.
+/// Prints the results and the optional lists, with three locations of each target or with all.
 ///
 /// # Errors
-/// Where a growth was refused.
+/// Out of memory.
 pub(crate) fn print_check(
     alloc: Global,
     findings: &Findings<'_>,

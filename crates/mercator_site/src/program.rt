@@ -1,4 +1,4 @@
-//! The commands over a folder as the program runs them.
+//! Runs the commands for a folder.
 ghost use Rattle.std.specs.Prelude.{◌≡◌, ◌≤◌, ◌⊎◌, None, true, false, IfErr, IfOk, IfSome, is_some, map, string_bytes};
 ghost use Rattle.std.specs.Io.KnownBytes.{Appends};
 ghost use Rattle.mercator_site.specs.Ends.{GainsCheck, GainsPlan, HasReport, HasText, IsHelped, IsIncomplete, IsRun, are_ours};
@@ -15,23 +15,23 @@ use std::io::Write;
 use std::sync::Wait;
 use std::thread::Threads;
 
-/// The status of a check that found something broken.
+/// The exit status of a check that found something broken.
 pub const BROKEN: u8 = 4;
 
-/// What words of ours ask for.
+/// What the arguments of such a command ask for.
 #[derive(Drop)]
 enum Asked {
-    /// A command over a folder.
+    /// A run of the command.
     Plan(SitePlan),
-    /// Such a command's help.
+    /// Its help.
     Help(String),
-    /// What is wrong with its words; empty where they were read otherwise than they were checked.
+    /// A usage error, as `clap` prints it. It is empty if `clap` read another command than [`is_ours`] did.
     Wrong(String),
 }
 
-/// Runs the program's words where they are those of a command over a folder, and answers its status; nothing where they are not,
-/// and then nothing is written. `colour` says whether a text for people may have it. Statuses are 0 done, 1 a fault, 2 an
-/// incomplete crawl, 3 a bad command line, 4 something is broken.
+/// Runs the program's arguments if they are those of `site` or `check`, and returns the exit status. For other arguments it returns
+/// `None` and writes nothing. `colour` says whether a text report may have colour. The exit status is 0 for success, 1 for an
+/// error, 2 for an incomplete crawl, 3 for a bad command line, 4 if something is broken.
 pub fn run_site_words<R: Files<File: Send, Dir: Send> + Threads + Wait + Sync, O: Write, E: Write>(
     rt: &R,
     alloc: Global,
@@ -40,18 +40,18 @@ pub fn run_site_words<R: Files<File: Send, Dir: Send> + Threads + Wait + Sync, O
     out: &mut O,
     err: &mut E,
 ) -> Option<u8>
-    // Just the words of other commands are left, and then nothing is written.
+    // It returns `None` exactly for the arguments of other commands, and then writes nothing.
     ensures ours { is_some result ≡ are_ours (map string_bytes words.now) }
     ensures others { result ≡ None → (out.new ≡ out.old) × (err.new ≡ err.old) }
     ensures statuses { IfSome result (λ status. status ≤ 4) }
 
-    // Done: the output gained help, or what a command tells that found nothing broken. Which of them, `clap` alone can say.
+    // Success: the output gained help, or what a command prints that found nothing broken. Only `clap` knows which.
     ensures done { IfSome result (λ status. status ≡ 0 → IsHelped (O.contents out.old) (O.contents out.new) ⊎ IsRun false (O.contents out.old) (O.contents out.new)) }
-    // Something is broken: it gained the report that tells so.
+    // Something is broken: the output gained the report that says so.
     ensures broken { IfSome result (λ status. status ≡ 4 → IsRun true (O.contents out.old) (O.contents out.new)) }
-    // A crawl is incomplete: nothing is written.
+    // An incomplete crawl: nothing is written to the output.
     ensures incomplete { IfSome result (λ status. status ≡ 2 → out.new ≡ out.old) }
-    // A bad command line: nothing is written but what is wrong with it.
+    // A bad command line: nothing is written to the output.
     ensures bad_command { IfSome result (λ status. status ≡ 3 → out.new ≡ out.old) }
 {
     if !is_ours(words) {
@@ -66,7 +66,7 @@ pub fn run_site_words<R: Files<File: Send, Dir: Send> + Threads + Wait + Sync, O
     }
 }
 
-/// Whether the words are those of a command over a folder.
+/// Whether the arguments are those of `site` or `check`.
 fn is_ours(words: &[String]) -> bool
     ensures { result ≡ are_ours (map string_bytes words.now) }
 {
@@ -76,7 +76,7 @@ fn is_ours(words: &[String]) -> bool
     }
 }
 
-/// Runs what is asked for, and answers its status.
+/// Runs what the arguments ask for, and returns the exit status.
 fn run_asked<R: Files<File: Send, Dir: Send> + Threads + Wait + Sync, O: Write, E: Write>(
     rt: &R,
     alloc: Global,
@@ -100,7 +100,7 @@ fn run_asked<R: Files<File: Send, Dir: Send> + Threads + Wait + Sync, O: Write, 
     }
 }
 
-/// Writes help to the output, and answers the status; that it cannot be written is told to `err`.
+/// Writes help to the output, and returns the exit status. An error goes to `err`.
 fn show_help<O: Write, E: Write>(alloc: Global, text: &[u8], out: &mut O, err: &mut E) -> u8
     ensures statuses { result ≤ 1 }
     ensures shown { result ≡ 0 → Appends (O.contents out.old) (O.contents out.new) text.now }
@@ -114,7 +114,7 @@ fn show_help<O: Write, E: Write>(alloc: Global, text: &[u8], out: &mut O, err: &
     }
 }
 
-/// What the words ask for.
+/// What the arguments ask for.
 fn asked_of(alloc: Global, words: &[String], colour: bool) -> Result<Asked, AllocError> {
     let mut named = Vec::new(alloc);
     named.push("mercator")?;
@@ -130,7 +130,7 @@ fn asked_of(alloc: Global, words: &[String], colour: bool) -> Result<Asked, Allo
     }
 }
 
-/// What is shown for this answer of `clap`.
+/// The text of a result of `clap` that is not a command: help, or a usage error.
 fn shown(alloc: Global, error: &clap::Error) -> Result<Asked, AllocError> {
     let text = format!(in alloc; "{error}")?;
     if error.use_stderr() {
@@ -140,7 +140,7 @@ fn shown(alloc: Global, error: &clap::Error) -> Result<Asked, AllocError> {
     }
 }
 
-/// Runs such a command and answers its status. What it tells is whole before any of it is written.
+/// Runs a command and returns the exit status. The output is complete in memory before any of it is written.
 pub fn run_site_plan<R: Files<File: Send, Dir: Send> + Threads + Wait + Sync, O: Write, E: Write>(
     rt: &R,
     alloc: Global,
@@ -148,14 +148,14 @@ pub fn run_site_plan<R: Files<File: Send, Dir: Send> + Threads + Wait + Sync, O:
     out: &mut O,
     err: &mut E,
 ) -> u8
-    // Done: the output gained the saved web of a folder, or the report of a check that found nothing broken.
+    // Success: the output gained the saved web of a folder, or the report of a check that found nothing broken.
     ensures done { result ≡ 0 → GainsPlan plan.now false (O.contents out.old) (O.contents out.new) }
-    // Something is broken: it gained the report that tells so.
+    // Something is broken: the output gained the report that says so.
     ensures broken { result ≡ 4 → GainsPlan plan.now true (O.contents out.old) (O.contents out.new) }
     ensures statuses { (result ≤ 2) ⊎ (result ≡ 4) }
-    // A fault: nothing is written, or a text could not be written whole.
+    // An error: nothing is written to the output, or a text could not be written completely.
     ensures fault { result ≡ 1 → (out.new ≡ out.old) ⊎ HasText plan.now }
-    // Only the crawl of a check is incomplete, and nothing is written then.
+    // Only the crawl of a check can be incomplete, and then nothing is written to the output.
     ensures incomplete { result ≡ 2 → IsIncomplete plan.now }
     ensures unreported { result ≡ 2 → out.new ≡ out.old }
 {
@@ -205,7 +205,7 @@ fn run_check<R: Files<File: Send, Dir: Send> + Threads + Wait + Sync, O: Write, 
     Ok(report.is_broken)
 }
 
-/// The name that a fault speaks of.
+/// The name that an error is about.
 fn told_name(plan: &SitePlan, fault: SiteFault) -> &str {
     match (plan, fault) {
         (SitePlan::Check(asked), SiteFault::CannotReadKnown) => match &asked.known {

@@ -1,4 +1,4 @@
-//! Where a check's crawl begins.
+//! The URLs at which the crawl of a check starts.
 ghost use Rattle.std.specs.Prelude.{◌≡◌, ◌∷◌, [], true, IfErr, IfOk, map, string_bytes, Ok};
 ghost use Rattle.crawl_keys.specs.CanonicalText.{canonical, resolve};
 ghost use Rattle.mercator.specs.WebCrawl.{AreSeeds};
@@ -12,7 +12,7 @@ use crate::own::is_own;
 use crawl_keys::{CanonUrl, KeyError, resolve};
 use std::alloc::Global;
 
-/// The URLs where a crawl begins: those of the links, or the top's own.
+/// The URLs at which the crawl starts: those of the links, or the top's own if there are no links.
 pub(crate) fn starts(
     alloc: Global,
     top: &CanonUrl,
@@ -53,7 +53,7 @@ fn seeds_of(alloc: Global, top: &CanonUrl, links: &[String]) -> Result<Vec<Canon
     Ok(seeds)
 }
 
-/// The URL of a link of the top, which has to be one of the site.
+/// The URL of a link on the top. It must be below the top.
 fn seed_of(alloc: Global, top: &CanonUrl, link: &str) -> Result<CanonUrl, SiteFault>
     ensures resolved { IfOk result (λ seed. resolve top.now link.now ≡ Ok seed) }
     ensures own { IfOk result (λ seed. begins top.now seed ≡ true) }
@@ -67,7 +67,7 @@ fn seed_of(alloc: Global, top: &CanonUrl, link: &str) -> Result<CanonUrl, SiteFa
     }
 }
 
-/// The URL as it is: its text is its own canonical URL.
+/// Returns the URL unchanged. Its contract says that the text of a canonical URL is canonical.
 fn stable(url: CanonUrl) -> CanonUrl
     ensures same { result ≡ url }
     ensures stable { canonical result ≡ Ok result }

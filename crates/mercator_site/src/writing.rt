@@ -1,4 +1,4 @@
-//! What a command writes: its text to the output, and lines to the writer for faults.
+//! Writes the output of a command, and messages to standard error.
 ghost use Rattle.std.specs.Prelude.{◌≡◌, IfErr, IfOk, OnOk, string_bytes};
 ghost use Rattle.std.specs.Io.KnownBytes.{Appends};
 ghost use Rattle.check_report.specs.Text.{shown};
@@ -11,7 +11,7 @@ use saved_site::Note;
 use std::alloc::{AllocError, Global};
 use std::io::Write;
 
-/// Writes the text whole, and flushes it.
+/// Writes all of the text and flushes it.
 ///
 /// # Errors
 /// `CannotWrite`.
@@ -25,8 +25,8 @@ pub(crate) fn write_text<O: Write>(out: &mut O, text: &[u8]) -> Result<(), SiteF
     Ok(())
 }
 
-/// Tells what is not written as it was found, a line each, without the front where its place begins with that. What `err` refuses
-/// is dropped.
+/// Prints one line for each note. If the place of a note begins with `front`, that is removed. A line that cannot be written is
+/// dropped.
 pub(crate) fn tell_notes<E: Write>(
     alloc: Global,
     err: &mut E,
@@ -42,7 +42,7 @@ pub(crate) fn tell_notes<E: Write>(
     Ok(())
 }
 
-/// A place without the front, where it begins with that; the top itself is `./`.
+/// A place without `front`, if it begins with that. The top itself is `./`.
 fn told_place(alloc: Global, front: &str, place: &str) -> Result<String, AllocError> {
     match place.strip_prefix(front) {
         Some(behind) if !front.is_empty() => format!(in alloc; "{}{behind}", top_before(behind)),
@@ -50,7 +50,7 @@ fn told_place(alloc: Global, front: &str, place: &str) -> Result<String, AllocEr
     }
 }
 
-/// The top, where no path is left of a place; a name of its encoding may be.
+/// `./` if nothing is left of a place, or only the name of its encoding.
 fn top_before(behind: &str) -> &str {
     if behind.is_empty() || behind.starts_with(' ') {
         "./"
@@ -59,7 +59,7 @@ fn top_before(behind: &str) -> &str {
     }
 }
 
-/// Tells these words of a place in a line. What `err` refuses is dropped.
+/// Prints a line about a place. A line that cannot be written is dropped.
 pub(crate) fn tell_note<E: Write>(
     alloc: Global,
     err: &mut E,
@@ -71,7 +71,7 @@ pub(crate) fn tell_note<E: Write>(
     Ok(())
 }
 
-/// The line of a note. A place is a name that strangers chose: its control bytes are shown as pictures.
+/// The line of a note. A place is an untrusted name, so its control bytes are shown as symbols.
 fn note_line(alloc: Global, place: &str, words: &str) -> Result<Vec<u8>, AllocError>
     ensures { IfOk result (λ line. line.items ≡ name_line (shown place.now) words.now) }
 {
@@ -84,14 +84,14 @@ fn note_line(alloc: Global, place: &str, words: &str) -> Result<Vec<u8>, AllocEr
     Ok(line)
 }
 
-/// Tells a fault in a line. What `err` refuses is dropped, and so is a line that finds no room.
+/// Prints the message of an error. A line that cannot be written, or for which there is no memory, is dropped.
 pub(crate) fn tell_fault<E: Write>(alloc: Global, err: &mut E, name: &str, fault: SiteFault) {
     if let Ok(line) = line_of(alloc, name, fault) {
         let _ = err.write_all(line.as_bytes());
     }
 }
 
-/// The line of a fault, with the name that it speaks of.
+/// The message of an error about this name.
 fn line_of(alloc: Global, name: &str, fault: SiteFault) -> Result<String, AllocError>
     ensures { IfOk result (λ line. string_bytes line ≡ site_line name.now fault) }
 {
@@ -99,14 +99,18 @@ fn line_of(alloc: Global, name: &str, fault: SiteFault) -> Result<String, AllocE
         SiteFault::CannotReadFolder | SiteFault::CannotReadKnown => {
             fault_line(alloc, name, Fault::CannotRead)
         }
-        SiteFault::BadBase => name_line(alloc, "BASE", "no http or https URL without a query"),
+        SiteFault::BadBase => name_line(
+            alloc,
+            "BASE",
+            "must be an http or https URL without a query",
+        ),
         SiteFault::BadHost => name_line(
             alloc,
             "BASE",
-            "its host is not letters, digits, - and . alone",
+            "the host may contain only letters, digits, - and .",
         ),
         SiteFault::NoFiles => name_line(alloc, name, "no files"),
-        SiteFault::BadSeed => name_line(alloc, "LINK", "no URL below BASE"),
+        SiteFault::BadSeed => name_line(alloc, "--seed", "not a URL below BASE"),
         SiteFault::TooLarge => name_line(alloc, name, "more than 1073741824 bytes of links"),
         SiteFault::Crawl(fault) => fault_line(alloc, name, fault),
         SiteFault::CannotWrite => fault_line(alloc, name, Fault::CannotWrite),
@@ -114,7 +118,7 @@ fn line_of(alloc: Global, name: &str, fault: SiteFault) -> Result<String, AllocE
     }
 }
 
-/// The line that tells these words of what has this name.
+/// A message about this name.
 fn name_line(alloc: Global, name: &str, words: &str) -> Result<String, AllocError>
     ensures { IfOk result (λ line. string_bytes line ≡ name_line name.now words.now) }
 {

@@ -1,4 +1,4 @@
-//! The ids of a document, in one block.
+//! The ids of a document, in one block of memory.
 ghost use Rattle.std.specs.Prelude.{◌≡◌, ◌∷◌, ◌++◌, ◌<◌, ◌≤◌, [], IfOk, OnErr, OnOk, get_or, length, slice_index_or};
 ghost use Rattle.std.specs.List.Sorted.{IsPermutation};
 ghost use Rattle.page_anchors.specs.Ids.{DoBound, pointed, texts_from};
@@ -7,15 +7,15 @@ ghost use Rattle.page_anchors.specs.Indicated.{DoAscend};
 use std::alloc::{AllocError, Global};
 use std::marker::Model;
 
-/// A growth was refused.
+/// An allocation failed.
 pub type NoMemory = AllocError;
 
-/// The ids of a document, in some order. Together they are shorter than 4 GiB.
+/// The ids of a document, in any order. Together they have less than 4 GiB.
 #[derive(Drop)]
 pub struct Ids {
-    /// One behind the other.
+    /// The ids, one after the other.
     bytes: Vec<u8>,
-    /// Where each ends, and the next begins.
+    /// The end of each id, which is the start of the next.
     ends: Vec<u32>,
 }
 
@@ -41,7 +41,7 @@ impl Ids {
         }
     }
 
-    /// How many there are.
+    /// The number of ids.
     pub fn len(&self) -> usize
         ensures { result ≡ length self.now }
     {
@@ -59,7 +59,7 @@ impl Ids {
     /// Appends an id.
     ///
     /// # Errors
-    /// Where a growth was refused, or 4 GiB would be passed. All ids are gone then.
+    /// Out of memory, or the ids would have 4 GiB or more. In both cases all ids are removed.
     pub fn push(&mut self, id: &[u8]) -> Result<(), NoMemory>
         ensures pushed { OnOk result (self.new ≡ self.old ++ id.now ∷ []) }
         ensures gone { OnErr result (self.new ≡ []) }
@@ -74,10 +74,10 @@ impl Ids {
         }
     }
 
-    /// The same ids in ascending order of their bytes, in just the room that they need.
+    /// The same ids in ascending byte order, in exactly the memory that they need.
     ///
     /// # Errors
-    /// Where a growth was refused.
+    /// Out of memory.
     pub fn ascending(&self, alloc: Global) -> Result<Ids, NoMemory>
         ensures ascend { IfOk result (λ ids. DoAscend ids) }
         ensures same { IfOk result (λ ids. IsPermutation self.now ids) }
@@ -89,7 +89,7 @@ impl Ids {
         Ok(sorted)
     }
 
-    /// None, with room for so many of so many bytes together.
+    /// No ids, with room for `count` ids of `length` bytes together.
     fn with_room(alloc: Global, count: usize, length: usize) -> Result<Ids, NoMemory>
         ensures { IfOk result (λ ids. ids ≡ []) }
     {
@@ -119,7 +119,7 @@ impl Ids {
     }
 }
 
-/// The id with this index, of those in the bytes that end at these places.
+/// The id with this index, if the ids end at these positions of the bytes.
 fn id_at<'b>(bytes: &'b [u8], ends: &[u32], index: usize) -> &'b [u8]
     requires within { index < length ends.now }
     requires bound { DoBound 0 ends.now (length bytes.now) }
@@ -130,7 +130,7 @@ fn id_at<'b>(bytes: &'b [u8], ends: &[u32], index: usize) -> &'b [u8]
     &bytes[begin..end]
 }
 
-/// Where the id with this index begins.
+/// The start of the id with this index.
 fn begin_of(ends: &[u32], index: usize) -> usize
     requires { index < length ends.now }
     ensures { result ≡ get_or (0 ∷ ends.now) index 0 }
@@ -151,7 +151,7 @@ fn push_id(id: &[u8], bytes: &mut Vec<u8>, ends: &mut Vec<u32>) -> Result<(), No
     Ok(())
 }
 
-/// How many bytes there are, where that is below 4 GiB.
+/// The number of bytes, if that is less than 4 GiB.
 fn end_of(bytes: &[u8]) -> Result<u32, NoMemory>
     ensures { IfOk result (λ end. end ≡ length bytes.now) }
 {

@@ -1,4 +1,4 @@
-//! The part that a fragment indicates.
+//! The anchor that a fragment names.
 ghost use Rattle.std.specs.Prelude.{◌≡◌, IfOk, false, not};
 ghost use Rattle.std.specs.List.{list_any};
 ghost use Rattle.page_anchors.specs.Escapes.{is_escaped, is_odd};
@@ -9,16 +9,17 @@ use crate::search::has_id;
 use percent_encoding::{AsciiSet, CONTROLS, ascii_set, percent_decode, percent_encode};
 use std::alloc::Global;
 
-/// What a URL's parser escapes in a fragment, besides bytes past ASCII.
+/// The bytes that a URL parser percent-encodes in a fragment, in addition to those beyond ASCII.
 pub const IN_FRAGMENT: AsciiSet = ascii_set!(
     CONTROLS.add(b' ').add(b'"').add(b'<').add(b'>').add(b'`')
 );
 
-/// Whether a document with these ids, which ascend, has the part that the text behind a `#` indicates: the top for no text and
-/// for `top`, else an id that is the fragment as a URL has it, or else what its escapes stand for. From `:~:` on nothing counts.
+/// Whether a document with these ids, in ascending order, has the anchor that the text after a `#` names. It does if the text is
+/// empty, if an id is the fragment as a URL parser writes it, or if the fragment after percent-decoding is an id or `top` in any
+/// case. Everything from `:~:` on is ignored.
 ///
 /// # Errors
-/// Out of memory alone.
+/// Out of memory.
 pub fn is_indicated(alloc: Global, ids: &Ids, text: &[u8]) -> Result<bool, NoMemory>
     ensures { DoAscend ids.now → IfOk result (λ found. found ≡ is_indicated ids.now text.now) }
 {
@@ -32,7 +33,7 @@ pub fn is_indicated(alloc: Global, ids: &Ids, text: &[u8]) -> Result<bool, NoMem
     has_part(alloc, ids, front)
 }
 
-/// Whether the text is just what a URL has of it, has no escapes, and begins no directive.
+/// Whether a URL parser leaves the text unchanged, and it has neither percent escapes nor a directive.
 fn is_plain(text: &[u8]) -> bool
     ensures { result ≡ not (list_any is_odd text.now) }
 {
@@ -44,7 +45,7 @@ fn is_plain(text: &[u8]) -> bool
     true
 }
 
-/// Whether a byte is escaped in a fragment, or may begin an escape or a directive.
+/// Whether a byte is percent-encoded in a fragment, or may start an escape or a directive.
 fn is_odd(byte: u8) -> bool
     ensures { result ≡ is_odd byte }
 {
@@ -57,7 +58,7 @@ fn is_escaped(byte: u8) -> bool
     byte < 33 || byte == b'"' || byte == b'<' || byte == b'>' || byte == b'`' || 126 < byte
 }
 
-/// Whether a document has the part that such a text indicates.
+/// Whether a document has the anchor that such a text names.
 fn has_plain(ids: &Ids, text: &[u8]) -> bool
     requires { list_any is_odd text.now ≡ false }
     ensures { DoAscend ids.now → result ≡ is_indicated ids.now text.now }
@@ -68,7 +69,7 @@ fn has_plain(ids: &Ids, text: &[u8]) -> bool
     has_decoded(ids, text)
 }
 
-/// What stands before a fragment directive.
+/// The text before a fragment directive.
 fn before_directive(text: &[u8]) -> &[u8]
     ensures { result.now ≡ before_directive text.now }
 {
@@ -86,7 +87,7 @@ fn begins_directive(text: &[u8]) -> bool
     matches!(text, [b':', b'~', b':', ..])
 }
 
-/// Whether an id is the text as a URL has it, or what its escapes stand for, or that is `top`.
+/// Whether an id is the text as a URL parser writes it or after percent-decoding, or the decoded text is `top`.
 fn has_part(alloc: Global, ids: &Ids, text: &[u8]) -> Result<bool, NoMemory>
     ensures { DoAscend ids.now → IfOk result (λ found. found ≡ has_part ids.now text.now) }
 {

@@ -1,9 +1,9 @@
-//! Whether a document has the part that a fragment indicates, as the HTML Standard finds it.
+//! Whether a document has the anchor that a fragment names, by the rules of the HTML Standard.
 #![tactic(auto)]
 
 mod ids;
 mod indicated;
-/// What holds of fragments.
+/// Laws about fragments.
 pub mod laws;
 mod search;
 

@@ -1,4 +1,4 @@
-//! An id among those that ascend.
+//! Finds an id among ids in ascending order.
 ghost use Rattle.std.specs.Prelude.{◌≡◌};
 ghost use Rattle.std.specs.Cmp.Lexicographic.{slice_cmp};
 ghost use Rattle.std.specs.Ordering.{nat_cmp};

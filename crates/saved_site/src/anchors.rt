@@ -1,4 +1,4 @@
-//! The parts of documents, and links to parts.
+//! The anchors of documents, and links to anchors.
 use crate::cleaning::{push_without_breaks, trimmed_end};
 use crate::found_links::{Found, Piece};
 use crate::site::Site;
@@ -9,56 +9,56 @@ use memchr::memchr;
 use page_anchors::{Ids, is_indicated};
 use std::alloc::{AllocError, Global};
 
-/// Links of a document to parts of a page, which stand together.
+/// A group of links of a document to anchors of one page.
 #[derive(Drop)]
 pub struct AnchorLinks {
-    /// The page.
+    /// The page that the links lead to.
     pub to: Target,
     begin: u32,
     end: u32,
 }
 
 impl AnchorLinks {
-    /// The number of the first among the document's links to parts, and that behind the last.
+    /// The number of the first link of the group, and the number after the last.
     pub fn numbers(&self) -> (usize, usize) {
         (self.begin as usize, self.end as usize)
     }
 }
 
-/// A link to a part of a page.
+/// A link to an anchor.
 #[derive(Clone, Copy)]
 pub struct AnchorLink<'a> {
-    /// What is behind its first `#`.
+    /// The text after its first `#`.
     pub fragment: &'a [u8],
-    /// The index in the document's text at which the attribute's value begins. None where that is behind 4 GiB.
+    /// The position in the document's text at which the attribute's value starts. `None` if it is beyond 4 GiB.
     pub index: Option<u32>,
 }
 
-/// Where the fragment of a link begins, which ends where that of the next does, and the index of its value.
+/// The start of a link's fragment, which ends at the start of the next, and the position of its value.
 #[derive(Clone, Copy)]
 struct KeptLink {
     fragment: u32,
     index: u32,
 }
 
-/// In place of an index behind 4 GiB.
+/// Stands for a position beyond 4 GiB.
 const FAR: u32 = u32::MAX;
 
-/// The parts that a document has, and its links to parts of pages.
+/// The anchors of a document, and its links to anchors.
 #[derive(Drop)]
 pub struct Anchors {
-    /// Each `id`, and each `name` of an `a`, in ascending order of their bytes.
+    /// Each `id`, and each `name` of an `a`, in ascending byte order.
     pub ids: Ids,
-    /// Links with a `#` that have a canonical URL; those with the same text before it stand together, in order. Links to parts of
-    /// the document itself that are there are left out.
+    /// The links with a `#` and a canonical URL, in order. Links with the same text before the `#` are one group. Links to existing
+    /// anchors of the document itself are dropped.
     pub groups: Vec<AnchorLinks>,
     links: Vec<KeptLink>,
-    /// What is behind the first `#` of each of these links, one behind the other.
+    /// The texts after the first `#` of these links, one after the other.
     fragments: Vec<u8>,
 }
 
 impl Anchors {
-    /// The link to a part with this number.
+    /// The link with this number.
     pub fn link(&self, number: usize) -> Option<AnchorLink<'_>> {
         let link = self.links.get(number)?;
         let begin = link.fragment as usize;
@@ -82,7 +82,7 @@ impl Anchors {
         }
     }
 
-    /// Appends the links of the document at a URL, which stand in the order of their targets' numbers.
+    /// Appends the links of the document at a URL, in the order of their targets' numbers.
     fn push_all(
         &mut self,
         found: &Found,
@@ -125,7 +125,7 @@ impl Anchors {
         Ok(())
     }
 
-    /// Appends a link, unless the document itself has the part.
+    /// Appends a link, unless the document itself has the anchor.
     fn push_link(&mut self, fragment: &[u8], index: usize, is_own: bool) -> Result<(), AllocError> {
         let begin = self.fragments.len();
         push_without_breaks(fragment, &mut self.fragments)?;
@@ -139,13 +139,13 @@ impl Anchors {
         Ok(())
     }
 
-    /// Whether the document has the part that the last fragment indicates, which begins here.
+    /// Whether the document has the anchor that the last fragment names, which starts at `begin`.
     fn has_part(&self, begin: usize) -> Result<bool, AllocError> {
         let fragment = self.fragments.as_slice().get(begin..).unwrap_or(&[]);
         is_indicated(*self.fragments.allocator(), &self.ids, fragment)
     }
 
-    /// They are kept long, and there are many.
+    /// Frees unused memory, since there are many such values and they are kept long.
     fn shrink_to_fit(&mut self) {
         self.groups.shrink_to_fit();
         self.links.shrink_to_fit();
@@ -157,7 +157,7 @@ fn known_index(index: u32) -> Option<u32> {
     if index == FAR { None } else { Some(index) }
 }
 
-/// A number of four bytes. Behind 4 GiB there is no room for one.
+/// The number in four bytes; out of memory beyond 4 GiB.
 fn in_four_bytes(number: usize) -> Result<u32, AllocError> {
     match u32::try_from(number) {
         Ok(number) => Ok(number),
@@ -165,10 +165,10 @@ fn in_four_bytes(number: usize) -> Result<u32, AllocError> {
     }
 }
 
-/// The anchors of a document at a URL, by its ids and its links; `texts` says what these mean.
+/// The anchors of a document at a URL, from its ids and links; `texts` resolves the links.
 ///
 /// # Errors
-/// Where a growth was refused.
+/// Out of memory.
 pub(crate) fn anchors_of(
     alloc: Global,
     ids: &Ids,
@@ -197,14 +197,14 @@ fn is_at(to: &Target, site: &Site, url: &CanonUrl) -> bool {
     }
 }
 
-/// The number of what a link leads to, and where what is behind its first `#` stands among the texts.
+/// The number of a link's target, and the text after its first `#`.
 #[derive(Clone, Copy)]
 struct Numbered {
     number: usize,
     fragment: Piece,
 }
 
-/// The first links, which have this number, and the others.
+/// The first links with this number, and the others.
 fn split_number(number: usize, links: &[Numbered]) -> (&[Numbered], &[Numbered]) {
     let count = links
         .iter()

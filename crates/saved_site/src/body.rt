@@ -1,25 +1,25 @@
-//! The bytes of a file that is read.
+//! The contents of a file.
 use std::alloc::{AllocError, Global};
 use std::io;
 use std::io::Read;
 
-/// The most room that is made before a file is read, and that is used again for others.
+/// The most room that is kept for the next file.
 const ROOM: usize = 1 << 23;
 
-/// By how many bytes the room for a file grows: no more of it is touched than is used, about.
+/// The number of bytes by which the room grows, so that little more memory is touched than is used.
 const GROWTH: usize = 1 << 20;
 
-/// The bytes of a file.
+/// The contents of a file.
 #[derive(Drop)]
 pub struct Body {
-    /// Room for them, which is used again.
+    /// The room for them, which is reused.
     room: Vec<u8>,
-    /// How much of it is used.
+    /// The number of bytes in use.
     used: usize,
 }
 
 impl Body {
-    /// That of no file.
+    /// An empty body.
     pub fn new(alloc: Global) -> Body {
         Body {
             room: Vec::new(alloc),
@@ -27,7 +27,7 @@ impl Body {
         }
     }
 
-    /// Takes the bytes away. The room for them is kept, unless it is that of a long file.
+    /// Removes the contents. The room is kept for the next file, unless it is large.
     pub fn clear(&mut self) {
         self.used = 0;
         if self.room.len() > ROOM {
@@ -43,7 +43,7 @@ impl Body {
     /// Appends bytes.
     ///
     /// # Errors
-    /// Where a growth was refused.
+    /// Out of memory.
     pub fn push(&mut self, bytes: &[u8]) -> Result<(), AllocError> {
         self.room.truncate(self.used);
         self.room.extend_from_slice(bytes)?;
@@ -51,7 +51,7 @@ impl Body {
         Ok(())
     }
 
-    /// Reads to the end, into room that is not made empty before, as that of `read_to_end` is.
+    /// Reads to the end. Unlike `read_to_end`, it does not clear the room first.
     pub(crate) fn read<I: Read>(&mut self, input: &mut I) -> io::Result<()> {
         for _ in 0..u64::MAX {
             let room = self
@@ -72,7 +72,7 @@ impl Body {
         Ok(())
     }
 
-    /// Reads the first bytes of a file into a body without bytes: so many, or all where there are fewer.
+    /// Reads the first `length` bytes of a file, or all if there are fewer, into an empty body.
     pub(crate) fn read_start<I: Read>(&mut self, input: &mut I, length: usize) -> io::Result<()> {
         if self.room.len() < length {
             self.grow()?;

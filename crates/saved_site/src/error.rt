@@ -1,17 +1,17 @@
-//! Why a site has no saved web.
+//! The errors of making a saved web.
 use std::alloc::{AllocError, AllocFailed};
 use std::{fmt, io};
 
-/// Why a site has no saved web.
+/// Why a saved web cannot be made.
 #[derive(Debug, Drop)]
 pub enum SiteError {
-    /// The base is no http or https URL without a query.
+    /// The base is not an http or https URL without a query.
     BadBase,
-    /// There is no file.
+    /// There are no files.
     NoFiles,
-    /// The web has more bytes than a crawl takes.
+    /// The saved web exceeds the limit of a crawl.
     TooLarge,
-    /// A growth was refused.
+    /// An allocation failed.
     NoMemory,
     /// The folder cannot be read.
     Io(io::Error),
@@ -20,10 +20,12 @@ pub enum SiteError {
 impl fmt::Display for SiteError {
     fn fmt<W: fmt::Write>(&self, f: &mut fmt::Formatter<W>) -> fmt::Result {
         match self {
-            SiteError::BadBase => f.write_str("no http or https URL without a query"),
+            SiteError::BadBase => f.write_str(
+                "the base must be an http or https URL without a query",
+            ),
             SiteError::NoFiles => f.write_str("no files"),
             SiteError::TooLarge => f.write_str(
-                "the web is more than 1073741824 bytes, which no crawl takes",
+                "the saved web has more than 1073741824 bytes, the most that a crawl reads",
             ),
             SiteError::NoMemory => f.write_str("out of memory"),
             SiteError::Io(error) => write!(f, "{error}"),

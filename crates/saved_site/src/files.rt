@@ -1,4 +1,4 @@
-//! Which file a page of a site is made of.
+//! The file of each page of a site.
 ghost use Rattle.std.specs.Prelude.{◌≡◌, IfErr, IfOk, length, slice_get, string_bytes};
 ghost use Rattle.std.specs.Option.{option_map};
 ghost use Rattle.saved_site.specs.Below.{IsTop};
@@ -13,21 +13,21 @@ use crate::spellings::plain_of;
 use crate::web::SiteNames;
 use std::alloc::{AllocError, Global};
 
-/// The pages of a site by their URLs, and the files that they are made of.
+/// The pages of a site by their URLs, and their files.
 #[derive(Drop)]
 pub struct SiteFiles<'a> {
     site: Site,
     names: &'a [String],
     rules: &'a Rules,
-    /// The files that have no page, since another has their URL.
+    /// The files without a page, because another file has the same URL.
     doubles: Vec<Note>,
 }
 
 impl<'a> SiteFiles<'a> {
-    /// Those of a site.
+    /// The pages and files of a site.
     ///
     /// # Errors
-    /// `BadBase`, `NoFiles`; `NoMemory` where a growth was refused.
+    /// `BadBase`, `NoFiles`, `NoMemory`.
     pub fn new(alloc: Global, input: SiteNames<'a>) -> Result<SiteFiles<'a>, SiteError>
         ensures error { IfErr result IsOfFiles }
         ensures top { IfOk result (λ files. IsTop input.entry.base.now (string_bytes files.site.top)) }
@@ -48,7 +48,7 @@ impl<'a> SiteFiles<'a> {
         })
     }
 
-    /// What its pages are made by, and whether their links are looked up.
+    /// The inputs for making the pages; `is_linked` says whether their links are looked up.
     pub(crate) fn given(&self, is_linked: bool) -> Given<'_>
         ensures { result.top.now ≡ string_bytes self.now.site.top }
     {
@@ -61,7 +61,7 @@ impl<'a> SiteFiles<'a> {
         }
     }
 
-    /// Tells the files that have no page.
+    /// Adds notes about the files without a page.
     pub(crate) fn tell_doubles(&self, notes: &mut Vec<Note>) -> Result<(), AllocError> {
         for note in &self.doubles {
             notes.push(note.copy()?)?;
@@ -76,14 +76,14 @@ impl<'a> SiteFiles<'a> {
         self.site.top()
     }
 
-    /// How many pages the site has, other spellings not counted.
+    /// The number of pages, without other spellings.
     pub fn page_count(&self) -> usize
         ensures { result ≡ length (pages_of self.now) }
     {
         self.site.entries.len()
     }
 
-    /// The URL of the page with this number, and the index of its file among the names, if it has one.
+    /// The URL of a page, and the index of its file in the names, if it has one.
     pub fn page(&self, number: usize) -> Option<(&str, Option<usize>)>
         ensures { option_map (λ page. page_file page.0.now page.1) result ≡ slice_get (pages_of self.now) number }
     {
@@ -93,12 +93,12 @@ impl<'a> SiteFiles<'a> {
         }
     }
 
-    /// How many names there are.
+    /// The number of names.
     pub fn name_count(&self) -> usize {
         self.names.len()
     }
 
-    /// The file with this index among the names.
+    /// The name with this index.
     pub fn name(&self, index: usize) -> Option<&'a str>
         ensures { option_map (λ name. name.now) result ≡ name_at self.now index }
     {
@@ -109,11 +109,10 @@ impl<'a> SiteFiles<'a> {
         }
     }
 
-    /// The index of the file that the page at a URL is made of, also where the URL is another spelling of the page's; none where
-    /// there is no such file.
+    /// The index of the file of the page at a URL, or `None`. The URL can be another spelling of the page's URL.
     ///
     /// # Errors
-    /// Where a growth was refused.
+    /// Out of memory.
     pub fn file_of(&self, alloc: Global, url: &str) -> Result<Option<usize>, AllocError> {
         let number = match self.site.find(url) {
             Some(number) => number,
@@ -135,7 +134,7 @@ impl<'a> SiteFiles<'a> {
         }
     }
 
-    /// By how many threads its pages are made.
+    /// The number of threads that make the pages.
     pub fn threads(&self) -> usize {
         self.rules.threads
     }

@@ -1,4 +1,5 @@
-//! The saved web of a folder of files: the pages that a plain static server answers, and the links that a browser reads in them.
+//! Makes the saved web of a folder of files: the pages that a plain static server returns, with the links that a browser reads in
+//! them.
 #![tactic(auto)]
 
 mod anchors;

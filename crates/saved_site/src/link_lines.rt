@@ -7,7 +7,7 @@ use crawl_web::first_line;
 use std::alloc::{AllocError, Global};
 use std::marker::Model;
 
-/// The lines of links, each a text behind `link `.
+/// The lines of links: `link ` and a text.
 #[derive(Drop)]
 pub struct LinkLines {
     bytes: Vec<u8>,
@@ -34,10 +34,10 @@ impl LinkLines {
         }
     }
 
-    /// No lines, with room for so many bytes of them.
+    /// No lines, with room for `room` bytes.
     ///
     /// # Errors
-    /// Where there is no such room.
+    /// Out of memory.
     pub(crate) fn with_room(alloc: Global, room: usize) -> Result<LinkLines, AllocError>
         ensures { IfOk result (λ links. links ≡ []) }
     {
@@ -45,7 +45,7 @@ impl LinkLines {
         Ok(LinkLines { bytes })
     }
 
-    /// The lines, each with its line break.
+    /// The lines, each with its line end.
     pub fn as_bytes(&self) -> &[u8]
         ensures lines { result.now ≡ link_lines self.now }
         ensures fit { all_fit self.now ≡ true }
@@ -56,7 +56,7 @@ impl LinkLines {
     /// Appends the line of a link.
     ///
     /// # Errors
-    /// Where a growth was refused. All lines are gone then.
+    /// Out of memory. Then all lines are removed.
     pub fn push(&mut self, text: &[u8]) -> Result<(), AllocError>
         requires { fits 5 text.now ≡ true }
         ensures pushed { OnOk result (self.new ≡ self.old ++ text.now ∷ []) }
@@ -81,7 +81,7 @@ fn push_line(text: &[u8], lines: &mut Vec<u8>) -> Result<(), AllocError>
     Ok(())
 }
 
-/// The text of the first of these lines, and the lines behind it.
+/// The text of the first line, and the other lines.
 pub(crate) fn next_text(lines: &[u8]) -> Option<(&str, &[u8])>
     requires { all_fit (texts_in lines.now) ≡ true }
     ensures next { MatchOption result (texts_in lines.now ≡ []) (λ x. texts_in lines.now ≡ x.0.now ∷ texts_in x.1.now) }
@@ -94,7 +94,7 @@ pub(crate) fn next_text(lines: &[u8]) -> Option<(&str, &[u8])>
     }
 }
 
-/// What stands behind `link ` in a line.
+/// The text after `link ` in a line.
 fn behind_front(line: &[u8]) -> &[u8]
     ensures { result.now ≡ drop 5 line.now }
 {

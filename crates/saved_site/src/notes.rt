@@ -1,70 +1,70 @@
-//! What is not written as it was found.
+//! Notes about files, pages and links that are skipped or changed.
 use crawl_keys::CanonUrl;
 use std::alloc::{AllocError, Global};
 use std::fmt;
 
-/// What is not written as it was found.
+/// Why something is skipped or changed.
 #[derive(Clone, Copy, Debug, PartialEq, Eq)]
 pub enum Left {
-    /// A name that is not UTF-8.
+    /// The name is not UTF-8.
     NotUtf8,
-    /// Neither a file nor a folder.
+    /// It is neither a file nor a folder, or a symbolic link to nothing.
     NoFile,
-    /// What it is cannot be read.
+    /// The system refused to say what it is.
     Unread,
-    /// A folder that leads back up.
+    /// The folder is a symbolic link back to a folder above it.
     LeadsUp,
-    /// A folder that cannot be read.
+    /// The folder cannot be read.
     FolderUnread,
-    /// A file that cannot be read.
+    /// The file cannot be read, so its links are skipped.
     FileUnread,
-    /// A file whose URL another one has.
+    /// Another file has the same URL.
     SameUrl,
-    /// A page whose URL is too long for a line.
+    /// The URL of the page is too long for a line.
     LongUrl,
-    /// A redirect's target that is too long for a line.
+    /// The target of the redirect is too long for a line.
     LongTarget,
-    /// Links that are too long for a line.
+    /// Some links of the page are too long for a line.
     LongLinks,
-    /// A document in an encoding that is not known here.
+    /// The document is in an unknown encoding.
     Encoding,
 }
 
 impl fmt::Display for Left {
     fn fmt<W: fmt::Write>(&self, f: &mut fmt::Formatter<W>) -> fmt::Result {
         f.write_str(match self {
-            Left::NotUtf8 => "name left out, it is not UTF-8",
-            Left::NoFile => "left out, neither a file nor a folder",
-            Left::Unread => "left out, it cannot be read",
-            Left::LeadsUp => "folder not entered, it leads back up",
-            Left::FolderUnread => "folder not entered, it cannot be read",
-            Left::FileUnread => "links not read, the file cannot be read",
-            Left::SameUrl => "file left out, another has its URL",
-            Left::LongUrl => "page left out, its URL is too long",
-            Left::LongTarget => "redirect left without its target, which is too long",
-            Left::LongLinks => "links left out, they are too long",
-            Left::Encoding => "only ASCII read, the encoding is not known",
+            Left::NotUtf8 => "skipped, its name is not UTF-8",
+            Left::NoFile => "skipped, neither a file nor a folder",
+            Left::Unread => "skipped, it cannot be read",
+            Left::LeadsUp => "folder skipped, it leads back to a folder above it",
+            Left::FolderUnread => "folder skipped, it cannot be read",
+            Left::FileUnread => "links skipped, the file cannot be read",
+            Left::SameUrl => "file skipped, another file has the same URL",
+            Left::LongUrl => "page skipped, its URL is too long",
+            Left::LongTarget => "target of the redirect skipped, it is too long",
+            Left::LongLinks => "some links skipped, they are too long",
+            Left::Encoding => "unknown encoding, only ASCII was read",
         })
     }
 }
 
-/// Something that is not written as it was found, and where.
+/// A note about something that is skipped or changed.
 #[derive(Debug, Drop)]
 pub struct Note {
-    /// What it is.
+    /// The reason.
     pub left: Left,
-    /// A name below the folder, or a URL.
+    /// A name in the folder, or a URL.
     pub place: String,
 }
 
 impl Note {
-    /// What is left at a URL.
+    /// A note about a URL.
     pub(crate) fn at(alloc: Global, left: Left, url: &CanonUrl) -> Result<Note, AllocError> {
         let place = String::from_str(alloc, url.as_str())?;
         Ok(Note { left, place })
     }
 
-    /// The same once more.
+    /// A copy of the note.
     pub(crate) fn copy(&self) -> Result<Note, AllocError> {
         let place = self.place.clone()?;
         Ok(Note {

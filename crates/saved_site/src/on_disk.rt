@@ -1,4 +1,4 @@
-//! The saved web of a folder, whose files are read by the threads that make its pages.
+//! Makes the saved web of a folder. The threads that make the pages read the files.
 ghost use Rattle.std.specs.IoError.{error_kind};
 ghost use Rattle.std.specs.Prelude.{◌≡◌, IfErr, IfOk, alloc_error, string_bytes};
 ghost use Rattle.saved_site.specs.Below.{IsWebAt, IsWebBelow};
@@ -22,19 +22,19 @@ use std::rt::Files;
 use std::thread::Threads;
 use std::{fs, io};
 
-/// The names below a folder.
+/// The names in a folder.
 #[derive(Drop)]
 pub struct FolderNames {
-    /// Files and folders in the order of their bytes; a folder's name ends in a slash.
+    /// The paths of files and folders, in byte order. The name of a folder ends with a slash.
     pub names: Vec<String>,
-    /// What was left out.
+    /// Notes about what was skipped.
     pub notes: Vec<Note>,
 }
 
-/// The names of the files and folders below a folder. Symbolic links are followed, but not back up.
+/// Lists the files and folders in a folder and its subfolders. Symbolic links are followed, except to a folder above.
 ///
 /// # Errors
-/// `Io` where the folder cannot be read; `NoMemory` where a growth was refused.
+/// `Io` if the folder cannot be read; `NoMemory`.
 pub fn folder_names<R: Files<File: Send, Dir: Send> + Threads + Sync>(
     rt: &R,
     alloc: Global,
@@ -44,11 +44,10 @@ pub fn folder_names<R: Files<File: Send, Dir: Send> + Threads + Sync>(
     Ok(FolderNames { names, notes })
 }
 
-/// The saved web of a folder whose top has the URL `base`.
+/// Makes the saved web of a folder whose top has the URL `base`. If a file cannot be read, its page has no links, and there is a note.
 ///
 /// # Errors
-/// Those of `site_web`, and `Io` where the folder cannot be read. Where a file cannot be read, its page has no links, and that is
-/// told.
+/// Those of `site_web`, and `Io` if the folder cannot be read.
 pub fn folder_web<R: Files<File: Send, Dir: Send> + Threads + Sync>(
     rt: &R,
     alloc: Global,
@@ -69,10 +68,11 @@ pub fn folder_web<R: Files<File: Send, Dir: Send> + Threads + Sync>(
     folder_web_of(rt, alloc, folder, input, notes)
 }
 
-/// The saved web of the files with these names below a folder, and what was told of them before.
+/// Makes the saved web of the files with these names in a folder, after these notes about them. If a file cannot be read, its page
+/// has no links, and there is a note.
 ///
 /// # Errors
-/// Those of `site_web`. Where a file cannot be read, its page has no links, and that is told.
+/// Those of `site_web`.
 #[tactic(auto, using(crate::proofs::Errors::web_of_files))]
 pub fn folder_web_of<R: Files<File: Send, Dir: Send> + Threads + Sync>(
     rt: &R,
@@ -90,10 +90,10 @@ pub fn folder_web_of<R: Files<File: Send, Dir: Send> + Threads + Sync>(
     Ok(web)
 }
 
-/// The same of a site whose files are below a folder. Its seeds are those of `SiteNames`.
+/// Makes the saved web of a site whose files are in a folder. `seeds` are those of `SiteNames`.
 ///
 /// # Errors
-/// `TooLarge`; `NoMemory` where a growth was refused.
+/// `TooLarge`, `NoMemory`.
 pub fn folder_files_web<R: Files<File: Send, Dir: Send> + Threads + Sync>(
     rt: &R,
     alloc: Global,
@@ -110,7 +110,7 @@ pub fn folder_files_web<R: Files<File: Send, Dir: Send> + Threads + Sync>(
     web_of(rt, files, seeds, told, &contents)
 }
 
-/// The pages of that saved web, whose bytes are not made.
+/// Makes the pages of that saved web, without its bytes.
 ///
 /// # Errors
 /// Those of `folder_files_web`.
@@ -129,10 +129,10 @@ pub fn folder_files_pages<R: Files<File: Send, Dir: Send> + Threads + Sync>(
     pages_of(rt, files, seeds, told, &contents)
 }
 
-/// Reads a file below a folder into a body without bytes.
+/// Reads a file in a folder into an empty body.
 ///
 /// # Errors
-/// Where it cannot be read, or a growth was refused.
+/// The file cannot be read, or out of memory.
 pub fn folder_body<R: Files>(
     rt: &R,
     alloc: Global,
@@ -144,7 +144,7 @@ pub fn folder_body<R: Files>(
     body.read(&mut fs::open(rt, path.as_str())?)
 }
 
-/// Files below a folder, whose documents are read.
+/// The files in a folder, of which documents are read.
 #[derive(Drop)]
 struct OnDisk<'a, R> {
     rt: &'a R,
@@ -174,7 +174,7 @@ impl<R: Files> Contents for OnDisk<'_, R> {
 }
 
 impl<R: Files> OnDisk<'_, R> {
-    /// Reads a file, where it may be a document.
+    /// Reads a file if it may be a document.
     fn read_named(&self, rules: &Rules, name: &str, body: &mut Body) -> io::Result<()> {
         let (path, _) = split_name(name, rules.queries);
         match kind_of(path) {
@@ -197,7 +197,7 @@ impl<R: Files> OnDisk<'_, R> {
     }
 }
 
-/// Why a file is left out that the system did not give, unless a growth was refused for it.
+/// The reason for a note about a file that cannot be read, or out of memory.
 fn left_by(error: &io::Error) -> Result<Left, AllocError>
     ensures { error_kind error.now ≡ ErrorKind.OutOfMemory → result ≡ Err alloc_error }
 {

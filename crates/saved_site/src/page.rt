@@ -8,16 +8,16 @@ use crate::link_lines::LinkLines;
 use crate::text::{LINK_FRONT, LineText, fits};
 use crawl_keys::CanonUrl;
 
-/// What stands under a page.
+/// The contents of a page.
 #[derive(Drop)]
 pub enum Under {
-    /// Its links.
+    /// A page with links.
     Links(LinkLines),
-    /// Where it moved to.
+    /// A redirect to this URL.
     Moved(LineText),
 }
 
-/// A page: its URL, which stands in a line, and what stands under it.
+/// A page: its URL, which fits in a line, and its contents.
 #[derive(Drop)]
 pub struct SitePage {
     url: CanonUrl,
@@ -26,7 +26,7 @@ pub struct SitePage {
 }
 
 impl SitePage {
-    /// The page, where its URL stands in a line.
+    /// Makes a page, or returns `None` if its URL does not fit in a line.
     pub fn new(url: CanonUrl, under: Under) -> Option<SitePage>
         ensures page { IfSome result (λ page. (page.url ≡ url) × (page.under ≡ under)) }
         ensures none { IsNone result → fits 5 url ≡ false }
@@ -37,21 +37,21 @@ impl SitePage {
         Some(SitePage { url, under })
     }
 
-    /// Its URL.
+    /// The URL of the page.
     pub fn url(&self) -> &CanonUrl
         ensures { result.now ≡ self.now.url }
     {
         &self.url
     }
 
-    /// What stands under it.
+    /// The contents of the page.
     pub(crate) fn under(&self) -> &Under
         ensures { result.now ≡ self.now.under }
     {
         &self.under
     }
 
-    /// Whether it moved.
+    /// Whether the page is a redirect.
     pub fn is_moved(&self) -> bool {
         matches!(self.under, Under::Moved(_))
     }

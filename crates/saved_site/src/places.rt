@@ -1,4 +1,4 @@
-//! Lines and characters of a document.
+//! Lines and columns in a document.
 ghost use Rattle.std.specs.Prelude.{◌≡◌, ◌++◌, ◌+◌, ◌<◌, ◌≤◌, ◌^◌, ℕ, List, [], IsAscii, IfOk, map, length, take, count_by};
 ghost use Rattle.saved_site.specs.Places.{ArePlaces, begins_character, is_lf, place_at, place_of};
 
@@ -7,30 +7,30 @@ use crate::document::{made_text, without_mark};
 use memchr::memrchr;
 use std::alloc::{AllocError, Global};
 
-/// How many bytes are looked at together.
+/// The number of bytes that are counted together.
 const RUN: usize = 240;
 
-/// A place in a document's text.
+/// A location in a document's text.
 #[derive(Clone, Copy, Debug, PartialEq, Eq)]
 pub struct TextPlace {
-    /// The line, from 1, which a line feed ends.
+    /// The line, from 1. Lines end at a line feed.
     pub line: u64,
-    /// The character in that line, from 1.
+    /// The column in characters, from 1.
     pub column: u64,
 }
 
-/// The places of these indices in the text of a document with these bytes, in their order. Where the indices ascend, the text is
-/// gone through once.
+/// Returns the locations of these positions in the text of a document, in the same order. If the positions are in ascending order,
+/// the text is read once.
 ///
 /// # Errors
-/// Where a growth was refused.
+/// Out of memory.
 pub fn text_places(
     alloc: Global,
     body: &[u8],
     indices: &[usize],
 ) -> Result<Vec<TextPlace>, AllocError>
     ensures one { IfOk result (λ places. ArePlaces indices.now places.items) }
-    // Which is the document itself where all of it is ASCII.
+    // If the document is ASCII, the text is the document itself.
     ensures ascii { IsAscii body.now → IfOk result (λ places. places.items ≡ map (place_at body.now) indices.now) }
 {
     match made_text(alloc, body, charset_of(body))? {
@@ -39,7 +39,7 @@ pub fn text_places(
     }
 }
 
-/// A place, and the index at which it is.
+/// A location and its position.
 #[derive(Clone, Copy)]
 struct Known {
     index: usize,
@@ -68,7 +68,7 @@ fn first() -> Known
     }
 }
 
-/// What is known at an index, by what is known at another.
+/// The location of a position, from that of another position.
 fn known_at(text: &[u8], known: Known, index: usize) -> Known
     requires within { known.index ≤ length text.now }
     requires known { known.place ≡ place_at text.now known.index }

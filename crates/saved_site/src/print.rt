@@ -1,4 +1,4 @@
-//! Pages printed as a saved web.
+//! Prints pages as a saved web.
 ghost use Rattle.std.specs.Prelude.{◌≡◌, ◌++◌, ◌∷◌, [], ℕ, List, IfOk, MatchOption};
 ghost use Rattle.std.specs.Str.Lines.{lines};
 ghost use Rattle.crawl_web.specs.WebFaults.{IsSound};
@@ -9,15 +9,16 @@ ghost use Rattle.saved_site.specs.Pages.{ascending, is_behind, web_text};
 use crate::page::SitePage;
 use std::alloc::{AllocError, Global};
 
-/// The saved web of pages in the order of their URLs: one whose URL is not behind those before it is left out.
+/// Prints pages as a saved web. The pages must be in the order of their URLs; a page whose URL is not after those before it is
+/// skipped.
 ///
 /// # Errors
-/// Where a growth was refused.
+/// Out of memory.
 pub fn print_web(alloc: Global, pages: &[SitePage]) -> Result<Vec<u8>, AllocError>
     ensures text { IfOk result (λ web. web.items ≡ web_text (ascending pages.now)) }
-    // It is read as a saved web.
+    // `SavedWeb::read` accepts it.
     ensures sound { IfOk result (λ web. IsSound (lines web.items)) }
-    // And what is read has at each URL the page that these have.
+    // At each URL it has the page that these pages have.
     ensures pages { IfOk result (λ web. (url : List ℕ) → page_of (lines web.items) url ≡ page_in (ascending pages.now) url) }
 {
     let mut web = header(alloc)?;
@@ -34,10 +35,10 @@ pub fn print_web(alloc: Global, pages: &[SitePage]) -> Result<Vec<u8>, AllocErro
     Ok(web)
 }
 
-/// How many bytes the header of a web has.
+/// The number of bytes in the header of a saved web.
 pub(crate) const HEADER_LENGTH: usize = 11;
 
-/// The header of a web.
+/// The header of a saved web.
 pub(crate) fn header(alloc: Global) -> Result<Vec<u8>, AllocError>
     ensures { IfOk result (λ web. web.items ≡ web_text []) }
 {
@@ -58,7 +59,7 @@ fn url_bytes(page: &SitePage) -> &[u8]
     page.url().as_str().as_bytes()
 }
 
-/// Whether the URL is behind the other.
+/// Whether the URL is after the other.
 pub(crate) fn is_behind(last: &[u8], url: &[u8]) -> bool
     ensures { result ≡ is_behind last.now url.now }
 {

@@ -14,20 +14,20 @@ use crawl_keys::{CanonUrl, KeyError, canonical};
 use std::alloc::{AllocError, Global};
 use std::cmp::Ordering;
 
-/// How names become pages.
+/// The rules by which names become pages.
 #[derive(Debug, Drop)]
 pub struct Rules {
-    /// The index file's name.
+    /// The name of index files.
     pub index: String,
-    /// Whether a `?` in a name begins the query, as `wget -r` writes it.
+    /// Whether a `?` in a file name is the start of a query, as `wget -r` writes it.
     pub queries: bool,
-    /// Whether other spellings of a page's URL are no pages.
+    /// Whether only the exact spelling of a page's URL is accepted.
     pub exact: bool,
-    /// Whether the parts of documents and links to parts are read too.
+    /// Whether anchors and links to anchors are read.
     pub anchors: bool,
-    /// Whether it is kept where the links of documents stand.
+    /// Whether the positions of links are kept.
     pub places: bool,
-    /// How many threads make pages; one where this is 0.
+    /// The number of threads that make pages; 0 means 1.
     pub threads: usize,
 }
 

@@ -1,4 +1,4 @@
-//! What the links of a document lead to.
+//! The targets of a document's links.
 use crate::base_href::{base_of, resolved};
 use crate::site::Site;
 use crate::texts::Texts;
@@ -6,12 +6,12 @@ use crawl_keys::{Base, CanonUrl};
 use std::alloc::{AllocError, Global};
 use std::collections::BTreeMap;
 
-/// What a link leads to.
+/// The target of a link.
 #[derive(Drop)]
 pub enum Target {
     /// The page of the site with this number.
     Page(usize),
-    /// A URL that no page has.
+    /// A URL that is not a page of the site.
     Other(CanonUrl),
 }
 

@@ -1,4 +1,4 @@
-//! Texts that stand in one line of a saved web.
+//! Texts that fit in one line of a saved web.
 ghost use Rattle.std.specs.Prelude.{◌≡◌, ◌≤◌, false, true, IfOk, IfSome, IsNone};
 ghost use Rattle.std.specs.List.{list_all};
 ghost use Rattle.saved_site.specs.Texts.{fits, is_inner, is_plain};
@@ -8,16 +8,16 @@ use crawl_web::LINE_LIMIT;
 use std::alloc::{AllocError, Global};
 use std::marker::Model;
 
-/// How many bytes of a line stand before the text of a page or of a link.
+/// The number of bytes before the text in the line of a page or a link.
 pub(crate) const LINK_FRONT: usize = 5;
 
-/// How many bytes of a line stand before the text of a redirect.
+/// The number of bytes before the text in the line of a redirect.
 pub(crate) const MOVED_FRONT: usize = 6;
 
 /// The most bytes of the text of a link.
 pub(crate) const TEXT_LIMIT: usize = 4091;
 
-/// Whether the text stands in one line behind so many bytes: it is short enough, UTF-8, and has no line break.
+/// Whether the text fits in one line after `front` bytes: it is short enough, UTF-8, and has no line end.
 pub(crate) fn fits(front: usize, text: &[u8]) -> bool
     requires { front ≤ 6 }
     ensures { result ≡ fits front text.now }
@@ -43,8 +43,8 @@ fn is_inner(byte: u8) -> bool
     !(byte == b'\n' || byte == b'\r')
 }
 
-/// Whether the text stands in a link's line, is in ASCII, and has no byte that ends its scheme or that a URL parser drops. Most
-/// texts are so, and are looked at once.
+/// Whether the text fits in the line of a link, is ASCII, and has no byte that ends a scheme or that a URL parser drops. Most
+/// texts do, and are read only once.
 pub(crate) fn fits_plainly(text: &[u8]) -> bool
     ensures { result ≡ true → fits 5 text.now ≡ true }
 {
@@ -81,10 +81,10 @@ impl Model for LineText {
 }
 
 impl LineText {
-    /// The text, where it stands in a redirect's line.
+    /// Makes the text, or returns `None` if it does not fit in the line of a redirect.
     ///
     /// # Errors
-    /// Where a growth was refused.
+    /// Out of memory.
     pub fn new(alloc: Global, text: &[u8]) -> Result<Option<LineText>, AllocError>
         ensures text { IfOk result (λ found. IfSome found (λ own. own ≡ text.now)) }
         ensures none { IfOk result (λ found. IsNone found → fits 6 text.now ≡ false) }
@@ -96,7 +96,7 @@ impl LineText {
         Ok(Some(LineText { bytes }))
     }
 
-    /// The text.
+    /// The bytes of the text.
     pub fn as_bytes(&self) -> &[u8]
         ensures text { result.now ≡ self.now }
         ensures fit { fits 6 self.now ≡ true }

@@ -22,18 +22,18 @@ use html_links::{Base, read_links, read_page, read_places};
 use std::alloc::{AllocError, Global};
 use std::mem;
 
-/// What became of links.
+/// The counts of links.
 #[derive(Clone, Copy, Debug, PartialEq, Eq, Default)]
 pub struct LinkCounts {
-    /// Links that were written.
+    /// The links in the saved web.
     pub links: u64,
-    /// Links over several lines, which are put into one.
+    /// Links over several lines, which were joined.
     pub over_lines: u64,
-    /// Links without their fragment, which is too long.
+    /// Links that lost their fragment because they were too long.
     pub without_fragment: u64,
-    /// Links of other schemes, cut where a line ends.
+    /// Links with other schemes that were cut at the end of a line.
     pub cut: u64,
-    /// Links that are left out, since they are too long.
+    /// Links that were skipped because they were too long.
     pub left_out: u64,
 }
 

@@ -1,4 +1,4 @@
-//! The saved web of a site.
+//! Makes the saved web of a site.
 ghost use Rattle.std.specs.Prelude.{IfErr, IfOk, string_bytes};
 ghost use Rattle.saved_site.specs.Below.{IsWebAt, IsWebBelow};
 ghost use Rattle.saved_site.specs.Errors.{IsOfFiles, IsOfWeb};
@@ -25,41 +25,41 @@ use crawl_keys::CanonUrl;
 use std::alloc::Global;
 use std::thread::Threads;
 
-/// The most bytes of a web, which a crawl takes.
+/// The most bytes of a saved web, which is the limit of a crawl.
 pub(crate) const WEB_LIMIT: usize = 1 << 30;
 
-/// A saved web that was made.
+/// A saved web and what is known of its pages.
 #[derive(Drop)]
 pub struct Web {
-    /// Its bytes.
+    /// The bytes of the saved web.
     pub bytes: Vec<u8>,
-    /// What it has.
+    /// The counts of its pages and links.
     pub summary: Summary,
-    /// What is not written as it was found, in the order of names and then of URLs.
+    /// Notes about what was skipped or changed, in the order of names and then of URLs.
     pub notes: Vec<Note>,
-    /// The anchors of its documents where the rules want them and they are known, ascending by URL.
+    /// The anchors of its documents, in the order of their URLs, if the rules ask for them and they are known.
     pub anchors: Vec<PageAnchors>,
-    /// Where the links of its documents stand where the rules want that, ascending by URL.
+    /// The positions of the links in its documents, in the order of their URLs, if the rules ask for them.
     pub places: Vec<LinkPlaces>,
 }
 
-/// A site whose pages a crawl takes from memory.
+/// The pages of a site, as a source for a crawl.
 #[derive(Drop)]
 pub struct LinkedSite {
-    /// Its pages.
+    /// The pages.
     pub pages: LinkedPages,
-    /// The same as a saved web of these pages has beside its bytes.
+    /// As in `Web`, like the fields that follow.
     pub summary: Summary,
     pub notes: Vec<Note>,
     pub anchors: Vec<PageAnchors>,
     pub places: Vec<LinkPlaces>,
 }
 
-/// Where the links of the document at a URL stand.
+/// The positions of the links in the document at a URL.
 #[derive(Drop)]
 pub struct LinkPlaces {
     pub url: CanonUrl,
-    /// The indices in the document's text at which the values of its links begin: of those that have a canonical URL, in order.
+    /// The positions in the document's text at which the values of its links start, in order, for links with a canonical URL.
     pub indices: Vec<u32>,
 }
 
@@ -70,31 +70,31 @@ pub struct PageAnchors {
     pub anchors: Anchors,
 }
 
-/// What a web has.
+/// The counts of a saved web.
 #[derive(Clone, Copy, Debug, PartialEq, Eq, Default)]
 pub struct Summary {
-    /// Its pages, and how many of them are moved or other spellings.
+    /// The pages, and how many of them are redirects or other spellings.
     pub pages: u64,
     pub moved: u64,
     pub spellings: u64,
-    /// What became of links.
+    /// The links.
     pub links: LinkCounts,
 }
 
-/// The names of a site's files, the URL of its top, and how names become pages. A name that ends in a slash is a folder.
+/// The names of a site's files, the URL of its top, and the rules. A name that ends with a slash is a folder.
 #[derive(Clone, Copy)]
 pub struct SiteNames<'a> {
     pub names: &'a [String],
     pub base: &'a str,
     pub rules: &'a Rules,
-    /// Links of the top beside those of documents, which also spell pages: where a crawl begins.
+    /// Links on the top at which a crawl starts. Like links in documents, they can spell a page in another way.
     pub seeds: &'a [String],
 }
 
-/// The saved web of files with these names and bytes.
+/// Makes the saved web of files in memory. `bodies` has their contents, in the order of their names.
 ///
 /// # Errors
-/// `BadBase`, `NoFiles`, `TooLarge`; `NoMemory` where a growth was refused.
+/// `BadBase`, `NoFiles`, `TooLarge`, `NoMemory`.
 #[tactic(auto, using(crate::proofs::Errors::web_of_files))]
 pub fn site_web<R: Threads + Sync>(
     rt: &R,
@@ -111,10 +111,11 @@ pub fn site_web<R: Threads + Sync>(
     Ok(web)
 }
 
-/// The saved web of a site whose files have these bytes, in the order of their names. Its seeds are those of `SiteNames`.
+/// Makes the saved web of a site whose files are in memory. `bodies` has their contents, in the order of their names; `seeds` are
+/// those of `SiteNames`.
 ///
 /// # Errors
-/// `TooLarge`; `NoMemory` where a growth was refused.
+/// `TooLarge`, `NoMemory`.
 pub fn files_web<R: Threads + Sync>(
     rt: &R,
     alloc: Global,
@@ -130,7 +131,7 @@ pub fn files_web<R: Threads + Sync>(
     web_of(rt, files, seeds, Vec::new(alloc), &contents)
 }
 
-/// The pages of that saved web, whose bytes are not made.
+/// Makes the pages of that saved web, without its bytes.
 ///
 /// # Errors
 /// Those of `files_web`.
@@ -148,7 +149,7 @@ pub fn files_pages<R: Threads + Sync>(
     pages_of(rt, files, seeds, Vec::new(alloc), &contents)
 }
 
-/// The saved web of a site whose files are read, and what was told of their names before.
+/// Makes the saved web of a site, after these notes about its names.
 pub(crate) fn web_of<R: Threads + Sync, C: Contents + Sync>(
     rt: &R,
     files: &SiteFiles<'_>,
@@ -165,7 +166,7 @@ pub(crate) fn web_of<R: Threads + Sync, C: Contents + Sync>(
     finish(given.top, kept)
 }
 
-/// The pages of that saved web.
+/// Makes the pages of that saved web.
 pub(crate) fn pages_of<R: Threads + Sync, C: Contents + Sync>(
     rt: &R,
     files: &SiteFiles<'_>,
@@ -181,7 +182,7 @@ pub(crate) fn pages_of<R: Threads + Sync, C: Contents + Sync>(
     finish_linked(given.top, kept)
 }
 
-/// All that is kept of a site whose files are read.
+/// Makes all pages of a site.
 fn all_kept<R: Threads + Sync, C: Contents + Sync>(
     rt: &R,
     given: Given<'_>,
@@ -229,7 +230,7 @@ fn finish(top: &str, kept: Kept) -> Result<Web, SiteError>
     })
 }
 
-/// The same of the pages whose links are looked up. Their web would have so many bytes.
+/// The same without the bytes of the saved web, whose number must still be within the limit.
 fn finish_linked(top: &str, kept: Kept) -> Result<LinkedSite, SiteError>
     ensures source { IfOk result (λ site. IsSiteSource top.now site.pages) }
     ensures error { IfErr result IsOfWeb }
@@ -256,7 +257,7 @@ fn finish_linked(top: &str, kept: Kept) -> Result<LinkedSite, SiteError>
     })
 }
 
-/// Whether a web has no more bytes than a crawl takes.
+/// Whether a saved web is within the limit.
 fn check_length(byte_count: usize) -> Result<(), SiteError>
     ensures { IfErr result IsOfWeb }
 {

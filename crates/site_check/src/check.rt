@@ -1,4 +1,4 @@
-//! A check of the results of a crawl of a folder's saved web.
+//! Checks the results of a crawl of a site's saved web.
 ghost use Rattle.std.specs.Prelude.{◌≡◌, ◌==◌, ◌++◌, ℕ, List, [], IfOk, OnOk, map, not, string_bytes, length};
 ghost use Rattle.std.specs.List.{flat_map};
 ghost use Rattle.crawl_sources.specs.Tallies.{pointed};
@@ -31,31 +31,32 @@ use saved_site::{Body, LinkPlaces, PageAnchors, SiteFiles};
 use std::alloc::Global;
 use std::thread::{Threads, join};
 
-/// Gives the bytes of a site's files, to several threads at once.
+/// Reads the files of a site, for several threads at the same time.
 pub trait Bodies {
-    /// Reads the file with this name into a body without bytes, and answers whether it can be read.
+    /// Reads the file with this name into an empty body, and returns whether it can be read.
     ///
     /// # Errors
-    /// Where a growth was refused.
+    /// Out of memory.
     fn read(&self, name: &str, body: &mut Body) -> Result<bool, NoMemory>;
 }
 
-/// What is asked of a check.
+/// The settings of a check.
 #[derive(Clone, Copy)]
 pub struct Asked<'a> {
-    /// What is left out at the front of each URL that is told; a text that no URL begins with leaves out nothing.
+    /// The prefix that is removed from URLs that begin with it.
     pub front: &'a str,
-    /// What is known to be broken: each entry stands for the targets that begin with it.
+    /// The ignore list: each entry matches the targets that begin with it.
     pub ignores: &'a [String],
-    /// The anchors of the site's documents, ascending by URL; where there are none, no part is told that a page lacks.
+    /// The anchors of the site's documents, in the order of their URLs. If there are none, no missing anchor is reported.
     pub anchors: &'a [PageAnchors],
-    /// Where the links of the site's documents stand, ascending by URL; where there are none, no place is told of a link to a page.
+    /// The positions of the links in the site's documents, in the order of their URLs. If there are none, links to missing pages are
+    /// reported without locations.
     pub places: &'a [LinkPlaces],
-    /// Whether files that no link leads to are told.
+    /// Whether unreached files are listed.
     pub unreached: bool,
 }
 
-/// What a check found.
+/// The results of a check.
 #[derive(Drop)]
 pub struct Checked {
     pub totals: Totals,
@@ -67,7 +68,7 @@ pub struct Checked {
 }
 
 impl Checked {
-    /// What is told of the site with this name.
+    /// The results, with this name of the site, as `check_report` prints them.
     pub fn findings<'a>(&'a self, base: &'a str) -> Findings<'a>
         ensures base { result.base.now ≡ base.now }
         ensures totals { result.totals ≡ self.now.totals }
@@ -96,12 +97,12 @@ impl Checked {
     }
 }
 
-/// What the results of a crawl of a site's saved web tell of its links. The results ascend, and each URL has one at most. As many
-/// threads as make the pages of the site look for parts, and for places in pages that are read again. Links are counted, and those
-/// to missing pages found, by sixteen threads; where fewer than four make pages, by one.
+/// Finds the broken links in the results of a crawl of a site's saved web. The results are in the order of their URLs, each URL
+/// once. The threads that the site's rules name look for anchors, and for locations in files that are read again. Sixteen threads
+/// count links and find those to missing pages, or one thread if the rules name fewer than four.
 ///
 /// # Errors
-/// Where a growth was refused.
+/// Out of memory.
 pub fn check_site<'f, R: Threads + Sync, B: Bodies + Sync>(
     rt: &R,
     alloc: Global,
@@ -110,14 +111,14 @@ pub fn check_site<'f, R: Threads + Sync, B: Bodies + Sync>(
     bodies: &B,
     asked: Asked<'_>,
 ) -> Result<Checked, NoMemory>
-    // The rows of pages that are not there are the missing results, in order, each with how many results link to it; those that
-    // are known are left out.
+    // The rows of missing pages are the missing results, in order, each with the number of results that link to it, without those
+    // that an entry matches.
     ensures broken { IfOk result (λ checked. rows_in checked.broken.items ≡ broken_of asked.entry.front.now (map string_bytes asked.entry.ignores.now) results.now) }
-    // Those of redirects are the moved results that are linked to.
+    // The rows of redirects are the moved results that are linked to.
     ensures redirects { IfOk result (λ checked. map way_of checked.redirects.items ≡ redirects_of asked.entry.front.now results.now) }
-    // Beside a page that is not there stands the only page with its file name, unless a link to it stands in that one's file.
+    // For a missing page the only page with its file name is suggested, unless a link to the missing page is in the file of that page.
     ensures names { IfOk result (λ checked. AreNamed asked.entry.front.now files.now checked.broken.items) }
-    // The entries that are told stand for no page that is not there, and for no part that a page lacks.
+    // The unused entries are those that match no missing page and no missing anchor.
     ensures ignores { IfOk result (λ checked. AreUnused asked.entry.front.now (map string_bytes asked.entry.ignores.now) results.now (parts_in checked.broken.items) (map string_bytes checked.unused_ignores.items)) }
     // The totals count the results' pages and links, and the rows.
     ensures totals { IfOk result (λ checked. checked.totals ≡ totals_of results.now checked.broken.items checked.redirects.items) }
@@ -157,11 +158,11 @@ fn site_of<'p, 'f>(
     }
 }
 
-/// The links whose places are told.
+/// The links whose locations are reported.
 #[derive(Drop)]
 struct Sought<'p> {
     lacking: LackedParts<'p>,
-    /// Those to pages that are not there and to such parts, page by page, in the order of a page's text.
+    /// The links to missing pages and missing anchors, page by page, in the order of a page's text.
     leads: Vec<Lead>,
 }
 
@@ -186,7 +187,7 @@ fn sought_by<'p, R: Threads + Sync>(
     Ok(Sought { lacking, leads })
 }
 
-/// The links of the results' pages that lead to pages that are not there and not known to be so, also by a page that moved there.
+/// The links to missing pages that are not ignored, directly or by a redirect.
 fn page_leads<'p, R: Threads + Sync>(
     rt: &R,
     alloc: Global,
@@ -205,7 +206,7 @@ fn page_leads<'p, R: Threads + Sync>(
     leads_by(rt, alloc, maps, site.pages.results, site.files.threads())
 }
 
-/// What a check tells where the links that were sought stand at these places.
+/// The results of a check, with the locations of the links.
 fn told(
     alloc: Global,
     asked: Asked<'_>,
@@ -250,7 +251,7 @@ fn unreached_asked(
     }
 }
 
-/// The rows of the pages that are not there and of these parts, with where links to them stand.
+/// The rows of the missing pages and of these anchors, with the locations of the links to them.
 fn broken_all(
     alloc: Global,
     asked: Asked<'_>,
@@ -276,7 +277,7 @@ fn broken_all(
     Ok(all)
 }
 
-/// The rows of pages, and then those of parts.
+/// The rows of pages, and then those of anchors.
 fn with_parts(rows: Vec<Broken>, parts: Vec<Broken>) -> Result<Vec<Broken>, NoMemory>
     requires { rows_in parts.items ≡ [] }
     ensures rows { IfOk result (λ all. rows_in all.items ≡ rows_in rows.items) }
@@ -289,7 +290,7 @@ fn with_parts(rows: Vec<Broken>, parts: Vec<Broken>) -> Result<Vec<Broken>, NoMe
     Ok(all)
 }
 
-/// The entries that stand for no page that is not there, and for none of these parts.
+/// The entries that match no missing page and none of these anchors.
 fn unused_entries(
     alloc: Global,
     asked: Asked<'_>,
@@ -313,7 +314,7 @@ fn texts_of(alloc: Global, parts: &[ToldPart]) -> Result<Vec<&str>, NoMemory>
     Ok(texts)
 }
 
-/// The pages that are not there, as they are told.
+/// The missing pages, as they are printed.
 fn missing_texts<'a>(
     alloc: Global,
     front: &str,

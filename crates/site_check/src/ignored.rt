@@ -1,4 +1,4 @@
-//! What is known to be broken.
+//! The ignore list.
 ghost use Rattle.std.specs.Prelude.{◌≡◌, ◌∷◌, ◌++◌, [], IfOk, MatchOption, OnOk, map, string_bytes};
 ghost use Rattle.std.specs.List.{list_any};
 ghost use Rattle.crawl_sources.specs.Tallies.{pointed};
@@ -10,11 +10,11 @@ use crate::shown::begins;
 use crawl_web::{NoMemory, first_line};
 use std::alloc::Global;
 
-/// The entries that the bytes have, one a line: each stands for the targets that begin with it. A line that is empty or begins
-/// with `#` has none, and neither white space round an entry nor a byte-order mark at the front is part of one.
+/// Reads an ignore list, one entry per line. An entry matches the targets that begin with it. Empty lines and lines that start with
+/// `#` are skipped; white space around an entry and a byte order mark at the start are ignored.
 ///
 /// # Errors
-/// Where a growth was refused.
+/// Out of memory.
 pub fn read_ignores(alloc: Global, bytes: &[u8]) -> Result<Vec<String>, NoMemory>
     ensures { IfOk result (λ entries. map string_bytes entries.items ≡ entries_in bytes.now) }
 {
@@ -27,7 +27,7 @@ pub fn read_ignores(alloc: Global, bytes: &[u8]) -> Result<Vec<String>, NoMemory
     Ok(entries)
 }
 
-/// The bytes behind the byte-order mark, where they begin with one.
+/// The bytes without a byte order mark at the start.
 fn without_mark(bytes: &[u8]) -> &[u8]
     ensures { result.now ≡ without_mark bytes.now }
 {
@@ -37,7 +37,7 @@ fn without_mark(bytes: &[u8]) -> &[u8]
     }
 }
 
-/// Appends the entry of a line, where it has one.
+/// Appends the entry of a line, if it has one.
 fn push_line(alloc: Global, line: &[u8], entries: &mut Vec<String>) -> Result<(), NoMemory>
     ensures { OnOk result (map string_bytes entries.new.items ≡ map string_bytes entries.old.items ++ entry_in line.now) }
 {
@@ -46,7 +46,7 @@ fn push_line(alloc: Global, line: &[u8], entries: &mut Vec<String>) -> Result<()
     Ok(())
 }
 
-/// Appends a text that has no white space round it, where it is an entry.
+/// Appends a text without white space around it, if it is an entry.
 fn push_entry(alloc: Global, text: &str, entries: &mut Vec<String>) -> Result<(), NoMemory>
     ensures { OnOk result (map string_bytes entries.new.items ≡ map string_bytes entries.old.items ++ entry_of text.now) }
 {
@@ -58,7 +58,7 @@ fn push_entry(alloc: Global, text: &str, entries: &mut Vec<String>) -> Result<()
     Ok(())
 }
 
-/// Whether the text is empty or begins with `#`.
+/// Whether the text is empty or starts with `#`.
 fn has_no_entry(text: &str) -> bool
     ensures { result ≡ has_no_entry text.now }
 {
@@ -68,7 +68,7 @@ fn has_no_entry(text: &str) -> bool
     }
 }
 
-/// Whether an entry stands for the text.
+/// Whether an entry matches the text.
 pub(crate) fn is_ignored(entries: &[String], text: &str) -> bool
     ensures { result ≡ is_ignored (map string_bytes entries.now) text.now }
 {
@@ -91,7 +91,7 @@ fn parts(entries: &[String]) -> Option<(&String, &[String])>
     }
 }
 
-/// The entries that stand for none of these parts and none of these pages.
+/// The entries that match none of these anchors and none of these pages.
 pub(crate) fn unused(
     alloc: Global,
     entries: &[String],
@@ -118,7 +118,7 @@ fn is_used(entry: &str, parts: &[&str], pages: &[&str]) -> bool
     begins_any(entry, pages)
 }
 
-/// Whether one of the texts begins with the entry.
+/// Whether the entry matches one of the texts.
 fn begins_any(entry: &str, texts: &[&str]) -> bool
     ensures { result ≡ list_any (λ text. begins entry.now text.now) texts.now }
 {

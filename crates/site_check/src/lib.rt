@@ -1,4 +1,4 @@
-//! What a crawl of a folder's saved web tells of the folder's links: which lead to no page, and where they stand.
+//! Finds the broken links of a site in the results of a crawl of its saved web, and their locations.
 #![tactic(auto)]
 
 mod anchors;

@@ -1,6 +1,6 @@
-//! The fixed parts of the page. The policy allows the one script by its SHA-256.
+//! The fixed texts of the HTML page. Its content security policy allows only this script, by its SHA-256.
 
-/// Up to the title.
+/// The text before the title.
 pub static HEAD: &str = r#"<!doctype html>
 <html lang=en>
 <head>
@@ -9,10 +9,10 @@ pub static HEAD: &str = r#"<!doctype html>
 <meta name=color-scheme content="light dark">
 <meta name=format-detection content="telephone=no">
 <meta name=referrer content=no-referrer>
-<meta http-equiv=Content-Security-Policy content="default-src 'none'; style-src 'unsafe-inline'; script-src 'sha256-bZT25PNxnOZHlKNwcdoFYwITII5Y5JfpDex5TdaFlK8='; base-uri 'none'; form-action 'none'">
+<meta http-equiv=Content-Security-Policy content="default-src 'none'; style-src 'unsafe-inline'; script-src 'sha256-pr3P9iJX/vBpaFQapPaoViDjRBHO7gof+8LcPua1gGI='; base-uri 'none'; form-action 'none'">
 <title>"#;
 
-/// From the title to the script.
+/// The text from the title to the script.
 pub static STYLE: &str = r#"</title>
 <style>
 :root {
@@ -61,18 +61,18 @@ summary { cursor: pointer; }
 </style>
 "#;
 
-/// The script, and the page up to the site's name.
+/// The script, and the text up to the site's name.
 pub static SCRIPT: &str = r#"<script>
-// Reads the plain rows once, then draws them by target or by page. Texts enter the page as text nodes alone.
+// Reads the plain lists once and shows them as tables, by target or by file. Text of the site only enters the page as text nodes.
 (() => {
 'use strict';
 const root = document.documentElement;
-root.className = 'js'; // hides the plain rows of broken links; they come back where anything below fails
+root.className = 'js'; // hides the plain list of broken links; it is shown again if anything below fails
 addEventListener('DOMContentLoaded', () => {
-  try { start(); } catch (fault) { root.className = ''; throw fault; }
+  try { start(); } catch (error) { root.className = ''; throw error; }
 });
 function start() {
-const STEP = 200, FEW = 5; // rows drawn at once; a longer list of places is folded
+const STEP = 200, FEW = 5; // rows that are added at a time; locations in a cell before the rest is folded
 const $ = (id) => document.getElementById(id);
 if (!$('end')) $('cut').hidden = false;
 function make(tag, attributes, ...children) {
@@ -81,7 +81,7 @@ function make(tag, attributes, ...children) {
   node.append(...children);
   return node;
 }
-// A bar for each other host: how many links lead to it.
+// A bar that shows how many links lead to a host, relative to the host with the most.
 function bar(links, most) {
   const node = make('div', { className: 'bar', ariaHidden: 'true' });
   node.style.width = 100 * links / most + '%';
@@ -100,24 +100,24 @@ if (other) {
     make('tr', {}, make('td', { className: 'n' }, links), make('th', { scope: 'row' }, host, bar(links, all[0][1]))))));
   other.querySelector('pre').before(table);
 }
-const part = $('broken');
-if (!part) return;
-const targets = [], pages = new Map();
-for (const line of part.querySelector('pre').textContent.split('\n')) {
+const section = $('broken');
+if (!section) return;
+const targets = [], files = new Map();
+for (const line of section.querySelector('pre').textContent.split('\n')) {
   if (line[0] === '\t') {
-    const place = line.slice(1), file = place.replace(/:\d+:\d+$/, '');
+    const location = line.slice(1), file = location.replace(/:\d+:\d+$/, '');
     const target = targets[targets.length - 1];
-    target.list.push(place);
-    if (!pages.has(file)) pages.set(file, { name: file, note: '', list: [] });
-    pages.get(file).list.push(target.name + ' at ' + place.slice(file.length + 1) + ': ' + target.note);
+    target.list.push(location);
+    if (!files.has(file)) files.set(file, { name: file, note: '', list: [] });
+    files.get(file).list.push(target.name + ' at ' + location.slice(file.length + 1) + ': ' + target.note);
   } else if (line) {
     const [name, note] = line.split('\t');
     targets.push({ name, note, list: [] });
   }
 }
-const views = { target: targets, page: [...pages.values()] };
+const views = { target: targets, file: [...files.values()] };
 const most = (rows) => rows.slice().sort((a, b) => b.list.length - a.list.length);
-const lows = new Map(); // what is searched, of each view
+const lows = new Map(); // the lower-case texts that a search looks in, by view
 function low(by) {
   if (!lows.has(by)) lows.set(by, views[by].map((row) => [row.name, row.note, ...row.list].join('\n').toLowerCase()));
   return lows.get(by);
@@ -127,7 +127,7 @@ const body = make('tbody'), headA = make('th', { scope: 'col' }), headB = make('
 const table = make('table', {}, make('thead', {}, make('tr', {}, make('th', { scope: 'col', className: 'n' }, 'Links'), headA, headB)), body);
 table.setAttribute('aria-labelledby', 'h-broken');
 const more = make('button', { type: 'button', id: 'more' });
-part.append(table, more);
+section.append(table, more);
 function text(value) {
   return /^https?:\/\//i.test(value) ? make('a', { href: value, rel: 'noreferrer' }, value) : value;
 }
@@ -154,12 +154,12 @@ function search() {
   const words = $('q').value.toLowerCase().split(/\s+/).filter(Boolean);
   rows = words.length ? all.filter((_, k) => words.every((word) => searched[k].includes(word))) : all;
   if ($('order').value === 'most') rows = most(rows);
-  headA.textContent = by === 'page' ? 'Page' : 'Target';
-  headB.textContent = by === 'page' ? 'Broken links' : 'Places';
+  headA.textContent = by === 'file' ? 'File' : 'Target';
+  headB.textContent = by === 'file' ? 'Broken links' : 'Locations';
   body.textContent = '';
   drawn = 0;
   draw();
-  $('said').textContent = rows.length + ' of ' + all.length + (by === 'page' ? ' pages' : ' targets');
+  $('said').textContent = rows.length + ' of ' + all.length + ' ' + by + (all.length === 1 ? '' : 's');
 }
 more.addEventListener('click', () => {
   const next = drawn;
@@ -176,24 +176,24 @@ search();
 </script>
 </head>
 <body>
-<a class=skip href=#main>Skip to the rows</a>
+<a class=skip href=#main>Skip to the results</a>
 <header>
 <p id=site>"#;
 
-/// Behind the totals: search and order.
+/// The text after the totals, with the form for search and order.
 pub static TOOLS: &str = r#"</ul>
-<p id=cut hidden>This file is cut off: rows are missing.</p>
+<p id=cut hidden>This report is incomplete: the file was cut off.</p>
 </header>
 <main id=main>
 <form id=tools role=search hidden>
-<input type=search id=q aria-label="Search broken links" placeholder="Search: all words">
-<select id=by aria-label="Rows"><option value=target>by target</option><option value=page>by page</option></select>
-<select id=order aria-label="Order"><option value=given>as found</option><option value=most>most links first</option></select>
+<input type=search id=q aria-label="Search broken links" placeholder="Search (all words must match)">
+<select id=by aria-label="Group by"><option value=target>by target</option><option value=file>by file</option></select>
+<select id=order aria-label="Order"><option value=given>in report order</option><option value=most>most links first</option></select>
 <span id=said role=status></span>
 </form>
 "#;
 
-/// The end.
+/// The end of the page.
 pub static TAIL: &str = r#"</main>
 <footer id=end></footer>
 </body>

@@ -1,11 +1,11 @@
-//! What is printed, in each form. The expected bytes are written by hand.
+//! The forms of a report. The expected bytes are written by hand.
 use check_report::{
     Broken, External, FileCount, Findings, Kind, NoMemory, Place, Redirect, Told, Totals,
     print_annotations, print_json, print_page, print_text,
 };
 use std::alloc::Global;
 
-/// A target, what is missing, a page with its name, and the places of its links.
+/// A target, what is missing, the suggested page, and the locations of its links.
 type Target = (
     &'static str,
     Kind,
@@ -43,32 +43,32 @@ const TOTALS: Totals = Totals {
     moved: 2,
 };
 
-/// For people, three places of each target, without colour.
-const TEXT: &str = "pages 4, links 20, redirects 2, unreached 1, external 2
+/// The text with three locations of each target, without colour.
+const TEXT: &str = "pages 4, links 20, redirects 2, unreached files 1, external URLs 2
 broken links 5, missing pages 2, missing anchors 1
 
-a.html:41:12: down.html: no such page (same name: lib/down.html)
-b.html:3:1: down.html: no such page (same name: lib/down.html)
-b.html:4:1: down.html: no such page (same name: lib/down.html)
+a.html:41:12: down.html: no such page (did you mean lib/down.html?)
+b.html:3:1: down.html: no such page (did you mean lib/down.html?)
+b.html:4:1: down.html: no such page (did you mean lib/down.html?)
   and 1 more
 d,e:f%␍.html:1:2: a<b>&\"'.html#x␊: no such anchor
 start.html: no such page
 
-files with most broken links:
+files with the most broken links:
   2 b.html
 
-redirects to mend:
-  guide -> guide/ (linked from 7)
-  old.html -> - (linked from 1)
+links to redirects:
+  guide -> guide/ (linked from 7 pages)
+  old.html -> - (linked from 1 page)
 
-pages that no link leads to:
+unreached files:
   x␉.html
 
-links out of the site, not looked at:
+external links (not checked):
   3 http://o.test/?a&b
   1 https://p.test/
 
-ignored, but not found:
+unused --ignore entries:
   http://a.test/
 ";
 
@@ -92,20 +92,20 @@ const JSON: &str =
 ";
 
 const ANNOTATIONS: &str =
-    "::error file=s%3Ate/a.html,line=41,col=12::down.html: no such page (same name: lib/down.html)
-::error file=s%3Ate/b.html,line=3,col=1::down.html: no such page (same name: lib/down.html)
-::error file=s%3Ate/b.html,line=4,col=1::down.html: no such page (same name: lib/down.html)
-::error file=s%3Ate/c.html,line=5,col=6::down.html: no such page (same name: lib/down.html)
+    "::error file=s%3Ate/a.html,line=41,col=12::down.html: no such page (did you mean lib/down.html?)
+::error file=s%3Ate/b.html,line=3,col=1::down.html: no such page (did you mean lib/down.html?)
+::error file=s%3Ate/b.html,line=4,col=1::down.html: no such page (did you mean lib/down.html?)
+::error file=s%3Ate/c.html,line=5,col=6::down.html: no such page (did you mean lib/down.html?)
 ::error file=s%3Ate/d%2Ce%3Af%25%0D.html,line=1,col=2::a<b>&\"'.html#x%0A: no such anchor
 ::error::start.html: no such page
 ";
 
-/// The page behind the fixed parts.
+/// The HTML page after the fixed texts.
 const PAGE: &str = "</form>
 <section id=broken aria-labelledby=h-broken>
 <h2 id=h-broken>Broken links</h2>
 <pre class=plain>
-<b>down.html</b>\tno such page (same name: lib/down.html)
+<b>down.html</b>\tno such page (did you mean lib/down.html?)
 \ta.html:41:12
 \tb.html:3:1
 \tb.html:4:1
@@ -116,33 +116,33 @@ const PAGE: &str = "</form>
 </pre>
 </section>
 <section id=worst aria-labelledby=h-worst>
-<h2 id=h-worst>Files with most broken links</h2>
+<h2 id=h-worst>Files with the most broken links</h2>
 <pre>
 b.html\t2
 </pre>
 </section>
 <section id=redirects aria-labelledby=h-redirects>
-<h2 id=h-redirects>Redirects to mend</h2>
+<h2 id=h-redirects>Links to redirects</h2>
 <pre>
-guide\tto guide/\tlinked from 7
-old.html\tto -\tlinked from 1
+guide\tto guide/\tlinked from 7 pages
+old.html\tto -\tlinked from 1 page
 </pre>
 </section>
 <section id=unreached aria-labelledby=h-unreached>
-<h2 id=h-unreached>Pages that no link leads to</h2>
+<h2 id=h-unreached>Unreached files</h2>
 <pre>
 x␉.html
 </pre>
 </section>
 <section id=external aria-labelledby=h-external>
-<h2 id=h-external>Links out of the site, not looked at</h2>
+<h2 id=h-external>External links (not checked)</h2>
 <pre>
 http://o.test/?a&amp;b\t3
 https://p.test/\t1
 </pre>
 </section>
 <section id=unused aria-labelledby=h-unused>
-<h2 id=h-unused>Ignored, but not found</h2>
+<h2 id=h-unused>Unused --ignore entries</h2>
 <pre>
 http://a.test/
 </pre>
@@ -153,7 +153,7 @@ http://a.test/
 </html>
 ";
 
-/// Without a row, and with colour: the totals alone.
+/// The text of a report without rows, with colour: only the totals.
 const NOTHING: &str = "pages 4, links 20, redirects 2
 \x1b[31mbroken links 5\x1b[0m, missing pages 2, missing anchors 1
 ";
@@ -161,7 +161,7 @@ const NOTHING: &str = "pages 4, links 20, redirects 2
 /// A link in the file `a.html` of a folder.
 const GONE: Target = ("gone.html", Kind::NoPage, "", &[("a.html", 3, 1)]);
 
-/// A folder, and that file as annotations tell it.
+/// A folder, and the path of that file in annotations.
 const FOLDERS: &[(&str, &str)] = &[
     ("", "a.html"),
     (".", "a.html"),
@@ -173,7 +173,7 @@ const FOLDERS: &[(&str, &str)] = &[
     ("/", "/a.html"),
 ];
 
-/// A text, its bytes, which stay in a GitHub command, and what people read in a line and in the page.
+/// A text, its bytes, which are unchanged in an annotation, and its bytes in the text and in the HTML page.
 type Seen = (&'static str, &'static [u8], &'static [u8]);
 
 /// C1 controls and their neighbours.
@@ -192,7 +192,7 @@ const CONTROLS: &[Seen] = &[
     ),
 ];
 
-/// What stands behind the last name of a page.
+/// The end of the HTML page, after the last name.
 const BEHIND_NAME: &[u8] =
     b"\n</pre>\n</section>\n</main>\n<footer id=end></footer>\n</body>\n</html>\n";
 
@@ -317,7 +317,7 @@ fn printed(alloc: Global) -> Option<[bool; 4]> {
     Some(forms(alloc, &findings, told))
 }
 
-/// What is not asked for is neither counted nor told.
+/// Optional lists that are not chosen are neither counted nor printed.
 fn nothing(alloc: Global) -> Option<bool> {
     let unreached = [text(alloc, "x.html")?];
     let findings = Findings {
@@ -367,13 +367,13 @@ fn stands_at(annotation: &[u8], file: &str) -> bool {
     }
 }
 
-/// Whether the bytes end with these three.
+/// Whether the bytes end with these three, in this order.
 fn ends_so(bytes: &[u8], front: &[u8], middle: &[u8], behind: &[u8]) -> Option<bool> {
     let rest = bytes.strip_suffix(behind)?;
     Some(rest.strip_suffix(middle)?.ends_with(front))
 }
 
-/// In which forms the name stands as expected: the text, the page, the annotations.
+/// Which forms have the name as expected: the text, the HTML page, the annotations.
 fn seen(alloc: Global, row: &Seen) -> Option<[bool; 3]> {
     let broken = [target(alloc, &(row.0, Kind::NoPage, "", &[]))?];
     let unused = [text(alloc, row.0)?];

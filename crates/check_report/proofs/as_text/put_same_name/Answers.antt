@@ -8,9 +8,9 @@ pub returns-in_ok-put_escaped-in-Some : goal.returns-in_ok-put_escaped-in-Some
 returns-in_ok-put_escaped-in-Some c =
     let how = c.args.how in
     let old = c.args.out.now.items in
-    let word = codes " (same name: " in
+    let word = codes " (did you mean " in
     let page = string_bytes c.in-Some.page in
     let name = c.in_ok-put_escaped-in-Some.ensures ∙ ap (λ t. c.put.new.out.items ++ escaped how t) c.as_str.ensures.value in
     let start = behind old c.put.new.out.items c.put_escaped.new.out.items word (escaped how page) c.in_ok-put-in-Some.ensures name in
     subst (λ p. OnOk c.put-in-Some.result (c.put-in-Some.new.out.items ≡ old ++ same_name_text how (option_map string_bytes p))) (sym c.in-Some.is)
-    (last_behind c.put-in-Some.result old c.put_escaped.new.out.items c.put-in-Some.new.out.items (word ++ escaped how page) (codes ")") start c.put-in-Some.ensures)
+    (last_behind c.put-in-Some.result old c.put_escaped.new.out.items c.put-in-Some.new.out.items (word ++ escaped how page) (codes "?)") start c.put-in-Some.ensures)
