@@ -1,24 +1,31 @@
 #!/bin/bash
-# Crawls and replays inputs that somebody made to be slow (bench/make_attack.py) by the built program, the webs with 1 and 4
-# workers. It prints a row for each: time, processors' time, nanoseconds a byte of the input (of input and output where
-# make_attack.py says so), peak memory, and how many times the ordinary one's time a byte that is. The ordinary one
-# (bench/make_web.py of 100,000 pages, bench/make_script.py of 100,000 lines) runs right before and right after, and its
-# least time counts. The script fails where that is more than ten times, where a status or last line is not what the formats
-# ask, or where another number of workers gives other bytes. An input has its least time of three runs, or one run where that
-# takes more than 20 s, and is deleted afterwards. Wants GNU time in the path.
+# Crawls and replays inputs that an attacker might make to be slow (bench/make_attack.py) with the built program, and compares
+# their times with those of ordinary inputs.
 #
-# Usage: bench/attack.sh [NAME ..], for some of them. In the environment, PROGRAM is another program than the one built here,
-# WORKERS are other numbers of workers than `1 4`, and COUNT another size of each input (see make_attack.py).
+# Usage: bench/attack.sh [NAME ..]
+# NAME is the name of an input [default: all]. `bench/make_attack.py --names` prints the names.
+#
+# Saved webs are crawled with 1 and 4 workers. For each input, the script prints a row with the elapsed time, the CPU time,
+# nanoseconds per byte of the input (for some inputs, of input and output), the peak memory, and the ratio to the time per byte
+# of the ordinary input. The ordinary input is a saved web of 100,000 pages (bench/make_web.py) or a script of 100,000 lines
+# (bench/make_script.py); it runs right before and right after, and its least time counts. The time of an input is the least of
+# three runs, or that of one run if this takes more than 20 s. Inputs are deleted afterwards.
+#
+# The exit status is 1 if a ratio is more than 10, if an exit status or a last line is not what docs/FORMATS.md requires, or if
+# the output depends on the number of workers.
+#
+# Environment: PROGRAM is the path of the program [default: the built one], WORKERS the numbers of workers [default: 1 4],
+# COUNT the size of each input (see make_attack.py). Requires GNU time.
 set -euo pipefail
 cd "$(dirname "$0")/.."
 made=bench/out
 program=${PROGRAM:-$PWD/crates/mercator_cli/out/mercator_cli}
 names=("$@")
 if [ ${#names[@]} -eq 0 ]; then mapfile -t names < <(python3 bench/make_attack.py --names); fi
-most_times=10        # the ordinary one's time a byte
-most_memory=12582912 # KiB that a run may reserve
+most_times=10        # the greatest allowed ratio of times per byte
+most_memory=12582912 # KiB of address space that a run may reserve
 read -r -a threads <<< "${WORKERS:-1 4}"
-long_run=20          # seconds; a run that takes longer is not repeated
+long_run=20          # a run of more seconds is not repeated
 mkdir -p "$made"
 trap 'rm -f "$made"/attack.*' EXIT
 
@@ -28,8 +35,8 @@ if [ -z "${PROGRAM:-}" ]; then (cd crates/mercator_cli && rt run -- key http://a
 python3 bench/make_web.py 100000 > "$made/ordinary.web"
 python3 bench/make_script.py 100000 8 1 > "$made/ordinary.script"
 
-# Runs a command on a file; leaves its status, seconds, processor seconds and peak memory in KiB in `ended`, `seconds`,
-# `processor` and `peak`, its output in attack.out.
+# timed FILE COMMAND..: runs a command with a file as its input. Sets `ended` to its status, `seconds` to the elapsed seconds,
+# `processor` to the CPU seconds and `peak` to the peak memory in KiB; the output goes to attack.out.
 timed() {
     local input=$1 start=$EPOCHREALTIME user system
     shift
@@ -43,7 +50,8 @@ timed() {
 least() { awk -v a="$1" -v b="$2" 'BEGIN { print (a == "" || b < a) ? b : a }'; }
 above() { awk -v a="$1" -v b="$2" 'BEGIN { exit !(a > b) }'; }
 
-# the bytes that a time is divided by: of the input, or of input and output where `measure` is `both`
+# counted INPUT OUTPUT: prints the number of bytes that a time is divided by: those of the input, or of both if `measure` is
+# `both`.
 counted() {
     local bytes
     bytes=$(stat -c %s "$1")
@@ -51,40 +59,41 @@ counted() {
     echo "$bytes"
 }
 
-# the command's words for a web from a seed with so many workers, or for a script
+# words COMMAND SEED WORKERS: prints the arguments of the program for a crawl or a replay.
 words() {
     if [ "$1" = crawl ]; then echo "crawl --workers $3 - $2"; else echo "replay -"; fi
 }
 
-# the ordinary web or script, whose least seconds so far are in `ordinary`
+# run_ordinary COMMAND WORKERS: runs the ordinary input, and sets `ordinary` to its least seconds so far.
 run_ordinary() {
     local input=$made/ordinary.web seed
     if [ "$1" = replay ]; then input=$made/ordinary.script; fi
     seed=$(sed -n '2s/^page //p' "$input")
-    # shellcheck disable=SC2046 # the words of a command, none of which has a space
+    # shellcheck disable=SC2046 # several arguments, none of which has a space
     timed "$input" "$program" $(words "$1" "$seed" "$2")
     if [ "$ended" -ne 0 ]; then echo "the ordinary $1 ended with status $ended" >&2; exit 1; fi
     ordinary=$(least "$ordinary" "$seconds")
     ordinary_size=$(counted "$input" "$made/attack.out")
 }
 
-# compares what a run left with what the formats ask, and with the first run's bytes
+# check NAME STATUS LAST: compares the status and the last line of a run with the expected ones, and its output with that of
+# the first run.
 check() {
     local name=$1 expected=$2 last=$3 line
     line=$(tail -n 1 "$made/attack.out" | head -c 4096)
     if [ "$ended" -ne "$expected" ] || [ "${line:--}" != "$last" ]; then
-        echo "$name: status $ended, not $expected; the last line is '${line:--}', not '$last'" >&2
+        echo "$name: status $ended, expected $expected; last line '${line:--}', expected '$last'" >&2
         status=1
     fi
     if [ ! -e "$made/attack.first" ]; then
         mv "$made/attack.out" "$made/attack.first"
     elif ! cmp "$made/attack.out" "$made/attack.first" >&2; then
-        echo "$name: other bytes than the first run's" >&2
+        echo "$name: the output differs from that of the first run" >&2
         status=1
     fi
 }
 
-# the row of an input with so many workers
+# row NAME COMMAND SEED STATUS LAST WORKERS: prints the row of an input.
 row() {
     local name=$1 command=$2 seed=$3 expected=$4 last=$5 workers=$6 best='' work='' top=0 turn size ratio
     ordinary=
@@ -106,16 +115,16 @@ row() {
         printf "| `%s` | %d | %d | %.3f s (%d) | %.2f s | %.1f | %.1f | %.1f MiB | %s |\n",
             name, workers, size, best, turns, work, best / size * 1e9, usual, top / 1024, ratio }'
     if above "$ratio" "$most_times"; then
-        echo "$name, $workers workers: $ratio times the ordinary one's time a byte (at most $most_times)" >&2
+        echo "$name, $workers workers: $ratio times the time per byte of the ordinary input (at most $most_times)" >&2
         status=1
     fi
 }
 
 status=0
-echo '| Input | Workers | Bytes | Least time (of runs) | Of processors | ns a byte | of the ordinary one | Peak memory | Times the ordinary one |'
+echo '| Input | Workers | Bytes | Least time (of runs) | CPU time | ns per byte | ns per byte, ordinary | Peak memory | Ratio |'
 echo '|---|---|---|---|---|---|---|---|---|'
 for name in "${names[@]}"; do
-    read -r command seed expected measure last < <(python3 bench/make_attack.py --told "$name")
+    read -r command seed expected measure last < <(python3 bench/make_attack.py --expected "$name")
     python3 bench/make_attack.py "$name" > "$made/attack.in"
     rm -f "$made/attack.first"
     # a replay has no workers

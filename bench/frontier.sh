@@ -1,18 +1,21 @@
 #!/bin/bash
-# Measures crawl_frontier: offers of new URLs, offers of URLs that were seen, and takings with what is done after them.
-# For each it prints instructions by callgrind at 100,000 URLs, times at 100,000 and 1,000,000 with 1, 2 and 4 threads,
-# and how much slower one is among 1,000,000; and the bytes that a URL keeps, its text of 56 bytes among them. It fails
-# where a target is missed. Wants `rt`, valgrind and GNU time in the path.
+# Measures crawl_frontier: offers of new URLs, offers of seen URLs, and taking a URL and finishing it.
+#
+# Usage: bench/frontier.sh
+#
+# For each of the three it prints the instructions (counted by callgrind) at 100,000 URLs, the elapsed times at 100,000 and
+# 1,000,000 URLs with 1, 2 and 4 threads, and how much slower one is among 1,000,000 URLs. It also prints the bytes of memory
+# per URL, including its text of 56 bytes. The exit status is 1 if a target is missed. Requires `rt`, valgrind and GNU time.
 set -euo pipefail
 
 few=100000
 many=1000000
-repeats=5 # how often the program offers each URL again
+repeats=5 # how many times the program offers each URL again
 runs=5
-most_new=1600     # instructions of a new offer
-most_seen=950     # instructions of an offer that is seen
-most_slowing=1.9  # times slower among many than among few
-most_bytes=300    # of a URL that was offered once and taken
+most_new=1600     # instructions per new offer
+most_seen=950     # instructions per seen offer
+most_slowing=1.9  # ratio of the time among many URLs to that among few
+most_bytes=300    # per URL that was offered once and taken
 
 cd "$(dirname "$0")/../crates/library_calls"
 rt run -- urls 1 1 > /dev/null
@@ -21,7 +24,7 @@ scratch=$(mktemp -d)
 trap 'rm -r "$scratch"' EXIT
 status=0
 
-# the least time of a piece of work, in nanoseconds
+# nanoseconds WORK URLS THREADS: prints the least elapsed time of a piece of work.
 nanoseconds() {
     local best= start spent
     for _ in $(seq "$runs"); do
@@ -33,19 +36,19 @@ nanoseconds() {
     echo "$best"
 }
 
-# the instructions that a piece of work takes on one thread
+# instructions WORK URLS: prints the instructions of a piece of work on one thread.
 instructions() {
     valgrind --tool=callgrind --callgrind-out-file="$scratch/out" "$program" "$1" "$2" 1 2>&1 > /dev/null |
         awk '/Collected/ { print $NF }'
 }
 
-# the greatest resident memory of a piece of work, in bytes
+# resident WORK URLS: prints the peak resident memory of a piece of work, in bytes.
 resident() {
     env time -o "$scratch/peak" -f %M "$program" "$1" "$2" 1 > /dev/null
     echo $(($(cat "$scratch/peak") * 1024))
 }
 
-# a figure that a target bounds: what it is, the figure, the most that it may be
+# bounded NAME FIGURE MOST: prints a figure and its target.
 bounded() {
     echo "$1: $2 (at most $3)"
     if ! awk -v is="$2" -v most="$3" 'BEGIN { exit is > most }'; then status=1; fi
@@ -55,14 +58,14 @@ made=$(instructions urls "$few")
 new=$(instructions new "$few")
 seen=$(instructions seen "$few")
 taken=$(instructions taken "$few")
-bounded "instructions of a new offer" $(((new - made) / few)) "$most_new"
-bounded "instructions of an offer that is seen" $(((seen - new) / few / repeats)) "$most_seen"
-echo "instructions of a taking: $(((taken - seen) / few))"
+bounded "instructions per new offer" $(((new - made) / few)) "$most_new"
+bounded "instructions per seen offer" $(((seen - new) / few / repeats)) "$most_seen"
+echo "instructions per URL taken and finished: $(((taken - seen) / few))"
 
-bounded "bytes that a URL keeps" $((($(resident new "$many") - $(resident new 1)) / many)) "$most_bytes"
-echo "bytes that it keeps once it was seen $repeats times: $((($(resident seen "$many") - $(resident seen 1)) / many))"
+bounded "bytes per URL" $((($(resident new "$many") - $(resident new 1)) / many)) "$most_bytes"
+echo "bytes per URL after it was seen $repeats times: $((($(resident seen "$many") - $(resident seen 1)) / many))"
 
-# nanoseconds an operation: of a new offer, of one that is seen, and of a taking
+# costs URLS THREADS: prints the nanoseconds per new offer, per seen offer, and per URL taken and finished.
 costs() {
     local count=$1 threads=$2 made new seen taken
     made=$(nanoseconds urls "$count" "$threads")
@@ -76,14 +79,14 @@ for threads in 1 2 4; do
     for count in "$few" "$many"; do
         costs "$count" "$threads" > "$scratch/$count"
         awk -v count="$count" -v threads="$threads" \
-            '{ printf "%d URLs, %d threads: %d ns a new offer, %d ns a seen one, %d ns a taking\n", count, threads, $1, $2, $3 }' \
+            '{ printf "%d URLs, %d threads: %d ns per new offer, %d ns per seen offer, %d ns per URL taken\n", count, threads, $1, $2, $3 }' \
             "$scratch/$count"
     done
     if [ "$threads" = 1 ]; then
         read -r few_new few_seen _ < "$scratch/$few"
         read -r many_new many_seen _ < "$scratch/$many"
-        bounded "slowing of new offers" "$(awk -v a="$many_new" -v b="$few_new" 'BEGIN { printf "%.2f", a / b }')" "$most_slowing"
-        bounded "slowing of seen offers" "$(awk -v a="$many_seen" -v b="$few_seen" 'BEGIN { printf "%.2f", a / b }')" "$most_slowing"
+        bounded "slowdown of new offers" "$(awk -v a="$many_new" -v b="$few_new" 'BEGIN { printf "%.2f", a / b }')" "$most_slowing"
+        bounded "slowdown of seen offers" "$(awk -v a="$many_seen" -v b="$few_seen" 'BEGIN { printf "%.2f", a / b }')" "$most_slowing"
     fi
 done
 exit $status

@@ -1,17 +1,16 @@
 #!/usr/bin/env python3
-"""Reads documents that somebody made to be slow, by `mercator site` and `mercator check`.
+"""Measure `mercator site` and `mercator check` on HTML documents that an attacker might make to be slow.
 
-Usage: hostile.py [--sizes SMALL,LARGE] [--program PROGRAM] [NAME ..]
-       hostile.py --write BYTES NAME       writes a document to standard output
+A document repeats a pattern up to a size, and is in a folder with a page that links to it. Both commands run on one
+processor. For each pattern, the script prints the CPU time per byte of each command at each size, the least of RUNS
+runs (environment variable, default: 2), and the peak memory. The time of the whole program is an upper bound of the
+time of the tokenizer.
 
-A document repeats a pattern up to its size, 8 and 32 MiB where none is given, in a folder with a page that links to it.
-Both commands run on one processor. A row has the microseconds of processor that a byte takes by each at each size, the
-least of RUNS runs (2, unless the environment has another number), and the greatest memory. The time of a whole program
-bounds that of the tokenizer. The status is 1 where `site` takes more than 0.06 microseconds a byte, or either command
-twice as many at the larger size as at the smaller.
+The exit status is 1 if `site` takes more than 0.06 microseconds per byte, or if the time per byte of either command is
+more than twice as long at the larger size as at the smaller one.
 
-Not here are links that differ in their queries alone: by the rules of `site` each names a page with all of the links,
-so what it writes grows with the square of their number.
+There is no pattern of links that differ only in their queries: by the rules of `site`, each of them is a page with all
+of these links, so the output grows with the square of their number.
 """
 
 from __future__ import annotations
@@ -28,9 +27,9 @@ TOP = pathlib.Path(__file__).resolve().parents[1]
 RUNS = int(os.environ.get("RUNS", "2"))
 COMMANDS = ("site", "check")
 MOST, GROWTH = 0.06, 2.0
-NUMBER = b"0000000"  # stands for the number of the repetition
+NUMBER = b"0000000"  # replaced by the number of the repetition
 
-# name: what stands before, what is repeated, what stands behind
+# name: the beginning of the document, the repeated pattern, the end of the document
 PATTERNS: dict[str, tuple[bytes, bytes, bytes]] = {
     "less_than": (b"", b"<", b""),
     "one_name": (b"", b"<a", b""),
@@ -91,23 +90,26 @@ PATTERNS: dict[str, tuple[bytes, bytes, bytes]] = {
 
 
 class Run(NamedTuple):
-    """What a run took: seconds of processor, KiB of memory."""
+    """The CPU time in seconds and the peak memory in KiB of a run."""
 
     seconds: float
     memory: int
 
 
 def document(name: str, size: int) -> bytes:
-    """The document of a pattern, of about so many bytes."""
-    before, repeated, behind = PATTERNS[name]
-    count = (size - len(before) - len(behind)) // len(repeated)
+    """Return the document of a pattern, with about `size` bytes."""
+    before, repeated, after = PATTERNS[name]
+    count = (size - len(before) - len(after)) // len(repeated)
     if NUMBER not in repeated:
-        return before + repeated * count + behind
-    return before + b"".join(repeated.replace(NUMBER, b"%07d" % number) for number in range(count)) + behind
+        return before + repeated * count + after
+    return before + b"".join(repeated.replace(NUMBER, b"%07d" % number) for number in range(count)) + after
 
 
 def write_document(name: str, size: int, folder: str) -> int:
-    """Writes a document by a process of its own, whose memory would count as that of the program; its length."""
+    """Write a document into the folder and return its length.
+
+    A process of its own writes it, because the memory of this process would count as that of the program.
+    """
     path = pathlib.Path(folder, "page.html")
     with path.open("wb") as page:
         subprocess.run([sys.executable, __file__, "--write", str(size), name], stdout=page, check=True)
@@ -115,7 +117,7 @@ def write_document(name: str, size: int, folder: str) -> int:
 
 
 def run_once(words: list[str]) -> Run:
-    """Runs a command, whose output is not kept. Status 4 tells that a check found broken links."""
+    """Run a command and drop its output. Exit status 4 of a check means broken links."""
     process = subprocess.Popen(words, stdin=subprocess.DEVNULL, stdout=subprocess.DEVNULL, stderr=subprocess.DEVNULL)
     _, status, usage = os.wait4(process.pid, 0)
     process.returncode = os.WEXITSTATUS(status) if os.WIFEXITED(status) else -os.WTERMSIG(status)
@@ -125,13 +127,13 @@ def run_once(words: list[str]) -> Run:
 
 
 def measured(program: str, command: str, folder: str) -> Run:
-    """The least time and the greatest memory of some runs."""
+    """Return the least time and the greatest memory of RUNS runs."""
     runs = [run_once([program, command, folder, "http://a.test/"]) for _ in range(RUNS)]
     return Run(min(run.seconds for run in runs), max(run.memory for run in runs))
 
 
 def row(program: str, name: str, sizes: list[int], folder: str) -> dict[str, list[float]]:
-    """Prints the row of a pattern; the microseconds a byte of each command at each size."""
+    """Print the row of a pattern, and return the microseconds per byte of each command at each size."""
     times: dict[str, list[float]] = {command: [] for command in COMMANDS}
     most = 0
     for size in sizes:
@@ -146,25 +148,25 @@ def row(program: str, name: str, sizes: list[int], folder: str) -> dict[str, lis
 
 
 def measure(program: str, names: list[str], sizes: list[int]) -> dict[str, dict[str, list[float]]]:
-    """Prints all rows; what they have, by the names."""
+    """Print all rows, and return their times by pattern."""
     os.sched_setaffinity(0, {min(os.sched_getaffinity(0))})
     heads = "".join(f"{command + f' {size / 2**20:g}':>10}" for command in COMMANDS for size in sizes)
-    print(f"{'microseconds, MiB':18}{heads}{'memory':>10}")
+    print(f"{'us per byte, MiB':18}{heads}{'memory':>10}")
     with tempfile.TemporaryDirectory() as folder:
         pathlib.Path(folder, "index.html").write_bytes(b"<a href=page.html>")
         return {name: row(program, name, sizes, folder) for name in names}
 
 
 def judge(rows: dict[str, dict[str, list[float]]]) -> int:
-    """Prints the slowest patterns, and those whose time grows; the status."""
+    """Print the slowest patterns and those whose time per byte grows, and return the exit status."""
     status = 0
     for command in COMMANDS:
         time, slowest = max((max(times[command]), name) for name, times in rows.items())
-        print(f"slowest by `{command}`: {slowest}, {time:.4f} microseconds a byte")
+        print(f"slowest for `{command}`: {slowest}, {time:.4f} microseconds per byte")
         for name, times in rows.items():
             growth = times[command][-1] / times[command][0]
             if growth > GROWTH:
-                print(f"{name}: `{command}` takes {growth:.2f} times as long a byte", file=sys.stderr)
+                print(f"{name}: `{command}` takes {growth:.2f} times as long per byte", file=sys.stderr)
                 status = 1
         if command == "site" and time > MOST:
             status = 1
@@ -172,17 +174,19 @@ def judge(rows: dict[str, dict[str, list[float]]]) -> int:
 
 
 def main() -> int:
-    words = argparse.ArgumentParser(description=__doc__, formatter_class=argparse.RawDescriptionHelpFormatter)
-    words.add_argument("--sizes", default="8,32")
-    words.add_argument("--program", default=str(TOP / "crates/mercator_cli/out/mercator_cli"))
-    words.add_argument("--write", type=int)
-    words.add_argument("names", nargs="*")
-    asked = words.parse_args()
-    names: list[str] = asked.names or list(PATTERNS)
-    if asked.write is not None:
-        sys.stdout.buffer.write(document(names[0], asked.write))
+    parser = argparse.ArgumentParser(description=__doc__, formatter_class=argparse.RawDescriptionHelpFormatter)
+    option = parser.add_argument
+    option("--sizes", default="8,32", metavar="SMALL,LARGE", help="sizes of the documents in MiB (default: 8,32)")
+    option("--program", default=str(TOP / "crates/mercator_cli/out/mercator_cli"), metavar="FILE",
+           help="path of the program (default: the built one)")
+    option("--write", type=int, metavar="BYTES", help="write the document of NAME to standard output, and exit")
+    option("names", nargs="*", metavar="NAME", help="pattern to measure (default: all)")
+    options = parser.parse_args()
+    names: list[str] = options.names or list(PATTERNS)
+    if options.write is not None:
+        sys.stdout.buffer.write(document(names[0], options.write))
         return 0
-    return judge(measure(asked.program, names, [int(float(size) * 2**20) for size in asked.sizes.split(",")]))
+    return judge(measure(options.program, names, [int(float(size) * 2**20) for size in options.sizes.split(",")]))
 
 
 if __name__ == "__main__":

@@ -1,15 +1,15 @@
 #!/bin/bash
-# Measures crawl_keys: URLs and links per second, instructions each by callgrind, and the bytes
-# that a URL keeps in a set, alone and with three copies; and what a filter's answer costs. URLs and
-# links that are not parsed are all works but `canonical`.
-# Wants `rt`, valgrind and GNU time in the path.
+# Measures crawl_keys: URLs and links per second, instructions each (counted by callgrind), bytes of memory per URL in a set,
+# with and without three copies, and the instructions of a call of a filter. Each piece of work but `canonical` has only common
+# URL forms, which skip the parser.
 #
-# usage: bench/keys.sh [URLS [LINKS]]      300000 URLs and 500000 links where none is given
+# Usage: bench/keys.sh [URLS [LINKS]]
+# Defaults: 300000 URLs and 500000 links. Requires `rt`, valgrind and GNU time.
 set -euo pipefail
 
 urls=${1:-300000}
 links=${2:-500000}
-counted=2000 # under callgrind, which is slow
+counted=2000 # number of URLs or links under callgrind, which is slow
 
 cd "$(dirname "$0")/../crates/library_calls"
 rt run -- texts 1 > /dev/null
@@ -17,7 +17,7 @@ program=$PWD/out/library_calls
 scratch=$(mktemp -d)
 trap 'rm -r "$scratch"' EXIT
 
-# the best of five runs of a piece of work, in nanoseconds
+# nanoseconds WORK COUNT: prints the least elapsed time of five runs of a piece of work.
 nanoseconds() {
     local best= start spent
     for _ in 1 2 3 4 5; do
@@ -29,23 +29,23 @@ nanoseconds() {
     echo "$best"
 }
 
-# the instructions that a piece of work takes
+# instructions WORK COUNT: prints the instructions of a piece of work.
 instructions() {
     valgrind --tool=callgrind --callgrind-out-file="$scratch/out" "$program" "$1" "$2" 2>&1 > /dev/null |
         awk '/Collected/ { print $NF }'
 }
 
-# the greatest resident memory of a piece of work, in bytes
+# resident WORK COUNT: prints the peak resident memory of a piece of work, in bytes.
 resident() {
     env time -f %M "$program" "$1" "$2" 2>&1 > /dev/null | awk '{ print $1 * 1024 }'
 }
 
-# the instructions of so many more of a piece of work
+# more WORK: prints the instructions that `counted` more URLs or links need.
 more() {
     echo $(($(instructions "$1" $((2 * counted))) - $(instructions "$1" "$counted")))
 }
 
-# row WORK COUNT [TEXTS]: what a piece of work costs a count, besides making its texts where it makes any
+# row WORK COUNT [TEXTS]: prints the cost of a piece of work, without that of making its texts.
 row() {
     local work=$1 count=$2 time calls
     time=$(nanoseconds "$work" "$count")
@@ -55,16 +55,16 @@ row() {
         calls=$((calls - $(more "$3")))
     fi
     calls=$((calls / counted))
-    printf '%s: %d in %d ms, %d a second, %d instructions each\n' \
+    printf '%s: %d in %d ms, %d per second, %d instructions each\n' \
         "$work" "$count" $((time / 1000000)) $((count * 1000000000 / time)) "$calls"
 }
 
-# the memory that a URL keeps, besides the program's own
+# kept WORK: prints the bytes of memory per URL.
 kept() {
-    printf '%s: %d bytes a URL\n' "$1" $((($(resident "$1" "$urls") - $(resident "$1" 1)) / urls))
+    printf '%s: %d bytes per URL\n' "$1" $((($(resident "$1" "$urls") - $(resident "$1" 1)) / urls))
 }
 
-# the instructions of one answer of a filter, which a round asks for 64 URLs
+# answer WORK: prints the instructions of one call of a filter; a round calls it for 64 URLs.
 answer() {
     echo $((($(instructions "$1" 11) - $(instructions "$1" 1)) / 640))
 }
@@ -80,5 +80,5 @@ kept shared
 
 one=$(answer one)
 many=$(answer many)
-printf 'allows: %d instructions among one suffix, %d among 100000, %d.%02d times as many\n' \
+printf 'allows: %d instructions with one suffix, %d with 100000, %d.%02d times as many\n' \
     "$one" "$many" $((many / one)) $((100 * many / one % 100))

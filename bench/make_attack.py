@@ -1,13 +1,16 @@
 #!/usr/bin/env python3
-"""Writes a saved web or a script that somebody made to be slow, to standard output; or what has to come of it.
+"""Write a saved web or a script that an attacker might make to be slow, or the expected result of running it.
 
-Usage: make_attack.py NAME            writes the input of that name
-       make_attack.py --told NAME     prints its expectation: command, seed (or `-`), status, what the time is counted by (`input`,
-                                      or `both`, input and output), last line of the output (or `-`)
-       make_attack.py --names         prints the names, in the order of bench/attack.sh
+Usage: make_attack.py NAME              write the input of this name to standard output
+       make_attack.py --expected NAME   print the expected result
+       make_attack.py --names           print the names of all inputs
 
-What is expected is by docs/FORMATS.md and the count of what was written, not by a run of the program. `COUNT` in the
-environment is another number of pages, links or senders (the lines of 2^29 bytes and line ends then have so many).
+The expected result has these fields: the command (`crawl` or `replay`), the seed (or `-`), the exit status, what the time is
+divided by (`input` for its bytes, or `both` for those of input and output), and the last line of the output (or `-`). It
+follows from docs/FORMATS.md and the number of pages that were written, not from a run of the program.
+
+The environment variable COUNT is the number of pages, links or senders, and the number of bytes of the long line and of line
+ends. Each input has its own default.
 """
 from __future__ import annotations
 
@@ -16,35 +19,35 @@ import string
 import sys
 from typing import Callable, Iterator, NamedTuple, Optional, Tuple
 
-BLOCK = 1 << 20  # bytes of a write
-LINE = 1 << 29  # bytes of the long line, and line ends
+BLOCK = 1 << 20  # the number of bytes that are written at a time
+LINE = 1 << 29  # the default number of bytes of the long line, and of line ends
 MILLION = 1_000_000
 SEED = "http://a.test/"
 WEB, SCRIPT = "savedweb 1", "workers 1 max 1099511627776"  # the headers
 LETTERS = "abcdefghijklmnopqrstuvwxyz012345"
-URL_LENGTH = 4_090  # with `page ` and the LF it is a line of 4,096 bytes
+URL_LENGTH = 4_090  # with `page ` and the LF, the line has 4,096 bytes
 
-# std's FoldHasher, by which the program orders texts: its first state, the number in each of its steps, and a word's bits.
+# FoldHasher of std, with which the program hashes texts: its first state, the constant of each step, and a mask of 64 bits
 HASH_START, HASH_STEP, WORD = 0x243F_6A88_85A3_08D3, 0x9E37_79B9_7F4A_7C15, (1 << 64) - 1
-HASHED = 48  # bytes of a URL of the one hash: two steps, the state after them, and a name of eight bytes
-# the bits of a hash by which `hash_index` picks a bucket of slots among those for a million texts, and those of a slot's mark
+HASHED = 48  # the bytes of a URL with the common hash: two steps, the state after them, and a name of eight bytes
+# the bits of a hash that select a bucket of slots in a `hash_index` of a million texts, and the bits that a slot stores
 BUCKET_BITS, MARK_BITS = (1 << 24) - 8, WORD >> 33 << 33
 NAME_LETTERS = string.ascii_letters + string.digits + "-_"
-# those that stand in a path as they are
+# the bytes that are not escaped in a path
 PATH_BYTES = frozenset((string.ascii_letters + string.digits + "-_~!$&'()*+,;=:@").encode())
 
-Writer = Callable[[int], Iterator[str]]  # an input of so many pages, links, senders or bytes, in pieces
+Writer = Callable[[int], Iterator[str]]  # yields an input with the given number of pages, links, senders or bytes, in pieces
 
 
 class Attack(NamedTuple):
-    """An input, and what has to come of it."""
+    """An input and the expected result."""
 
     command: str
-    seed: str  # `-` of a script
+    seed: str  # `-` for a script
     status: int
     lines: Writer
-    number: int  # what the writer is given
-    last: Optional[Callable[[int], str]]  # the last line of the output, by that number
+    number: int  # the argument of the writer
+    last: Optional[Callable[[int], str]]  # the last line of the output, as a function of this number
 
 
 def count(usual: int) -> int:
@@ -52,12 +55,12 @@ def count(usual: int) -> int:
 
 
 def children(page: int, pages: int) -> range:
-    """The pages that page links to, so that all are reached from the first."""
+    """Return the pages that a page links to, so that all pages can be reached from the first."""
     return range(2 * page + 1, min(2 * page + 3, pages))
 
 
 def long_line(header: str, start: str) -> Writer:
-    """A line that is too long by far, of so many bytes."""
+    """Return a writer of a line that is far too long."""
 
     def lines(size: int) -> Iterator[str]:
         yield f"{header}\n{start}"
@@ -68,7 +71,7 @@ def long_line(header: str, start: str) -> Writer:
 
 
 def line_ends(header: str) -> Writer:
-    """Nothing but so many ends of lines behind the header: an empty web, or a script without events."""
+    """Return a writer of nothing but line ends after the header: an empty saved web, or a script without events."""
 
     def lines(size: int) -> Iterator[str]:
         yield f"{header}\n"
@@ -84,7 +87,7 @@ def filled(size: int, letter: str) -> Iterator[str]:
 
 
 def shared_prefix(prefix: str, width: int, more_links: str) -> Tuple[Writer, str]:
-    """Pages of one prefix and a name of width letters each, with relative links, the shortest texts that there are."""
+    """Return a writer of pages with a common prefix and a name of `width` letters, with relative links; and the first URL."""
 
     def name(page: int) -> str:
         letters = ""
@@ -102,7 +105,7 @@ def shared_prefix(prefix: str, width: int, more_links: str) -> Tuple[Writer, str
 
 
 def prefix_of(length: int, filling: str) -> str:
-    """A URL's text of so many bytes, to which a name of four letters is added."""
+    """Return the beginning of a URL with about `length` bytes; the name of a page is appended to it."""
     room = length - len(SEED) - 1
     return SEED + (filling * room)[: room - room % len(filling)] + "/"
 
@@ -110,37 +113,37 @@ def prefix_of(length: int, filling: str) -> str:
 LONG_BASE = prefix_of(URL_LENGTH, '"')
 
 
-def word(text: bytes, place: int) -> int:
-    return int.from_bytes(text[place : place + 8], "little")
+def word(text: bytes, offset: int) -> int:
+    return int.from_bytes(text[offset : offset + 8], "little")
 
 
-def hash_step(state: int, text: bytes, place: int) -> int:
-    """The two words at this place, multiplied to 128 bits whose halves are joined by xor."""
-    product = (word(text, place) ^ state) * (word(text, place + 8) ^ HASH_STEP)
+def hash_step(state: int, text: bytes, offset: int) -> int:
+    """Multiply the two words at this offset to 128 bits, and return the xor of their halves."""
+    product = (word(text, offset) ^ state) * (word(text, offset + 8) ^ HASH_STEP)
     return product & WORD ^ product >> 64
 
 
 def hash_of(text: bytes) -> int:
-    """The hash of a text of at least sixteen bytes: a step for each sixteen, the last one of the last sixteen."""
+    """Return the hash of a text of at least 16 bytes: one step for each 16 bytes, the last one for the last 16."""
     state = HASH_START + len(text) & WORD
-    for place in range(0, (len(text) - 1) // 16 * 16, 16):
-        state = hash_step(state, text, place)
+    for offset in range(0, (len(text) - 1) // 16 * 16, 16):
+        state = hash_step(state, text, offset)
     return hash_step(state, text, len(text) - 16)
 
 
 def hash_prefix(factor: int) -> str:
-    """A URL's text of 40 bytes behind which the last step of the hash has this factor.
+    """Return the first 40 bytes of a URL after which the last step of the hash has this factor.
 
-    Its last eight bytes are the state that the 32 before them lead to, but for the factor's bits. The 32 are numbered until
-    these are bytes that a path keeps; some 10,000 tries find them. With factor 0 any eight bytes behind it give the hash 0,
-    with factor 1 the hash is these eight bytes, but for the bits of a constant.
+    The last eight of these bytes are the state after the 32 bytes before them, xor the factor. The 32 bytes contain a number,
+    which is increased until all of the last eight are bytes that a path keeps; this takes some 10,000 attempts. With factor
+    0, the hash of the URL is 0 whatever the next eight bytes are. With factor 1, the hash is these eight bytes, xor a constant.
     """
     number = 0
     while True:
         text = SEED.encode() + b"%018d" % number
         state = HASH_START + HASHED & WORD
-        for place in (0, 16):
-            state = hash_step(state, text, place)
+        for offset in (0, 16):
+            state = hash_step(state, text, offset)
         last = (state ^ factor).to_bytes(8, "little")
         if PATH_BYTES.issuperset(last):
             return (text + last).decode()
@@ -148,7 +151,7 @@ def hash_prefix(factor: int) -> str:
 
 
 def digits(number: int, letters: str, width: int) -> str:
-    """The number with these letters for digits, the least one first."""
+    """Return a number with these letters as digits, the least significant first."""
     text = ""
     for _ in range(width):
         number, digit = divmod(number, len(letters))
@@ -157,8 +160,10 @@ def digits(number: int, letters: str, width: int) -> str:
 
 
 def colliding(factor: int, name: Callable[[int], str], bits: int) -> Tuple[Writer, str]:
-    """A page that links to all others by their whole URLs, so that pages, link texts and offers all have these bits of their hash
-    in common. `name` has the last eight bytes of a page's URL."""
+    """Return a writer of a page that links to all others by their absolute URLs, and its URL.
+
+    The hashes of pages, link texts and offers all have the same `bits`. `name` returns the last eight bytes of a page's URL.
+    """
     prefix = hash_prefix(factor)
     first = hash_of((prefix + name(0)).encode())
 
@@ -190,7 +195,10 @@ def same_link(links: int) -> Iterator[str]:
 
 
 def chain(hosts: int) -> Tuple[Writer, str]:
-    """Each page links to the next alone; they change hosts in turn, so that among workers the crawl wanders."""
+    """Return a writer of pages that each link only to the next, and the first URL.
+
+    The pages are on the hosts in turn, so the crawl moves from worker to worker.
+    """
 
     def url(page: int) -> str:
         return f"//{page % hosts}.test/{page:06}"
@@ -205,15 +213,17 @@ def chain(hosts: int) -> Tuple[Writer, str]:
 
 
 def long_base(links: int) -> Iterator[str]:
-    """A short link on a page whose URL grows to 12,000 bytes is a URL of as many: the output is a thousand times the input."""
+    """Yield short links of a page whose canonical URL has 12,000 bytes, so the output is a thousand times the input."""
     yield f"{WEB}\npage {LONG_BASE}\n"
     for link in range(links):
         yield f"link {link}\n"
 
 
 def many_letters(links: int) -> Iterator[str]:
-    """Hosts of two labels of 600 letters outside of ASCII, all of which differ: Punycode looks at all of them for each, in the
-    kit's `idna`, which refuses labels above 1,000 letters."""
+    """Yield hosts with two labels of 600 different non-ASCII letters.
+
+    Punycode looks at all letters for each of them. The Rattle toolchain's `idna` rejects labels of more than 1,000 letters.
+    """
     yield f"{WEB}\npage {SEED}\n"
     for link in range(links):
         label = "".join(chr(0x4E00 + (letter * 7_919 + link) % 20_000) for letter in range(600))
@@ -228,8 +238,8 @@ def million_hosts(pages: int) -> Iterator[str]:
 
 
 def senders(number: int) -> Iterator[str]:
-    """Each sender takes a unit, in a shuffled order, and when all hold one each admits a URL; the worker takes one URL."""
-    step = 611_953  # a prime, so that the order below is one of all senders
+    """Yield a script in which each sender takes a unit, in a shuffled order, and then admits a URL; the worker takes one URL."""
+    step = 611_953  # a prime, so that the order below has all senders
     order = [sender * step % number for sender in range(number)]
     yield f"{SCRIPT}\n"
     for sender in order:
@@ -287,16 +297,16 @@ ATTACKS = {
     "script_line_ends": Attack("replay", "-", 0, line_ends(SCRIPT), count(LINE), None),
     "long_base": web(long_base, LONG_BASE, 50_000, page_and_missing),
     "many_letters": web(many_letters, SEED, 3_000, page_and_missing),
-    # the opening unit and those of the URLs that were not taken
+    # the unit of the seeding phase, and those of the URLs that were not taken
     "senders": Attack("replay", "-", 0, senders, count(MILLION), lambda number: f"count {number}"),
 }
 
 
-# Those whose output is many times the input: the time is counted by the bytes of both.
+# The output of these has many times the bytes of the input, so the time is divided by the bytes of both.
 BY_BOTH = {"long_base"}
 
 
-def tell(name: str) -> None:
+def print_expected(name: str) -> None:
     it = ATTACKS[name]
     print(it.command, it.seed, it.status, "both" if name in BY_BOTH else "input", it.last(it.number) if it.last else "-")
 
@@ -317,8 +327,8 @@ def write(name: str) -> None:
 def main() -> None:
     if sys.argv[1] == "--names":
         print("\n".join(ATTACKS))
-    elif sys.argv[1] == "--told":
-        tell(sys.argv[2])
+    elif sys.argv[1] == "--expected":
+        print_expected(sys.argv[2])
     else:
         write(sys.argv[1])
 

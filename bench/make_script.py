@@ -1,10 +1,11 @@
 #!/usr/bin/env python3
-"""Writes a script of so many lines over a pool of 300,000 URLs to standard output.
+"""Write a script of frontier steps for `mercator replay` to standard output.
 
 Usage: make_script.py LINES SENDERS WORKERS
 
-Seven turns in ten admit a URL (look, enter, admit, and back where the URL was seen), the others fetch one (take, done) from
-some subqueue. URL, sender, subqueue and kind of a turn are drawn from a fixed seed, so a script is the same each time.
+The script has LINES lines and a pool of 300,000 URLs. In seven of ten turns a sender admits a URL (look, enter, admit, and
+back if the URL was seen); in the others a worker fetches one (take, done). The kind of a turn, its URL, sender and subqueue
+are random with a fixed seed, so the script is the same each time.
 """
 from __future__ import annotations
 
@@ -29,14 +30,14 @@ def admit(sender: int, url: int, seen: set[int]) -> list[str]:
 
 def main() -> None:
     count, senders, workers = (int(word) for word in sys.argv[1:4])
-    drawn = random.Random(SEED)
+    rng = random.Random(SEED)
     seen: set[int] = set()
     lines = [f"workers {workers} max 1099511627776"]
     while len(lines) < count:
-        if drawn.randrange(10) < 7:
-            lines += admit(drawn.randrange(senders), drawn.randrange(URLS), seen)
+        if rng.randrange(10) < 7:
+            lines += admit(rng.randrange(senders), rng.randrange(URLS), seen)
         else:
-            queue = drawn.randrange(workers)
+            queue = rng.randrange(workers)
             lines += [f"take {queue}", f"done {queue}"]
     sys.stdout.write("\n".join(lines[:count]) + "\n")
 

@@ -1,16 +1,15 @@
 #!/usr/bin/env python3
-"""Writes a saved web of so many pages over 1,000 hosts, each page with five links, to standard output.
+"""Write a saved web (a text file of pages and their links) to standard output.
 
-Usage: make_web.py PAGES [--links N]
+The saved web has PAGES pages on 1,000 hosts, each with five links. A page is on host k, 1 to 1,000, with weight 1/k. Page i,
+counted from 0, links to pages 2i+1 and 2i+2, so all pages can be reached from the first one; its other links are random.
+Links have four forms: absolute, `//host/..`, `/path` and relative, the last two only to pages of the same host. The random
+choices have a fixed seed, so the saved web is the same each time. All URLs have 56 bytes, so saved webs differ only in
+their numbers of pages.
 
-A page is on host k of 1 to 1,000 with weight 1/k. Page i, counted from 0, links to pages 2i+1 and 2i+2, so that all pages
-are reached from the first of the file; its other links are drawn. They are spelled in four ways: absolute, `//host/..`,
-`/path` and relative, the last two only to pages of the same host. All is drawn from a fixed seed, so a web is the same
-each time; and each URL has 56 bytes, so that webs differ in size alone.
-
-With --links N the web has the shape of real sites: one host to 1,000 pages, and 3/4 N to 8/5 N links a page. A third of a
-page's links are repeats of others on it, half of those by a fragment of their own; of the rest seven in eight are the
-navigation that all pages of its folder share, in the same texts, and the others its children and drawn pages.
+With --links N, the saved web is like real sites: it has one host per 1,000 pages, and 3/4 N to 8/5 N links per page. A third
+of a page's links repeat others of the page, half of these with a fragment. Of the rest, seven in eight are the navigation
+that all pages of the folder share; the others lead to the page's children and to random pages.
 """
 from __future__ import annotations
 
@@ -52,15 +51,15 @@ def spelled(hosts: Hosts, page: int, target: int, spelling: int) -> str:
     return path(target) if spelling == BY_PATH else relative(page, target)
 
 
-def links(drawn: random.Random, hosts: Hosts, pages_of: PagesOf, page: int) -> Iterator[str]:
+def links(rng: random.Random, hosts: Hosts, pages_of: PagesOf, page: int) -> Iterator[str]:
     children = range(2 * page + 1, min(2 * page + 3, len(hosts)))
     for target in children:
         spellings = 4 if hosts[target] == hosts[page] else 2
-        yield spelled(hosts, page, target, drawn.randrange(spellings))
+        yield spelled(hosts, page, target, rng.randrange(spellings))
     for _ in range(LINKS - len(children)):
-        spelling = drawn.randrange(4)
+        spelling = rng.randrange(4)
         near = spelling in (BY_PATH, RELATIVE)
-        target = drawn.choice(pages_of[hosts[page]]) if near else drawn.randrange(len(hosts))
+        target = rng.choice(pages_of[hosts[page]]) if near else rng.randrange(len(hosts))
         yield spelled(hosts, page, target, spelling)
 
 
@@ -68,53 +67,53 @@ def most_links(wanted: int) -> int:
     return 8 * wanted // 5
 
 
-def own_links(drawn: random.Random, hosts: Hosts, pages_of: PagesOf, page: int, count: int) -> Iterator[str]:
-    """The page's children, and as many drawn pages as make so many links; more where the children are more."""
+def own_links(rng: random.Random, hosts: Hosts, pages_of: PagesOf, page: int, count: int) -> Iterator[str]:
+    """Yield links to the page's children, and to random pages, so that there are at least `count` links."""
     for target in range(2 * page + 1, min(2 * page + 3, len(hosts))):
         yield spelled(hosts, page, target, RELATIVE if hosts[target] == hosts[page] else BY_HOST)
         count -= 1
     for _ in range(count):
-        yield spelled(hosts, page, drawn.choice(pages_of[hosts[page]]), RELATIVE)
+        yield spelled(hosts, page, rng.choice(pages_of[hosts[page]]), RELATIVE)
 
 
-def repeated(drawn: random.Random, text: str) -> str:
-    return text if drawn.randrange(2) else f"{text}#part-{drawn.randrange(10)}"
+def repeated(rng: random.Random, text: str) -> str:
+    return text if rng.randrange(2) else f"{text}#part-{rng.randrange(10)}"
 
 
 def many_links(
-    drawn: random.Random, hosts: Hosts, pages_of: PagesOf, page: int, navigations: Navigations, wanted: int
+    rng: random.Random, hosts: Hosts, pages_of: PagesOf, page: int, navigations: Navigations, wanted: int
 ) -> List[str]:
-    """Links as a real page has them: its folder's navigation, its own links, and repeats of these."""
+    """Return links like those of a real page: the navigation of its folder, its own links, and repetitions."""
     folder = (hosts[page], page % SECTIONS)
     if folder not in navigations:
-        targets = drawn.choices(pages_of[hosts[page]], k=most_links(wanted))
-        navigations[folder] = [spelled(hosts, page, target, drawn.choice((BY_PATH, RELATIVE))) for target in targets]
-    count = drawn.randrange(3 * wanted // 4, most_links(wanted) + 1)
+        targets = rng.choices(pages_of[hosts[page]], k=most_links(wanted))
+        navigations[folder] = [spelled(hosts, page, target, rng.choice((BY_PATH, RELATIVE))) for target in targets]
+    count = rng.randrange(3 * wanted // 4, most_links(wanted) + 1)
     repeats = count // 3
-    own = list(own_links(drawn, hosts, pages_of, page, (count - repeats) // 8))
+    own = list(own_links(rng, hosts, pages_of, page, (count - repeats) // 8))
     texts = navigations[folder][:count - repeats - len(own)] + own
-    return texts + [repeated(drawn, text) for text in drawn.choices(texts, k=repeats)]
+    return texts + [repeated(rng, text) for text in rng.choices(texts, k=repeats)]
 
 
-def drawn_hosts(drawn: random.Random, count: int, most: int) -> Hosts:
+def random_hosts(rng: random.Random, count: int, most: int) -> Hosts:
     hosts = range(1, most + 1)
-    return drawn.choices(hosts, [1 / host for host in hosts], k=count)
+    return rng.choices(hosts, [1 / host for host in hosts], k=count)
 
 
 def arguments() -> argparse.Namespace:
-    parser = argparse.ArgumentParser(description="Writes a saved web to standard output.")
-    parser.add_argument("pages", metavar="PAGES", type=int)
-    parser.add_argument("--links", metavar="N", type=int, help="the shape of real sites, with about N links a page; 4 or more")
+    parser = argparse.ArgumentParser(description=__doc__, formatter_class=argparse.RawDescriptionHelpFormatter)
+    parser.add_argument("pages", metavar="PAGES", type=int, help="number of pages")
+    parser.add_argument("--links", metavar="N", type=int, help="make real sites with about N links per page, at least 4")
     parsed = parser.parse_args()
     if parsed.links is not None and parsed.links < 4:
-        parser.error("--links is 4 or more")
+        parser.error("--links must be at least 4")
     return parsed
 
 
 def main() -> None:
     wanted = arguments()
-    drawn = random.Random(SEED)
-    hosts = drawn_hosts(drawn, wanted.pages, HOSTS if wanted.links is None else wanted.pages // 1_000 + 1)
+    rng = random.Random(SEED)
+    hosts = random_hosts(rng, wanted.pages, HOSTS if wanted.links is None else wanted.pages // 1_000 + 1)
     pages_of: PagesOf = {}
     navigations: Navigations = {}
     for page, host in enumerate(hosts):
@@ -124,9 +123,9 @@ def main() -> None:
         lines = [f"page http:{authority(host)}{path(page)}\n"]
         texts: Iterable[str]
         if wanted.links is None:
-            texts = links(drawn, hosts, pages_of, page)
+            texts = links(rng, hosts, pages_of, page)
         else:
-            texts = many_links(drawn, hosts, pages_of, page, navigations, wanted.links)
+            texts = many_links(rng, hosts, pages_of, page, navigations, wanted.links)
         lines += [f"link {text}\n" for text in texts]
         sys.stdout.write("".join(lines))
 

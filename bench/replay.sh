@@ -1,6 +1,11 @@
 #!/bin/bash
-# Replays scripts of 100,000 and 1,000,000 lines by the built program, of 8 senders to one subqueue and of 1,000 senders
-# to 64. It prints the time and the peak memory of each, and the ratio of the two times, which stays below 13.
+# Measures replays of scripts of 100,000 and 1,000,000 lines by the built program, with 8 senders and one subqueue, and with
+# 1,000 senders and 64 subqueues.
+#
+# Usage: bench/replay.sh
+#
+# It prints the elapsed time and the peak memory of each, and the ratio of the two times. The exit status is 1 if a ratio is
+# 13 or more.
 set -euo pipefail
 cd "$(dirname "$0")/.."
 made=bench/out

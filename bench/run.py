@@ -1,9 +1,9 @@
 #!/usr/bin/env python3
-"""Runs a program on a file as its standard input, five times, and prints the least time and the greatest peak memory.
+"""Run a program several times with a file as its standard input; print the least elapsed time and the greatest peak memory.
 
-Usage: run.py SECONDS_FILE FILE PROGRAM WORD..
+Usage: run.py SECONDS_FILE FILE PROGRAM ARGUMENT..
 
-The least time in seconds is written to SECONDS_FILE too. RUNS in the environment is another number of runs.
+The least time, in seconds, is also written to SECONDS_FILE. The environment variable RUNS is the number of runs (default: 5).
 """
 from __future__ import annotations
 
@@ -16,7 +16,7 @@ RUNS = int(os.environ.get("RUNS", "5"))
 
 
 def run_once(path: str, command: list[str]) -> tuple[float, float]:
-    """Its seconds, and its peak memory in MiB."""
+    """Return the elapsed seconds and the peak memory in MiB."""
     with open(path, "rb") as script:
         start = time.monotonic()
         process = subprocess.Popen(command, stdin=script, stdout=subprocess.DEVNULL)

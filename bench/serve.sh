@@ -1,15 +1,22 @@
 #!/bin/bash
-# Measures `mercator serve` on pipes: new offers and offers that are seen, sent ahead of their answers; offers one by one,
-# each answer awaited, and what bounds them; bytes that a URL keeps; the memory of a line of 10^9 bytes; and offers by the
-# Python client. Beside it, in the same run, what a crawler in Python would take else: a set and a queue with URLs normalised
-# by urllib.parse, and Scrapy's own scheduler with its fingerprints; and the scheduler for Scrapy over the frontier. It prints
-# the rate by the clock, and the program's own processor time and instructions, which other work on the machine changes less
-# or not at all. It fails where a target is missed. Wants a C compiler, valgrind and Python 3.9; Scrapy where it is there.
+# Measures `mercator serve` over pipes.
 #
-# usage: bench/serve.sh [--program PROGRAM] [URLS]      1000000 URLs where no number is given
+# Usage: bench/serve.sh [--program PROGRAM] [URLS]
+# URLS is the number of URLs [default: 1000000]. PROGRAM is the path of the program; the default is the environment variable
+# MERCATOR, or else `mercator`. The environment variable PYTHON is the Python for the Python rows [default: /usr/bin/python3, for
+# which Debian's python3-scrapy is].
 #
-# PROGRAM is MERCATOR of the environment, or `mercator` in PATH, where it is not given. PYTHON of the environment runs the
-# Python part; else it is /usr/bin/python3, for which Debian's python3-scrapy is.
+# It measures
+# - offers of new and of seen URLs, sent ahead of their answers;
+# - offers one by one, each after the answer to the previous one, and the limits that the pipes and the system set;
+# - bytes of memory per URL, and the memory for a line of 10^9 bytes;
+# - offers by the Python client, and for comparison the alternatives of a crawler in Python: a set and a queue with URLs that
+#   urllib.parse normalized, and Scrapy's own scheduler with its fingerprints;
+# - the scheduler for Scrapy that uses the frontier.
+#
+# It prints rates by elapsed time, and the CPU time and instructions of the program, which other work on the machine affects less
+# or not at all. The exit status is 1 if a target is missed. Requires a C compiler, valgrind and Python 3.9 or later; the rows of
+# Scrapy need Scrapy.
 set -euo pipefail
 
 program=${MERCATOR:-mercator}
@@ -19,16 +26,16 @@ if [ "${1:-}" = --program ]; then
 fi
 program=$(realpath "$(type -P "$program")")
 many=${1:-1000000}
-few=$((many / 5))        # offers one by one, and by Python
-counted=$((many / 50))   # under callgrind, which is slow
+few=$((many / 5))        # number of offers one by one, and by Python
+counted=$((many / 50))   # number of offers under callgrind, which is slow
 line=$((many * 1000))    # bytes of the long line
 runs=3
-least_new=1000000    # new offers a second
-least_seen=1500000   # offers that are seen, a second
-least_single=120000  # offers one by one, a second
-least_client=250000  # offers of the Python client, a second
-most_bytes=200       # of a URL that was offered
-most_line=8192       # KiB that the program takes for the long line
+least_new=1000000    # new offers per second
+least_seen=1500000   # seen offers per second
+least_single=120000  # offers one by one, per second
+least_client=250000  # offers of the Python client, per second
+most_bytes=200       # per URL that was offered
+most_line=8192       # KiB of memory for the long line
 python=${PYTHON:-/usr/bin/python3}
 
 cd "$(dirname "$0")/.."
@@ -38,12 +45,12 @@ cc -O2 -std=c11 -Wall -o "$made/serve_client" bench/serve_client.c
 serve=("$program" serve --workers 4 --max-pending 1000000000)
 status=0
 
-# the fastest of some runs of a client: nanoseconds, those of the program's processor, its peak memory in bytes
+# fastest CLIENT..: prints the fastest of some runs: elapsed nanoseconds, CPU nanoseconds of the program, its peak memory in bytes.
 fastest() {
     for _ in $(seq "$runs"); do "$@"; done | sort -n | head -n 1
 }
 
-# a figure that a target bounds: what it is, the figure, `least` or `most`, the target
+# bounded NAME FIGURE least|most TARGET: prints a figure and its target.
 bounded() {
     echo "$1: $2 (at $3 $4)"
     if ! awk -v is="$2" -v side="$3" -v target="$4" 'BEGIN { exit side == "least" ? is < target : is > target }'; then
@@ -52,55 +59,55 @@ bounded() {
     fi
 }
 
-# a rate of the program in a mode: what it is, the mode, how many, the target
+# rate NAME MODE COUNT TARGET: prints a rate of the program.
 rate() {
     local spent worked
     read -r spent worked _ < <(fastest "$made/serve_client" "$2" "$3" "${serve[@]}")
-    bounded "$1, a second" $(($3 * 1000000000 / spent)) least "$4"
-    echo "  processor time of the program: $((worked / $3)) ns each, $(($3 * 1000000000 / worked)) a second"
+    bounded "$1, per second" $(($3 * 1000000000 / spent)) least "$4"
+    echo "  CPU time of the program: $((worked / $3)) ns each, $(($3 * 1000000000 / worked)) per CPU second"
 }
 
-# a rate of offers one by one that no target bounds: what it is, the client's command
+# awaited NAME CLIENT..: prints a rate of offers one by one that has no target.
 awaited() {
     local what=$1 spent
     shift
     read -r spent _ < <(fastest "$@")
-    echo "  $what: $((few * 1000000000 / spent)) a second"
+    echo "  $what: $((few * 1000000000 / spent)) per second"
 }
 
-# the instructions that the program takes for the requests of a file
+# instructions FILE: prints the instructions of the program for the requests of a file.
 instructions() {
     valgrind --tool=callgrind --callgrind-out-file="$made/callgrind" "${serve[@]}" < "$1" 2>&1 > /dev/null |
         awk '/Collected/ { print $NF }'
 }
 
 rate "new offers, ahead of their answers" new "$many" "$least_new"
-rate "offers that are seen, ahead of their answers" seen "$many" "$least_seen"
+rate "seen offers, ahead of their answers" seen "$many" "$least_seen"
 rate "new offers, one by one" single "$few" "$least_single"
 client=$made/serve_client
-awaited "by a program that only answers, which the pipes and the system bound" "$client" single "$few" "$client" echo
+awaited "with a program that only answers: the limit of the pipes and the system" "$client" single "$few" "$client" echo
 awaited "client and program on one processor" taskset -c 0 "$client" single "$few" "${serve[@]}"
-awaited "a client that asks until the answer is there" "$client" polled "$few" "${serve[@]}"
+awaited "with a client that polls for the answer" "$client" polled "$few" "${serve[@]}"
 
 "$made/serve_client" print "$counted" > "$made/new"
 : > "$made/none"
 cat "$made/new" "$made/new" > "$made/seen"
 if none=$(instructions "$made/none") && new=$(instructions "$made/new") && seen=$(instructions "$made/seen"); then
-    echo "instructions of a new offer: $(((new - none) / counted)), of an offer that is seen: $(((seen - new) / counted))"
+    echo "instructions per new offer: $(((new - none) / counted)), per seen offer: $(((seen - new) / counted))"
 else
-    echo "callgrind does not run this program: its instructions are not counted"
+    echo "callgrind cannot run this program, so its instructions are not counted"
 fi
 
 read -r _ _ full < <("$made/serve_client" new "$many" "${serve[@]}")
 read -r _ _ empty < <("$made/serve_client" new 1 "${serve[@]}")
-bounded "bytes that a URL keeps, its text of 35 among them" $(((full - empty) / many)) most "$most_bytes"
+bounded "bytes per URL, including its text of 35 bytes" $(((full - empty) / many)) most "$most_bytes"
 
 read -r spent _ peak < <("$made/serve_client" line "$line" "${serve[@]}")
-bounded "KiB of memory at a line of $line bytes" $((peak / 1024)) most "$most_line"
+bounded "KiB of memory for a line of $line bytes" $((peak / 1024)) most "$most_line"
 echo "  read in $((spent / 1000000)) ms"
 
-# offers.py KIND COUNT PROGRAM: the nanoseconds of so many new offers by the clock and of this process, those of as many
-# that are seen, and the bytes that this process took for each URL. Scrapy's requests are made beforehand.
+# offers.py KIND COUNT PROGRAM: prints the elapsed and the CPU nanoseconds of COUNT new offers, the same for seen offers, and the
+# bytes of this process per URL. Scrapy's requests are created before the time starts.
 cat > "$made/offers.py" <<'PY'
 import queue
 import resource
@@ -113,7 +120,7 @@ PORTS = {"http": 80, "https": 443}
 
 
 def normalised(url):
-    """A URL as a crawler that has only the standard library would compare it; dots in paths stay."""
+    """Return a URL as a crawler with only the standard library would compare it; dots in paths stay."""
     parts = urlsplit(url)
     host = parts.hostname
     if parts.port is not None and parts.port != PORTS.get(parts.scheme):
@@ -196,7 +203,7 @@ def main():
 main()
 PY
 
-# a row of the Python part: what it is, the kind, how many; leaves the new offers a second in `python_rate`
+# python_row NAME KIND COUNT: prints a row of Python, and sets `python_rate` to the new offers per second.
 python_row() {
     local new worked seen seen_worked bytes
     read -r new worked seen seen_worked bytes < <(
@@ -205,17 +212,17 @@ python_row() {
         done | sort -n | head -n 1
     )
     python_rate=$(($3 * 1000000000 / new))
-    echo "$1: $python_rate new offers a second, $(($3 * 1000000000 / seen)) that are seen"
-    echo "  processor time of Python: $((worked / $3)) ns and $((seen_worked / $3)) ns each; it takes $bytes bytes a URL"
+    echo "$1: $python_rate new offers per second, $(($3 * 1000000000 / seen)) seen offers per second"
+    echo "  CPU time of Python: $((worked / $3)) ns and $((seen_worked / $3)) ns each; $bytes bytes per URL"
 }
 
 python_row "Python client, offer_all" client "$few"
-bounded "offers of the Python client, a second" "$python_rate" least "$least_client"
+bounded "offers of the Python client, per second" "$python_rate" least "$least_client"
 python_row "set, queue.Queue and urllib.parse" set "$few"
 if "$python" -c 'import scrapy' 2> "$made/no_scrapy"; then
     python_row "Scrapy's scheduler with its fingerprints" scrapy $((few / 4))
     python_row "MercatorScheduler" mercator_scrapy $((few / 4))
 else
-    echo "Scrapy is not there for $python: not measured"
+    echo "Scrapy is not installed for $python, so it is not measured"
 fi
 exit $status

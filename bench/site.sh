@@ -1,10 +1,14 @@
 #!/bin/bash
-# Makes the saved webs of folders of documentation by `mercator site`, checks the folders by `mercator check`, and prints a row for
-# each: documents, bytes of all files, bytes that were written, the least clock and processor time of RUNS runs, and the peak
-# memory. The files are in the system's cache, since the first run is not counted. Wants GNU time in the path.
+# Measures `mercator site` and `mercator check` on folders of HTML pages.
 #
-# Usage: bench/site.sh FOLDER ..   In the environment, PROGRAM is another program than the one built here, and RUNS another
-# number of runs than 10.
+# Usage: bench/site.sh FOLDER ..
+#
+# For each folder and command it prints a row: the number of documents, the bytes of all files, the bytes of the output, the
+# least elapsed time, the least CPU time and the peak memory of RUNS runs. The first run is not counted, so the files are in the
+# system's cache.
+#
+# Environment: PROGRAM is the path of the program [default: the built one], RUNS the number of runs [default: 10]. Requires GNU
+# time.
 set -euo pipefail
 cd "$(dirname "$0")/.."
 made=bench/out
@@ -16,7 +20,7 @@ trap 'rm -f "$made"/site.*' EXIT
 # `rt run` proves and builds the program, and leaves it in out/.
 if [ -z "${PROGRAM:-}" ]; then (cd crates/mercator_cli && rt run -- --help > /dev/null); fi
 
-# row COMMAND FOLDER: the row of a command. Status 4 tells that a check found broken links.
+# row COMMAND FOLDER: prints the row of a command. Exit status 4 of a check means broken links.
 row() {
     local command=$1 folder=$2
     "$program" "$command" "$folder" http://docs.test/ > "$made/site.out" 2> /dev/null || [ $? -eq 4 ]
@@ -37,7 +41,7 @@ row() {
         "$command" "$folder" "$documents" "$bytes" "$(stat -c %s "$made/site.out")" "$seconds" "$processor" "$peak"
 }
 
-printf '%-5s %-44s %9s %12s %12s %8s %8s %10s\n' '' folder documents bytes written seconds processor 'peak KiB'
+printf '%-5s %-44s %9s %12s %12s %8s %8s %10s\n' '' folder documents bytes output 'elapsed' 'CPU' 'peak KiB'
 for folder in "$@"; do
     row site "$folder"
     row check "$folder"

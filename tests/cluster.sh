@@ -1,11 +1,10 @@
 #!/bin/bash
-# Crawls that 1, 2, 4 and 8 parts share over Redis, with parts and Redis killed, entries twice and
-# late: tests/cluster_runs.py with Debian's redis-server and python3-redis, which it installs where
-# they are absent. Redis listens on the loopback alone, in a folder of its own, and is ended.
+# Tests crawls that 1, 2, 4 and 8 parts share over Redis, while parts and Redis are killed and entries arrive twice or late.
+# It runs tests/cluster_runs.py with Debian's redis-server and python3-redis, and installs them if they are missing. Redis
+# listens only on the loopback, uses a folder of its own, and is ended afterwards.
 #
-# Usage: tests/cluster.sh [--program FILE] [--part NAME].. [--webs N] [--seed S]
-# The program has to have `serve --part` and `--log`. tests/serving/fake.py has them, and is for the
-# tests of the client itself.
+# Usage: tests/cluster.sh [OPTION..]
+# `tests/cluster_runs.py --help` lists the options.
 set -euo pipefail
 cd "$(dirname "$0")/.."
 if ! command -v redis-server > /dev/null || ! /usr/bin/python3 -c 'import redis' 2> /dev/null; then

@@ -1,8 +1,9 @@
 #!/bin/bash
-# Runs the built program on files, pipes, a closed output and a full device: what the system itself gives and takes, no test of
-# `run_words` sees. It builds the program first, unless it is there.
+# Tests the built program on files, pipes, a closed output and a full device, which no test of `run_words` can use. It builds the
+# program first if it is missing.
 #
 # Usage: tests/command-line.sh
+# The last line is `N passed, M failed`.
 set -uo pipefail
 cd "$(dirname "$0")/.." || exit 1
 program=$PWD/crates/mercator_cli/out/mercator_cli
@@ -14,7 +15,8 @@ trap 'rm -rf "$scratch"' EXIT
 passed=0
 failed=0
 
-# expect NAME STATUS OUT ERR: compares what the last `run` left; OUT `@FILE` is a file's bytes, ERR `~TEXT` is a part of it.
+# expect NAME STATUS OUT ERR: compares the results of the last `run`. OUT is the whole output, or `@FILE` for the bytes of a file;
+# ERR is the whole of standard error, or `~TEXT` for a text in it.
 expect() {
     local name=$1 status=$2 out=$3 err=$4 fine=1
     [ "$got" -eq "$status" ] || fine=0
@@ -30,12 +32,12 @@ expect() {
         passed=$((passed + 1))
     else
         failed=$((failed + 1))
-        echo "differs: $name: status $got"
+        echo "FAILED: $name: status $got, expected $status; output and standard error:"
         head -c 400 "$scratch/out" "$scratch/err"
     fi
 }
 
-# run WORD..: the program with no input, its status in `got`.
+# run ARGUMENT..: runs the program with empty input, and sets `got` to its status.
 run() {
     got=0
     : > "$scratch/out"
@@ -57,7 +59,7 @@ run crawl "$scratch/a name.web" http://a.test/
 expect "a name with a space" 0 "@$data/ring.report" ""
 
 run crawl "$scratch/-" http://a.test/
-expect "a file whose last part is -" 0 "@$data/ring.report" ""
+expect "a path that ends in -" 0 "@$data/ring.report" ""
 
 got=0
 cat "$data/ring.web" | "$program" crawl - http://a.test/ > "$scratch/out" 2> "$scratch/err" || got=$?
@@ -86,7 +88,7 @@ expect "a folder" 1 "" "mercator: cannot read $scratch"
 run crawl /dev/null http://a.test/
 expect "an empty file" 1 "" "mercator: saved web: bad header"
 
-# Root may read everything, so root runs this row as another user, from a folder that this one may enter.
+# Root may read everything, so root runs this case as another user, in a folder that this user may enter.
 closed=$(mktemp -d)
 trap 'rm -rf "$scratch" "$closed"' EXIT
 cp "$program" "$closed/program"
@@ -97,9 +99,9 @@ as=()
 if [ "$(id -u)" -eq 0 ]; then as=(setpriv --reuid 65534 --regid 65534 --clear-groups); fi
 got=0
 "${as[@]}" "$closed/program" crawl "$closed/closed.web" http://a.test/ < /dev/null > "$scratch/out" 2> "$scratch/err" || got=$?
-expect "a file that may not be read" 1 "" "mercator: cannot read $closed/closed.web"
+expect "a file without permission" 1 "" "mercator: cannot read $closed/closed.web"
 
-# run_limited COUNT WORD..: the program as a user without other processes, which may have COUNT, threads counted.
+# run_limited COUNT ARGUMENT..: runs the program as a user without other processes, who may have COUNT threads.
 run_limited() {
     local count=$1
     shift
@@ -109,30 +111,29 @@ run_limited() {
         "$closed/program" "$@" < "$data/ring.web" > "$scratch/out" 2> "$scratch/err" || got=$?
 }
 
-# One worker has the thread that the program began with, and each of several has its own: with one thread fewer, or with fewer
-# still, none crawls.
+# A single worker runs on the main thread, and each of several workers in a thread of its own. With fewer threads, the crawl fails.
 if setpriv --reuid 54321 --regid 54321 --clear-groups true 2> /dev/null; then
     run_limited 1 crawl --workers 1 - http://a.test/
-    expect "one worker and no other thread" 0 "@$data/ring.report" ""
+    expect "one worker and one thread" 0 "@$data/ring.report" ""
     for workers in 2 3 8; do
         run_limited $((workers + 1)) crawl --workers "$workers" - http://a.test/
-        expect "$workers workers and the thread that began" 0 "@$data/ring.report" ""
+        expect "$workers workers and the main thread" 0 "@$data/ring.report" ""
         for ((count = workers; count >= 1; count--)); do
             run_limited "$count" crawl --workers "$workers" - http://a.test/
-            expect "$workers workers where $count threads may run" 2 "" "mercator: incomplete: no thread"
+            expect "$workers workers with only $count threads" 2 "" "mercator: incomplete: no thread"
         done
     done
-    # A site's documents are read by the one thread where no other may run.
+    # If no other thread can run, the main thread reads the documents of the site.
     cp -r "$data/site" "$closed/site"
     chmod -R a+rX "$closed/site"
     run check "$closed/site"
-    mv "$scratch/out" "$scratch/site.told"
+    mv "$scratch/out" "$scratch/site.report"
     run_limited 1 check --workers 1 "$closed/site"
-    expect "a check by one worker and no other thread" 4 "@$scratch/site.told" ""
+    expect "a check by one worker and one thread" 4 "@$scratch/site.report" ""
     run_limited 2 check --workers 2 "$closed/site"
-    expect "a check by two workers where 2 threads may run" 2 "" "mercator: incomplete: no thread"
+    expect "a check by two workers with only 2 threads" 2 "" "mercator: incomplete: no thread"
 else
-    echo "not shown, because the user cannot be changed here: how many threads a crawl has, and its end where one cannot be started"
+    echo "not tested, because this user cannot change to another one: limits on the number of threads"
 fi
 
 (echo savedweb 1; paste -d '\n' <(seq -f 'page http://a.test/%.0f' 0 2999) <(seq -f 'link %.0f' 3000)) > "$scratch/row.web"
@@ -144,7 +145,7 @@ expect "progress" 0 "@$scratch/row.report" "~mercator: 64 pages, "
 got=0
 "$program" crawl --progress "$scratch/row.web" http://a.test/0 > "$scratch/out" 2> /dev/full || got=$?
 : > "$scratch/err"
-expect "progress that a full device refuses" 0 "@$scratch/row.report" ""
+expect "progress on a full device" 0 "@$scratch/row.report" ""
 
 run crawl --sources --within site.test "$data/site.web" http://site.test/
 expect "the sources of missing URLs" 0 "@$data/site.broken" ""
@@ -157,7 +158,7 @@ got=0
 expect "seeds from a pipe" 0 "@$data/moved.report" ""
 
 run crawl --seeds "$scratch/gone.seeds" "$data/moved.web"
-expect "no such file of seeds" 1 "" "mercator: cannot read $scratch/gone.seeds"
+expect "a missing file of seeds" 1 "" "mercator: cannot read $scratch/gone.seeds"
 
 printf 'http://a.test/\n\nno seed\n' > "$scratch/bad.seeds"
 run crawl --seeds "$scratch/bad.seeds" "$data/moved.web" mailto:x
@@ -170,7 +171,7 @@ got=0
 "$program" replay - <&- > "$scratch/out" 2> "$scratch/err" || got=$?
 expect "a closed input" 1 "" "mercator: cannot read -"
 
-# Past 2^30 bytes no more is read. What was read, and once more half of it as it grows, has room in 3 GiB of addresses.
+# No more than 2^30 bytes are read. These, and half as many again while the buffer grows, fit into 3 GiB of address space.
 got=0
 yes look | (ulimit -v $((3 << 20)); exec timeout 60 "$program" replay -) > "$scratch/out" 2> "$scratch/err" || got=$?
 expect "an input without an end" 1 "" "mercator: cannot read -"
@@ -192,7 +193,7 @@ got=0
 "$program" check --help > /dev/full 2> "$scratch/err" || got=$?
 expect "a command's help on a full device" 1 "" "mercator: cannot write"
 
-# A log is no standard output or error, where these were closed at the start.
+# If standard output or error is closed at the start, its descriptor is not used for the log.
 got=0
 echo 'offer http://a.test/' | "$program" serve --log "$scratch/closed.log" >&- 2> "$scratch/err" || got=$?
 cp "$scratch/closed.log" "$scratch/out"
@@ -213,11 +214,11 @@ expect "a log with standard input closed" 1 "" "mercator: cannot read -"
 got=0
 : > "$scratch/err"
 "$program" key mailto:x > "$scratch/out" 2> /dev/full || got=$?
-expect "a fault that a full device refuses" 1 "" ""
+expect "an error on a full device" 1 "" ""
 
 got=0
 "$program" key mailto:x > "$scratch/out" 2>&- || got=$?
-expect "a fault with standard error closed" 1 "" ""
+expect "an error with standard error closed" 1 "" ""
 
 run crawl --max-pending 1 "$data/ring.web" http://a.test/
 expect "an incomplete crawl" 2 "" "mercator: incomplete: seed missing"
@@ -229,7 +230,7 @@ run crawl --workers 513 "$data/ring.web" http://a.test/
 expect "513 workers" 3 "" "~513 is not in 1..=512"
 
 run key $'http://a.test/\xff'
-expect "a word that is not UTF-8" 3 "" "error: the command line is not UTF-8"
+expect "an argument that is not UTF-8" 3 "" "error: the command line is not UTF-8"
 
 run key http://A.test:80/x/../y#f --workers 2
 expect "a key" 0 "http://a.test/y a.test 1" ""

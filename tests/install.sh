@@ -1,10 +1,14 @@
 #!/bin/bash
-# Installs mercator in three ways and tries what was installed: the Python clients by pip in a fresh virtual environment, without
-# the network; all of it below a folder; and the Debian package in a root of its own, which is as before once it is removed.
+# Tests install.sh and the Python packages: pip installs the clients in a new virtual environment, without the network; install.sh
+# installs everything below a folder; and the Debian package is installed in a root folder of its own and removed without a trace.
 #
 # Usage: tests/install.sh [--root FOLDER] [PROGRAM]
-# FOLDER is a root that `debootstrap --include=python3` made; as root, it is made where it is not there, which asks Debian's network.
-# Without it the package is only made and read, by lintian where that is installed. PROGRAM is the built one, where none is given.
+#
+#   --root FOLDER  Install the package in this root folder, which `debootstrap --include=python3` made. If it is missing, it is made,
+#                  which needs root and the network. Without --root, the package is made and, if lintian is installed, checked.
+#   PROGRAM        Program to install [default: the built one]
+#
+# The last line is `N passed, M failed`.
 set -uo pipefail
 cd "$(dirname "$0")/.." || exit 1
 root=
@@ -18,7 +22,7 @@ trap 'rm -rf "$scratch"' EXIT
 passed=0
 failed=0
 
-# expect NAME COMMAND WORD..: the command succeeds.
+# expect NAME COMMAND..: runs a command that has to succeed.
 expect() {
     local name=$1
     shift
@@ -31,11 +35,11 @@ expect() {
     fi
 }
 
-# The lines of Python that the clients' README shows print what it says.
+# The Python example in the README of the clients, and its output.
 sed -n '/^```python$/,/^```$/{//!p}' clients/python/README.md > "$scratch/lines.py"
 printf '%s\n' http://a.test/ http://a.test/b http://c.test/ > "$scratch/urls"
 
-# lines_run FOLDER COMMAND..: in a new FOLDER, once with all URLs and then with none.
+# lines_run FOLDER COMMAND..: runs the example in a new folder. It prints all URLs the first time, and none the second time.
 lines_run() {
     local folder=$1
     shift
@@ -48,7 +52,7 @@ is_typed() {
     (cd "$scratch" && mypy --python-executable "$1" typed.py) | grep 'note: Revealed type is "Union\[builtins.str, None\]"'
 }
 
-# The help of install.sh and make_wheel.py, a bad command line, and the time to build, which other pages state too.
+# Tests the help of install.sh and make_wheel.py, a bad command line, and that the time to build is the same in all texts.
 texts() {
     expect "install.sh --help" sh -c './install.sh --help | grep -q "^Usage: install.sh"'
     expect "install.sh -h is not a folder" sh -c './install.sh -h > /dev/null && [ ! -e ./-h ]'
@@ -60,7 +64,7 @@ texts() {
         '[ "$(grep -ohE "an hour and a (quarter|half|third)" install.sh README.md try.sh | sort -u | wc -l)" -le 1 ]'
 }
 
-# The description of the package names each thing that the program is for.
+# The description of the package names the three main commands.
 is_described() {
     local text command
     text=$(dpkg-deb --field "$1" Description)
@@ -73,9 +77,9 @@ by_pip() {
     local python=$scratch/venv/bin/python
     expect "a virtual environment" python3 -m venv "$scratch/venv"
     expect "pip install" env PIP_NO_INDEX=1 "$python" -m pip install ./clients/python
-    expect "README's lines, by pip" lines_run "$scratch/by_pip" env MERCATOR="$program" "$python" "$scratch/lines.py"
+    expect "README's example, by pip" lines_run "$scratch/by_pip" env MERCATOR="$program" "$python" "$scratch/lines.py"
     if command -v mypy > /dev/null; then
-        expect "types" is_typed "$python"
+        expect "the types" is_typed "$python"
     fi
     expect "pip uninstall" "$python" -m pip uninstall -y mercator-clients
 }
@@ -84,11 +88,11 @@ below_a_folder() {
     local prefix=$scratch/prefix modules
     expect "install.sh" ./install.sh --program "$program" "$prefix"
     modules=$(echo "$prefix"/lib/python3*/site-packages)
-    expect "README's lines, below a folder" lines_run "$scratch/below" env -u MERCATOR PATH="$prefix/bin:$PATH" PYTHONPATH="$modules" python3 "$scratch/lines.py"
+    expect "README's example, below a folder" lines_run "$scratch/below" env -u MERCATOR PATH="$prefix/bin:$PATH" PYTHONPATH="$modules" python3 "$scratch/lines.py"
     expect "the program" cmp "$program" "$prefix/bin/mercator"
-    expect "the page" cmp docs/mercator.1 "$prefix/share/man/man1/mercator.1"
-    expect "bash" cmp completions/mercator.bash "$prefix/share/bash-completion/completions/mercator"
-    expect "zsh" cmp completions/_mercator "$prefix/share/zsh/site-functions/_mercator"
+    expect "the man page" cmp docs/mercator.1 "$prefix/share/man/man1/mercator.1"
+    expect "completions for bash" cmp completions/mercator.bash "$prefix/share/bash-completion/completions/mercator"
+    expect "completions for zsh" cmp completions/_mercator "$prefix/share/zsh/site-functions/_mercator"
 }
 
 files_of_root() {
@@ -113,18 +117,18 @@ by_package() {
     if command -v lintian > /dev/null; then
         expect "lintian" lintian --allow-root --fail-on error "$file"
     fi
-    [ -n "$root" ] || { echo "no --root: the package is not installed"; return; }
+    [ -n "$root" ] || { echo "without --root, the package is not installed"; return; }
     [ -d "$root/etc" ] || expect "debootstrap" debootstrap --variant=minbase --include=python3 bookworm "$root" http://deb.debian.org/debian
     files_of_root > "$scratch/before"
     cp "$file" "$root/tmp/mercator.deb"
     expect "dpkg --install" in_root dpkg --install /tmp/mercator.deb
     expect "the program's help, in the root" in_root mercator --help
-    expect "README's lines, in the root" lines_run_in_root
-    expect "the bytecode, in the root" in_root test -d /usr/lib/python3/dist-packages/mercator_frontier/__pycache__
+    expect "README's example, in the root" lines_run_in_root
+    expect "the modules' bytecode, in the root" in_root test -d /usr/lib/python3/dist-packages/mercator_frontier/__pycache__
     expect "dpkg --verify" in_root dpkg --verify mercator
     expect "dpkg --purge" in_root dpkg --purge mercator
     files_of_root > "$scratch/after"
-    expect "the root is as before" diff "$scratch/before" "$scratch/after"
+    expect "the root folder is as before" diff "$scratch/before" "$scratch/after"
 }
 
 texts

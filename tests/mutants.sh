@@ -1,10 +1,13 @@
 #!/bin/bash
-# Tries the wrong bodies in crates/NAME/mutants, which CI leaves out: the prover has to refuse each. It works on a temporary
-# clone of the last commit, over the libraries that are built here. tests/mutants.py tries and judges them.
-# It prints the answer to each, and at last `N passed, M failed`; its status is 1 where one is not refused, or cannot be tried.
+# Tries the mutants (wrong bodies) in crates/NAME/mutants, which are not part of CI: the prover must refuse each. It works on a
+# temporary clone of the last commit, and uses the libraries that are built here. tests/mutants.py tries and judges the mutants.
 #
 # Usage: tests/mutants.sh [-j N] [CRATE | CRATE/NAME ..]
-# Without names it tries all. N crates are tried at once, one where N is not given, and fewer where memory is short.
+# CRATE is all mutants of a crate, CRATE/NAME one of them [default: all]. N is the number of crates that are tried at a time
+# [default: 1]; with little memory it is less.
+#
+# It prints a line for each mutant; the last line is `N passed, M failed`. The exit status is 1 if a mutant is not refused or cannot
+# be tried.
 set -uo pipefail
 cd "$(dirname "$0")/.." || exit 1
 at_once=1
@@ -15,12 +18,12 @@ trap 'rm -rf "$scratch"' EXIT
 clone=$scratch/clone
 git clone -q . "$clone" || exit 1
 
-# A library is proved anew where its text is not the clone's, or where `rt ci` built it, which leaves no stamp.
+# A library is proved again if its sources differ from the clone's, or if `rt ci` built it, which leaves no stamp.
 for library in crates/*/out/rlib; do
     if [ -f "$library/stamp" ]; then mkdir -p "$clone/${library%/rlib}" && cp -r "$library" "$clone/$library"; fi
 done
 
-# Two checks would build one library at the same time, so all that are asked for are built first.
+# The libraries are built first, because two checks could otherwise build the same one at the same time.
 libraries=$(for crate in "${@%%/*}"; do sed -n "s/^$crate[ :].*: *\|^$crate: *//p" crates.txt; done | tr ' ' '\n' | sort -u)
 for below in $libraries; do
     if [ -d "$clone/crates/$below" ]; then

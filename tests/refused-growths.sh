@@ -1,18 +1,21 @@
 #!/bin/bash
-# Runs each command of the built program with its first, second, .. growth of memory refused, one a run, until a run asks for
-# none more; and a crawl of 2,000 pages with growths farther on. A run must end with the status and the whole bytes of a run
-# without a refusal, or with status 1, 2 or 3, nothing on standard output, and on standard error a line that the formats or
-# `clap` give, or nothing, where the line was lost to the refusal. A session may have answered its first lines. It must neither
-# hang, crash, nor write anything else. It prints how many growths each command asks for, and fails where a run ended otherwise.
-#
-# With `tests` it does the same with each test of each crate whose tests were built (`rt test` in its folder leaves them in
-# `out/`), with growths more and more apart: a test must pass, or be stopped by an error or an assertion of its own, and neither
-# hang nor crash. So does it with the calls of a frontier that `library_calls` makes.
-#
-# Growths are calls of malloc, calloc, realloc and aligned_alloc, which a small library answers in the C library's place.
-# Wants `rt` (where the program is not built), a C compiler and Python 3.9. SECONDS in the environment is the time limit of a run.
+# Tests that the built program survives failing memory allocations.
 #
 # Usage: tests/refused-growths.sh [tests]
+#
+# Each command is run again and again, with its first, second, .. allocation failing, until a run needs no more allocations. A
+# crawl of 2,000 pages is run with later allocations failing. A run must not hang or crash. It must end like a run without a
+# failure, with the same status and output; or with status 1, 2 or 3, nothing on standard output, and on standard error a line
+# that the formats or `clap` define, or nothing if there was no memory for it. A session may have answered its first lines. The
+# script prints the number of allocations of each command. Its exit status is 1 if a run ended in another way.
+#
+# With `tests`, it does the same with each test of each crate whose tests are built (by `rt test` in its folder, which leaves them
+# in `out/`), with longer and longer steps between the failing allocations. A test must pass or be stopped by an error or an
+# assertion of its own, and must not hang or crash. The same holds for the calls of a frontier that `library_calls` makes.
+#
+# An allocation is a call of malloc, calloc, realloc or aligned_alloc; a small library replaces these functions of the C library.
+# Environment: SECONDS is the time limit of a run, PROGRAM the path of the program [default: the built one]. Requires a C compiler
+# and Python 3.9 or later, and `rt` if the program is not built.
 set -euo pipefail
 cd "$(dirname "$0")/.."
 program=${PROGRAM:-$PWD/crates/mercator_cli/out/mercator_cli}

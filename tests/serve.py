@@ -1,20 +1,19 @@
 #!/usr/bin/env python3
-"""Tries `mercator serve`, its Python client and the crawlers over it.
+"""Test `mercator serve`, its Python client, and the crawlers that use it.
 
-Usage: serve.py [--program FILE] [--part NAME].. [--lines N] [--requests N] [--longest BYTES]
-                [--kills N] [--seed S]
+Each test is a function in `serving/`. A test is skipped, with a message, if the program lacks what it
+needs: the option --log, or the requests `link` and `again`. The test of a full disk is skipped if this
+user cannot mount one. Random sessions are compared with an independent model of the session, which
+uses the models of URLs and of the machine in drawn.py.
 
-PROGRAM is --program, else what MERCATOR of the environment names, else the built program. A part
-that wants `--log` or the requests `link` and `again` is skipped, and said to be, where the program
-has them not; so is a full disk where the user may mount none. Drawn sessions are compared with a
-reckoning of these tests, over that of drawn.py for URLs and the machine. SECONDS of the environment
-is the time limit of each wait. At last it prints `N passed, M failed`.
+`serving/fake.py` is a frontier in Python. As --program it passes all tests except `memory`, whose
+limit is that of the program, and `logs_of_parts`, since its log has another first line.
 
-The parts stand in `serving/`, and `serving/fake.py` is a frontier in Python. As --program it has to
-pass too, but for the part memory, whose bound is the program's.
+The environment variable SECONDS is the time limit of each wait [default: 120]. The unproved program of
+`rt try` keeps freed memory for a while, so for the test `memory` it needs the environment variable
+ASAN_OPTIONS=quarantine_size_mb=0:thread_local_quarantine_size_kb=0.
 
-The checked program of `rt try` holds freed memory back, so the part memory wants for it
-ASAN_OPTIONS=quarantine_size_mb=0:thread_local_quarantine_size_kb=0 in the environment.
+The last line is `N passed, M failed`; the exit status is 1 if a test failed or none ran.
 """
 
 from __future__ import annotations
@@ -50,13 +49,19 @@ def main() -> None:
     )
     names = [part.__name__ for part in PARTS]
     option = parser.add_argument
-    option("--program", metavar="FILE")
-    option("--part", action="append", choices=names, help="these parts alone")
-    option("--lines", type=int, default=20_000, metavar="N", help="of a drawn session")
-    option("--requests", type=int, default=1_000_000, metavar="N", help="of the part memory")
-    option("--longest", type=int, default=10**9, metavar="BYTES", help="of the part long_line")
-    option("--kills", type=int, default=200, metavar="N", help="of the part killed_crawls")
-    option("--seed", default="1", help="draws other inputs")
+    option("--program", metavar="FILE",
+           help="path of the program (default: $MERCATOR if it is set, else the built program)")
+    option("--part", action="append", choices=names, metavar="NAME",
+           help=f"run only this test; repeatable. The tests are {', '.join(names)}")
+    option("--lines", type=int, default=20_000, metavar="N",
+           help="number of lines of a random session (default: 20000)")
+    option("--requests", type=int, default=1_000_000, metavar="N",
+           help="number of requests of the test memory (default: 1000000)")
+    option("--longest", type=int, default=10**9, metavar="BYTES",
+           help="length of the line of the test long_line (default: 1000000000)")
+    option("--kills", type=int, default=200, metavar="N",
+           help="number of kills of the test killed_crawls (default: 200)")
+    option("--seed", default="1", help="seed of the random inputs (default: 1)")
     words = parser.parse_args()
     passed = failed = 0
     with tempfile.TemporaryDirectory(prefix="serve-") as folder:

@@ -1,11 +1,12 @@
 #!/bin/bash
-# Measures the processor time of the built program while most of its workers wait: a web of one host has work for one of
-# them. The other 63 rest, so that a crawl with 64 workers takes little more processor time than one with a single worker.
-# Workers that never rest would take every processor for as long as the crawl lasts, and would keep the one that has work from
-# its own. It fails where the time is more than three times that of one worker and a second besides.
+# Tests that waiting workers use no CPU time. A saved web of one host has work for only one of 64 workers, so a crawl with 64
+# workers should need little more CPU time than a crawl with one. Workers that poll would use all processors during the whole crawl,
+# and slow down the one that has work. The exit status is 1 if the CPU time is more than three times that of one worker plus one
+# second.
 #
-# Usage: tests/waiting.sh. PROGRAM in the environment is another program than crates/mercator_cli/out/mercator_cli (which
-# `rt run` in that folder makes).
+# Usage: tests/waiting.sh
+# Environment: PROGRAM is the path of the program [default: crates/mercator_cli/out/mercator_cli, which `rt run` in its crate's
+# folder builds].
 set -euo pipefail
 cd "$(dirname "$0")/.."
 program=${PROGRAM:-$PWD/crates/mercator_cli/out/mercator_cli}
@@ -13,10 +14,10 @@ pages=200000
 scratch=$(mktemp -d)
 trap 'rm -rf "$scratch"' EXIT
 
-# Each page links to the next one, so that no more than one URL ever waits.
+# Each page links to the next one, so at most one URL waits at any time.
 (echo savedweb 1; paste -d '\n' <(seq -f 'page http://a.test/%.0f' 1 "$pages") <(seq -f 'link %.0f' 2 $((pages + 1)))) > "$scratch/web"
 
-# hundredths WORKERS: the processor time of a crawl, in hundredths of a second
+# hundredths WORKERS: prints the CPU time of a crawl, in hundredths of a second.
 hundredths() {
     local TIMEFORMAT='%U %S'
     { time timeout 300 "$program" crawl --workers "$1" "$scratch/web" http://a.test/1 > "$scratch/out"; } 2> "$scratch/time"
@@ -27,5 +28,5 @@ hundredths() {
 
 one=$(hundredths 1)
 many=$(hundredths 64)
-echo "processor time, in hundredths of a second: $one by one worker, $many by 64 workers of whom 63 wait"
+echo "CPU time in hundredths of a second: $one with one worker, $many with 64 workers, of which 63 wait"
 [ "$many" -le $((3 * one + 100)) ]

@@ -1,4 +1,4 @@
-"""The parts of `tests/serve.py`, by subject, and a frontier in Python that clients are tried over."""
+"""The tests of `tests/serve.py` by subject, and a frontier in Python to test clients with."""
 
 import sys
 from pathlib import Path

@@ -1,4 +1,4 @@
-"""Parts: the Python client, and what it raises."""
+"""Tests of the Python client and its exceptions."""
 
 from __future__ import annotations
 
@@ -20,18 +20,18 @@ F_SETPIPE_SZ = 1031
 
 
 def client_values(trial: Trial) -> None:
-    """What each call answers and raises."""
+    """The results and exceptions of each method."""
     with Frontier(1, program=trial.program, within="test", max_pending=3) as frontier:
         expect(frontier.offer("http://A.test:80/x/../y#f") == Accepted(0, 0), "accepted")
-        told = frontier.offer_all(iter([
+        offers = frontier.offer_all(iter([
             "http://a.test/y", "http://b.other/", "mailto:a@b.test", "nowhere", "http://a.test/" + "x" * 5000,
             "http://a.test/\udc00", "http://a.te\nst/\r\nnext 0\n", "http://a.test/\n" + "y" * 9000, "http://a.test/full",
         ]))
-        expect(told == [
+        expect(offers == [
             Refusal.SEEN, Refusal.FILTERED, Refusal.NOT_HTTP, Refusal.NOT_URL, Refusal.TOO_LONG, Refusal.NOT_TEXT,
             Accepted(0, 1), Refusal.TOO_LONG, Refusal.FULL,
-        ], f"offers: {told}")
-        expect(bool(told[6]) and not told[0], "a refusal is false")
+        ], f"offers: {offers}")
+        expect(bool(offers[6]) and not offers[0], "an accepted offer is false, or a refusal is true")
         expect(frontier.offer_all([]) == [], "no offer")
         expect(frontier.try_take(0) == "http://a.test/y", "try_take")
         for error, call in ((QueueBusy, lambda: frontier.take(0)), (NoSuchQueue, lambda: frontier.take(1)),
@@ -43,10 +43,10 @@ def client_values(trial: Trial) -> None:
         expect((frontier.end_seeds(), frontier.end_seeds()) == (1, None), "end_seeds")
         if trial.has_link:
             texts = ("../y", "f g", "", " \t", "mailto:x", "//b.other")
-            told = [frontier.link("http://a.test/d/e?q", text) for text in texts]
-            expect(told == [
+            offers = [frontier.link("http://a.test/d/e?q", text) for text in texts]
+            expect(offers == [
                 Refusal.SEEN, Accepted(0, 2), Accepted(0, 3), Refusal.FULL, Refusal.NOT_HTTP, Refusal.FILTERED,
-            ], f"links: {told}")
+            ], f"links: {offers}")
         while frontier.done(0):
             expect(isinstance(frontier.take(0), str), "a URL")
         expect((frontier.take(0), frontier.try_take(0)) == (None, Closed.CLOSED), "closed")
@@ -59,24 +59,24 @@ def client_values(trial: Trial) -> None:
 
 
 def long_base(trial: Trial) -> None:
-    """A page with a base of a megabyte: its links have no room, and cost little."""
+    """A page with a base of a megabyte: its links are too long, and need little memory."""
     trial.want_link()
     with Frontier(1, program=trial.program) as frontier:
         tracemalloc.start()
-        told = frontier.links("http://a.test/" + "x" * 10**6, ["y"] * 200)
+        offers = frontier.links("http://a.test/" + "x" * 10**6, ["y"] * 200)
         most = tracemalloc.get_traced_memory()[1]
         tracemalloc.stop()
-    expect(told == [Refusal.TOO_LONG] * 200, f"links: {told[:3]}")
-    expect(most < 2 * 10**7, f"they take {most} bytes")
+    expect(offers == [Refusal.TOO_LONG] * 200, f"links: {offers[:3]}")
+    expect(most < 2 * 10**7, f"the links need {most} bytes of memory")
 
 
 def client_ends(trial: Trial) -> None:
-    """A program that is missing, that refuses its words, or that is killed."""
+    """A program that is missing, that rejects its arguments, or that is killed."""
     expect_error(ProgramMissing, lambda: Frontier(program="/no/such/program"))
     with Frontier(513, program=trial.program) as frontier:
         try:
             frontier.end_seeds()
-            raise Differs("513 workers are not refused")
+            raise Differs("513 workers are not rejected")
         except FrontierEnded as error:
             expect(error.status == 3 and "513" in error.told and "513" in str(error), f"{error}")
     for is_killed in (True, False):
@@ -94,33 +94,33 @@ def client_ends(trial: Trial) -> None:
             for fetcher in fetchers:
                 fetcher.join(SECONDS)
             status = -9 if is_killed else 0
-            expect([end.status for end in ends] == [status] * 2, f"what the fetchers are told: {ends}")
+            expect([end.status for end in ends] == [status] * 2, f"the exceptions of the fetchers: {ends}")
 
 
 def log_in_use(trial: Trial) -> None:
-    """One program has a log at a time; what it had given out is given out again by the next one."""
+    """Only one program uses a log at a time; the next one gives out the URL in progress again."""
     trial.want_log()
     log = trial.folder / "used.log"
     with Frontier(1, log=log, sync=trial.has_sync, program=trial.program) as frontier:
         frontier.offer("http://a.test/")
         expect(frontier.take(0) == "http://a.test/", "take")
         error = expect_error(LogInUse, lambda: Frontier(1, log=log, program=trial.program))
-        expect(str(error) == f"{log} is in use by another program", f"told: {error}")
+        expect(str(error) == f"{log} is in use by another program", f"the message: {error}")
     frontier = Frontier(1, log=log, program=trial.program)
     frontier.close()
     expect_error(FrontierEnded, lambda: frontier.take(0))
     for _ in range(2):
         with Frontier(1, log=log, program=trial.program) as frontier:
             expect(frontier.again(0) == "http://a.test/", "again")
-            expect(frontier.take(0) == "http://a.test/", "the URL that was in hand")
+            expect(frontier.take(0) == "http://a.test/", "the URL in progress")
             expect_error(QueueBusy, lambda: frontier.take(0))
     with Frontier(1, log=log, program=trial.program) as frontier:
-        expect(frontier.done(0) == 1, "done of the URL that was in hand")
-        expect((frontier.again(0), frontier.try_take(0)) == (None, Pending(1)), "nothing more")
+        expect(frontier.done(0) == 1, "done of the URL in progress")
+        expect((frontier.again(0), frontier.try_take(0)) == (None, Pending(1)), "nothing is left")
 
 
 def log_that_cannot_be(trial: Trial) -> None:
-    """The program tells what is wrong with a log's name."""
+    """A path that cannot be a log: the exception has the message of the program."""
     trial.want_log()
     file = trial.folder / "file"
     file.touch()
@@ -130,15 +130,15 @@ def log_that_cannot_be(trial: Trial) -> None:
 
 
 def words_like_options(trial: Trial) -> None:
-    """A log's name and a suffix that begin as options do are taken as they stand."""
+    """The name of a log and a suffix may look like options."""
     trial.want_log()
     before = os.getcwd()
     os.chdir(trial.folder)
     try:
         for offer in (Accepted(0, 0), Refusal.SEEN):
             with Frontier(1, within="-a.test", log="--x", program=trial.program) as frontier:
-                told = frontier.offer_all(["http://b.-a.test/", "http://a.test/"])
-                expect(told == [offer, Refusal.FILTERED], f"offers: {told}")
+                offers = frontier.offer_all(["http://b.-a.test/", "http://a.test/"])
+                expect(offers == [offer, Refusal.FILTERED], f"offers: {offers}")
     finally:
         os.chdir(before)
 
@@ -151,7 +151,7 @@ def wait(frontier: Frontier, queue: int, ends: List[FrontierEnded]) -> None:
 
 
 def interrupted_call(trial: Trial) -> None:
-    """Ctrl-C in the midst of a call, whose answers nobody reads, ends the frontier."""
+    """Ctrl-C during a call ends the frontier, since nobody reads the answers."""
     with Frontier(2, program=trial.program) as frontier:
         os.kill(pid_of(frontier), signal.SIGSTOP)
         interrupt(lambda: frontier.offer("http://a.test/"))
@@ -159,7 +159,7 @@ def interrupted_call(trial: Trial) -> None:
 
 
 def interrupted_close(trial: Trial) -> None:
-    """Ctrl-C while the program is ended: who waits is told, and no request goes to another file."""
+    """Ctrl-C while the frontier is being closed: waiting calls end, and no request goes to another file."""
     frontier = Frontier(2, program=trial.program)
     ends: List[FrontierEnded] = []
     fetcher = threading.Thread(target=wait, args=(frontier, 0, ends), daemon=True)
@@ -168,21 +168,21 @@ def interrupted_close(trial: Trial) -> None:
         time.sleep(0.01)
     os.kill(pid_of(frontier), signal.SIGSTOP)
     interrupt(frontier.close)
-    # They have the numbers that the pipes had.
+    # These files have the descriptors that the pipes had.
     others = [open(trial.folder / f"other-{number}", "w+b", buffering=0) for number in range(4)]
     expect_error(FrontierEnded, lambda: frontier.offer("http://a.test/"))
-    expect(not any(other.seek(0, os.SEEK_END) for other in others), "a request is in another file")
+    expect(not any(other.seek(0, os.SEEK_END) for other in others), "a request was written to another file")
     for other in others:
         other.close()
     fetcher.join(1)
-    expect(len(ends) == 1, "a fetcher waits for ever")
+    expect(len(ends) == 1, "a fetcher waits forever")
     frontier._channel._process.kill()
     frontier._channel._process.wait()
 
 
 def interrupt(call: Callable[[], object]) -> None:
-    """Calls, with a Ctrl-C soon after."""
-    # A shell's background job, which these tests may be, ignores the signal.
+    """Call a function, and interrupt it by Ctrl-C."""
+    # These tests may be a background job of a shell, which ignores the signal.
     before = signal.signal(signal.SIGINT, signal.default_int_handler)
     threading.Timer(0.2, signal.pthread_kill, (threading.get_ident(), signal.SIGINT)).start()
     try:
@@ -199,7 +199,7 @@ def pid_of(frontier: Frontier) -> int:
 
 
 def closing_handler(trial: Trial) -> None:
-    """A signal whose handler closes the frontier ends the call that it comes in."""
+    """A signal whose handler closes the frontier ends the call that it interrupts."""
     for is_stopped in (True, False):
         with Frontier(1, program=trial.program) as frontier:
             handlers = {signal.SIGUSR1: lambda *_: frontier.close(), signal.SIGALRM: late}
@@ -218,11 +218,11 @@ def closing_handler(trial: Trial) -> None:
 
 
 def late(*_: object) -> None:
-    raise Differs("the handler waits for ever")
+    raise Differs("the handler waits forever")
 
 
 def forked_process(trial: Trial) -> None:
-    """A process that was forked has no frontier, and does not keep the program from its end."""
+    """A forked process cannot use the frontier, and does not keep the program running."""
     with Frontier(1, program=trial.program) as frontier:
         read, written = os.pipe()
         child = os.fork()
@@ -231,9 +231,9 @@ def forked_process(trial: Trial) -> None:
             time.sleep(SECONDS)
             os._exit(0)
         try:
-            told = os.read(read, 1000).decode()
-            expect(told == "FrontierEnded", f"an offer of the other process: {told}")
-            expect(frontier.offer("http://a.test/") == Accepted(0, 0), "an offer of its own")
+            result = os.read(read, 1000).decode()
+            expect(result == "FrontierEnded", f"an offer of the forked process: {result}")
+            expect(frontier.offer("http://a.test/") == Accepted(0, 0), "an offer of the first process")
             frontier.close()
             status = frontier._channel._process.returncode
             expect(status == 0, f"the program, which was closed, has status {status}")
@@ -245,7 +245,7 @@ def forked_process(trial: Trial) -> None:
 
 
 def word_of(call: Callable[[], object]) -> str:
-    """What a call answers, or what it raises."""
+    """Return the result of a call, or the name of its exception."""
     try:
         return str(call())
     except Exception as error:
@@ -253,7 +253,7 @@ def word_of(call: Callable[[], object]) -> str:
 
 
 def client_small_pipes(trial: Trial) -> None:
-    """With pipes of one page, neither side waits for the other."""
+    """With pipes of one memory page, there is no deadlock."""
     count = trial.lines
     with Frontier(3, program=trial.program) as frontier:
         process = frontier._channel._process

@@ -1,4 +1,4 @@
-"""Parts: the crawlers of `examples/`, over HTTP on this machine."""
+"""Tests of the crawlers in `examples/`, over HTTP on this machine."""
 
 from __future__ import annotations
 
@@ -23,11 +23,11 @@ from serving import ROOT
 from serving.trial import SECONDS, Differs, Skipped, Trial, expect
 
 CRAWLER = ROOT / "examples/crawl_http.py"
-LONG = 5 * SECONDS  # for Python's documentation, which takes some minutes under load
+LONG = 5 * SECONDS  # time limit for Python's documentation, which takes some minutes on a busy machine
 
 
 class Folder:
-    """`python3 -m http.server` over a folder."""
+    """A process of `python3 -m http.server` that serves a folder."""
 
     def __init__(self, folder: Path, address: str = "127.0.0.1") -> None:
         words = [sys.executable, "-u", "-m", "http.server", "0", "--bind", address, "--directory", str(folder)]
@@ -45,7 +45,7 @@ class Folder:
 
 
 def found_by_search(start: str) -> Dict[str, str]:
-    """Each URL of the server with its status, by a search of this script."""
+    """Search the server with code of this test, and return each URL with its status."""
     found: Dict[str, str] = {}
     rest = [start]
     while rest:
@@ -79,26 +79,26 @@ def run_crawler(words: List[str], seconds: float = SECONDS) -> subprocess.Comple
     try:
         return subprocess.run(words, capture_output=True, timeout=seconds, check=False)
     except subprocess.TimeoutExpired as late:
-        raise Differs(f"the crawler runs on for {seconds} s: {late.stderr!r}") from None
+        raise Differs(f"the crawler did not end within {seconds} s: {late.stderr!r}") from None
 
 
-def told_by_crawler(output: bytes) -> List[Tuple[str, str]]:
-    """The URL and status of each whole line."""
+def found_by_crawler(output: bytes) -> List[Tuple[str, str]]:
+    """Return the URL and the status in each whole line of the output."""
     lines = [line.split(" ") for line in output.decode().split("\n")[:-1]]
     return [(url, status) for status, _, url in lines]
 
 
 def crawler(trial: Trial) -> None:
-    """The shipped site by `http.server`: the URLs and statuses that a search of this script finds."""
+    """The example site: the crawler finds the same URLs and statuses as a search by this test."""
     trial.want_link()
     with Folder(ROOT / "examples/site") as folder:
         wanted = found_by_search(folder.url)
         words = crawler_words(trial, "--delay", "0", "--within", "127.0.0.1", folder.url)
         done = run_crawler(words)
-        told = told_by_crawler(done.stdout)
+        found = found_by_crawler(done.stdout)
         expect(done.returncode == 0 and not done.stderr, f"status {done.returncode}: {done.stderr.decode()}")
-        expect(len(told) == len(wanted) and dict(told) == wanted, f"other URLs: {set(told) ^ set(wanted.items())}")
-        print(f"  {len(told)} URLs")
+        expect(len(found) == len(wanted) and dict(found) == wanted, f"other URLs: {set(found) ^ set(wanted.items())}")
+        print(f"  {len(found)} URLs")
 
 
 def crawler_help(trial: Trial) -> None:
@@ -115,50 +115,51 @@ def crawler_help(trial: Trial) -> None:
     expect(not others, f"names that are no value of an option: {others}")
 
 
-def told_by_bash(trial: Trial, url: str) -> Dict[str, str]:
+def found_by_bash(trial: Trial, url: str) -> Dict[str, str]:
+    """Run the crawler in bash, and return each URL with its status."""
     words = ["env", f"MERCATOR={trial.program}", "DELAY=0", str(ROOT / "examples/crawl_http.sh"), "127.0.0.1", url]
     done = run_crawler(words)
-    told = dict(line.split(" ")[::-1] for line in done.stdout.decode().split("\n")[:-1])
+    found = dict(line.split(" ")[::-1] for line in done.stdout.decode().split("\n")[:-1])
     expect(done.returncode == 0 and not done.stderr, f"status {done.returncode}: {done.stderr.decode()}")
-    expect(len(told) == done.stdout.count(b"\n"), "a URL is told twice")
-    return told
+    expect(len(found) == done.stdout.count(b"\n"), "a URL is printed twice")
+    return found
 
 
 def bash_crawler(trial: Trial) -> None:
-    """The crawler in bash, which reads no `<base>`: each URL once, those of the search among them.
+    """The crawler in bash, which ignores `<base>`: each URL once, with those that the search finds.
 
-    A page that is not UTF-8 has its links, and brackets in a URL stand for themselves. A suffix may
-    begin as an option does.
+    It reads the links of a page that is not UTF-8, and URLs with brackets. A suffix may look like an
+    option.
     """
     trial.want_link()
     if not shutil.which("curl"):
-        raise Skipped("there is no curl")
+        raise Skipped("curl is not installed")
     with Folder(ROOT / "examples/site") as folder:
         wanted = found_by_search(folder.url)
-        told = told_by_bash(trial, folder.url)
-        other = {url for url in set(told) & set(wanted) if told[url] != wanted[url]}
-        expect(not other and len(set(wanted) - set(told)) <= 2, f"other URLs: {other or set(told) ^ set(wanted)}")
+        found = found_by_bash(trial, folder.url)
+        other = {url for url in set(found) & set(wanted) if found[url] != wanted[url]}
+        expect(not other and len(set(wanted) - set(found)) <= 2, f"other URLs: {other or set(found) ^ set(wanted)}")
     odd = trial.folder / "odd"
     odd.mkdir()
     (odd / "index.html").write_bytes(b'caf\xe9 <a href="a[1-2].html">\n')
     (odd / "a[1-2].html").write_bytes(b"")
     with Folder(odd) as folder:
-        told = told_by_bash(trial, folder.url)
-        expect(told == {folder.url: "200", f"{folder.url}a[1-2].html": "200"}, f"{told}")
+        found = found_by_bash(trial, folder.url)
+        expect(found == {folder.url: "200", f"{folder.url}a[1-2].html": "200"}, f"{found}")
     words = ["env", f"MERCATOR={trial.program}", str(ROOT / "examples/crawl_http.sh"), "-a.test", "http://b.test/"]
     done = run_crawler(words)
     expect(done.stderr == b"crawl_http.sh: seed http://b.test/: filtered\n" and done.returncode == 0, f"{done.stderr!r}")
 
 
 def killed_crawler(trial: Trial) -> None:
-    """The crawler is killed again and again, and goes on from its log."""
+    """The crawler is killed again and again, and resumes from its log."""
     trial.want_log()
     trial.want_link()
     draw = trial.draw("crawler")
     with Folder(ROOT / "examples/site") as folder:
         wanted = found_by_search(folder.url)
         log = trial.folder / "crawler.log"
-        told: List[Tuple[str, str]] = []
+        found: List[Tuple[str, str]] = []
         status: Optional[int] = None
         kills = 0
         while status is None:
@@ -171,16 +172,16 @@ def killed_crawler(trial: Trial) -> None:
                 process.kill()
                 process.wait()
                 kills += 1
-            told += told_by_crawler(process.stdout.read())
+            found += found_by_crawler(process.stdout.read())
         expect(status == 0, f"status {status}")
-        expect(set(told) == set(wanted.items()), f"other URLs: {set(told) ^ set(wanted.items())}")
-        # One host has one fetcher, which has one URL in its hands.
-        expect(len(told) <= len(wanted) + kills, f"{len(told)} lines for {len(wanted)} URLs and {kills} kills")
-        print(f"  {kills} kills; {len(told) - len(wanted)} lines were written again")
+        expect(set(found) == set(wanted.items()), f"other URLs: {set(found) ^ set(wanted.items())}")
+        # The host has one fetcher, which has one URL in progress.
+        expect(len(found) <= len(wanted) + kills, f"{len(found)} lines for {len(wanted)} URLs and {kills} kills")
+        print(f"  {kills} kills; {len(found) - len(wanted)} lines were written again")
 
 
 class Polite(http.server.BaseHTTPRequestHandler):
-    """A host with robots.txt, redirects, a page without an end, and a page of all its links."""
+    """A host with robots.txt, redirects, an endless page, and a page that links to all of them."""
 
     asked: List[Tuple[float, str, str]] = []
     pages = {
@@ -216,7 +217,7 @@ class Polite(http.server.BaseHTTPRequestHandler):
 
 
 def polite_crawler(trial: Trial) -> None:
-    """robots.txt, the delay, redirects, and a page without an end."""
+    """robots.txt, the delay, redirects, and an endless page."""
     trial.want_link()
     Polite.asked.clear()
     server = http.server.ThreadingHTTPServer(("127.0.0.1", 0), Polite)
@@ -227,17 +228,17 @@ def polite_crawler(trial: Trial) -> None:
     server.shutdown()
     wanted = {"/": "200", "/private/x": "robots", "/d/endless": "200", "/d/y&z": "404", "/n": "404"}
     wanted.update({"/d/moved": "301", "/to?q": "301", "/to/%C3%BC": "301", "/to/%C3%A9": "404"})
-    told = {url[len(site):]: status for url, status in told_by_crawler(done.stdout)}
-    expect(told == wanted and done.returncode == 0, f"{told}, status {done.returncode}: {done.stderr.decode()}")
+    found = {url[len(site):]: status for url, status in found_by_crawler(done.stdout)}
+    expect(found == wanted and done.returncode == 0, f"{found}, status {done.returncode}: {done.stderr.decode()}")
     paths = [path for _, path, _ in Polite.asked]
-    expect(paths[0] == "/robots.txt" and sorted(paths[1:]) == sorted(set(wanted) - {"/private/x"}), f"asked: {paths}")
+    expect(paths[0] == "/robots.txt" and sorted(paths[1:]) == sorted(set(wanted) - {"/private/x"}), f"requests: {paths}")
     expect({agent for _, _, agent in Polite.asked} == {"bell"}, "the agent")
     times = [when for when, _, _ in Polite.asked]
     expect(all(later - earlier >= 0.19 for earlier, later in zip(times, times[1:])), f"the delay: {times}")
 
 
 def polite_to_ports(trial: Trial) -> None:
-    """The delay is a host's, not that of each of its ports."""
+    """The delay holds for a host, not for each of its ports."""
     trial.want_link()
     Polite.asked.clear()
     servers = [http.server.ThreadingHTTPServer(("127.0.0.1", 0), Polite) for _ in range(3)]
@@ -247,13 +248,13 @@ def polite_to_ports(trial: Trial) -> None:
     done = run_crawler(crawler_words(trial, "--delay", "0.2", *seeds))
     for server in servers:
         server.shutdown()
-    expect(dict(told_by_crawler(done.stdout)) == dict.fromkeys(seeds, "404"), f"{done.stdout!r}")
+    expect(dict(found_by_crawler(done.stdout)) == dict.fromkeys(seeds, "404"), f"{done.stdout!r}")
     times = [when for when, _, _ in Polite.asked]
     expect(all(later - earlier >= 0.19 for earlier, later in zip(times, times[1:])), f"the delay: {times}")
 
 
 class HostileHost(http.server.ThreadingHTTPServer):
-    """A host with a rule in its robots.txt, and a page with a reference that Python does not read."""
+    """A host with a rule in its robots.txt, and a page with a character reference that Python cannot decode."""
 
     def __init__(self, rule: str, charset: str = "utf-8", kind: str = "text/plain") -> None:
         super().__init__(("127.0.0.1", 0), HostileAnswer)
@@ -277,9 +278,9 @@ class HostileAnswer(http.server.BaseHTTPRequestHandler):
 
 
 def hostile_hosts(trial: Trial) -> None:
-    """What Python cannot read, of robots.txt, a page or a URL, ends no crawl, and hides no link before it.
+    """Something in a robots.txt, a page or a URL that Python cannot read does not end the crawl, nor hide the links before it.
 
-    A charset that it does not know, or that is of no text, hides nothing.
+    An unknown charset, and one that is not for text, do not hide any link.
     """
     trial.want_link()
     rules = (
@@ -294,8 +295,8 @@ def hostile_hosts(trial: Trial) -> None:
     done = run_crawler(crawler_words(trial, "--delay", "0", "--within", "127.0.0.1", *(host.url for host in hosts)))
     for host in hosts:
         host.shutdown()
-    told = dict(told_by_crawler(done.stdout))
-    expect(told == wanted and done.returncode == 0, f"{told}, status {done.returncode}: {done.stderr.decode()}")
+    found = dict(found_by_crawler(done.stdout))
+    expect(found == wanted and done.returncode == 0, f"{found}, status {done.returncode}: {done.stderr.decode()}")
     sys.path.insert(0, str(CRAWLER.parent))
     connected = importlib.import_module(CRAWLER.stem).connected
     ends = {"http://[::ab]/": ("::ab", 80), "https://[::1]/": ("::1", 443), "http://a.test:0/": ("a.test", 0)}
@@ -305,7 +306,7 @@ def hostile_hosts(trial: Trial) -> None:
 
 
 def dribbling_hosts(trial: Trial) -> None:
-    """A host that answers byte by byte, in its headers or in the size of a chunk, is cut off."""
+    """A connection is closed if the host sends its headers or a chunk size one byte at a time."""
     sys.path.insert(0, str(CRAWLER.parent))
     crawl_http = importlib.import_module(CRAWLER.stem)
     heads = (b"HTTP/1.1 200 OK\r\nX: ", b"HTTP/1.1 200 OK\r\nContent-Type: text/html\r\nTransfer-Encoding: chunked\r\n\r\n")
@@ -327,10 +328,9 @@ def dribble(server: socket.socket, head: bytes) -> None:
 
 
 def saved_documentation(trial: Trial) -> None:
-    """Python's documentation by `http.server`, and from its folder by `mercator crawl`: the same URLs."""
+    """Python's documentation: the crawler finds over HTTP the same URLs as `mercator crawl` in the folder."""
     trial.want_link()
-    said = subprocess.run([trial.program, "crawl", "--help"], capture_output=True, check=False)
-    if said.returncode:
+    if subprocess.run([trial.program, "crawl", "--help"], capture_output=True, check=False).returncode:
         raise Skipped("the program has no `crawl`")
     installed = sorted(Path("/usr/share/doc").glob("python3*/html/library/index.html"))
     if not installed:
@@ -340,19 +340,19 @@ def saved_documentation(trial: Trial) -> None:
         wanted = found_in_saved_web(trial, site, folder.url)
         words = ("--delay", "0", "--largest", "100000000", "--within", "127.0.0.1", folder.url)
         done = run_crawler(crawler_words(trial, *words), LONG)
-        told = told_by_crawler(done.stdout)
+        found = found_by_crawler(done.stdout)
         expect(done.returncode == 0 and not done.stderr, f"status {done.returncode}: {done.stderr.decode()}")
-        expect(len(told) == len(dict(told)), "a URL is told twice")
-        other = sorted(set(dict(told)) ^ set(wanted))
+        expect(len(found) == len(dict(found)), "a URL is printed twice")
+        other = sorted(set(dict(found)) ^ set(wanted))
         expect(not other, f"{len(other)} other URLs: {other[:5]}")
         status = {"ok": "200", "missing": "404", "moved": "301"}
-        other = [url for url, word in sorted(wanted.items()) if dict(told)[url] != status[word]]
+        other = [url for url, word in sorted(wanted.items()) if dict(found)[url] != status[word]]
         expect(not other, f"{len(other)} other statuses: {other[:5]}")
-        print(f"  {len(told)} URLs of {site}")
+        print(f"  {len(found)} URLs of {site}")
 
 
 def found_in_saved_web(trial: Trial, site: Path, url: str) -> Dict[str, str]:
-    """Each URL that `mercator crawl` finds in the saved web of a folder, with its word."""
+    """Return each URL that `mercator crawl` reports for the saved web of a folder, with the first word of its line."""
     web = trial.folder / "folder.web"
     with open(web, "wb") as file:
         subprocess.run(

@@ -1,4 +1,4 @@
-"""Parts: crawls of generated webs by the Python client, in threads."""
+"""Tests of crawls of generated sites by the Python client, in threads and in asyncio."""
 
 from __future__ import annotations
 
@@ -19,7 +19,7 @@ from serving.trial import SECONDS, Differs, Trial, expect
 
 
 class Web:
-    """Pages over some hosts, with links in many spellings, and the URLs that a search finds."""
+    """Pages on random hosts, with links in many spellings, and the URLs that a search finds."""
 
     def __init__(self, draw: Random) -> None:
         hosts = draw.randrange(1, 30)
@@ -44,7 +44,7 @@ class Web:
 
 
 class Crawl:
-    """A crawl in threads, which may be cut off and go on."""
+    """A crawl in threads, which may be killed and resume."""
 
     def __init__(self, web: Web, trial: Trial) -> None:
         self.web, self.trial = web, trial
@@ -53,7 +53,7 @@ class Crawl:
         self.hosts: Counter[str] = Counter()
         self.in_hands: Counter[str] = Counter()
         self.wrong: List[str] = []
-        self.told_closed = 0
+        self.closed = 0  # the number of fetchers that saw the end of the crawl
         self.ended = threading.Event()
 
     def work(self, frontier: Frontier, queue: int) -> None:
@@ -69,7 +69,7 @@ class Crawl:
             self.wrong.append(repr(error))
         else:
             with self.lock:
-                self.told_closed += 1
+                self.closed += 1
 
     def fetch(self, frontier: Frontier, queue: int, url: str) -> None:
         host = url.split("/")[2]
@@ -91,7 +91,7 @@ class Crawl:
             self.in_hands[url] -= 1
 
     def kill(self, pid: int, after: int, seconds: float) -> None:
-        """Kills the program a moment after so many fetches."""
+        """Kill the program a number of seconds after a number of fetches."""
         after += sum(self.fetched.values())
         while sum(self.fetched.values()) < after and not self.ended.wait(0.0005):
             pass
@@ -99,8 +99,8 @@ class Crawl:
             os.kill(pid, signal.SIGKILL)
 
     def run(self, workers: int, log: Optional[str] = None, after: int = 0, seconds: float = 0.0) -> bool:
-        """Crawls to its end, or until the program is killed after so many fetches; whether it came to its end."""
-        self.told_closed = 0
+        """Crawl, and kill the program after a number of fetches unless it is 0. Return whether the crawl was completed."""
+        self.closed = 0
         self.ended.clear()
         with Frontier(workers, within="test", log=log, program=self.trial.program) as frontier:
             fetchers = [threading.Thread(target=self.work, args=(frontier, queue), daemon=True) for queue in range(workers)]
@@ -114,26 +114,26 @@ class Crawl:
                 expect(after > 0, "the program ended by itself")
             for fetcher in fetchers:
                 fetcher.join(SECONDS)
-                expect(not fetcher.is_alive(), "a fetcher waits for ever")
+                expect(not fetcher.is_alive(), "a fetcher waits forever")
             self.ended.set()
             if after:
                 killer.join()
         expect(not self.wrong, f"{self.wrong[:3]}")
-        return self.told_closed == workers
+        return self.closed == workers
 
 
 def crawls(trial: Trial) -> None:
-    """Each URL once, each host by one fetcher at a time, and each fetcher told that the crawl is over."""
+    """Each URL is fetched once, each host by one fetcher at a time, and each fetcher sees the end of the crawl."""
     for number in range(10):
         draw = trial.draw(f"crawl {number}")
         for workers in (1, 2, 7, 64):
             crawl = Crawl(Web(draw), trial)
-            expect(crawl.run(workers), "a fetcher was not told that it is over")
+            expect(crawl.run(workers), "a fetcher did not see the end of the crawl")
             expect(crawl.fetched == Counter(crawl.web.reached), f"crawl {number} of {workers}: other URLs")
 
 
 def asyncio_crawls(trial: Trial) -> None:
-    """A task for each queue, of more queues than asyncio has threads; one that gives up ends all."""
+    """A crawl with one task per queue, and more queues than asyncio has threads. If a task fails, the crawl ends."""
     trial.want_link()
     web = Web(trial.draw("asyncio"))
     fetched = asyncio.run(crawl_by_tasks(web, trial.program, 64))
@@ -142,11 +142,11 @@ def asyncio_crawls(trial: Trial) -> None:
         asyncio.run(crawl_by_tasks(web, trial.program, 64, gives_up=True))
     except ZeroDivisionError:
         return
-    raise Differs("a task that gives up ends nothing")
+    raise Differs("a task that fails does not end the crawl")
 
 
 async def crawl_by_tasks(web: Web, program: str, workers: int, gives_up: bool = False) -> List[str]:
-    """The URLs that were fetched, by one task a queue."""
+    """Crawl with one task per queue, and return the fetched URLs."""
     fetched: List[str] = []
     loop = asyncio.get_running_loop()
 
@@ -165,18 +165,18 @@ async def crawl_by_tasks(web: Web, program: str, workers: int, gives_up: bool = 
 
 
 def killed_crawls(trial: Trial) -> None:
-    """A crawl is killed again and again, and goes on from its log.
+    """A crawl is killed again and again, and resumes from its log.
 
-    It fetches every URL: once, but for those that were in a fetcher's hands.
+    Each URL is fetched; only those that were in progress at a kill may be fetched more than once.
     """
     trial.want_log()
     kills = again = number = 0
-    while kills < trial.words.kills and number < 1000:
+    while kills < trial.options.kills and number < 1000:
         number += 1
         draw = trial.draw(f"killed {number}")
         crawl = Crawl(Web(draw), trial)
         log = str(trial.folder / f"killed-{number}.log")
-        is_torn = number % 4 == 3  # the machine crashes too: the log ends somewhere near its end
+        is_torn = number % 4 == 3  # simulate a crash of the machine: the end of the log is lost
         may: Counter[str] = Counter(crawl.web.reached)
         workers = draw.choice((1, 2, 7, 16))
         while not crawl.run(workers, log, draw.randrange(1, 60), draw.random() / 200):
@@ -193,7 +193,7 @@ def killed_crawls(trial: Trial) -> None:
 
 
 def tear(log: str, lost: int) -> None:
-    """Cuts bytes off a log, but not of its first line, which was synced before any answer."""
+    """Cut bytes off a log, but not off its first line, which was synced before any answer."""
     with open(log, "rb") as file:
         least = len(file.readline())
     os.truncate(log, max(least, os.path.getsize(log) - lost))

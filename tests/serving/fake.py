@@ -1,11 +1,11 @@
 #!/usr/bin/python3
-"""A frontier in Python that answers as `mercator serve` does: for the tests of its clients alone.
+"""A frontier in Python that answers like `mercator serve`, to test clients without the program.
 
 Usage: fake.py serve [--workers N] [--max-pending M] [--within SUFFIX] [--part I/K]
                      [--log FILE [--sync]]
 
-It tries a client where the program lacks a request, and is a second reckoning of the program. Its
-URLs are those of drawn.py. It has no `--compact`, and the first line of its log is its own.
+It uses the model of URLs in drawn.py. It has no `--compact`, and the first line of its log is not
+that of the program.
 """
 
 from __future__ import annotations
@@ -24,7 +24,7 @@ sys.path.insert(0, str(Path(__file__).resolve().parent.parent))
 
 LINE_LIMIT = 4096
 READ_SIZE = 65_536
-# A URL that is canonical as it stands: no escapes, no dots alone, no port, a host of letters first.
+# A URL that is canonical: no escapes, no dot segments, no port, labels that begin with a letter.
 PLAIN = re.compile(
     r"http://([a-z][a-z0-9-]*(?:\.[a-z][a-z0-9-]*)*)(?:/[A-Za-z0-9_~-][\w~.-]*)*/?", re.A
 )
@@ -32,7 +32,7 @@ LOCAL = re.compile(r"[A-Za-z0-9_~-][\w~.-]*(?:/[A-Za-z0-9_~-][\w~.-]*)*", re.A)
 
 
 class Settings(NamedTuple):
-    """What a log's first line names."""
+    """The settings in the first line of a log."""
 
     workers: int
     most: int
@@ -46,10 +46,10 @@ class Settings(NamedTuple):
 
 
 class Frontier:
-    """The frontier of one part, over sets and lists."""
+    """The frontier of one part, made of sets and lists."""
 
-    def __init__(self, settings: Settings) -> None:
-        self.settings = settings
+    def __init__(self, settings: Settings, is_part: bool) -> None:
+        self.settings, self.is_part = settings, is_part
         self.first = settings.part * settings.workers
         self.waiting: List[Deque[str]] = [deque() for _ in range(settings.workers)]
         self.in_hand: List[Optional[str]] = [None] * settings.workers
@@ -58,7 +58,7 @@ class Frontier:
         self.count = 1
         self.has_seeds = True
         self.is_closed = False
-        self.identity = ""
+        self.identity = "none"
 
     def answer(self, line: bytes) -> str:
         if len(line) > LINE_LIMIT:
@@ -80,28 +80,28 @@ class Frontier:
                 return "refused nothing"
             self.has_seeds = False
             return self.lower()
-        if text == "sync":
+        if text == "sync" and self.is_part:
             return "synced"
-        if text == "identity" and self.identity:
+        if text == "identity" and self.is_part:
             return f"identity {self.identity}"
         return "bad line"
 
     def of_queue(self, word: str, queue: int) -> str:
-        place = queue - self.first
-        if not 0 <= place < self.settings.workers:
+        own = queue - self.first
+        if not 0 <= own < self.settings.workers:
             return "refused nosuch"
-        url = self.in_hand[place]
+        url = self.in_hand[own]
         if word == "again":
             return "refused nothing" if url is None else f"taken {url}"
         if word == "done":
             if url is None:
                 return "refused nothing"
-            self.in_hand[place] = None
+            self.in_hand[own] = None
             return self.lower()
         if url is not None:
             return "refused busy"
-        if self.waiting[place]:
-            url = self.in_hand[place] = self.waiting[place].popleft()
+        if self.waiting[own]:
+            url = self.in_hand[own] = self.waiting[own].popleft()
             return f"taken {url}"
         self.is_closed = self.count == 0
         return "closed" if self.is_closed else f"pending {self.count}"
@@ -118,8 +118,8 @@ class Frontier:
         if settings.suffix is not None and not f".{host}".endswith(f".{settings.suffix}"):
             return "filtered"
         queue = queue_of(host, settings.workers * settings.parts)
-        place = queue - self.first
-        if not 0 <= place < settings.workers:
+        own = queue - self.first
+        if not 0 <= own < settings.workers:
             return f"elsewhere {queue // settings.workers} {url}"
         if self.is_closed:
             return "refused closed"
@@ -128,14 +128,14 @@ class Frontier:
         if url in self.seen:
             return "seen"
         self.seen.add(url)
-        self.waiting[place].append(url)
+        self.waiting[own].append(url)
         self.count += 1
-        self.numbers[place] += 1
-        return f"accepted {queue} {self.numbers[place] - 1}"
+        self.numbers[own] += 1
+        return f"accepted {queue} {self.numbers[own] - 1}"
 
 
 def read_url(text: str, base: Optional[str]) -> Tuple[str, str]:
-    """The canonical URL of a text, and its host; or the answer, and no host."""
+    """Return the canonical URL of a text and its host, or an answer and no host."""
     plain = PLAIN.fullmatch(text)
     if plain and (base is None or PLAIN.fullmatch(base)):
         return (text if text.count("/") > 2 else text + "/"), plain[1]
@@ -143,7 +143,7 @@ def read_url(text: str, base: Optional[str]) -> Tuple[str, str]:
         plain = PLAIN.fullmatch(base)
         if plain and base.count("/") > 2:
             return base[:base.rindex("/") + 1] + text, plain[1]
-    import drawn  # which takes a while, and is seldom wanted
+    import drawn  # only if needed, since it takes a while
     try:
         url = drawn.url_of(text) if base is None else drawn.url_of(text, drawn.url_of(base))
     except drawn.NotUrl:
@@ -162,7 +162,7 @@ def queue_of(host: str, queues: int) -> int:
 
 
 class Log:
-    """The file that has each request before it is answered."""
+    """The file to which each request is appended before it is answered."""
 
     def __init__(self, name: str, settings: Settings, is_synced: bool) -> None:
         self.is_synced = is_synced
@@ -170,7 +170,7 @@ class Log:
             self.file = os.open(name, os.O_RDWR | os.O_CREAT | os.O_APPEND, 0o666)
             fcntl.flock(self.file, fcntl.LOCK_EX | fcntl.LOCK_NB)
         except BlockingIOError:
-            fail(f"{name}: another process has the log")
+            fail(f"log {name}: in use by another program")
         except OSError:
             fail(f"cannot open {name}")
         with open(name, "rb") as file:
@@ -178,18 +178,18 @@ class Log:
         whole = text.rfind(b"\n") + 1
         if whole < len(text):
             os.ftruncate(self.file, whole)
-            print(f"mercator: {name}: cut off: {len(text) - whole} bytes", file=sys.stderr)
+            print(f"mercator: log {name}: incomplete last line removed", file=sys.stderr)
         self.head, *self.lines = text[:whole].split(b"\n")[:-1] or [b""]
         named, _, identity = self.head.decode().rpartition(" identity ")
         if not self.head:
             identity = os.urandom(8).hex()
             self.append(f"mercator log 1 {settings} identity {identity}\n".encode())
         elif named != f"mercator log 1 {settings}":
-            fail(f"{name}: the log of other settings")
+            fail(f"log {name}: made with other options")
         self.identity = identity
 
     def append(self, data: bytes) -> None:
-        """Adds all of it, or nothing."""
+        """Append all of the data, or nothing."""
         before = os.fstat(self.file).st_size
         try:
             if os.write(self.file, data) < len(data):
@@ -207,7 +207,7 @@ def fail(why: str) -> NoReturn:
 
 
 def serve(frontier: Frontier, log: Optional[Log]) -> None:
-    """Answers each line once it is in the log: all whole lines of a read, by one write."""
+    """Answer all whole lines of a read with one write, after they are in the log."""
     held = b""
     while True:
         try:
@@ -237,28 +237,36 @@ def cut(line: bytes) -> bytes:
     return line[:-1] if line.endswith(b"\r") else line
 
 
+class CommandLine(argparse.ArgumentParser):
+    """A parser that exits with the program's status on a bad command line."""
+
+    def error(self, message: str) -> NoReturn:
+        self.exit(3, f"error: {message}\n")
+
+
 def main() -> None:
-    parser = argparse.ArgumentParser(
+    parser = CommandLine(
         description=__doc__, formatter_class=argparse.RawDescriptionHelpFormatter
     )
     serving = parser.add_subparsers(required=True).add_parser("serve")
     serving.add_argument("--workers", type=int, default=4)
     serving.add_argument("--max-pending", type=int, default=2**20)
     serving.add_argument("--within", type=str.lower)
-    serving.add_argument("--part", default="0/1")
+    serving.add_argument("--part")
     serving.add_argument("--log")
     serving.add_argument("--sync", action="store_true")
-    words = parser.parse_args()
-    part, parts = map(int, words.part.split("/"))
-    if not (1 <= words.workers and 0 <= part < parts and words.workers * parts <= 512):
-        told = f"--workers {words.workers} --part {words.part}"
-        print(f"mercator: bad number: {told}", file=sys.stderr)
+    options = parser.parse_args()
+    found = re.fullmatch("([0-9]+)/([0-9]+)", "0/1" if options.part is None else options.part)
+    part, parts = map(int, found.groups()) if found else (0, 0)
+    if not (1 <= options.workers and 0 <= part < parts and options.workers * parts <= 512):
+        wrong = f"--workers {options.workers} --part {options.part}"
+        print(f"mercator: bad number: {wrong}", file=sys.stderr)
         sys.exit(3)
-    settings = Settings(words.workers, words.max_pending, words.within, part, parts)
-    frontier = Frontier(settings)
+    settings = Settings(options.workers, options.max_pending, options.within, part, parts)
+    frontier = Frontier(settings, options.part is not None)
     log = None
-    if words.log is not None:
-        log = Log(words.log, settings, words.sync)
+    if options.log is not None:
+        log = Log(options.log, settings, options.sync)
         for line in log.lines:
             frontier.answer(cut(line))
         frontier.identity = log.identity

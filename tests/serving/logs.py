@@ -1,4 +1,4 @@
-"""Parts: what `--log` keeps, when the program is killed, and when it is refused."""
+"""Tests of logs: after kills, with a full disk, compacted, and refused ones."""
 
 from __future__ import annotations
 
@@ -13,7 +13,7 @@ from typing import Iterable, List, Sequence, Tuple
 
 import drawn
 from mercator_frontier import Frontier, FrontierEnded, Refusal
-from serving.reckoning import drawn_session
+from serving.model import drawn_session
 from serving.sessions import PARTS, compare, random_pieces
 from serving.trial import SECONDS, Differs, Serve, Skipped, Trial, expect
 
@@ -24,7 +24,7 @@ SETTINGS: Tuple[Tuple[str, ...], ...] = (
 
 
 def answered(log: Path) -> int:
-    """How many whole lines stand in a log, but for its first, which names the settings."""
+    """Return the number of whole lines in a log, except the first, which has the settings."""
     return max(0, log.read_bytes().count(b"\n") - 1) if log.exists() else 0
 
 
@@ -33,9 +33,9 @@ def lines_of(data: bytes) -> List[bytes]:
 
 
 def killed_sessions(trial: Trial) -> None:
-    """Whatever moment it is killed at, it goes on as if it had run on, from what its log has.
+    """A session that is killed at any moment resumes from its log as if it had not been killed.
 
-    What was answered is in the log, unless a crash of the machine took the log's end.
+    All answered requests are in the log, unless a crash of the machine lost the end of the log.
     """
     trial.want_log()
     kills = torn = 0
@@ -48,18 +48,18 @@ def killed_sessions(trial: Trial) -> None:
         begin = 0
         for _ in range(20):
             session = Serve(trial.program, words)
-            told = killed_after(session, b"".join(lines[begin:]), draw)
+            answers = killed_after(session, b"".join(lines[begin:]), draw)
             kills += 1
-            compare_some(lines[begin:], wanted[begin:], told)
-            least = begin + len(told)
+            compare_some(lines[begin:], wanted[begin:], answers)
+            least = begin + len(answers)
             if draw.randrange(3) == 0 and answered(log):
-                # The last line of a log has at least a byte, and the first line stays.
+                # Cut off the end of the last line, which has at least one byte; keep the first line.
                 last = len(log.read_bytes().rstrip(b"\n").rpartition(b"\n")[2])
                 os.truncate(log, log.stat().st_size - 1 - draw.randrange(last + 1))
                 torn += 1
                 least = 0
             begin = answered(log)
-            expect(least <= begin <= len(lines), f"{begin} lines in the log, {least} were answered")
+            expect(least <= begin <= len(lines), f"{begin} lines in the log, but {least} were answered")
         session = Serve(trial.program, words)
         rest = b"".join(lines[begin:])
         compare(rest, wanted[begin:], session.exchange(random_pieces(draw, rest)))
@@ -68,7 +68,7 @@ def killed_sessions(trial: Trial) -> None:
 
 
 def killed_after(session: Serve, data: bytes, draw: Random) -> List[str]:
-    """Kills it once so many answers came, or a moment later; the whole answers that came."""
+    """Kill the program after a random number of answers, and return all whole answers."""
     least = min(draw.choice((0, 1, draw.randrange(2000))), data.count(b"\n"))
 
     def send() -> None:
@@ -80,24 +80,25 @@ def killed_after(session: Serve, data: bytes, draw: Random) -> List[str]:
     sender = threading.Thread(target=send, daemon=True)
     sender.start()
     try:
-        told = b"".join(line + b"\n" for line in session.lines(least)) + session.held
+        output = b"".join(line + b"\n" for line in session.lines(least)) + session.held
         time.sleep(draw.random() / 500)
     finally:
         session.process.kill()
-    told += session.stdout.read()
+    output += session.stdout.read()
     sender.join(SECONDS)
     session.end()
-    return told.decode("utf-8", "backslashreplace").split("\n")[:-1]
+    return output.decode("utf-8", "backslashreplace").split("\n")[:-1]
 
 
-def compare_some(lines: Sequence[bytes], wanted: Sequence[str], told: Sequence[str]) -> None:
-    expect(len(told) <= len(wanted), f"{len(told)} answers to {len(wanted)} lines")
-    for line, want, answer in zip(lines, wanted, told):
-        expect(want == answer, f"{line[:200]!r}: {answer!r}, {want!r} wanted")
+def compare_some(lines: Sequence[bytes], wanted: Sequence[str], answers: Sequence[str]) -> None:
+    """Compare the answers to the first of these lines with the expected ones."""
+    expect(len(answers) <= len(wanted), f"{len(answers)} answers to {len(wanted)} lines")
+    for line, want, answer in zip(lines, wanted, answers):
+        expect(want == answer, f"{line[:200]!r}: {answer!r}, expected {want!r}")
 
 
 def refused_logs(trial: Trial) -> None:
-    """A log of other settings, in use, or none at all: status 1, no answer, the log as it was."""
+    """A log that has other settings, is in use, or is not a log: status 1, no answer, the file unchanged."""
     trial.want_log()
     log = trial.folder / "refused.log"
     words = ("--workers", "3", "--within", "test", "--log", str(log))
@@ -110,7 +111,7 @@ def refused_logs(trial: Trial) -> None:
     ):
         refuses(trial, (*others, "--log", str(log)), log)
     session = Serve(trial.program, words)
-    expect(session.ask(b"offer http://a.test/") == "seen", "by the same settings it goes on")
+    expect(session.ask(b"offer http://a.test/") == "seen", "it does not resume with the same settings")
     session.end()
     none = trial.folder / "no.log"
     none.write_bytes(b"offer http://a.test/\n")
@@ -120,19 +121,20 @@ def refused_logs(trial: Trial) -> None:
 
 
 def refuses(trial: Trial, words: Sequence[str], log: Path) -> None:
+    """Check that the program fails with one line on standard error, and leaves the log unchanged."""
     before = log.read_bytes()
     done = subprocess.run(
         [trial.program, "serve", *words], input=b"offer http://b.test/\n", capture_output=True,
         timeout=SECONDS, check=False,
     )
-    told = done.stderr.decode()
+    errors = done.stderr.decode()
     expect((done.returncode, done.stdout) == (1, b""), f"{words}: {done.returncode}, {done.stdout!r}")
-    expect(told.startswith("mercator: ") and told.count("\n") == 1, f"{words}: {told!r}")
-    expect(log.read_bytes() == before, f"{words}: the log is not as it was")
+    expect(errors.startswith("mercator: ") and errors.count("\n") == 1, f"{words}: {errors!r}")
+    expect(log.read_bytes() == before, f"{words}: the log was changed")
 
 
 def full_disk(trial: Trial) -> None:
-    """What finds no room in the log is not answered; with room the crawl goes on."""
+    """A request that there is no room for in the log is not answered; with room, the crawl resumes."""
     trial.want_log()
     disk = trial.folder / "disk"
     disk.mkdir()
@@ -141,14 +143,14 @@ def full_disk(trial: Trial) -> None:
         capture_output=True, check=False,
     )
     if mounted.returncode:
-        raise Skipped("no file system can be mounted here")
+        raise Skipped("this user cannot mount a file system")
     try:
         log = disk / "log"
         accepted = fill(trial, log)
         subprocess.run(["mount", "-o", "remount,size=1m", str(disk)], check=True)
         with Frontier(2, log=log, program=trial.program) as frontier:
-            told = frontier.offer_all(accepted)
-            expect(told == [Refusal.SEEN] * len(accepted), "what was answered is not in the log")
+            offers = frontier.offer_all(accepted)
+            expect(offers == [Refusal.SEEN] * len(accepted), "an answered request is not in the log")
             queue = drawn.queue_of(drawn.url_of("http://a.test/"), 2)
             for url in accepted:
                 expect(frontier.take(queue) == url, "another URL")
@@ -158,7 +160,7 @@ def full_disk(trial: Trial) -> None:
 
 
 def fill(trial: Trial, log: Path) -> List[str]:
-    """Offers URLs until the disk is full; those that were accepted."""
+    """Offer URLs until the disk is full, and return the accepted ones."""
     accepted: List[str] = []
     with Frontier(2, log=log, program=trial.program) as frontier:
         try:
@@ -166,13 +168,13 @@ def fill(trial: Trial, log: Path) -> List[str]:
                 if frontier.offer(f"http://a.test/{number}"):
                     accepted.append(f"http://a.test/{number}")
         except FrontierEnded as error:
-            expect(error.status == 1 and "cannot write" in error.told, f"what is told: {error}")
+            expect(error.status == 1 and "cannot write" in error.told, f"the error: {error}")
             return accepted
-    raise Differs("a full disk is not told")
+    raise Differs("a full disk is not an error")
 
 
 def compacted_logs(trial: Trial) -> None:
-    """A compacted log is shorter, and a session goes on from it as from the whole one."""
+    """A compacted log is shorter, and a session resumes from it as from the whole log."""
     trial.want_log()
     if not trial.has_compact:
         raise Skipped("the program has no --compact")
@@ -183,7 +185,7 @@ def compacted_logs(trial: Trial) -> None:
         log = trial.folder / f"whole-{number}.log"
         before = log
         for part in range(4):
-            begin, end = (len(lines) * place // 4 for place in (part, part + 1))
+            begin, end = (len(lines) * quarter // 4 for quarter in (part, part + 1))
             some = b"".join(lines[begin:end])
             session = Serve(trial.program, (*words, "--log", str(log)))
             compare(some, wanted[begin:end], session.exchange(random_pieces(draw, some)))
@@ -193,23 +195,23 @@ def compacted_logs(trial: Trial) -> None:
                 [trial.program, "serve", *words, "--log", str(before), "--compact", str(log)],
                 stdin=subprocess.DEVNULL, capture_output=True, timeout=SECONDS, check=False,
             )
-            told = done.stderr.decode()
-            expect(done.returncode == 0 and not done.stdout, f"status {done.returncode}: {told}")
-            expect(log.stat().st_size < before.stat().st_size, "it is no shorter")
+            errors = done.stderr.decode()
+            expect(done.returncode == 0 and not done.stdout, f"status {done.returncode}: {errors}")
+            expect(log.stat().st_size < before.stat().st_size, "the compacted log is not shorter")
             heads = [file.read_bytes().partition(b"\n") for file in (before, log)]
-            expect(heads[0][0] == heads[1][0], "its first line is another")
-            told_again = elsewhere(Serve(trial.program, words).exchange(iter([heads[1][2]])).decode().split("\n"))
-            expect(told_again == elsewhere(wanted[:end]), "what is told elsewhere is not kept once")
+            expect(heads[0][0] == heads[1][0], "the compacted log has another first line")
+            again = elsewhere(Serve(trial.program, words).exchange(iter([heads[1][2]])).decode().split("\n"))
+            expect(again == elsewhere(wanted[:end]), "the URLs of other parts are not kept once each")
             refuses(trial, (*words, "--log", str(before), "--compact", str(log)), log)
 
 
 def elsewhere(answers: Iterable[str]) -> List[str]:
-    """What was told elsewhere, each once."""
+    """Return the answers that begin with `elsewhere`, each once."""
     return list(dict.fromkeys(answer for answer in answers if answer.startswith("elsewhere ")))
 
 
 def logs_of_parts(trial: Trial) -> None:
-    """A log is of one part, and has its identity for good, also where its first line was torn."""
+    """A log belongs to one part and keeps its identity, even if its first line is incomplete."""
     trial.want_log()
     trial.want_part()
     log = trial.folder / "part.log"
@@ -223,16 +225,16 @@ def logs_of_parts(trial: Trial) -> None:
         refuses(trial, (*others, *words[2:]), log)
     for length in (0, 5, 20, 21, 30, len(head) - 1):
         log.write_bytes(head[:length])
-        told = identity(trial, words)
-        expect(told[:max(9, length - 12)] == named[:max(9, length - 12)], f"torn behind {length} bytes: {told!r}")
-        expect(length < 53 or told == named, f"torn behind {length} bytes: {told!r}")
+        again = identity(trial, words)
+        expect(again[:max(9, length - 12)] == named[:max(9, length - 12)], f"cut off after {length} bytes: {again!r}")
+        expect(length < 53 or again == named, f"cut off after {length} bytes: {again!r}")
     log.write_bytes(head.replace(named[9:11].encode(), b"xy"))
     refuses(trial, words, log)
 
 
 def identity(trial: Trial, words: Sequence[str]) -> str:
     session = Serve(trial.program, words)
-    told = session.ask(b"identity")
+    answer = session.ask(b"identity")
     expect(session.ask(b"sync") == "synced", "no sync")
     expect(session.end()[0] == 0, "its end")
-    return told
+    return answer

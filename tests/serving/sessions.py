@@ -1,4 +1,4 @@
-"""Parts: sessions over pipes, as the program reads and answers them."""
+"""Tests of sessions over pipes."""
 
 from __future__ import annotations
 
@@ -13,7 +13,7 @@ from pathlib import Path
 from random import Random
 from typing import Iterator, List, Tuple
 
-from serving.reckoning import drawn_session
+from serving.model import drawn_session
 from serving import ROOT
 from serving.trial import SECONDS, Serve, Trial, expect
 
@@ -33,16 +33,18 @@ ANSWERS = {
 }
 
 
-def compare(data: bytes, wanted: List[str], told: bytes) -> None:
-    lines = told.decode("utf-8", "backslashreplace").split("\n")
-    expect(lines.pop() == "", "the last answer has no end")
+def compare(data: bytes, wanted: List[str], output: bytes) -> None:
+    """Compare the output with the expected answers to these requests."""
+    lines = output.decode("utf-8", "backslashreplace").split("\n")
+    expect(lines.pop() == "", "the last answer has no line end")
     requests = data.split(b"\n")
     for number, (request, want, line) in enumerate(zip(requests, wanted, lines), 1):
-        expect(want == line, f"line {number}, {request[:200]!r}: {line!r}, {want!r} wanted")
-    expect(len(lines) == len(wanted), f"{len(lines)} answers, {len(wanted)} wanted")
+        expect(want == line, f"line {number}, {request[:200]!r}: {line!r}, expected {want!r}")
+    expect(len(lines) == len(wanted), f"{len(lines)} answers, expected {len(wanted)}")
 
 
 def random_pieces(draw: Random, data: bytes) -> Iterator[bytes]:
+    """Yield the data in pieces of random sizes, with pauses."""
     begin = 0
     while begin < len(data):
         size = draw.choice((1, 7, 50, 4000, 65_535, 65_536, 65_537, 200_000, draw.randrange(1, 9000)))
@@ -53,14 +55,14 @@ def random_pieces(draw: Random, data: bytes) -> Iterator[bytes]:
 
 
 def drawn_parts(trial: Trial) -> None:
-    """Sessions of parts; and each part has what the others tell elsewhere."""
+    """Random sessions of parts; each URL has one part; and bad values of --part."""
     trial.want_part()
     for number, words in enumerate(PARTS):
         draw = trial.draw(f"part {number}")
         data, wanted = drawn_session(draw, trial.lines // 4, words, trial.has_link)
         session = Serve(trial.program, words)
         compare(data, wanted, session.exchange(random_pieces(draw, data)))
-        expect(session.end() == (0, ""), "its end is not that of an input that ended")
+        expect(session.end() == (0, ""), "it did not end like at the end of its input")
     one_owner(trial, parts=3)
     for text in ("2/2", "0/0", "1", "1/", "/2", "a/2", "-1/2", "0/257", "0/4294967297", "1/2/3", ""):
         done = subprocess.run(
@@ -71,21 +73,23 @@ def drawn_parts(trial: Trial) -> None:
 
 
 def one_owner(trial: Trial, parts: int) -> None:
-    """A URL is accepted by one part, which all others name."""
+    """Each URL is accepted by one part, and the other parts answer with its number."""
     sessions = [Serve(trial.program, ("--part", f"{part}/{parts}", "--workers", "2")) for part in range(parts)]
     for number in range(200):
         line = f"offer http://h{number % 90}.test/{number}#x".encode()
-        told = [session.ask(line) for session in sessions]
-        owners = [part for part, answer in enumerate(told) if answer.startswith("accepted ")]
-        expect(len(owners) == 1, f"{line!r}: {told}")
+        answers = [session.ask(line) for session in sessions]
+        owners = [part for part, answer in enumerate(answers) if answer.startswith("accepted ")]
+        expect(len(owners) == 1, f"{line!r}: {answers}")
         elsewhere = f"elsewhere {owners[0]} http://h{number % 90}.test/{number}"
-        expect(all(answer == elsewhere for part, answer in enumerate(told) if part != owners[0]), f"{line!r}: {told}")
+        others = [answer for part, answer in enumerate(answers) if part != owners[0]]
+        expect(set(others) == {elsewhere}, f"{line!r}: {answers}")
     for session in sessions:
         expect(session.ask(b"identity") == "identity none", "a part without a log")
         expect(session.end() == (0, ""), "its end")
 
 
 def drawn_sessions(trial: Trial) -> None:
+    """Random sessions, which have every kind of answer."""
     came: Counter[str] = Counter()
     for number, words in enumerate(SETTINGS):
         draw = trial.draw(f"session {number}")
@@ -93,24 +97,25 @@ def drawn_sessions(trial: Trial) -> None:
         came.update(re.sub(r"^(accepted|taken|pending|count) .*", r"\1", line) for line in wanted)
         session = Serve(trial.program, words)
         compare(data, wanted, session.exchange(random_pieces(draw, data)))
-        expect(session.end() == (0, ""), "its end is not that of an input that ended")
-    expect(set(came) == ANSWERS, f"these answers never came: {ANSWERS - set(came)}")
+        expect(session.end() == (0, ""), "it did not end like at the end of its input")
+    expect(set(came) == ANSWERS, f"these answers did not occur: {ANSWERS - set(came)}")
 
 
 def transcript(trial: Trial) -> None:
-    """The session that docs/SESSION.md shows."""
+    """The example session in docs/SESSION.md."""
     trial.want_link()
     text = (ROOT / "docs/SESSION.md").read_text("utf-8")
     shown = re.findall(r"^> (.*)\n(.*?)(?:  .*)?$", text.partition("```text\n")[2].partition("```")[0], re.M)
-    expect(len(shown) > 10, "no transcript")
+    expect(len(shown) > 10, "docs/SESSION.md has no transcript")
     session = Serve(trial.program, ("--workers", "2"))
-    for request, answer in shown:
-        told = session.ask(request.encode())
-        expect(told == answer, f"{request}: {told!r}, {answer!r} shown")
+    for request, wanted in shown:
+        answer = session.ask(request.encode())
+        expect(answer == wanted, f"{request}: {answer!r}, but docs/SESSION.md has {wanted!r}")
     expect(session.end() == (0, ""), "its end")
 
 
 def all_at_once(trial: Trial) -> None:
+    """A session whose input is a file, and whose last line has no line end."""
     data, wanted = drawn_session(trial.draw("at once"), trial.lines, SETTINGS[0], trial.has_link)
     file = trial.folder / "requests"
     file.write_bytes(data.rstrip(b"\r\n"))
@@ -122,7 +127,7 @@ def all_at_once(trial: Trial) -> None:
 
 
 def byte_by_byte(trial: Trial) -> None:
-    """Each answer comes before a byte of the next line is sent."""
+    """Requests byte by byte; each answer comes before the next line begins."""
     data, wanted = drawn_session(trial.draw("bytes"), trial.lines // 20, SETTINGS[3], trial.has_link)
     session = Serve(trial.program, SETTINGS[3])
     for request, want in zip(data.split(b"\n"), wanted):
@@ -132,12 +137,12 @@ def byte_by_byte(trial: Trial) -> None:
         else:
             session.send(request)
         line = session.ask(b"")
-        expect(line == want, f"{request!r}: {line!r}, {want!r} wanted")
+        expect(line == want, f"{request!r}: {line!r}, expected {want!r}")
     expect(session.end() == (0, ""), "its end")
 
 
 def stopped_between(trial: Trial) -> None:
-    """SIGSTOP and SIGCONT, while requests and answers are under way."""
+    """SIGSTOP and SIGCONT while requests and answers are being sent."""
     draw = trial.draw("stop")
     data, wanted = drawn_session(draw, trial.lines, SETTINGS[5], trial.has_link)
     session = Serve(trial.program, SETTINGS[5])
@@ -158,7 +163,7 @@ def stopped_between(trial: Trial) -> None:
     expect(session.end() == (0, ""), "its end")
 
 
-# A client that sends as much as a pipe holds, reads nothing and is killed.
+# A client that fills the pipe, reads nothing and is killed.
 DYING = """
 import os, signal, subprocess, sys
 serve = subprocess.Popen([sys.argv[1], "serve"], stdin=-1, stdout=-1, stderr=subprocess.DEVNULL)
@@ -170,7 +175,7 @@ os.kill(os.getpid(), signal.SIGKILL)
 
 
 def dying_client(trial: Trial) -> None:
-    """A client that dies with unread answers, or in the midst of a line, leaves no process behind."""
+    """A client that dies with unread answers, or in the middle of a line, leaves no process behind."""
     for requests in (b"next 0\n" * 200_000, b"offer http://a.test/\noffer http://a.te", b"offer http://b.test/x" * 100_000):
         words = [sys.executable, "-c", DYING, trial.program]
         done = subprocess.run(words, input=requests, capture_output=True, timeout=SECONDS, check=False)
@@ -178,7 +183,7 @@ def dying_client(trial: Trial) -> None:
         end = time.monotonic() + SECONDS
         while left.exists() and "State:\tZ" not in status_of(left) and time.monotonic() < end:
             time.sleep(0.01)
-        expect(not left.exists() or "State:\tZ" in status_of(left), "it runs on when its client is dead")
+        expect(not left.exists() or "State:\tZ" in status_of(left), "it is still running after its client died")
 
 
 def status_of(process: Path) -> str:
@@ -189,48 +194,48 @@ def status_of(process: Path) -> str:
 
 
 def closed_output(trial: Trial) -> None:
-    """An output that nobody reads, that is closed or that is full ends it with a fault and its line."""
+    """If nobody reads the output, or it is closed or full, the program ends with an error message."""
     session = Serve(trial.program)
     session.ask(b"offer http://a.test/")
     session.stdout.close()
     session.send(b"next 0\n")
-    expect(session.wait() == (1, "mercator: cannot write"), "at an output that nobody reads")
+    expect(session.wait() == (1, "mercator: cannot write"), "if nobody reads the output")
     for redirection in (">&-", "> /dev/full"):
         words = ["sh", "-c", f'echo next 0 | "$0" serve {redirection}', trial.program]
         done = subprocess.run(words, capture_output=True, timeout=SECONDS, check=False)
-        told = (done.returncode, done.stderr.decode())
-        expect(told == (1, "mercator: cannot write\n"), f"{redirection}: {told}")
+        result = (done.returncode, done.stderr.decode())
+        expect(result == (1, "mercator: cannot write\n"), f"{redirection}: {result}")
     done = subprocess.run([trial.program, "serve"], input=b"", capture_output=True, timeout=SECONDS, check=False)
-    expect((done.returncode, done.stdout, done.stderr) == (0, b"", b""), "at an empty input")
+    expect((done.returncode, done.stdout, done.stderr) == (0, b"", b""), "with an empty input")
     done = subprocess.run(["sh", "-c", '"$0" serve <&-', trial.program], capture_output=True, timeout=SECONDS, check=False)
-    expect((done.returncode, done.stderr) == (1, b"mercator: cannot read -\n"), f"at no input: {done.stderr!r}")
+    expect((done.returncode, done.stderr) == (1, b"mercator: cannot read -\n"), f"with a closed input: {done.stderr!r}")
 
 
 def memory(trial: Trial) -> None:
-    """Requests that keep nothing need no memory, however many; a URL needs some hundred bytes."""
-    count = trial.words.requests
+    """Requests that store no URL need no memory, however many there are; a URL needs some hundred bytes."""
+    count = trial.options.requests
     session = Serve(trial.program)
     block = b"offer http://A.test:80/x/../#f\nnext 9\nbad\noffer mailto:x\n" * 250
     before = session.flood(iter([block]), 1000)
     after = session.flood((block for _ in range(count // 1000)), count // 1000 * 1000)
-    expect(after - before < 4_000_000, f"{after - before} bytes for {count} requests that keep nothing")
+    expect(after - before < 4_000_000, f"{after - before} bytes for {count} requests that store no URL")
     expect(session.end() == (0, ""), "its end")
     session = Serve(trial.program)
     before = session.flood(iter([block]), 1000)
     blocks = (b"".join(b"offer http://h%d.test/p/%d\n" % (url % 100, url) for url in range(begin, begin + 1000))
               for begin in range(0, count, 1000))
     after = session.flood(blocks, -(-count // 1000) * 1000)
-    print(f"  {(after - before) // count} bytes for each of {count} URLs of 25 bytes")
+    print(f"  {(after - before) // count} bytes per URL, for {count} URLs of 25 bytes")
     expect(after - before < 600 * count + 4_000_000, f"{after - before} bytes for {count} URLs")
     expect(session.end() == (0, ""), "its end")
 
 
 def long_line(trial: Trial) -> None:
-    """A line of any length has one answer, and needs no memory, with a log or without."""
+    """A line of any length has one answer and needs no memory, with or without a log."""
     for log in ((), ("--log", str(trial.folder / "long.log")))[:1 + trial.has_log]:
         session = Serve(trial.program, log)
         piece = b"offer http://a.test/".ljust(1_000_000, b"a")
-        rest = trial.words.longest
+        rest = trial.options.longest
         session.flood(iter([b"next 0\n" * 10]), 10)
         before = session.memory()
         session.flood((piece[:min(len(piece), rest - sent)] for sent in range(0, rest, len(piece))), 0)
@@ -240,4 +245,4 @@ def long_line(trial: Trial) -> None:
         expect(after - before < 4_000_000, f"{after - before} bytes for a line of {rest}")
         expect(session.end() == (0, ""), "its end")
         if log:
-            expect(Path(log[1]).stat().st_size < 1_000_000, "the log has the whole line")
+            expect(Path(log[1]).stat().st_size < 1_000_000, "the log contains the whole line")

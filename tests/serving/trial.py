@@ -1,4 +1,4 @@
-"""What all parts share: the program over pipes, what it can do, and how much is tried."""
+"""The program over pipes, what it supports, and the settings of the tests."""
 
 from __future__ import annotations
 
@@ -18,15 +18,15 @@ from typing import Callable, Iterator, List, Optional, Sequence, Tuple
 from mercator_frontier import FrontierError
 from serving import ROOT
 
-SECONDS = float(os.environ.get("SECONDS", "120"))  # the time limit of any wait
+SECONDS = float(os.environ.get("SECONDS", "120"))  # the time limit of each wait
 
 
 class Differs(Exception):
-    """The program does not do what it should."""
+    """Raised when the program does not do what it should."""
 
 
 class Skipped(Exception):
-    """The program has not what the part tries."""
+    """Raised when the program, or this machine, lacks what a test needs."""
 
 
 def expect(is_so: bool, text: str) -> None:
@@ -35,16 +35,17 @@ def expect(is_so: bool, text: str) -> None:
 
 
 def expect_error(kind: type, call: Callable[[], object]) -> FrontierError:
+    """Call a function that has to raise an exception of this class, and return the exception."""
     try:
         answer = call()
     except FrontierError as error:
-        expect(type(error) is kind, f"{kind.__name__} wanted: {error!r}")
+        expect(type(error) is kind, f"{kind.__name__} expected: {error!r}")
         return error
-    raise Differs(f"{kind.__name__} wanted: {answer!r}")
+    raise Differs(f"{kind.__name__} expected: {answer!r}")
 
 
 class Serve:
-    """The program, with its input and output as pipes."""
+    """A process of the program, with pipes as its input and output."""
 
     def __init__(self, program: str, words: Sequence[str] = (), size: Optional[int] = None) -> None:
         self.process = subprocess.Popen(
@@ -61,14 +62,14 @@ class Serve:
             view = view[os.write(self.stdin.fileno(), view):]
 
     def lines(self, count: int) -> List[bytes]:
-        """So many lines, which come in time."""
+        """Read `count` lines within the time limit."""
         end = time.monotonic() + SECONDS
         while self.held.count(b"\n") < count:
             ready, _, _ = select.select([self.stdout], [], [], max(0.0, end - time.monotonic()))
-            expect(bool(ready), f"{self.held.count(10)} of {count} answers came in {SECONDS} s")
+            expect(bool(ready), f"only {self.held.count(10)} of {count} answers in {SECONDS} s")
             some = os.read(self.stdout.fileno(), 1 << 20)
             if not some:
-                raise Differs(f"it ended after {self.held[-200:]!r}: {self.told()}")
+                raise Differs(f"it ended after {self.held[-200:]!r}: {self.errors()}")
             self.held += some
         *whole, self.held = self.held.split(b"\n", count)
         return whole
@@ -78,7 +79,7 @@ class Serve:
         return self.lines(1)[0].decode()
 
     def exchange(self, pieces: Iterator[bytes]) -> bytes:
-        """All that it answers to the pieces, up to its end."""
+        """Send the pieces and end the input; return the whole output."""
         def send() -> None:
             for piece in pieces:
                 self.send(piece)
@@ -90,7 +91,7 @@ class Serve:
         return answers
 
     def flood(self, pieces: Iterator[bytes], count: int) -> int:
-        """Sends the pieces, which have so many lines, and reads as many answers; the most memory that it had then."""
+        """Send the pieces, which have `count` lines, and read the answers; return the peak memory after that."""
         def send() -> None:
             for piece in pieces:
                 self.send(piece)
@@ -99,19 +100,20 @@ class Serve:
         while count > 0:
             some = os.read(self.stdout.fileno(), 1 << 20)
             if not some:
-                raise Differs(f"it ended with {count} answers to come: {self.told()}")
+                raise Differs(f"it ended before {count} answers: {self.errors()}")
             count -= some.count(b"\n")
-        expect(count == 0, "it answers more lines than it was asked")
+        expect(count == 0, "it sent more answers than there were requests")
         sender.join(SECONDS)
-        expect(not sender.is_alive(), f"it does not read for {SECONDS} s")
+        expect(not sender.is_alive(), f"it did not read its input for {SECONDS} s")
         return self.memory()
 
-    def told(self) -> str:
+    def errors(self) -> str:
+        """Return what it wrote on standard error."""
         assert self.process.stderr
         return self.process.stderr.read().decode("utf-8", "replace").strip()
 
     def end(self) -> Tuple[int, str]:
-        """Its status, which comes in time, and what it told."""
+        """End the input, and return the exit status and standard error."""
         for pipe in (self.stdin, self.stdout):
             pipe.close()
         return self.wait()
@@ -121,33 +123,34 @@ class Serve:
             status = self.process.wait(SECONDS)
         except subprocess.TimeoutExpired:
             self.process.kill()
-            raise Differs(f"it runs on for {SECONDS} s") from None
-        return status, self.told()
+            raise Differs(f"it did not end within {SECONDS} s") from None
+        return status, self.errors()
 
     def memory(self) -> int:
-        """The most memory that it had, in bytes."""
+        """Return its peak memory in bytes."""
         return int(re.findall(r"VmHWM:\s*(\d+) kB", Path(f"/proc/{self.pid}/status").read_text())[0]) * 1024
 
 
 class Trial:
-    """What all parts have: the program, what it can do, and how much is tried."""
+    """What all tests share: the program, what it supports, the options of the command line, and a temporary folder."""
 
-    def __init__(self, words: argparse.Namespace, folder: Path) -> None:
-        self.words, self.folder = words, folder
-        self.program = program_of(words.program)
-        said = subprocess.run(
+    def __init__(self, options: argparse.Namespace, folder: Path) -> None:
+        self.options, self.folder = options, folder
+        self.program = program_of(options.program)
+        help_text = subprocess.run(
             [self.program, "serve", "--help"], capture_output=True, check=False, stdin=subprocess.DEVNULL
-        )
+        ).stdout
         self.has_log, self.has_sync, self.has_compact, self.has_part = (
-            word in said.stdout for word in (b"--log", b"--sync", b"--compact", b"--part")
+            option in help_text for option in (b"--log", b"--sync", b"--compact", b"--part")
         )
         session = Serve(self.program)
         self.has_link = session.ask(b"again 0") != "bad line"
         session.end()
-        self.lines: int = words.lines
+        self.lines: int = options.lines
 
     def draw(self, name: str) -> Random:
-        return Random(f"{name} of seed {self.words.seed}")
+        """Return a generator of random numbers, which depends on this name and the seed."""
+        return Random(f"{name} of seed {self.options.seed}")
 
     def want_log(self) -> None:
         if not self.has_log:
@@ -162,9 +165,10 @@ class Trial:
             raise Skipped("the program has no `link` and `again`")
 
 
-def program_of(word: Optional[str]) -> str:
-    named = word or os.environ.get("MERCATOR") or str(ROOT / "crates/mercator_cli/out/mercator_cli")
-    found = shutil.which(named)
+def program_of(given: Optional[str]) -> str:
+    """Return the path of the program to test."""
+    path = given or os.environ.get("MERCATOR") or str(ROOT / "crates/mercator_cli/out/mercator_cli")
+    found = shutil.which(path)
     if found is None:
-        sys.exit(f"serve.py: {named} is no program")
+        sys.exit(f"serve.py: {path} is not a program: build it, or give --program or MERCATOR")
     return str(Path(found).resolve())

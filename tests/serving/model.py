@@ -1,4 +1,4 @@
-"""The second reckoning of a session, over that of drawn.py for URLs and the machine."""
+"""An independent model of a session, which uses the models of URLs and of the machine in drawn.py."""
 
 from __future__ import annotations
 
@@ -11,8 +11,8 @@ import drawn
 LINE_LIMIT = 4096
 
 
-class Reckoning:
-    """What a session answers, by the table of requests."""
+class Session:
+    """The answers of a session, by the table of requests in docs/SESSION.md."""
 
     def __init__(
         self, workers: int, most: int, suffix: Optional[str] = None, part: Optional[Tuple[int, int]] = None
@@ -119,11 +119,11 @@ def part_of(text: str) -> Tuple[int, int]:
 
 
 def drawn_session(draw: Random, count: int, words: Sequence[str], has_link: bool) -> Tuple[bytes, List[str]]:
-    """Lines with their ends, and what they are answered."""
+    """Return random request lines with their line ends, and the expected answers."""
     settings = dict(zip(words[::2], words[1::2]))
     workers = int(settings.get("--workers", "4"))
     part = part_of(settings["--part"]) if "--part" in settings else None
-    reckoning = Reckoning(workers, int(settings.get("--max-pending", "1048576")), settings.get("--within"), part)
+    session = Session(workers, int(settings.get("--max-pending", "1048576")), settings.get("--within"), part)
     first = part[0] * workers if part else 0
     hosts = [target for _ in range(12) for target in drawn.drawn_targets(draw, 20)]
     data: List[bytes] = []
@@ -132,7 +132,7 @@ def drawn_session(draw: Random, count: int, words: Sequence[str], has_link: bool
         line = drawn_line(draw, first, workers, has_link, hosts) if len(answers) != count // 2 else b"endseeds"
         end = draw.choice((b"\n", b"\n", b"\n", b"\r\n"))
         try:
-            answers.append(reckoning.answer(line[:-1] if end == b"\n" and line.endswith(b"\r") else line))
+            answers.append(session.answer(line[:-1] if end == b"\n" and line.endswith(b"\r") else line))
         except drawn.NotPlain:
             continue
         data.append(line + end)
