@@ -12,8 +12,8 @@
  * `failed` if there is no response.
  *
  * - It respects robots.txt, and waits between two requests to a host: --delay seconds, or the
- *   Crawl-delay of robots.txt if that is longer. It skips a host whose robots.txt asks for more than
- *   a day, or still cannot be read after three attempts (no response, or a status 5xx).
+ *   Crawl-delay of robots.txt if that is longer. It skips a host whose robots.txt asks for more
+ *   than a day, or still cannot be read after three attempts (no response, or a status 5xx).
  * - It reads at most --largest bytes of a page, in at most SECONDS.
  * - It offers the target of a redirect, and does not follow it.
  * - With --log, it resumes after Ctrl-C, `kill -9` or a crash: run the same command again.
@@ -22,8 +22,8 @@
  * scripts, and decodes numeric and the five most common character references only. The crawler does
  * not ask for compressed pages, keeps no cookies, and does not retry a page.
  *
- * Exit status: 0 no URL is left, 1 the frontier failed, 2 Ctrl-C, or --pages URLs were fetched, 3 bad
- * command line.
+ * Exit status: 0 no URL is left, 1 the frontier failed, 2 Ctrl-C, or --pages URLs were fetched,
+ * 3 bad command line.
  */
 
 import { realpathSync } from 'node:fs';
@@ -46,7 +46,9 @@ const LINKS = new Map([
   ['link', 'href'], ['script', 'src'],
 ]);
 /** Elements whose content has no tags. */
-const RAW = new Set(['iframe', 'noembed', 'noframes', 'script', 'style', 'textarea', 'title', 'xmp']);
+const RAW = new Set([
+  'iframe', 'noembed', 'noframes', 'script', 'style', 'textarea', 'title', 'xmp',
+]);
 const REFERENCES = new Map([['amp', '&'], ['apos', "'"], ['gt', '>'], ['lt', '<'], ['quot', '"']]);
 
 /**
@@ -67,8 +69,7 @@ const REFERENCES = new Map([['amp', '&'], ['apos', "'"], ['gt', '>'], ['lt', '<'
  * @returns {Promise<Reply>}
  */
 export function get(url, agent, largest, isRobots = false) {
-  /** @type {Reply} */
-  const reply = { status: 'failed', type: '', text: '' };
+  const reply = replyOf('failed');
   /** @type {Buffer[]} */
   const parts = [];
   let [size, charset] = [0, 'utf-8'];
@@ -101,6 +102,11 @@ export function get(url, agent, largest, isRobots = false) {
   }).catch(() => reply); // Node refuses the URL
 }
 
+/** @param {string} status @returns {Reply} */
+function replyOf(status) {
+  return { status, type: '', text: '' };
+}
+
 /** @param {Buffer} bytes @param {string} charset */
 function decoded(bytes, charset) {
   try {
@@ -110,8 +116,8 @@ function decoded(bytes, charset) {
   }
 }
 
-/** Servers send UTF-8 in headers, and Node reads Latin-1. @param {string} [text] */
-function inUtf8(text) {
+/** Servers send UTF-8 in headers, and Node reads Latin-1. */
+function inUtf8(/** @type {string | undefined} */ text) {
   const other = text && Buffer.from(text, 'latin1').toString();
   return other?.includes('\ufffd') ? text : other;
 }
@@ -136,8 +142,8 @@ export class Robots {
     }
   }
 
-  /** The longest pattern that matches decides, and `allow` if there are two. @param {string} url */
-  allows(url) {
+  /** The longest pattern that matches decides, and `allow` if there are two. */
+  allows(/** @type {string} */ url) {
     const { pathname, search } = new URL(url);
     const path = escaped(pathname + search);
     let [length, allows] = [-1, true];
@@ -171,14 +177,14 @@ function groupsOf(text) {
   return groups;
 }
 
-/** Escapes in one form, so that they can be compared. @param {string} text */
-function escaped(text) {
+/** The text with its escapes in one form, so that texts can be compared. */
+function escaped(/** @type {string} */ text) {
   return text.replace(/%[0-9a-f]{2}/gi, (escape) => escape.toUpperCase())
     .replace(/[^!-~]/gu, encodeURIComponent);
 }
 
-/** Whether a path matches a pattern with `*` and a `$` at the end. @param {string} path */
-function matches(/** @type {string} */ pattern, path) {
+/** Whether a path matches a pattern with `*`, and `$` at the end. */
+function matches(/** @type {string} */ pattern, /** @type {string} */ path) {
   const isWhole = pattern.endsWith('$');
   const [first, ...rest] = (isWhole ? pattern.slice(0, -1) : pattern).split('*');
   if (!path.startsWith(first)) return false;
@@ -207,7 +213,9 @@ export function linksOf(url, page) {
     const text = attributes.get(LINKS.get(name) ?? '');
     if (text !== undefined) texts.push(text);
     const href = attributes.get('href');
-    if (name === 'base' && href !== undefined && !hasBase) [base, hasBase] = [joined(url, href), true];
+    if (name === 'base' && href !== undefined && !hasBase) {
+      [base, hasBase] = [joined(url, href), true];
+    }
   }
   return { base, texts };
 }
@@ -221,8 +229,8 @@ function joined(base, text) {
   }
 }
 
-/** The start tags of a page. @param {string} page */
-function* tagsOf(page) {
+/** The start tags of a page. */
+function* tagsOf(/** @type {string} */ page) {
   const tag = /<(?:!--|([a-z][^\s/>]*)|[/!?])/gi;
   // No text is read twice, so that a page cannot make this slow.
   for (let found = tag.exec(page); found; found = tag.exec(page)) {
@@ -234,7 +242,8 @@ function* tagsOf(page) {
       continue;
     }
     const name = found[1].toLowerCase();
-    const attribute = /[\s/]*(?:(>)|(=?[^\s/>=]*)(?:\s*=\s*(?:"([^"]*)"?|'([^']*)'?|([^\s>]*)))?)/gy;
+    const attribute =
+      /[\s/]*(?:(>)|(=?[^\s/>=]*)(?:\s*=\s*(?:"([^"]*)"?|'([^']*)'?|([^\s>]*)))?)/gy;
     attribute.lastIndex = tag.lastIndex;
     const attributes = new Map();
     for (let part = attribute.exec(page); ; part = attribute.exec(page)) {
@@ -275,8 +284,8 @@ class Hosts {
     this.settings = settings;
   }
 
-  /** Fetches a URL if its host allows it. @param {string} url @returns {Promise<Reply>} */
-  async visit(url) {
+  /** Fetches a URL if its host allows it. */
+  async visit(/** @type {string} */ url) {
     const { agent, delay, largest } = this.settings;
     const { origin, hostname } = new URL(url);
     let site = this.#sites.get(origin);
@@ -285,20 +294,19 @@ class Hosts {
       site = { robots, delay: Math.max(delay, robots?.delay ?? 0) };
       this.#sites.set(origin, site);
     }
-    if (!site.robots) return { status: 'no-robots', type: '', text: '' };
-    // The delay is not a number if that of robots.txt is none.
-    if (!(site.delay <= DAY && site.robots.allows(url))) return { status: 'robots', type: '', text: '' };
-    return this.#get(url, hostname, site.delay, () => get(url, agent, largest));
+    if (!site.robots) return replyOf('no-robots');
+    // The delay may not be a number: then the site is skipped, too.
+    if (!(site.delay <= DAY && site.robots.allows(url))) return replyOf('robots');
+    return this.#get(hostname, site.delay, url, agent, largest);
   }
 
-  /** The robots.txt of a site, or null if it cannot be read. @param {string} origin */
-  async #robotsOf(origin, /** @type {string} */ hostname) {
+  /** The robots.txt of a site, or null if it cannot be read. */
+  async #robotsOf(/** @type {string} */ origin, /** @type {string} */ hostname) {
     const { agent, delay } = this.settings;
     for (let attempt = 0; attempt < 3; attempt += 1) {
       let url = `${origin}/robots.txt`;
       for (let hop = 0; hop < 6; hop += 1) {
-        const robots = url;
-        const reply = await this.#get(url, hostname, delay, () => get(robots, agent, ROBOTS_BYTES, true));
+        const reply = await this.#get(hostname, delay, url, agent, ROBOTS_BYTES, true);
         if (reply.target === undefined) {
           if (/^[2-4]/.test(reply.status)) return new Robots(reply.text, agent);
           break;
@@ -310,17 +318,16 @@ class Hosts {
   }
 
   /**
-   * Fetches after the delay since the last request to the host.
+   * Fetches a URL after the delay since the last request to its host.
    *
-   * @param {string} url
-   * @param {string} hostname
+   * @param {string} hostname the host whose delay it is: not that of the URL after a redirect
    * @param {number} delay
-   * @param {() => Promise<Reply>} fetchIt
+   * @param {Parameters<typeof get>} request
    */
-  async #get(url, hostname, delay, fetchIt) {
+  async #get(hostname, delay, ...request) {
     await sleep(Math.max(0, (this.#next.get(hostname) ?? 0) - Date.now()));
     try {
-      return await fetchIt();
+      return await get(...request);
     } finally {
       this.#next.set(hostname, Date.now() + 1000 * delay);
     }
@@ -334,10 +341,18 @@ function settingsOf(words) {
     args: words,
     allowPositionals: true,
     options: {
-      workers: text, within: text, log: text, delay: text, largest: text, pages: text, agent: text, program: text,
+      workers: text,
+      within: text,
+      log: text,
+      delay: text,
+      largest: text,
+      pages: text,
+      agent: text,
+      program: text,
     },
   });
-  const number = (/** @type {'workers' | 'delay' | 'largest' | 'pages'} */ name, /** @type {number} */ other) => {
+  /** @param {'workers' | 'delay' | 'largest' | 'pages'} name @param {number} other */
+  const number = (name, other) => {
     const value = Number(values[name] ?? other);
     if (!(value >= 0)) throw new RangeError(`--${name} requires a number`);
     return value;
@@ -383,8 +398,9 @@ async function crawl(settings) {
     const offers = await frontier.offerAll(settings.seeds);
     offers.forEach((offer, i) => {
       // A crawl that resumes has seen its seeds, or is over.
-      if (offer.accepted || ['seen', 'refused full', 'refused closed'].includes(offer.reason)) return;
-      console.error(`crawl_http: ${settings.seeds[i]}: ${offer.reason}`);
+      if (!offer.accepted && !['seen', 'refused full', 'refused closed'].includes(offer.reason)) {
+        console.error(`crawl_http: ${settings.seeds[i]}: ${offer.reason}`);
+      }
     });
     await frontier.endSeeds();
     await Promise.all(Array.from({ length: frontier.workers }, (_, queue) => work(queue)));

@@ -147,11 +147,11 @@ class Channel {
 /** A frontier that runs as a process, with one queue per worker. `Frontier.open` starts one. */
 export class Frontier {
   #channel;
-  /** Who waits in each queue. @type {{ask: () => void, fail: (error: Error) => void}[][]} */
+  /** @type {{ask: () => void, fail: (error: Error) => void}[][]} who waits in each queue */
   #waiting;
-  /** What was in progress when the log ended. @type {Map<number, string>} */
+  /** @type {Map<number, string>} what was in progress when the log ended */
   #resumed = new Map();
-  /** Requests that were refused for lack of room. @type {string[]} */
+  /** @type {string[]} requests that were refused for lack of room */
   #kept = [];
   #mayHaveRoom = false;
   /** @type {Promise<void> | undefined} */
@@ -230,7 +230,7 @@ export class Frontier {
   take(queue) {
     return new Promise((resolve, reject) => {
       this.#check(queue);
-      const ask = () => {
+      const ask = /** @type {() => void} */ (() => {
         // The crawl must not end while URLs that were refused are offered again.
         if (this.#offering) return void this.#offering.then(ask);
         this.#channel.send([`next ${queue}`], (answer) => {
@@ -241,7 +241,7 @@ export class Frontier {
           // have been read already, may be the one that ends the wait.
           this.#waiting[queue].push({ ask, fail: reject });
         }, reject);
-      };
+      });
       const url = this.#resumed.get(queue);
       this.#resumed.delete(queue);
       if (url === undefined) ask(); else resolve(url);
