@@ -1,11 +1,12 @@
 #!/usr/bin/env python3
-"""Tries every interleaving of a worker that rests and of others that push and ring, and looks for a ring that is lost.
+"""Try every interleaving of a worker that rests and of others that push URLs and ring its bell, to find lost wake-ups.
 
 Usage: bell_model.py
 
-The steps are those of `rest`, `await_ring` and `ring` in crates/crawl_frontier/src/subqueue.rt, each atomic and `SeqCst`. A
-ring is lost where the worker sleeps, a URL waits, and nobody has a step left: only the limit of the sleep would end it.
-The model has to find none, and has to find one in each body that is known to be wrong. It ends with status 1 otherwise.
+The steps are those of `rest`, `await_ring` and `ring` in crates/crawl_frontier/src/subqueue.rt; each is atomic and
+`SeqCst`. A ring is lost if the worker sleeps, a URL waits, and nobody has a step left, so that only the time limit of the
+sleep would end it. There must be no lost ring with the code as it is, and one in each mutant. The last line is
+`N passed, M failed`; the exit status is 1 if any failed.
 """
 import sys
 from dataclasses import dataclass, replace
@@ -13,22 +14,22 @@ from typing import Iterator, Tuple
 
 QUIET, AWAITED, ASLEEP = "quiet", "awaited", "asleep"
 
-# What the worker does next. A look takes a URL that waits; `load` begins a rest, and what the bell holds decides.
+# The next step of the worker. `look` takes a waiting URL; `load` begins a rest, and the value of the bell decides.
 LOOK, LOAD, AWAIT, SPIN, SHUT, PARK, SLEEP = "look", "load", "await", "spin", "shut", "park", "sleep"
 
-# What one who pushes does next.
+# The next step of one that pushes.
 PUSH, PEEK, SWAP, WAKE, DONE = "push", "peek", "swap", "wake", "done"
 
 
 @dataclass(frozen=True)
 class Form:
-    """The body that is tried: by default the one in the sources."""
+    """The code to try, or a mutant of it; the default is that of the sources."""
 
-    looks_again: bool = True  # the first rest returns, so that a look comes after the bell is awaited
-    exchanges: bool = True  # falling asleep is an exchange, which fails where the bell rang; else a plain store
-    returns: bool = True  # what falls asleep returns, so that a look comes before the sleep
+    looks_again: bool = True  # the first rest returns, so the worker looks after it has set the bell to awaited
+    exchanges: bool = True  # falling asleep is an exchange, which fails if the bell rang; otherwise it is a store
+    returns: bool = True  # falling asleep returns, so the worker looks before it sleeps
     pushes_first: bool = True  # the push comes before the ring
-    wakes: bool = True  # a ring wakes the worker where the bell said that it may be asleep
+    wakes: bool = True  # a ring wakes the worker if it may be asleep according to the bell
 
 
 @dataclass(frozen=True)
@@ -56,7 +57,7 @@ def worker_steps(form: Form, now: State) -> Iterator[State]:
     elif now.worker == SHUT:
         falls_asleep = now.bell == AWAITED or not form.exchanges
         yield replace(now, bell=ASLEEP if falls_asleep else now.bell, worker=LOOK if form.returns else PARK)
-    elif now.worker == PARK:  # the kernel sleeps only where the bell says so
+    elif now.worker == PARK:  # the kernel only sleeps if the bell is asleep
         yield replace(now, worker=SLEEP if now.bell == ASLEEP else LOOK)
 
 
@@ -68,7 +69,7 @@ def pusher_steps(form: Form, now: State, number: int) -> Iterator[State]:
         return replace(now, pushers=pushers, **changes)
 
     def after(**changes: object) -> State:
-        """The push and its ring are over."""
+        """Return the state after the push and its ring."""
         waiting = now.waiting + (not form.pushes_first)
         first = PUSH if form.pushes_first else PEEK
         return at(first if left > 1 else DONE, left - 1, waiting=waiting, **changes)
@@ -85,7 +86,7 @@ def pusher_steps(form: Form, now: State, number: int) -> Iterator[State]:
 
 
 def explore(form: Form, pushers: int, pushes: int) -> Tuple[int, int]:
-    """How many states there are, and in how many a ring is lost."""
+    """Return the number of states, and the number of states in which a ring is lost."""
     first = PUSH if form.pushes_first else PEEK
     start = State(QUIET, 0, LOOK, ((first, pushes),) * pushers)
     seen = {start}
@@ -99,7 +100,7 @@ def explore(form: Form, pushers: int, pushes: int) -> Tuple[int, int]:
         if not after and now.waiting:
             lost += 1
         if now.worker == SLEEP:
-            after.append(replace(now, worker=LOOK))  # the limit of the sleep
+            after.append(replace(now, worker=LOOK))  # the time limit of the sleep
         for state in after:
             if state not in seen:
                 seen.add(state)
@@ -108,8 +109,8 @@ def explore(form: Form, pushers: int, pushes: int) -> Tuple[int, int]:
 
 
 WRONG = {
-    "rests without a look after it awaits": Form(looks_again=False, returns=False),
-    "overwrites a ring as it falls asleep": Form(exchanges=False, returns=False),
+    "rests without a look after the bell is awaited": Form(looks_again=False, returns=False),
+    "overwrites a ring when it falls asleep": Form(exchanges=False, returns=False),
     "rings before it pushes": Form(pushes_first=False),
     "wakes nobody": Form(wakes=False),
 }
@@ -126,10 +127,10 @@ def main() -> int:
 
     for pushers, pushes in ((1, 4), (2, 3), (3, 2)):
         states, lost = explore(Form(), pushers, pushes)
-        tell(lost == 0, f"{pushers} that push {pushes} times each: {states} states, {lost} lost rings")
+        tell(lost == 0, f"{pushers} threads that push {pushes} times each: {states} states, {lost} lost rings")
     for name, form in WRONG.items():
         states, lost = explore(form, 2, 2)
-        tell(lost > 0, f"{name}: {states} states, {lost} lost rings")
+        tell(lost > 0, f"mutant that {name}: {states} states, {lost} lost rings")
     print(f"{passed} passed, {failed} failed")
     return 1 if failed else 0
 

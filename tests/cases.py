@@ -1,7 +1,7 @@
 #!/usr/bin/env python3
-"""Runs the commands that documents show, and compares what they print.
+"""Run the commands that documents show, and compare what they print.
 
-A document has the marks of Markdown: prose, inputs and commands.
+A document is Markdown with prose, inputs and commands:
 
     ```text page.web
     savedweb 1
@@ -14,31 +14,39 @@ A document has the marks of Markdown: prose, inputs and commands.
     ok 0 0 http://a.test/
     total 1 ok 1 missing 0
 
-    # Bytes that no text block can hold come by `printf`.
+    # Bytes that a text block cannot contain come from `printf`.
     $ printf 'savedweb 1\\r' | mercator crawl - http://a.test/
     ! mercator: saved web: bad header
     [status 1]
     ```
 
 - A block whose tag has a second word is an input: a file of that name.
-- A block with the tag `console` has commands, `$ ` before each and `> `
-  before each further line of one. Bash runs those of a document in order,
-  with pipefail, in a new folder with its inputs and the repository's
-  `crates`, `examples` and `tools`. `mercator` is the built program, or what
-  PROGRAM names. A command that takes more than a minute is ended.
-- Below a command stand its standard output, its standard error with `! `
-  before each line, and `[status N]` where N is not 0. `[as FILE]` stands for
-  the bytes of that file, and `[no line end]` follows an output without a last
-  LF. An output's line that begins like one of these marks has a `\\` before.
-- A line that begins with `# `, and empty lines above it, belong to no answer.
+- A block with the tag `console` has commands. Each begins with `$ `, and
+  its further lines with `> `. Bash runs the commands of a document in
+  order, with pipefail, in a new folder that has the inputs and the
+  repository's `crates`, `examples` and `tools`. A command that takes longer
+  than a minute, or than --seconds, is ended.
+- Below a command is its answer: its standard output, its standard error with
+  `! ` before each line, and `[status N]` if N is not 0. `[as FILE]` means the
+  bytes of that file, and `[no line end]` follows an output whose last line
+  does not end in LF. If a line of output begins like one of these marks, it
+  has a `\\` before it.
+- A line that begins with `# ` is a sentence. It belongs to no answer, and
+  neither do the empty lines above it. If the sentence ends with `(slow)`,
+  --quick leaves out the commands below it, up to the next sentence.
 
-Without names it runs tests/cases/*.txt, README.md, and in docs MANUAL.md,
-FORMATS.md and GUIDE.md. It prints how each answer differs, at last `N passed,
-M failed`, and ends with status 1 where any failed or nothing ran.
+Usage: cases.py [--quick] [--seconds N] [FILE]..
+
+Without FILE it runs tests/cases/*.txt, README.md, and in docs MANUAL.md,
+FORMATS.md and GUIDE.md. `mercator` is the built program, or the file that
+the environment variable PROGRAM names. It prints a diff for each answer that
+differs, and on the last line `N passed, M failed`. The exit status is 1 if
+anything failed or nothing ran.
 """
 
 from __future__ import annotations
 
+import argparse
 import difflib
 import os
 import re
@@ -53,34 +61,37 @@ ROOT = Path(__file__).resolve().parent.parent
 BUILT = ROOT / "crates/mercator_cli/out/mercator_cli"
 DOCUMENTS = ("README.md", "docs/MANUAL.md", "docs/FORMATS.md", "docs/GUIDE.md")
 LINKED = ("crates", "examples", "tools")
-SHELL = ("timeout", "-k", "1", "60", "bash", "-o", "pipefail", "-c")
+SECONDS = 60
 BLOCK = re.compile(r"^```(\S+)(?: (\S+))?\n(.*?)^```$", re.M | re.S)
 CASE = re.compile(r"""
     ^\$\ (?P<command>.*\n(?:>\ .*\n)*)
     (?P<answer>(?:(?!\$\ |\#\ ).*\n)*?)
     \n*(?=^\$\ |^\#\ |\Z)
 """, re.M | re.X)
-BESIDE = re.compile(r"(?:(?:# .*)?\n)*")
+SENTENCE = re.compile(r"^# .*$", re.M)
+SENTENCES = re.compile(r"(?:(?:# .*)?\n)*")
+SLOW = "(slow)"
 AS = re.compile(r"^\[as (\S+)\]\n", re.M)
 
 
 class Case(NamedTuple):
-    """A command, its answer, and where that stands."""
+    """A command, its answer, its location, and whether it is slow."""
 
-    place: str
+    location: str
     command: str
     answer: str
+    slow: bool
 
 
 class Document(NamedTuple):
-    """A document's inputs by their names, and its commands."""
+    """The inputs of a document by their names, and its commands."""
 
     inputs: dict[str, str]
     cases: list[Case]
 
 
 def read(path: Path) -> Document:
-    """What a document shows."""
+    """Read the inputs and commands of a document."""
     text = path.read_text("utf-8")
     document = Document({}, [])
     for block in BLOCK.finditer(text):
@@ -91,22 +102,24 @@ def read(path: Path) -> Document:
         if name:
             document.inputs[name] = body
         elif tag == "console":
-            if not BESIDE.fullmatch(CASE.sub("", body)):
-                sys.exit(f"{path}:{above}: an answer to no command")
+            if not SENTENCES.fullmatch(CASE.sub("", body)):
+                sys.exit(f"{path}:{above}: an answer without a command")
             document.cases.extend(cases_of(path, above, body))
     return document
 
 
 def cases_of(path: Path, above: int, body: str) -> Iterator[Case]:
-    """The cases of a block that has so many lines above it."""
+    """Read the cases of a block that has ABOVE lines above it."""
     for case in CASE.finditer(body):
         line = above + 1 + body.count("\n", 0, case.start())
         command = re.sub("^> ", "", case["command"], flags=re.M)
-        yield Case(f"{path}:{line}", command, case["answer"])
+        sentences = SENTENCE.findall(body, 0, case.start())
+        slow = bool(sentences) and sentences[-1].endswith(SLOW)
+        yield Case(f"{path}:{line}", command, case["answer"], slow)
 
 
 def shown(output: bytes, mark: str = "") -> str:
-    """An output's lines, with the mark before each, as an answer has them."""
+    """Return an output as an answer has it, with the mark before each line."""
     text = output.decode("utf-8", "backslashreplace").replace("\r", "\\r")
     if not mark:
         text = re.sub(r"^(?=[!\[\\]|[$#>] )", r"\\", text, flags=re.M)
@@ -116,11 +129,12 @@ def shown(output: bytes, mark: str = "") -> str:
                    for line in lines)
 
 
-def run(document: Document, commands: str) -> list[str]:
-    """How each case is answered otherwise; an empty text where it is not."""
+def run(document: Document, commands: str, seconds: int) -> list[str]:
+    """Run the cases. Return a diff for each, empty if its answer is right."""
     path = f"{commands}:{os.environ['PATH']}"
     environment = {"LC_ALL": "C", "PATH": path}
-    told = []
+    shell = ["timeout", "-k1", str(seconds), "bash", "-o", "pipefail", "-c"]
+    differences = []
     with tempfile.TemporaryDirectory() as folder:
         for name, text in document.inputs.items():
             Path(folder, name).write_text(text, "utf-8")
@@ -128,47 +142,66 @@ def run(document: Document, commands: str) -> list[str]:
             Path(folder, name).symlink_to(ROOT / name)
         for case in document.cases:
             done = subprocess.run(
-                [*SHELL, case.command], cwd=folder, env=environment,
+                [*shell, case.command], cwd=folder, env=environment,
                 stdin=subprocess.DEVNULL, capture_output=True, check=False,
             )
             answer = shown(done.stdout) + shown(done.stderr, "! ")
             if done.returncode:
                 answer += f"[status {done.returncode}]\n"
-            wanted = AS.sub(lambda it: lines_of(folder, it), case.answer)
-            told.append(difference(case, wanted, answer))
-    return told
+            expected = AS.sub(lambda it: lines_of(folder, it), case.answer)
+            differences.append(difference(case, expected, answer))
+    return differences
 
 
 def lines_of(folder: str, mark: re.Match[str]) -> str:
-    """What `[as FILE]` stands for; itself, where there is no such file."""
+    """Return the lines of FILE for `[as FILE]`, or the mark without FILE."""
     path = Path(folder, mark[1])
     return shown(path.read_bytes()) if path.is_file() else mark[0]
 
 
-def difference(case: Case, wanted: str, answer: str) -> str:
-    """A diff from the wanted answer to the one that came."""
+def difference(case: Case, expected: str, answer: str) -> str:
+    """Return a diff from the expected answer to the answer, or nothing."""
+    if expected == answer:
+        return ""
     lines = difflib.unified_diff(
-        wanted.splitlines(), answer.splitlines(),
-        case.place, "answered", lineterm="", n=9,
+        expected.splitlines(), answer.splitlines(),
+        case.location, "printed", lineterm="", n=9,
     )
-    return "" if wanted == answer else "\n".join(["$ " + case.command, *lines])
+    return "\n".join(["$ " + case.command, *lines])
 
 
 def main() -> None:
-    """Runs the documents that are named, or all."""
+    parser = argparse.ArgumentParser(
+        description="Run the commands that documents show.",
+        epilog="The first lines of cases.py describe a document.",
+    )
+    parser.add_argument("--quick", action="store_true",
+                        help="leave out the commands that are marked as slow")
+    parser.add_argument("--seconds", metavar="N", type=int, default=SECONDS,
+                        help="time limit of a command [default: %(default)s]")
+    parser.add_argument("files", metavar="FILE", nargs="*", type=Path,
+                        help="document to run [default: all]")
+    arguments = parser.parse_args()
     program = Path(os.environ.get("PROGRAM", BUILT)).resolve()
     if not program.is_file():
-        sys.exit(f"{program} is not there: `rt ci`, or `rt run -- --help` in"
-                 " crates/mercator_cli, builds it")
-    own = [*sorted(ROOT.glob("tests/cases/*.txt")),
-           *(ROOT / name for name in DOCUMENTS)]
-    paths = [Path(name) for name in sys.argv[1:]] or own
+        sys.exit(f"cases.py: there is no {program}: set PROGRAM to the path"
+                 " of a program, such as tools/unproved.sh prints")
+    paths = arguments.files or [*sorted(ROOT.glob("tests/cases/*.txt")),
+                                *(ROOT / name for name in DOCUMENTS)]
     documents = [read(path) for path in paths]
+    if arguments.quick:
+        slow = sum(case.slow for it in documents for case in it.cases)
+        print(f"left out: {slow} slow commands")
+        documents = [
+            Document(it.inputs, [case for case in it.cases if not case.slow])
+            for it in documents
+        ]
     with tempfile.TemporaryDirectory() as commands:
         Path(commands, "mercator").symlink_to(program)
         with ThreadPoolExecutor(os.cpu_count()) as pool:
-            told = pool.map(lambda it: run(it, commands), documents)
-            differences = [text for texts in told for text in texts]
+            done = pool.map(
+                lambda it: run(it, commands, arguments.seconds), documents)
+            differences = [text for texts in done for text in texts]
     failed = [text for text in differences if text]
     print(*failed, sep="\n\n", end="\n\n" if failed else "")
     print(f"{len(differences) - len(failed)} passed, {len(failed)} failed")

@@ -1,24 +1,23 @@
 #!/usr/bin/env python3
-"""Tries every interleaving of the protocol by which K frontiers share a crawl over Redis.
+"""Try every interleaving of the protocol by which K frontiers share a crawl over Redis.
 
-Usage: cluster_model.py [--all] [-v] [naive|own|faults|loss]..
+The protocol is that of `clients/python/mercator_cluster.py`. The sites are small: a few URLs, each
+with its part and its links. Every reachable state is tried: each step of each part, crashes,
+entries that arrive twice, commands of dead clients that arrive late or never, and losses of data in
+Redis.
 
-The protocol is that of `clients/python/mercator_cluster.py`. A web is small: some URLs, each with
-its part and its links. Every state that can come is tried: each step of each part, crashes, entries
-that come twice, commands of dead clients that come late or never, and losses of what Redis holds.
+    own     no URL is lost: in no state does the crawl look complete, or is recorded as complete, or
+            is a gate closed before all URLs are fetched; and from each state, ordinary steps lead
+            to the end
+    faults  each of the bugs that are planted in the protocol is found
+    loss    like `own`, while Redis loses its last entries or all of them
+    naive   a single counter of pending URLs, in three variants, fails in each; prints short traces
 
-    own     no URL is lost: in no state the crawl looks or is called complete, or a gate is closed,
-            before all is fetched; and from each state the end is reached by ordinary steps alone
-    faults  each of the faults that are planted in the protocol is found
-    loss    `own`, while Redis loses its last entries, or all
-    naive   one counter of what is pending, in three readings: each is wrong; the shortest traces
+Without --all, the script takes about two minutes. The last line is `N passed, M failed`.
 
---all tries larger webs too, with millions of states, which take hours and gigabytes; without, it is
-some two minutes. -v prints the traces of planted faults. At last it prints `N passed, M failed`.
-
-Not in the model: two pages in hand of one part, a log that loses its end, a URL that is forgotten
-to have been sent. What changes only a client's memory is done at once: a crash before it and one
-after it are the same.
+The model does not include two pages in progress in one part, a log that loses its end, and a client
+that forgets that it sent a URL. Steps that change only the memory of a client happen together with
+the step before, because a crash before such a step has the same effect as a crash after it.
 """
 
 from __future__ import annotations
@@ -32,9 +31,9 @@ from array import array
 from typing import Any, Dict, Iterator, List, NamedTuple, Optional, Protocol, Tuple
 
 Urls = Tuple[int, ...]
-# Texts that are to be sent, by part.
+# The URLs that are to be sent, by part.
 Outbox = Tuple[Tuple[int, Urls], ...]
-# What a step is, its kind (step, crash, double, late, loss), and the state after it.
+# The description of a step, its kind (step, crash, double, late, loss), and the state after it.
 Step = Tuple[str, str, Any]
 
 
@@ -49,7 +48,7 @@ class Web(NamedTuple):
     room: Optional[int]
 
     def reached(self) -> int:
-        """The URLs that are to be fetched, as bits."""
+        """Return the URLs that have to be fetched, as bits."""
         found: Dict[int, None] = {}
         rest = [url for seeds in self.seeds for url in seeds]
         while rest:
@@ -61,7 +60,10 @@ class Web(NamedTuple):
 
 
 def web(name: str, links: str, seeds: str, room: Optional[int] = None) -> Web:
-    """`links` is such as "a0:b0,a1 b0: a1:a0", a letter for the part; `seeds` such as "a:a0"."""
+    """Return a site from texts such as "a0:b0,a1 b0: a1:a0" for links and "a:a0" for seeds.
+
+    The letter of a URL is its part.
+    """
     pages = [item.partition(":") for item in links.split()]
     names = tuple(page for page, _, _ in pages)
     linked = tuple(tuple(names.index(url) for url in to.split(",") if url) for _, _, to in pages)
@@ -77,17 +79,17 @@ def web(name: str, links: str, seeds: str, room: Optional[int] = None) -> Web:
 
 
 class Frontier(NamedTuple):
-    """What a log says. Each request is one step, in the log before it is answered."""
+    """The state that a log describes. Each request is one step, and first goes to the log."""
 
-    queue: Urls = ()  # that wait
-    hand: int = -1  # the URL that is being fetched, or -1
+    queue: Urls = ()  # the URLs that wait
+    hand: int = -1  # the URL in progress, or -1
     done: int = 0  # as bits
-    seen: int = 0
-    sent: int = 0  # URLs of other parts that were offered here: their offers stand in the log, too
-    ended: int = 0  # `endseeds` was asked
+    seen: int = 0  # as bits
+    sent: int = 0  # the URLs of other parts that were offered here and so are in the log, as bits
+    ended: int = 0  # whether `endseeds` was requested
 
     def is_quiet(self) -> bool:
-        """`next` answers `pending 1`, or `closed` where the seeds are ended."""
+        """Return whether `next` is answered by `pending 1`, or by `closed` after `endseeds`."""
         return not self.queue and self.hand < 0
 
     def is_closed(self) -> bool:
@@ -106,7 +108,7 @@ class Frontier(NamedTuple):
 
 
 class Lost(Exception):
-    """A URL was refused by a closed gate before it was ever accepted."""
+    """Raised when a closed gate refuses a URL that was never accepted."""
 
 
 def put(outbox: Outbox, to: int, url: int) -> Outbox:
@@ -117,7 +119,7 @@ def put(outbox: Outbox, to: int, url: int) -> Outbox:
 
 
 def without(outbox: Outbox, to: int, urls: Urls) -> Outbox:
-    """What is left when one entry has sent these, whoever waited for them."""
+    """Return what is left after one entry has sent these URLs, for all that waited for them."""
     left = ((part, tuple(u for u in some if part != to or u not in urls)) for part, some in outbox)
     return tuple((part, some) for part, some in left if some)
 
@@ -126,17 +128,17 @@ def without(outbox: Outbox, to: int, urls: Urls) -> Outbox:
 
 
 class Client(NamedTuple):
-    """What a client remembers, which a crash takes."""
+    """The memory of a client, which a crash loses."""
 
     cursor: int = 0  # the last id that was read
-    begun: int = 0  # it has sent its seeds, and what its log was to send
-    reading: Tuple[Any, ...] = ()  # an entry: its id, the URLs to be offered, what it brought
-    offered: Urls = ()  # ids of entries that are done with, and not yet removed
-    page: Tuple[Any, ...] = ()  # the links to be offered, and what is to be sent
-    wire: Urls = ()  # ids whose removal is under way
-    told: int = 0  # URLs that it has sent, as bits: they are not sent again
-    looked: int = 0  # for a planted fault: how many streams were found empty
-    aside: Tuple[Any, ...] = ()  # for a planted fault: what was being read
+    begun: int = 0  # whether it has sent its seeds, and the URLs in its log for other parts
+    reading: Tuple[Any, ...] = ()  # an entry: its id, the URLs to offer, the URLs to send
+    offered: Urls = ()  # the ids of finished entries that are not yet removed
+    page: Tuple[Any, ...] = ()  # the links to offer, and the URLs to send
+    wire: Urls = ()  # the ids whose removal was sent and not yet executed
+    told: int = 0  # the URLs that it has sent, as bits: they are not sent again
+    looked: int = 0  # for a planted bug: the number of streams that were found empty
+    aside: Tuple[Any, ...] = ()  # for a planted bug: the entry that was being read
 
 
 class Part(NamedTuple):
@@ -150,13 +152,13 @@ class State(NamedTuple):
     complete: int
     parts: Tuple[Part, ...]
     late: Tuple[Tuple[int, Tuple[Any, ...]], ...]  # commands of dead clients
-    crashes: int  # so many may still happen
+    crashes: int  # how many may still happen
     doubles: int
     losses: int
 
 
 class Tried(Protocol):
-    """What the search tries."""
+    """A protocol that the search can try."""
 
     def first(self) -> Any: ...
 
@@ -168,7 +170,7 @@ class Tried(Protocol):
 
 
 class Own:
-    """The protocol, maybe with a planted fault."""
+    """The protocol, with or without a planted bug."""
 
     def __init__(
         self, of: Web, crashes: int = 1, doubles: int = 1, losses: int = 0,
@@ -186,15 +188,15 @@ class Own:
         return State(streams, 0, 0, parts, (), self.crashes, self.doubles, self.losses)
 
     def started(self, frontier: Frontier) -> Client:
-        """What a client knows when it starts: what `again` says."""
-        told = frontier.sent if self.fault == "takes what its log has for sent" else 0
+        """Return the memory of a client at its start, which has the answer to `again`."""
+        told = frontier.sent if self.fault == "assumes that the URLs in its log were sent" else 0
         page = (self.web.links[frontier.hand], ()) if frontier.hand >= 0 else ()
         return Client(page=page, told=told)
 
-    # ---- what has to hold
+    # ---- what must hold
 
     def is_complete(self, state: State) -> bool:
-        """What one transaction looks at."""
+        """Return whether a transaction finds the crawl complete."""
         return state.ready == self.everyone and not any(state.streams)
 
     def bad(self, state: State) -> Optional[str]:
@@ -206,11 +208,11 @@ class Own:
         if done == self.all:
             return None
         if state.complete:
-            return "called complete before all was fetched"
+            return "recorded as complete before all URLs were fetched"
         if self.is_complete(state) and self.fault != "looks at the streams one by one":
-            return "looks complete before all was fetched"
+            return "looks complete before all URLs were fetched"
         if any(part.frontier.is_closed() for part in state.parts):
-            return "a gate closed before all was fetched"
+            return "a gate closed before all URLs were fetched"
         return None
 
     def is_end(self, state: State) -> bool:
@@ -222,7 +224,7 @@ class Own:
 
     @staticmethod
     def add(state: State, to: int, urls: Urls) -> State:
-        """XADD: the new id is above all that anyone remembers of this stream."""
+        """XADD: the new id is greater than all ids of this stream that anyone remembers."""
         ids = [entry[0] for entry in state.streams[to]] + [0]
         for part, command in state.late:
             if part == to and command[0] == "del":
@@ -240,7 +242,7 @@ class Own:
         return state._replace(streams=state.streams[:part] + (kept,) + state.streams[part + 1:])
 
     def begin(self, state: State, me: int, sent: int) -> State:
-        """What the log was to send goes to the others, the seeds to the own stream."""
+        """Send the URLs in the log that belong to other parts, and the seeds to the own stream."""
         for to in range(self.count):
             its = (url for url, part in enumerate(self.web.part) if part == to)
             urls = tuple(url for url in its if sent >> url & 1)
@@ -263,7 +265,7 @@ class Own:
         return state._replace(complete=1)
 
     def execute(self, state: State, part: int, command: Tuple[Any, ...]) -> State:
-        """A command of a client that is no more."""
+        """Execute a command of a dead client."""
         if command[0] == "del":
             return self.remove(state, part, command[1])
         if command[0] == "add":
@@ -311,22 +313,22 @@ class Own:
         if answer == "closed" and not frontier.seen >> url & 1:
             raise Lost(f"part {me}: offer {self.names((url,))} -> refused closed")
         if not self.losses:
-            after = after._replace(sent=0)  # the log has it, but nobody will ask for it
+            after = after._replace(sent=0)  # it is in the log, but will not be needed
         return answer, after
 
     def is_for_memory(self, me: int, frontier: Frontier, url: int) -> bool:
-        """An offer that changes nothing in the frontier."""
+        """Return whether an offer changes nothing in the frontier."""
         if self.web.room is not None:
             return False
         return bool(frontier.seen >> url & 1) if self.web.part[url] == me else not self.losses
 
     def brought(self, outbox: Outbox, me: int, client: Client, url: int) -> Outbox:
-        """With a URL of another part, unless it was sent before."""
+        """Add this URL to the outbox, if it belongs to another part and was not sent before."""
         to = self.web.part[url]
         return outbox if to == me or client.told >> url & 1 else put(outbox, to, url)
 
     def at_once(self, state: State) -> State:
-        """Reads what is there, and makes the offers that change no frontier."""
+        """Read the entries that are there, and make the offers that change no frontier."""
         for me, (frontier, client) in enumerate(state.parts):
             if client is None:
                 continue
@@ -367,7 +369,7 @@ class Own:
             out.append((f"part {me}: {what}", kind, self.with_part(s, me, f, c)))
 
         is_ready = state.ready >> me & 1
-        is_early = self.fault == "is ready before it has sent its seeds"
+        is_early = self.fault == "is ready before it sends its seeds"
         has_to_send = self.has_to_send(me, frontier, client)
         if has_to_send and (is_early and not frontier.seen if is_ready else not is_early):
             again = 0 if self.fault == "sends nothing again" else frontier.sent
@@ -379,16 +381,16 @@ class Own:
                s=state._replace(doubles=state.doubles - 1), kind="double")
         if self.fault == "offers entries out of order":
             if client.reading and not client.aside:
-                go(f"puts entry {client.reading[0]} aside",
+                go(f"sets entry {client.reading[0]} aside",
                    c=client._replace(reading=(), aside=client.reading))
             if client.aside and not client.reading:
-                go(f"takes up entry {client.aside[0]}",
+                go(f"resumes entry {client.aside[0]}",
                    c=client._replace(reading=client.aside, aside=()))
         if client.reading:
             number, urls, outbox = client.reading
             if urls:
                 answer, after = self.ask(me, frontier, urls[0])
-                if answer != "full" or self.fault == "drops what is refused":
+                if answer != "full" or self.fault == "drops refused URLs":
                     outbox = self.brought(outbox, me, client, urls[0])
                     go(f"offer {self.names(urls[:1])} -> {answer} (entry {number})", f=after,
                        c=client._replace(reading=(number, urls[1:], outbox)))
@@ -397,7 +399,8 @@ class Own:
                 after_sending = self.has_sent(client, to, sent)
                 go(f"XADD {self.names(sent)} to part {to} (entry {number})", c=after_sending,
                    s=self.add(state, to, sent))
-                if self.fault == "is done with an entry before it is sent on" and not client.page:
+                finishes_early = self.fault == "finishes an entry before its URLs are sent on"
+                if finishes_early and not client.page:
                     offered = client.offered + (number,)
                     go(f"is done with entry {number}",
                        c=client._replace(reading=(), offered=offered, page=((), outbox)))
@@ -405,7 +408,7 @@ class Own:
 
     @staticmethod
     def has_sent(client: Client, to: int, sent: Urls) -> Client:
-        """One sending serves the entry and the page that wait for it."""
+        """Record that these URLs were sent, for both the entry and the page that wait for them."""
         told = client.told
         for url in sent:
             told |= 1 << url
@@ -419,12 +422,12 @@ class Own:
     def removal_steps(
         self, state: State, me: int, frontier: Frontier, client: Client, out: List[Step]
     ) -> None:
-        """Each entry that is done with, but for the one with the greatest id; that one if quiet."""
+        """Remove finished entries, except the one with the greatest id; this one only if quiet."""
         def go(what: str, c: Client, s: State = state) -> None:
             out.append((f"part {me}: {what}", "step", self.with_part(s, me, frontier, c)))
 
         kept = max(client.offered, default=0)
-        if self.fault == "keeps the entry read last":
+        if self.fault == "keeps the entry that was read last":
             kept = client.offered[-1] if client.offered else 0
         for number in client.offered:
             if number != kept or self.fault == "keeps no entry":
@@ -439,7 +442,7 @@ class Own:
                self.remove(state, me, client.wire))
 
     def is_quiet(self, frontier: Frontier, client: Client) -> bool:
-        if self.fault == "calls itself quiet while it fetches":
+        if self.fault == "is quiet while it fetches":
             return not frontier.queue
         return frontier.is_quiet() and not client.page
 
@@ -465,7 +468,7 @@ class Own:
             url = links[0]
             answer, after = self.ask(me, frontier, url)
             outbox = self.brought(outbox, me, client, url)
-            if answer == "full" and self.fault != "drops what is refused":
+            if answer == "full" and self.fault != "drops refused URLs":
                 outbox = put(outbox, me, url)
             go(f"offer {self.names((url,))} -> {answer} (a link of {self.names((frontier.hand,))})",
                f=after, c=client._replace(page=(links[1:], outbox)))
@@ -493,7 +496,7 @@ class Own:
 
         if frontier.ended:
             if frontier.is_closed() and not state.complete and self.fault is None:
-                go("SET complete, for its log has `endseeds`", s=self.complete(state))
+                go("SET complete, since its log has `endseeds`", s=self.complete(state))
             return
         if self.fault == "ends its seeds when it is quiet":
             if state.ready >> me & 1 and self.is_quiet(frontier, client) and not client.reading:
@@ -509,10 +512,10 @@ class Own:
         if state.complete:
             go("finds `complete`; endseeds", f=frontier._replace(ended=1))
 
-    # ---- what goes wrong
+    # ---- failures
 
     def crash(self, state: State, me: int, frontier: Frontier, client: Client) -> Step:
-        """The client's memory is lost. The commands that it had sent may come, late or never."""
+        """Lose the client's memory. The commands that it had sent may arrive late or never."""
         late: List[Tuple[int, Tuple[Any, ...]]] = []
         if client.wire:
             late.append((me, ("del", client.wire)))
@@ -533,22 +536,25 @@ class Own:
         return (f"part {me} CRASHES{under_way}", "crash", self.with_part(after, me, frontier, None))
 
     def loss(self, state: State) -> Iterator[Step]:
-        """Redis starts again without its last entries, or with nothing: each connection is cut."""
+        """Restart Redis without its last entries, or with none; all connections are lost."""
         parts = tuple(Part(part.frontier, None) for part in state.parts)
-        ready = state.ready if self.fault == "stays ready when Redis starts again" else 0
+        ready = state.ready if self.fault == "stays ready when Redis restarts" else 0
         whole = sum(map(len, state.streams))
         for streams in beginnings(state.streams):
             for complete in {0, state.complete}:
                 lost = whole - sum(map(len, streams))
                 yield (
-                    f"Redis STARTS AGAIN without {lost} of the last entries", "loss",
+                    f"Redis RESTARTS without {lost} of the last entries", "loss",
                     state._replace(streams=streams, ready=ready, complete=complete, parts=parts,
                                    late=(), losses=state.losses - 1),
                 )
 
     def tidy(self, state: State) -> State:
-        """The same state with ids from 1 in each stream, as only their order matters; without late
-        commands that can do nothing any more, and without what no client asks itself any more."""
+        """Return the same state in a normal form.
+
+        The ids of each stream begin with 1, since only their order matters. Late commands that can
+        have no effect, and memory of clients that is not used any more, are removed.
+        """
         state = self.forgotten(state)
         late = []
         for part, command in state.late:
@@ -574,7 +580,7 @@ class Own:
         return state._replace(streams=tuple(streams), parts=tuple(parts), late=tuple(sorted(late)))
 
     def forgotten(self, state: State) -> State:
-        """Whether a part has begun, once it is ready; what it sent, where no page links to it."""
+        """Forget that a ready part has begun, and the sent URLs that no page links to."""
         for me, (frontier, client) in enumerate(state.parts):
             if client is None or not (client.begun or client.told):
                 continue
@@ -590,7 +596,7 @@ class Own:
 
 
 def beginnings(streams: Tuple[Any, ...]) -> Iterator[Tuple[Any, ...]]:
-    """Each stream up to any entry of it."""
+    """Yield all combinations of beginnings of the streams."""
     if not streams:
         yield ()
         return
@@ -602,7 +608,7 @@ def beginnings(streams: Tuple[Any, ...]) -> Iterator[Tuple[Any, ...]]:
 def numbered(
     stream: Tuple[Any, ...], late: List[Tuple[Any, ...]], client: Optional[Client]
 ) -> Dict[int, int]:
-    """New ids for those that anyone remembers, in their order."""
+    """Return new ids for all ids that anyone remembers, in the same order."""
     ids = {entry[0] for entry in stream}
     for command in late:
         if command[0] == "del":
@@ -630,29 +636,29 @@ def renumbered(client: Client, new: Dict[int, int]) -> Client:
 
 
 class CounterClient(NamedTuple):
-    reading: Tuple[Any, ...] = ()  # a URL that was read, and what is to be done with it
-    # The links that are left, what is to be done with the link in hand ("", offer, send, lower, or
+    reading: Tuple[Any, ...] = ()  # a URL that was read, and the next step for it
+    # The links that are left, the next step for the current link ("", offer, send, lower, or
     # lowered before `done`), and this link.
     page: Tuple[Any, ...] = ()
-    owes: int = 0  # the page is done, and the counter is to be lowered
+    owes: int = 0  # whether the page is done, and the counter still has to be decreased
 
 
 class CounterState(NamedTuple):
     units: int
     streams: Tuple[Urls, ...]
     parts: Tuple[Tuple[Frontier, Optional[CounterClient]], ...]
-    fetched: int  # pages whose links were all sent or accepted, as bits, for the test alone
+    fetched: int  # pages whose links were all sent or accepted, as bits, only for the test
     crashes: int
 
 
 class Counter:
-    """One counter in Redis for all that is pending anywhere. Three readings of the same words:
+    """A protocol with one counter in Redis of all pending URLs, in three variants.
 
-    passed  an accepted message passes its unit to the URL; `seen` takes the message and its unit
-            off in one transaction; `done` first, then the counter is lowered
-    anew    each message is counted off once with its acknowledgement, an accepted URL is counted
-            anew before its offer; `done` first, then the counter is lowered
-    early   as `anew`, but the counter is lowered first, then `done`
+    passed  an accepted message passes its unit to the URL; if the URL was seen, the message and its
+            unit are removed in one transaction; `done` comes before the counter is decreased
+    anew    the counter is decreased with the acknowledgement of each message, and increased before
+            each offer; `done` comes before the counter is decreased
+    early   like `anew`, but the counter is decreased before `done`
     """
 
     def __init__(self, of: Web, reading: str, crashes: int = 1) -> None:
@@ -669,9 +675,9 @@ class Counter:
 
     def bad(self, state: CounterState) -> Optional[str]:
         if state.fetched != self.all and state.units <= 0:
-            return f"the counter says {state.units} before all was fetched"
+            return f"the counter is {state.units} before all URLs were fetched"
         if state.fetched != self.all and any(frontier.is_closed() for frontier, _ in state.parts):
-            return "a gate closed before all was fetched"
+            return "a gate closed before all URLs were fetched"
         return None
 
     def is_end(self, state: CounterState) -> bool:
@@ -689,7 +695,7 @@ class Counter:
             if state.crashes and not frontier.is_closed():
                 move.go("CRASHES", c=None, kind="crash", crashes=state.crashes - 1)
             if client.owes:
-                move.go("lowers the counter, for the page is done", c=client._replace(owes=0),
+                move.go("decreases the counter, since the page is done", c=client._replace(owes=0),
                         units=state.units - 1)
                 continue
             move.read()
@@ -700,7 +706,7 @@ class Counter:
 
 
 class _Move:
-    """The steps of one part with a counter."""
+    """The steps of one part in a protocol with a counter."""
 
     def __init__(self, of: Counter, state: CounterState, me: int, out: List[Step]) -> None:
         self.of, self.state, self.me, self.out = of, state, me, out
@@ -718,7 +724,7 @@ class _Move:
         return streams[:part] + (stream,) + streams[part + 1:]
 
     def read(self) -> None:
-        """One message at a time."""
+        """Read and handle one message."""
         client, mine, units = self.client, self.state.streams[self.me], self.state.units
         assert client is not None
         is_passed = self.of.how == "passed"
@@ -732,22 +738,22 @@ class _Move:
         name, rest = self.names[url], self.streams_with(self.me, mine[1:])
         over = client._replace(reading=())
         if stage == "raise":
-            self.go(f"raises the counter for {name}", c=client._replace(reading=(url, "offer")),
+            self.go(f"increases the counter for {name}", c=client._replace(reading=(url, "offer")),
                     units=units + 1)
         elif stage == "offer":
             answer, after = self.frontier.offer(self.of.web, self.me, url)
             stage = "lower" if answer == "seen" else "ack"
             self.go(f"offer {name} -> {answer}", f=after, c=client._replace(reading=(url, stage)))
         elif stage == "lower" and is_passed:
-            self.go(f"acknowledges {name} and lowers the counter, in one transaction", c=over,
+            self.go(f"acknowledges {name} and decreases the counter, in one transaction", c=over,
                     units=units - 1, streams=rest)
         elif stage == "lower":
-            self.go(f"lowers the counter, for {name} was seen",
+            self.go(f"decreases the counter, since {name} was seen",
                     c=client._replace(reading=(url, "ack")), units=units - 1)
         elif is_passed:
             self.go(f"acknowledges {name}", c=over, streams=rest)
         else:
-            self.go(f"acknowledges {name} and counts the message off, in one transaction", c=over,
+            self.go(f"acknowledges {name} and decreases the counter, in one transaction", c=over,
                     units=units - 1, streams=rest)
 
     def fetch(self) -> None:
@@ -766,7 +772,7 @@ class _Move:
         name = self.names[url] if url >= 0 else ""
         over = client._replace(page=(links, "", -1))
         if stage == "" and links:
-            self.go(f"raises the counter for the link {self.names[links[0]]}",
+            self.go(f"increases the counter for the link {self.names[links[0]]}",
                     c=client._replace(page=(links[1:], "offer", links[0])), units=units + 1)
         elif stage == "offer":
             answer, after = frontier.offer(self.of.web, self.me, url)
@@ -777,12 +783,12 @@ class _Move:
             streams = self.streams_with(part[url], self.state.streams[part[url]] + (url,))
             self.go(f"sends {name} to part {part[url]}", c=over, streams=streams)
         elif stage == "lower":
-            self.go(f"lowers the counter, for {name} was seen", c=over, units=units - 1)
+            self.go(f"decreases the counter, since {name} was seen", c=over, units=units - 1)
         else:
             self.finish(client, stage)
 
     def finish(self, client: CounterClient, stage: str) -> None:
-        """All links are offered: `done` and the counter, in the order of this reading."""
+        """Call `done` and decrease the counter, in the order of this variant."""
         hand, fetched = self.frontier.hand, self.state.fetched | 1 << self.frontier.hand
         if stage == "lowered" or self.of.how != "early":
             done = self.frontier._replace(hand=-1, done=self.frontier.done | 1 << hand)
@@ -790,7 +796,7 @@ class _Move:
             self.go(f"done ({self.names[hand]})", f=done, c=client._replace(page=(), owes=owes),
                     fetched=fetched)
         else:
-            self.go(f"lowers the counter, for {self.names[hand]} is fetched",
+            self.go(f"decreases the counter, since {self.names[hand]} is fetched",
                     c=client._replace(page=((), "lowered", -1)), units=self.state.units - 1,
                     fetched=fetched)
 
@@ -799,7 +805,7 @@ class _Move:
 
 
 class Found(NamedTuple):
-    """What a search came to: why it is bad, if it is, by the shortest way."""
+    """The result of a search, with the shortest trace to a bad state, if there is one."""
 
     states: int
     steps: int
@@ -808,14 +814,14 @@ class Found(NamedTuple):
 
 
 def key(state: Any) -> bytes:
-    """What tells states apart; `marshal` takes no named tuples."""
+    """Return a key that is different for each state. `marshal` does not accept named tuples."""
     parts = [(tuple(frontier), client and tuple(client)) for frontier, client in state.parts]
     rest = tuple(state._replace(parts=()))
     return hashlib.blake2b(marshal.dumps((rest, parts), 2), digest_size=12).digest()
 
 
 class Search:
-    """All states, level by level."""
+    """A breadth-first search of all states."""
 
     def __init__(self, tried: Tried) -> None:
         self.tried = tried
@@ -839,7 +845,7 @@ class Search:
             at = first_stuck(len(self.parent), self.heads, self.tails, self.ends)
             if at is None:
                 return Found(len(self.parent), self.steps)
-            self.why, self.at = "from here the end is out of reach", at
+            self.why, self.at = "from here the end cannot be reached", at
         return Found(len(self.parent), self.steps, self.why, self.trace())
 
     def expand(self, number: int, state: Any) -> None:
@@ -880,7 +886,7 @@ class Search:
 
 
 def first_stuck(count: int, heads: array[int], tails: array[int], ends: List[int]) -> Optional[int]:
-    """The least state from which no ordinary steps lead to an end."""
+    """Return the first state from which no ordinary steps lead to an end, or None."""
     start = array("i", bytes(4 * (count + 1)))
     for tail in tails:
         start[tail + 1] += 1
@@ -904,7 +910,7 @@ def first_stuck(count: int, heads: array[int], tails: array[int], ends: List[int
     return None if at < 0 else at
 
 
-# ---------------------------------------------------------------- what is tried
+# ---------------------------------------------------------------- the sites and bugs to try
 
 ONE = web("one page a part", "a0:b0 b0:", "a:a0")
 RING = web("ring of 2 parts", "a0:b0 a1:b0 b0:a0,a1", "a:a0")
@@ -917,7 +923,7 @@ FOUR = web("3 parts, 4 URLs", "a0:b0 a1:b0 b0:c0,a0 c0:a1", "a:a0")
 FULL = web("ring, at most 1 pending", "a0:b0,a1 a1:b0 b0:a1", "a:a0", 1)
 FULLER = web("4 URLs, at most 1 pending", "a0:a1,b0,b1 a1: b0:b1,a1 b1:a0", "a:a0", 1)
 
-# Webs with the numbers of crashes, doubles and losses.
+# A site, and the numbers of crashes, doubles and losses.
 Row = Tuple[Web, int, int, int]
 OWN: Tuple[Row, ...] = (
     (ONE, 1, 1, 0), (STRAY, 1, 0, 0), (RING, 0, 1, 0), (RING, 1, 0, 0), (WRONG, 0, 0, 0),
@@ -931,25 +937,25 @@ OWN_ALL: Tuple[Row, ...] = (
 )
 LOSS: Tuple[Row, ...] = ((ONE, 0, 0, 1),)
 LOSS_ALL: Tuple[Row, ...] = ((ONE, 0, 1, 1), (ONE, 0, 0, 2), (ONE, 1, 0, 1), (RING, 0, 0, 1))
-# A fault of who runs the parts: the others wait for it.
-STAYS_ENDED = "is not started again since it had ended"
+# A mistake of the operator: the other parts wait.
+STAYS_ENDED = "is not started again after it had finished"
 FAULTS: Tuple[Tuple[str, Row], ...] = (
     ("done before its links are sent", (ONE, 1, 0, 0)), ("keeps no entry", (ONE, 0, 0, 0)),
-    ("keeps the entry read last", (RING, 1, 1, 0)),
+    ("keeps the entry that was read last", (RING, 1, 1, 0)),
     ("offers entries out of order", (RING, 1, 0, 0)),
-    ("calls itself quiet while it fetches", (ONE, 0, 0, 0)),
-    ("is ready before it has sent its seeds", (ONE, 0, 0, 0)),
-    ("takes what its log has for sent", (ONE, 1, 0, 1)),
-    ("is done with an entry before it is sent on", (STRAY, 1, 0, 0)),
+    ("is quiet while it fetches", (ONE, 0, 0, 0)),
+    ("is ready before it sends its seeds", (ONE, 0, 0, 0)),
+    ("assumes that the URLs in its log were sent", (ONE, 1, 0, 1)),
+    ("finishes an entry before its URLs are sent on", (STRAY, 1, 0, 0)),
     ("looks at the streams one by one", (RING, 0, 0, 0)),
-    ("ends its seeds when it is quiet", (ONE, 0, 0, 0)), ("drops what is refused", (FULL, 0, 0, 0)),
+    ("ends its seeds when it is quiet", (ONE, 0, 0, 0)), ("drops refused URLs", (FULL, 0, 0, 0)),
     ("sends nothing again", (ONE, 0, 0, 1)),
-    ("stays ready when Redis starts again", (ONE, 0, 0, 1)), (STAYS_ENDED, (ONE, 0, 0, 1)),
+    ("stays ready when Redis restarts", (ONE, 0, 0, 1)), (STAYS_ENDED, (ONE, 0, 0, 1)),
 )
 
 
 class Totals:
-    """Runs searches, and counts those that came to what they should."""
+    """Runs searches, and counts the expected and the unexpected results."""
 
     def __init__(self, is_verbose: bool) -> None:
         self.is_verbose = is_verbose
@@ -991,7 +997,7 @@ def faults(totals: Totals, is_all: bool) -> None:
     for fault, (of, crashes, doubles, losses) in FAULTS:
         to_the_close = fault in ("ends its seeds when it is quiet", STAYS_ENDED)
         tried = Own(of, crashes, doubles, losses, fault, to_the_close)
-        totals.run(f"fault: {fault} ({of.name})", tried, holds=False)
+        totals.run(f"bug: {fault} ({of.name})", tried, holds=False)
 
 
 def loss(totals: Totals, is_all: bool) -> None:
@@ -1001,7 +1007,7 @@ def loss(totals: Totals, is_all: bool) -> None:
 
 
 def naive(totals: Totals, is_all: bool) -> None:
-    """A counter fails with one crash; without a crash it holds."""
+    """A counter fails after one crash; without a crash it works."""
     for reading in ("passed", "anew", "early"):
         totals.run(f"a counter, {reading}: 1 crash", Counter(ONE, reading), holds=False)
         of = CROSS if is_all else RING
@@ -1013,16 +1019,19 @@ def main() -> None:
         description=__doc__, formatter_class=argparse.RawDescriptionHelpFormatter
     )
     parts = {"own": own, "faults": faults, "loss": loss, "naive": naive}
-    parser.add_argument("what", nargs="*", metavar="|".join(parts), help="these alone")
-    parser.add_argument("--all", action="store_true", help="larger webs, too")
-    parser.add_argument("-v", action="store_true", help="the traces of what is found")
-    words = parser.parse_args()
-    if set(words.what) - set(parts):
-        parser.error(f"no such part: {' '.join(words.what)}")
-    totals = Totals(words.v)
+    parser.add_argument("what", nargs="*", metavar="|".join(parts),
+                        help="groups to try (default: all)")
+    parser.add_argument("--all", action="store_true",
+                        help="also try larger sites, with millions of states: takes hours and"
+                        " gigabytes of memory")
+    parser.add_argument("-v", action="store_true", help="print the traces of planted bugs")
+    options = parser.parse_args()
+    if set(options.what) - set(parts):
+        parser.error(f"unknown group: {' '.join(sorted(set(options.what) - set(parts)))}")
+    totals = Totals(options.v)
     for name, part in parts.items():
-        if not words.what or name in words.what:
-            part(totals, words.all)
+        if not options.what or name in options.what:
+            part(totals, options.all)
     print(f"{totals.passed} passed, {totals.failed} failed")
     sys.exit(1 if totals.failed else 0)
 

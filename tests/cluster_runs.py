@@ -1,16 +1,15 @@
 #!/usr/bin/python3
-"""Runs crawls that K parts share over a Redis of its own, with faults; compares what they fetch.
+"""Test crawls that K parts share over Redis, with failures, and compare the URLs that they fetch.
 
-Usage: cluster_runs.py [--program FILE] [--part NAME].. [--webs N] [--seed S] [--pages N] [--keep]
+The sites are generated, and most tests read them without HTTP. The URLs to fetch are those that
+`mercator crawl` reports, or those of a search by this script if the program has no `crawl`. The
+program needs `serve --part` and `--log`; `tests/serving/fake.py`, a frontier in Python, has them.
 
-PROGRAM is --program, else what MERCATOR of the environment names, else the built program; it has
-to have `serve --part` and `--log`. `tests/serving/fake.py`, a frontier in Python, has them. A web
-is generated, and a fetch reads it: no HTTP. What is to be fetched is what `mercator crawl` reports,
-and an own search where PROGRAM has no `crawl`.
+Each part is a process of this script with its frontier. Redis listens on a free port of the
+loopback, uses a folder of its own, and is ended afterwards. The environment variable SECONDS is the
+time limit of a crawl (default: 120). The test `speed` prints figures.
 
-A part is a process of this script with its frontier. Redis listens on a free port of the loopback,
-in a folder of its own, and is ended. --pages is for the part `speed`, which prints figures. SECONDS
-of the environment is the time limit of a crawl. At last it prints `N passed, M failed`.
+The last line is `N passed, M failed`; the exit status is 1 if a test failed or none ran.
 """
 
 from __future__ import annotations
@@ -48,7 +47,7 @@ from serving.trial import SECONDS, Differs, expect  # noqa: E402
 
 LONG = "\u00fc" * 1500
 BUILT = ROOT / "crates/mercator_cli/out/mercator_cli"
-# How a process of a part ends.
+# The exit statuses of the process of a part.
 COMPLETE, FRONTIER_DIED, FAULT = 0, 3, 1
 
 
@@ -56,7 +55,7 @@ COMPLETE, FRONTIER_DIED, FAULT = 0, 3, 1
 
 
 class Web(NamedTuple):
-    """Pages with the texts of their links. A URL that is no page is fetched, too, and has none."""
+    """Pages with the texts of their links. A URL without a page is fetched too."""
 
     pages: Dict[str, List[str]]
     seeds: List[str]
@@ -69,11 +68,11 @@ class Web(NamedTuple):
 
 
 def drawn_web(draw: random.Random, hosts: int, pages: int) -> Web:
-    """Links in several spellings, links to no page, and hosts of all parts."""
+    """Return a random site: links in several spellings, missing pages, hosts of all parts."""
     urls = [f"http://h{draw.randrange(hosts)}.test/d/{number}" for number in range(pages)]
     links: Dict[str, List[str]] = {url: [] for url in urls}
     for number, url in enumerate(urls):
-        # Page n is linked from page (n - 1) // 2, so that the first leads to all.
+        # Page n is linked from page (n - 1) // 2, so all pages can be reached from the first.
         linked = [urls[child] for child in (2 * number + 1, 2 * number + 2) if child < pages]
         linked += [draw.choice(urls) for _ in range(draw.randrange(4))]
         links[url] = [spelled(draw, url, link) for link in linked]
@@ -84,7 +83,7 @@ def spelled(draw: random.Random, page: str, url: str) -> str:
     host, path = url[7:].split("/", 1)
     texts = [url, url, f"HTTP://{host.upper()}:80/x/../{path}#part", f"//{host}/./\r{path}"]
     if draw.randrange(8) == 0:
-        # The last one is canonical with three times as many bytes: no request has room for it.
+        # The canonical form of the last one has three times as many bytes, too many for a request.
         texts = [f"http://{host}/gone/{draw.randrange(9)}", "mailto:x", "http://o.other/", "x y",
                  f"http://{host}/{LONG}"]
     elif page[7:].split("/")[0] == host:
@@ -93,7 +92,7 @@ def spelled(draw: random.Random, page: str, url: str) -> str:
 
 
 def plain_web(pages: int, hosts: int, links: int, seed: int = 1) -> Web:
-    """Many pages with links to random pages, for speed."""
+    """Return a site of many pages with links to random pages, for the test `speed`."""
     draw = random.Random(seed)
     urls = [f"http://host{draw.randrange(hosts)}.test/pages/{page}.html" for page in range(pages)]
     web: Dict[str, List[str]] = {}
@@ -104,7 +103,7 @@ def plain_web(pages: int, hosts: int, links: int, seed: int = 1) -> Web:
 
 
 def wanted_of(web: Web, program: str, folder: Path) -> Dict[str, bool]:
-    """Each URL that is to be fetched, and whether it is a page: what `mercator crawl` reports."""
+    """Return each URL that has to be fetched, and whether it is a page, by `mercator crawl`."""
     file = folder / "web"
     file.write_bytes(web.saved())
     words = [program, "crawl", "--within", "test", str(file), *web.seeds]
@@ -116,6 +115,7 @@ def wanted_of(web: Web, program: str, folder: Path) -> Dict[str, bool]:
 
 
 def searched(web: Web) -> Dict[str, bool]:
+    """Return the same as `wanted_of`, by a search of this script."""
     import drawn
     found: Dict[str, bool] = {}
     rest = list(web.seeds)
@@ -163,7 +163,7 @@ class Server:
                 time.sleep(0.02)
 
     def lose(self, everything: bool) -> None:
-        """Kills it, and starts it again with its files or with nothing."""
+        """Kill it, and start it again with its files or, if `everything` is lost, without."""
         self.process.kill()
         self.process.wait()
         if everything:
@@ -186,16 +186,16 @@ class Server:
 
 
 class Faults(NamedTuple):
-    """What goes wrong in a crawl."""
+    """The failures in a crawl."""
 
-    kills: int = 0  # of parts: the client, its frontier, or both
-    losses: int = 0  # of Redis, each second time with its files
+    kills: int = 0  # kills of parts: of the client, its frontier, or both
+    losses: int = 0  # kills of Redis; every second time it keeps its files
     is_twice: bool = False  # every entry is sent twice
-    late: float = 0.0  # this share of the URLs that are sent is held back, up to 50 ms
+    late: float = 0.0  # the share of the sent URLs that are delayed by up to 50 ms
 
 
 class Shared(NamedTuple):
-    """What a crawl's processes are started with."""
+    """The settings of all processes of a crawl."""
 
     crawl: Crawl
     web: Web
@@ -208,7 +208,7 @@ class Shared(NamedTuple):
 
 
 class Held(NamedTuple):
-    """A line that is held back, and until when."""
+    """A line that is delayed, and its time."""
 
     due: float
     to: int
@@ -217,7 +217,7 @@ class Held(NamedTuple):
 
 
 class FaultyOutbox(mercator_cluster._Outbox):
-    """Sends entries twice, and lines late."""
+    """An outbox that sends entries twice and lines late."""
 
     def __init__(self, mine: int, faults: Faults) -> None:
         super().__init__(mine)
@@ -259,7 +259,7 @@ def started(shared: Shared, part: int) -> Part:
         shared.crawl, part, shared.folder / f"log.{part}", shared.web.seeds if part == 0 else (),
         max_pending=shared.max_pending, sync=shared.is_synced, program=shared.program,
     )
-    made._outbox = FaultyOutbox(part, shared.faults)  # which is empty once a part is ready
+    made._outbox = FaultyOutbox(part, shared.faults)  # the outbox of a ready part is empty
     process = made._frontier._channel._process
     (shared.folder / f"frontier.{part}").write_text(str(process.pid))
     (shared.folder / f"redis.{part}").write_text(made._broker._ready.rpartition(":")[2])
@@ -267,7 +267,7 @@ def started(shared: Shared, part: int) -> Part:
 
 
 def work(shared: Shared, part: int) -> None:
-    """A part to its end. Each URL that it fetches is written down first."""
+    """Run a part until the crawl is complete. Each URL is recorded before it is fetched."""
     pages = shared.web.pages
     file = os.open(shared.folder / f"fetched.{part}", os.O_WRONLY | os.O_CREAT | os.O_APPEND)
 
@@ -294,14 +294,15 @@ def work(shared: Shared, part: int) -> None:
         except Cut:
             time.sleep(0.02)
     times = os.times()
-    told = {
+    figures = {
         **counts, "seconds": time.monotonic() - begun, "client": times.user + times.system,
         "frontier": times.children_user + times.children_system,
     }
-    (shared.folder / f"told.{part}").write_text(json.dumps(told))
+    (shared.folder / f"figures.{part}").write_text(json.dumps(figures))
 
 
 def forked(shared: Shared, part: int) -> int:
+    """Run a part in a process of its own, and return its number."""
     process = os.fork()
     if process:
         return process
@@ -322,12 +323,12 @@ def forked(shared: Shared, part: int) -> int:
 
 
 class Stopped(NamedTuple):
-    parts: int = 0  # times that a part was stopped, by a kill or a Redis that is gone
-    redis: int = 0
+    parts: int = 0  # how many times a part was stopped, by a kill or by the loss of Redis
+    redis: int = 0  # how many times Redis was killed
 
 
 class Crawling:
-    """The processes of a crawl's parts, of which some are killed, and Redis is."""
+    """The processes of a crawl's parts, which are killed at random moments like Redis."""
 
     def __init__(self, shared: Shared, server: Server, draw: random.Random) -> None:
         self.shared, self.server, self.draw = shared, server, draw
@@ -335,7 +336,7 @@ class Crawling:
         self.stopped = self.losses = 0
 
     def run(self, wanted: Iterable[str]) -> Stopped:
-        """Runs all parts to the end. What goes wrong does so at drawn moments of the crawl."""
+        """Run all parts until the crawl is complete, with failures at random moments."""
         faults, folder = self.shared.faults, self.shared.folder
         whole = sum(len(url) + 3 for url in wanted)
         what = ["part"] * faults.kills + ["redis"] * faults.losses
@@ -343,7 +344,7 @@ class Crawling:
         end = time.monotonic() + SECONDS
         try:
             while self.parts:
-                expect(time.monotonic() < end, f"it does not end in {SECONDS} s")
+                expect(time.monotonic() < end, f"the crawl did not end within {SECONDS} s")
                 self.reap()
                 if moments and self.parts and so_far(folder) >= moments[0][0]:
                     time.sleep(self.draw.random() / 100)
@@ -351,13 +352,13 @@ class Crawling:
                 else:
                     time.sleep(0.001 if moments else 0.005)
         finally:
-            for process in self.parts.values():  # some are left only where something failed
+            for process in self.parts.values():  # some are left only if something failed
                 os.kill(process, signal.SIGKILL)
                 os.waitpid(process, 0)
         return Stopped(self.stopped, self.losses)
 
     def reap(self) -> None:
-        """Sees which processes ended. A part has ended once the Redis that lives was told so."""
+        """Start ended processes again, unless their part finished with the current Redis."""
         for part, process in list(self.parts.items()):
             ended, status = os.waitpid(process, os.WNOHANG)
             if not ended:
@@ -369,33 +370,34 @@ class Crawling:
                 continue
             expect(status == 0, f"part {part} ended with {status}")
             if (self.shared.folder / f"redis.{part}").read_text() != self.server.run_id:
-                # Redis was lost after the part's last look, so the new one knows nothing of it.
+                # Redis was killed after the part had finished, so the new one lacks its data.
                 self.parts[part] = forked(self.shared, part)
 
     def strike(self, word: str) -> None:
+        """Kill a part or Redis."""
         if word == "part":
             kill(self.shared.folder, *self.draw.choice(list(self.parts.items())), self.draw)
             return
         self.server.lose(everything=self.losses % 2 == 0)
         self.losses += 1
         self.stopped += len(self.parts)
-        # A part that had ended has to tell the new Redis what it knows.
+        # A part that had finished has to send its data to the new Redis.
         for part in set(range(self.shared.crawl.parts)) - set(self.parts):
             self.parts[part] = forked(self.shared, part)
 
 
 def is_complete(shared: Shared, server: Server) -> bool:
-    """Whether Redis says that the crawl is complete."""
+    """Return whether Redis has recorded that the crawl is complete."""
     return bool(server.client.exists(f"{{{shared.crawl.name}}}:complete"))
 
 
 def so_far(folder: Path) -> int:
-    """How far a crawl is: the bytes of what was written down."""
+    """Return the progress of a crawl: the number of bytes that were recorded."""
     return sum(file.stat().st_size for file in folder.glob("fetched.*"))
 
 
 def kill(folder: Path, part: int, process: int, draw: random.Random) -> None:
-    """Kills a part's client, its frontier or both. Each is a child of this script's, or of its."""
+    """Kill a part's client, its frontier or both: children and grandchildren of this script."""
     what = draw.choice(("client", "frontier", "both"))
     try:
         if what != "client":
@@ -403,11 +405,11 @@ def kill(folder: Path, part: int, process: int, draw: random.Random) -> None:
         if what != "frontier":
             os.kill(process, signal.SIGKILL)
     except (OSError, ValueError):
-        pass  # it has not started, or has ended
+        pass  # it has not started yet, or has ended
 
 
 def fetched_by(shared: Shared) -> Tuple[Counter[str], Dict[str, Set[Tuple[int, int]]]]:
-    """How often each URL was fetched; the parts and queues that fetched from each host."""
+    """Return how often each URL was fetched, and the parts and queues of each host."""
     count: Counter[str] = Counter()
     hosts: Dict[str, Set[Tuple[int, int]]] = defaultdict(set)
     for part in range(shared.crawl.parts):
@@ -419,7 +421,7 @@ def fetched_by(shared: Shared) -> Tuple[Counter[str], Dict[str, Set[Tuple[int, i
 
 
 def check(shared: Shared, server: Server, wanted: Dict[str, bool], stopped: Stopped) -> int:
-    """Compares what was fetched; how many URLs were fetched again."""
+    """Compare the fetched URLs with the expected ones, and return how many were fetched again."""
     count, hosts = fetched_by(shared)
     missing, more = set(wanted) - set(count), set(count) - set(wanted)
     some = sorted(url[:80] for url in missing)[:3]
@@ -427,37 +429,38 @@ def check(shared: Shared, server: Server, wanted: Dict[str, bool], stopped: Stop
     expect(not more, f"{len(more)} URLs should not be fetched: {sorted(more)[:3]}")
     pages = {url for url in count if url in shared.web.pages}
     other = pages ^ {url for url, is_page in wanted.items() if is_page}
-    expect(not other, f"pages for one alone: {sorted(other)[:3]}")
+    expect(not other, f"pages that only one of the two found: {sorted(other)[:3]}")
     again = sum(count.values()) - len(count)
     most = stopped.parts * shared.crawl.workers
-    expect(again <= most, f"{again} URLs were fetched again, {most} can have been in hand")
-    several = [host for host, places in hosts.items() if len(places) > 1]
-    expect(not several, f"hosts of several queues: {several[:3]}")
-    wrong = [place for places in hosts.values() for place in places
-             if place[1] // shared.crawl.workers != place[0]]
+    expect(again <= most, f"{again} URLs were fetched again, but at most {most} were in progress")
+    several = [host for host, queues in hosts.items() if len(queues) > 1]
+    expect(not several, f"hosts in several queues: {several[:3]}")
+    wrong = [(part, queue) for queues in hosts.values() for part, queue in queues
+             if queue // shared.crawl.workers != part]
     expect(not wrong, f"queues of other parts: {wrong[:3]}")
     expect(is_complete(shared, server), "`complete` is not set")
     return again
 
 
 class Trial:
-    """What all parts of this script have."""
+    """What all tests share: options, the program, a temporary folder, and Redis."""
 
-    def __init__(self, words: argparse.Namespace, program: str, folder: Path) -> None:
-        self.words, self.program, self.folder = words, program, folder
-        self.webs: int = words.webs
+    def __init__(self, options: argparse.Namespace, program: str, folder: Path) -> None:
+        self.options, self.program, self.folder = options, program, folder
+        self.webs: int = options.webs
         self.server = Server(folder)
         self.number = 0
         self.again = self.stopped = self.lost = self.crawls = self.pages = 0
 
     def draw(self, name: str) -> random.Random:
-        return random.Random(f"{name} of seed {self.words.seed}")
+        """Return a generator of random numbers, which depends on this name and the seed."""
+        return random.Random(f"{name} of seed {self.options.seed}")
 
     def one(
         self, draw: random.Random, web: Web, parts: int, workers: int, faults: Faults = Faults(),
         wanted: Optional[Dict[str, bool]] = None, **options: Any,
     ) -> Shared:
-        """A crawl, compared."""
+        """Run a crawl and compare the URLs."""
         shared = self.new(web, parts, workers, faults, **options)
         if wanted is None:
             wanted = wanted_of(web, self.program, shared.folder)
@@ -465,7 +468,7 @@ class Trial:
         return shared
 
     def new(self, web: Web, parts: int, workers: int, faults: Faults, **options: Any) -> Shared:
-        """A crawl that nobody has begun, in a folder of its own, with an empty Redis."""
+        """Prepare a crawl in a folder of its own, with an empty Redis."""
         self.number += 1
         folder = self.folder / f"crawl-{self.number}"
         folder.mkdir()
@@ -474,25 +477,25 @@ class Trial:
         return Shared(crawl, web, faults, self.program, folder, **options)
 
     def compare(self, shared: Shared, wanted: Dict[str, bool], stopped: Stopped) -> None:
-        """Compares what was fetched, and counts it."""
+        """Compare the URLs, and add to the totals."""
         self.again += check(shared, self.server, wanted, stopped)
         self.stopped += stopped.parts
         self.lost += stopped.redis
         self.crawls += 1
         self.pages += len(wanted)
-        if not self.words.keep:
+        if not self.options.keep:
             for log in shared.folder.glob("log.*"):
                 log.unlink()
 
-    def tell(self) -> None:
+    def print_totals(self) -> None:
         print(
-            f"  {self.crawls} crawls, {self.pages} URLs; {self.stopped} times a part was stopped,"
-            f" {self.lost} times Redis; {self.again} URLs were fetched again", flush=True
+            f"  {self.crawls} crawls, {self.pages} URLs; parts were stopped {self.stopped} times,"
+            f" Redis {self.lost} times; {self.again} URLs were fetched again", flush=True
         )
         self.again = self.stopped = self.lost = self.crawls = self.pages = 0
 
 
-# ---------------------------------------------------------------- the parts of this script
+# ---------------------------------------------------------------- the tests
 
 
 def drawn_crawl(
@@ -504,7 +507,7 @@ def drawn_crawl(
 
 
 def plain(trial: Trial) -> None:
-    """1, 2, 4 and 8 parts: the URLs are those of one frontier, each once; with threads, too."""
+    """1, 2, 4 and 8 parts, some with threads, fetch the URLs of one frontier, each once."""
     for parts in (1, 2, 4, 8):
         for number in range(trial.webs):
             drawn_crawl(
@@ -514,40 +517,40 @@ def plain(trial: Trial) -> None:
 
 
 def killed(trial: Trial) -> None:
-    """Parts are killed at random moments, client, frontier or both, and started again."""
+    """Parts (client, frontier or both) are killed at random moments and started again."""
     for parts in (1, 2, 4, 8):
         for number in range(max(1, trial.webs // 2)):
             drawn_crawl(trial, "killed", number, parts, Faults(kills=8))
 
 
 def twice_and_late(trial: Trial) -> None:
-    """Every entry comes twice, and 1 of 100 URLs late, or 1 of 10; with kills beside."""
+    """Every entry arrives twice, and 1 or 10% of the URLs late; sometimes parts are killed too."""
     for number in range(trial.webs):
         faults = Faults(is_twice=True, late=(0.01, 0.1)[number % 2], kills=3 * (number % 3 == 0))
         drawn_crawl(trial, "twice", number, (2, 4)[number % 2], faults)
 
 
 def lost_redis(trial: Trial) -> None:
-    """Redis is killed and started again, with its files and with nothing; parts are, too."""
+    """Redis is killed and started again, with or without its files; sometimes parts are too."""
     for number in range(trial.webs):
         faults = Faults(losses=4, kills=2 * (number % 2))
         drawn_crawl(trial, "lost", number, (2, 4)[number % 2], faults, has_threads=number % 4 == 3)
 
 
 class ByHand:
-    """One of two parts in this process: they go round by round, and nothing depends on a clock."""
+    """One of two parts in this process, which run round by round, independently of time."""
 
     def __init__(self, shared: Shared, part: int) -> None:
         self.shared, self.part = shared, part
         self.start()
 
     def start(self) -> None:
-        """Starts it from its log."""
+        """Start the part from its log."""
         self.fetched: List[Fetched] = []
         self.made = started(self.shared, self.part)
 
     def is_over(self) -> bool:
-        """Whether the part, after one more round, says that the crawl is complete."""
+        """Run one round, and return whether the crawl is complete for this part."""
         taken = self.made.round(self.fetched)
         with open(self.shared.folder / f"fetched.{self.part}", "a") as file:
             file.writelines(f"{queue} {url}\n" for queue, url in taken or ())
@@ -556,7 +559,7 @@ class ByHand:
         return taken is None
 
     def sees_end(self) -> bool:
-        """Soon: some rounds read what is in its stream, and the next one looks."""
+        """Return whether the crawl is complete for this part within a few rounds."""
         return any(self.is_over() for _ in range(5))
 
     def start_again(self) -> None:
@@ -565,15 +568,15 @@ class ByHand:
 
 
 def lost_at_the_end(trial: Trial) -> None:
-    """Redis is lost between a part's last look and its end; the part, started again, tells it.
+    """Redis is lost after a part has seen the end of the crawl, and before it finishes.
 
-    A part's last word may be lost by whatever protocol. So the other part waits until each one was
-    started again, as the client's page says.
+    No protocol can keep the last message of a part from being lost. So the other part waits until
+    each part was started again, as the documentation of the client says.
     """
-    with mock.patch.object(mercator_cluster, "_IDLE", 0.01):  # nobody sends while one waits
+    with mock.patch.object(mercator_cluster, "_IDLE", 0.01):  # a part need not wait for the other
         for number in range(max(4, trial.webs // 5)):
             draw = trial.draw(f"lost at the end {number}")
-            # The one host is of part 0, so part 1 sends nothing: all streams look empty to it.
+            # With one host, which is of part 0, part 1 sends nothing, and all streams look empty.
             hosts, workers = ((1, 1), (20, 3))[number % 2]
             web = drawn_web(draw, hosts, draw.randrange(2, 60))
             shared = trial.new(web, 2, workers, Faults())
@@ -591,7 +594,7 @@ def lose_at_the_end(shared: Shared, server: Server, parts: List[ByHand]) -> None
     end = Part._end
 
     def end_without_redis(part: Part) -> None:
-        expect(is_complete(shared, server), "a part ends before it tells so")
+        expect(is_complete(shared, server), "a part finishes before it records the end")
         server.lose(everything=True)
         end(part)
 
@@ -603,27 +606,27 @@ def lose_at_the_end(shared: Shared, server: Server, parts: List[ByHand]) -> None
     except Cut:
         other.start_again()
     else:
-        raise Differs("a part goes on without its Redis")
-    expect(not other.sees_end(), "a part sees an end that no part told this Redis")
+        raise Differs("a part continues without its Redis")
+    expect(not other.sees_end(), "a part sees an end that no part recorded in this Redis")
     ended.start_again()
-    expect(ended.sees_end(), "a part that had ended does not end again")
-    expect(is_complete(shared, server), "a part that had ended does not tell so")
-    expect(other.sees_end(), "a part does not see that the other one had ended")
+    expect(ended.sees_end(), "a part that had finished does not finish again")
+    expect(is_complete(shared, server), "a part that had finished does not record the end again")
+    expect(other.sees_end(), "a part does not see that the other one had finished")
     server.lose(everything=True)
     for part in parts:
         part.start_again()
-        expect(part.sees_end(), f"part {part.part} does not end once more")
+        expect(part.sees_end(), f"part {part.part} does not finish again")
 
 
 def full(trial: Trial) -> None:
-    """Frontiers with room for few URLs: what finds no room waits in the part's own stream."""
+    """Frontiers with little room: URLs without room wait in the part's own stream."""
     for number in range(trial.webs):
         faults, parts = Faults(kills=2 * (number % 2)), (1, 2, 4)[number % 3]
         drawn_crawl(trial, "full", number, parts, faults, max_pending=(2, 9, 40)[number % 3])
 
 
 def one_host(trial: Trial) -> None:
-    """One host: one part has all to do."""
+    """One host: one part has all the work."""
     for number in range(max(1, trial.webs // 5)):
         draw = trial.draw(f"one host {number}")
         trial.one(draw, drawn_web(draw, 1, 200), 4, 3, Faults(kills=2))
@@ -637,7 +640,7 @@ def many_queues(trial: Trial) -> None:
 
 
 def refused(trial: Trial) -> None:
-    """Another number of parts, another log, or a Redis that evicts: a fault."""
+    """Another number of parts, another log, or a Redis that evicts: an exception."""
     draw = trial.draw("refused")
     web = drawn_web(draw, 5, 30)
     shared = trial.one(draw, web, 2, 3)
@@ -660,11 +663,11 @@ def expect_refusal(kind: Type[Exception], start: Callable[[], Part]) -> None:
         start().close()
     except kind:
         return
-    raise Differs(f"{kind.__name__} wanted")
+    raise Differs(f"{kind.__name__} expected")
 
 
 def full_redis(trial: Trial) -> None:
-    """A Redis without room refuses what is sent: the pages wait, and go on when it has room."""
+    """A Redis without free memory refuses entries: the pages wait until it has memory again."""
     draw = trial.draw("full redis")
     client = trial.server.client
     web = drawn_web(draw, 40, 1500)
@@ -686,14 +689,14 @@ def full_redis(trial: Trial) -> None:
 
 
 def http(trial: Trial) -> None:
-    """`examples/crawl_cluster.py` over HTTP: the shipped site as four hosts, by two parts."""
-    wanted, told = set(), []
+    """`examples/crawl_cluster.py` over HTTP: the example site as four hosts, by two parts."""
+    wanted, lines = set(), []
     folder = trial.folder / "http"
     folder.mkdir()
     trial.server.empty()
     site = shutil.copytree(ROOT / "examples/site", folder / "site")
     index = site / "index.html"
-    # Nothing but the loopback is asked.
+    # Only the loopback is used.
     index.write_text(index.read_text().replace("http://cogs.test/", "/"))
     hosts = [Folder(site, f"127.0.0.{host}") for host in (1, 2, 3, 4)]
     try:
@@ -713,11 +716,11 @@ def http(trial: Trial) -> None:
         for process in processes:
             output, _ = process.communicate(timeout=SECONDS)
             expect(process.returncode == 0, f"status {process.returncode}")
-            told += [line.split(" ") for line in output.decode().splitlines()]
+            lines += [line.split(" ") for line in output.decode().splitlines()]
     finally:
         for host in hosts:
             host.__exit__()
-    ours = [(url, status) for status, _, url in told]
+    ours = [(url, status) for status, _, url in lines]
     expect(len(ours) == len(set(ours)), "a URL was fetched twice")
     expect(set(ours) == wanted, f"other URLs: {sorted(set(ours) ^ wanted)[:5]}")
     print(f"  {len(ours)} URLs over HTTP")
@@ -732,7 +735,7 @@ def crawler(trial: Trial, *words: str, **options: Any) -> subprocess.Popen[str]:
 
 
 def words_like_options(trial: Trial) -> None:
-    """A log's name and a suffix that begin as options do are taken as they stand."""
+    """The name of a log and a suffix may look like options."""
     folder = trial.folder / "words"
     folder.mkdir()
     words = ["--name", "words", "--log=--x", "--within=-a.test", "http://a.test/"]
@@ -755,8 +758,8 @@ def refused_arguments(trial: Trial) -> None:
         process = crawler(trial, "--log", str(log), f"{option}={value}", "http://a.test/")
         _, errors = process.communicate(timeout=SECONDS)
         last = errors.splitlines()[-1]
-        is_told = last == f"crawl_cluster.py: error: argument {option}: {why}: {value}"
-        expect(process.returncode == 2 and is_told, f"status {process.returncode}: {errors}")
+        is_right = last == f"crawl_cluster.py: error: argument {option}: {why}: {value}"
+        expect(process.returncode == 2 and is_right, f"status {process.returncode}: {errors}")
     output, errors = crawler(trial, "--help").communicate(timeout=SECONDS)
     expect(output.lower().count("usage:") == 1 and not errors, f"--help: {output}{errors}")
     log = trial.folder / "closed"
@@ -764,12 +767,12 @@ def refused_arguments(trial: Trial) -> None:
     assert process.stdout and process.stderr
     process.stdout.close()
     errors = process.stderr.read()
-    is_told = errors == "crawl_cluster: [Errno 32] Broken pipe\n"
-    expect(process.wait(SECONDS) == 1 and is_told, f"status {process.returncode}: {errors}")
+    is_right = errors == "crawl_cluster: [Errno 32] Broken pipe\n"
+    expect(process.wait(SECONDS) == 1 and is_right, f"status {process.returncode}: {errors}")
 
 
-def told_seeds(trial: Trial) -> None:
-    """`examples/crawl_cluster.py` tells seeds that no part takes, as `crawl_http.py` does."""
+def reported_seeds(trial: Trial) -> None:
+    """`examples/crawl_cluster.py` reports seeds that no part accepts, like `crawl_http.py`."""
     seeds = ["notaurl", "ftp://a.test/", "", "http://a.test/", "http://127.0.0.1:0/" + "x" * 5_000]
     whys = ["not a URL", "not http or https", "not a URL", "filtered", "line too long"]
     wanted = [f"crawl_cluster: seed {seed}: {why}" for seed, why in zip(seeds, whys)]
@@ -777,22 +780,22 @@ def told_seeds(trial: Trial) -> None:
     process = crawler(trial, *words, *seeds, "http://127.0.0.1:0/", "HTTP://127.1:0")
     output, errors = process.communicate(timeout=SECONDS)
     expect(process.returncode == 0, f"status {process.returncode}: {errors}")
-    expect(errors.splitlines() == wanted, f"told: {errors}")
+    expect(errors.splitlines() == wanted, f"standard error: {errors}")
     expect(output == "robots 0 http://127.0.0.1:0/\n", f"fetched: {output}")
 
 
 def absent_redis(trial: Trial) -> None:
-    """A Redis that does not answer is told once, and tried; the part goes on once it answers."""
+    """If Redis does not answer, the part reports it once, and continues when Redis answers."""
     trial.server.process.kill()
     trial.server.process.wait()
     words = ["--name", "absent", "--log", str(trial.folder / "absent"), "http://127.0.0.1:0/"]
     process = crawler(trial, *words)
     try:
         assert process.stderr
-        expect(any(select.select([process.stderr], [], [], SECONDS)), "nothing is told")
+        expect(any(select.select([process.stderr], [], [], SECONDS)), "nothing is reported")
         line = process.stderr.readline()
-        is_told = line.startswith("crawl_cluster: Redis does not answer, trying for 600 s: ")
-        expect(is_told and "refused" in line, f"told: {line}")
+        is_right = line.startswith("crawl_cluster: Redis does not answer, trying for 600 s: ")
+        expect(is_right and "refused" in line, f"standard error: {line}")
         time.sleep(3 * mercator_cluster._PAUSE)
         trial.server.start()
         output, errors = process.communicate(timeout=SECONDS)
@@ -805,7 +808,7 @@ def absent_redis(trial: Trial) -> None:
 
 
 def locked_redis(trial: Trial) -> None:
-    """A Redis that wants another password ends the part at once."""
+    """If Redis needs another password, the part fails immediately."""
     words = ["--name", "locked", "--log", str(trial.folder / "locked"), "http://127.0.0.1:0/"]
     trial.server.client.config_set("requirepass", "right")
     try:
@@ -814,14 +817,14 @@ def locked_redis(trial: Trial) -> None:
             process = crawler(trial, "--redis", url, *words)
             output, errors = process.communicate(timeout=SECONDS)
             expect(process.returncode == 1 and not output, f"status {process.returncode}: {errors}")
-            expect(errors.startswith("crawl_cluster: ") and why in errors, f"told: {errors}")
-            expect(errors.count("\n") == 1, f"told: {errors}")
+            expect(errors.startswith("crawl_cluster: ") and why in errors, f"error: {errors}")
+            expect(errors.count("\n") == 1, f"error: {errors}")
     finally:
         redis.Redis(port=trial.server.port, password="right").config_set("requirepass", "")
 
 
 def long_base(trial: Trial) -> None:
-    """A page with a base of a megabyte: its links have no room, and cost little."""
+    """A page with a base of a megabyte: its links are too long, and need little memory."""
     shared = trial.new(Web({}, ["http://a.test/"]), 1, 1, Faults())
     with started(shared, 0) as made:
         taken: List[Taken] = []
@@ -831,11 +834,11 @@ def long_base(trial: Trial) -> None:
         made.round([Fetched(0, "http://a.test/" + "x" * 10**6, ["y"] * 200)])
         most = tracemalloc.get_traced_memory()[1]
         tracemalloc.stop()
-        expect(made.counts.pages == 1 and most < 2 * 10**7, f"they take {most} bytes")
+        expect(made.counts.pages == 1 and most < 2 * 10**7, f"the links need {most} bytes")
 
 
 def unix_socket(trial: Trial) -> None:
-    """A Redis that is named by its socket."""
+    """A Redis whose URL is that of its Unix socket."""
     draw = trial.draw("socket")
     web = drawn_web(draw, 20, 100)
     shared = trial.new(web, 2, 3, Faults())
@@ -846,10 +849,10 @@ def unix_socket(trial: Trial) -> None:
 
 
 def interrupted(trial: Trial) -> None:
-    """Ctrl-C ends `examples/crawl_cluster.py` at once, however long its fetches wait."""
+    """Ctrl-C ends `examples/crawl_cluster.py` immediately, however long its fetches wait."""
     words = ["--name", "interrupted", "--log", str(trial.folder / "interrupted"), "--delay", "3600"]
     with Folder(ROOT / "examples/site") as site:
-        # A shell's background job, which this script may be, ignores the signal.
+        # This script may be a background job of a shell, which ignores the signal.
         process = crawler(
             trial, *words, site.url, preexec_fn=lambda: signal.signal(signal.SIGINT, signal.SIG_DFL)
         )
@@ -863,7 +866,7 @@ def interrupted(trial: Trial) -> None:
 
 
 def gone_redis(trial: Trial) -> None:
-    """A cut after a long crawl does not end `run`; a Redis that does not answer for long does."""
+    """`run` survives the loss of a connection, but not a Redis that does not answer for long."""
     web = drawn_web(trial.draw("gone redis"), 1, 2)
     shared = trial.new(web, 1, 1, Faults())
     losses = iter([True])
@@ -878,54 +881,54 @@ def gone_redis(trial: Trial) -> None:
         run(lambda: started(shared, 0), fetch)
         expect(is_complete(shared, trial.server), "`complete` is not set")
         other = shared._replace(crawl=shared.crawl._replace(redis="redis://127.0.0.1:1/0"))
-        with mock.patch.object(mercator_cluster.logger, "warning") as told:
+        with mock.patch.object(mercator_cluster.logger, "warning") as warning:
             try:
                 run(lambda: started(other, 0), fetch)
             except Cut:
-                expect(told.call_count == 1, f"told {told.call_count} times")
+                expect(warning.call_count == 1, f"{warning.call_count} warnings")
                 return
-    raise Differs("a Redis that does not answer is tried for ever")
+    raise Differs("a part tries forever to connect to Redis")
 
 
 def speed(trial: Trial) -> None:
-    """100,000 pages on 1,000 hosts with 5 links each at random hosts, fetched at once."""
-    pages = trial.words.pages
+    """The speed of a crawl of 100,000 pages on 1,000 hosts, each with 5 links to random pages."""
+    pages = trial.options.pages
     web = plain_web(pages, 1000, 5)
     wanted = dict.fromkeys(web.pages, True)
     for parts, is_synced in ((1, False), (2, False), (4, False), (4, True)):
         before, begun = trial.server.processor(), time.monotonic()
         shared = trial.one(trial.draw("speed"), web, parts, 128, wanted=wanted, is_synced=is_synced)
-        all_told: Counter[str] = Counter()
+        total: Counter[str] = Counter()
         seconds = 0.0
         for part in range(parts):
-            told = json.loads((shared.folder / f"told.{part}").read_text())
-            seconds = max(seconds, told.pop("seconds"))
-            all_told.update(told)
+            figures = json.loads((shared.folder / f"figures.{part}").read_text())
+            seconds = max(seconds, figures.pop("seconds"))
+            total.update(figures)
         used = trial.server.processor() - before
         print(
             f"  {parts} parts{', sync' * is_synced}: {seconds:.2f} s,"
-            f" {time.monotonic() - begun:.1f} in all; {pages / seconds:,.0f} pages/s;"
-            f" URLs through Redis: {all_told['sent'] / pages:.2f} a page,"
-            f" {all_told['sent'] / seconds:,.0f}/s,"
-            f" {all_told['sent'] / max(1, all_told['entries']):.0f} an entry;"
-            f" processor a page, us: clients {all_told['client'] / pages * 1e6:.0f},"
-            f" frontiers {all_told['frontier'] / pages * 1e6:.0f}, Redis {used / pages * 1e6:.1f};"
+            f" {time.monotonic() - begun:.1f} s in all; {pages / seconds:,.0f} pages/s;"
+            f" URLs through Redis: {total['sent'] / pages:.2f} per page,"
+            f" {total['sent'] / seconds:,.0f}/s,"
+            f" {total['sent'] / max(1, total['entries']):.0f} per entry;"
+            f" CPU time per page, us: clients {total['client'] / pages * 1e6:.0f},"
+            f" frontiers {total['frontier'] / pages * 1e6:.0f}, Redis {used / pages * 1e6:.1f};"
             f" load {os.getloadavg()[0]:.1f}", flush=True
         )
 
 
 PARTS: Tuple[Callable[[Trial], None], ...] = (
     plain, killed, twice_and_late, lost_redis, lost_at_the_end, full, one_host, many_queues,
-    refused, full_redis, http, words_like_options, refused_arguments, told_seeds, absent_redis,
+    refused, full_redis, http, words_like_options, refused_arguments, reported_seeds, absent_redis,
     locked_redis, long_base, unix_socket, interrupted, gone_redis, speed,
 )
 
 
-def program_of(word: Optional[str]) -> str:
-    named = word or os.environ.get("MERCATOR") or str(BUILT)
-    found = shutil.which(named)
+def program_of(given: Optional[str]) -> str:
+    path = given or os.environ.get("MERCATOR") or str(BUILT)
+    found = shutil.which(path)
     if found is None:
-        sys.exit(f"cluster_runs.py: {named} is no program")
+        sys.exit(f"cluster_runs.py: {path} is not a program: build it, or give --program")
     return str(Path(found).resolve())
 
 
@@ -934,20 +937,26 @@ def main() -> None:
         description=__doc__, formatter_class=argparse.RawDescriptionHelpFormatter
     )
     option = parser.add_argument
-    option("--program", metavar="FILE")
-    option("--part", action="append", choices=[part.__name__ for part in PARTS], help="these alone")
-    option("--webs", type=int, default=50, metavar="N", help="of each part")
-    option("--pages", type=int, default=100_000, metavar="N", help="of the part speed")
-    option("--seed", default="1", help="draws other webs and moments")
-    option("--keep", action="store_true", help="keeps the folder")
-    words = parser.parse_args()
-    program = program_of(words.program)
+    names = [part.__name__ for part in PARTS]
+    option("--program", metavar="FILE",
+           help="path of the program (default: $MERCATOR if it is set, else the built program)")
+    option("--part", action="append", choices=names, metavar="NAME",
+           help=f"run only this test; repeatable. The tests are {', '.join(names)}")
+    option("--webs", type=int, default=50, metavar="N",
+           help="number of generated sites of a test (default: 50)")
+    option("--pages", type=int, default=100_000, metavar="N",
+           help="number of pages of the test speed (default: 100000)")
+    option("--seed", default="1",
+           help="seed of the random sites and moments (default: 1)")
+    option("--keep", action="store_true", help="keep the temporary folder")
+    options = parser.parse_args()
+    program = program_of(options.program)
     folder = Path(tempfile.mkdtemp(prefix="cluster-"))
     passed = failed = 0
-    trial = Trial(words, program, folder)
+    trial = Trial(options, program, folder)
     try:
         for part in PARTS:
-            if words.part and part.__name__ not in words.part:
+            if options.part and part.__name__ not in options.part:
                 continue
             begun = time.monotonic()
             try:
@@ -960,10 +969,10 @@ def main() -> None:
             else:
                 passed += 1
                 print(f"{part.__name__}: passed, {time.monotonic() - begun:.0f} s", flush=True)
-            trial.tell()
+            trial.print_totals()
     finally:
         trial.server.end()
-        if not words.keep:
+        if not options.keep:
             shutil.rmtree(folder, ignore_errors=True)
     print(f"{passed} passed, {failed} failed")
     sys.exit(1 if failed or not passed else 0)

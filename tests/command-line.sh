@@ -3,10 +3,10 @@
 # program first if it is missing.
 #
 # Usage: tests/command-line.sh
-# The last line is `N passed, M failed`.
+# Environment: PROGRAM is the path of the program [default: the built one]. The last line is `N passed, M failed`.
 set -uo pipefail
 cd "$(dirname "$0")/.." || exit 1
-program=$PWD/crates/mercator_cli/out/mercator_cli
+program=${PROGRAM:-$PWD/crates/mercator_cli/out/mercator_cli}
 data=$PWD/examples
 scratch=$(mktemp -d)
 trap 'rm -rf "$scratch"' EXIT
@@ -172,9 +172,13 @@ got=0
 expect "a closed input" 1 "" "mercator: cannot read -"
 
 # No more than 2^30 bytes are read. These, and half as many again while the buffer grows, fit into 3 GiB of address space.
-got=0
-yes look | (ulimit -v $((3 << 20)); exec timeout 60 "$program" replay -) > "$scratch/out" 2> "$scratch/err" || got=$?
-expect "an input without an end" 1 "" "mercator: cannot read -"
+if (ulimit -v $((3 << 20)) && "$program" --help) > /dev/null 2>&1; then
+    got=0
+    yes look | (ulimit -v $((3 << 20)); exec timeout 60 "$program" replay -) > "$scratch/out" 2> "$scratch/err" || got=$?
+    expect "an input without an end" 1 "" "mercator: cannot read -"
+else
+    echo "not tested, because this program needs more than 3 GiB of addresses: an input without an end"
+fi
 
 got=0
 : > "$scratch/out"

@@ -1,26 +1,27 @@
 #!/usr/bin/env python3
-"""Runs the built program on drawn inputs, and compares its answers with a plain reckoning.
+"""Run the built program on random inputs, and compare the output with an independent model.
 
-The kinds of inputs, and how many of each come among COUNT:
+These are the kinds of inputs:
 
-- webs: saved webs without a fault, each crawled with two or more numbers of workers.
-- web pieces, changed webs: pieces of lines; good webs with one byte, line or number changed.
-- folders: pages whose URLs differ in one part, with many links that stand on several of them.
-- large webs: thousands of pages, some with URLs of one hash, or one page twice.
-- narrow crawls: one worker, with little room for URLs that are pending.
-- seeds: files of seeds, good, of pieces and changed.
-- crawls at fault: the suffix, the web, the seeds' file and the seeds, each good or bad.
-- keys: URLs by the command `key`.
-- scripts: scripts without a fault, most of them long enough for every reply.
-- script pieces, changed scripts: as of webs.
+- web: valid saved webs, each crawled with two or more numbers of workers
+- web pieces, changed web: pieces of lines; valid saved webs with one byte, line or number changed
+- folder: pages whose URLs differ in one component, with many links that several of them have
+- large web: thousands of pages, some with URLs that have the same hash, or with one page twice
+- narrow crawl: one worker, with little room for pending URLs
+- seeds: files of seeds: valid ones, pieces, and changed ones
+- crawl at fault: the suffix, the saved web, the file of seeds and the seeds, each valid or not
+- key: URLs for the command `key`
+- script: valid scripts, most of them long enough for every reply
+- script pieces, changed script: like those of saved webs
 
-URLs are read by a reckoning of the URL Standard, as far as it needs no tables: a text beyond that
-is drawn anew. Each fault, reply and line of a report has to come LEAST times in its kind where
-COUNT is at least 10,000; one that does not is a failure.
+The model reads URLs by the URL Standard, as far as this needs no tables; other texts are replaced
+by new random ones. With a COUNT of at least 10,000, each error, reply and line of a report must
+occur at least 5 times in its kind; otherwise the test fails.
 
-The inputs are the same each time for one SEED. The first differences are told, each with the
-command that shows it, its input in a kept file, and a diff. At last it prints `N passed, M failed`,
-and ends with status 1 where any failed. PROGRAM of the environment stands for the built program.
+The inputs depend only on the seed. The first differences are printed, each with a command that
+shows it, its input in a file that is kept, and a diff. The environment variable PROGRAM is the path
+of the program [default: the built one]. The last line is `N passed, M failed`; the exit status is 1
+if any failed.
 """
 
 from __future__ import annotations
@@ -50,22 +51,22 @@ SECONDS = 60  # the time limit of a run
 LINE_LIMIT = 4096
 COUNT = 10_000
 LEAST = 5
-TOLD = 20  # so many differences are told
+TOLD = 20  # the number of differences that are printed
 
 
 # ---------------------------------------------------------------- URLs
 
 
 class NotPlain(Exception):
-    """A URL whose reading needs tables, or whose reading has changed with the standard."""
+    """Raised for a URL that this model does not support."""
 
 
 class NotUrl(Exception):
-    """A text that is no URL."""
+    """Raised for a text that is not a URL."""
 
 
 class NotHttp(Exception):
-    """A URL that is neither http nor https."""
+    """Raised for a URL that is neither http nor https."""
 
 
 class Url(NamedTuple):
@@ -95,7 +96,7 @@ IN_QUERY = "\"#<>'"
 
 
 def url_of(text: str, base: Optional[Url] = None) -> Url:
-    """The URL of a text, by itself or on the page with the base."""
+    """Return the URL of a text, resolved against the base if there is one."""
     text = re.sub("[\t\n\r]", "", text.strip(TRIMMED)).partition("#")[0]
     scheme = SCHEME.fullmatch(text)
     if scheme:
@@ -124,7 +125,7 @@ def other_scheme(name: str, text: str) -> Exception:
 
 
 def url_at(scheme: str, text: str) -> Url:
-    """The URL of what stands behind the slashes."""
+    """Return the URL of the text after the slashes."""
     front, mark, query = text.partition("?")
     authority, *path = re.split(r"[/\\]", front)
     user, _, place = authority.rpartition("@")
@@ -162,14 +163,14 @@ def host_of(text: str) -> str:
 
 
 def label_of(text: str) -> str:
-    """A label in ASCII, of letters that IDNA leaves as they are."""
+    """Return a label in ASCII. Only letters that IDNA does not change are supported."""
     if not re.fullmatch("[a-z0-9éü日本]*", text):
         raise NotPlain
     return text if text.isascii() else f"xn--{text.encode('punycode').decode()}"
 
 
 def dotted(numbers: list[str]) -> str:
-    """The address of one to four numbers, of which the last fills what is left."""
+    """Return the IPv4 address of one to four numbers; the last one gives all remaining bytes."""
     if len(numbers) > 4:
         raise NotUrl
     *first, last = map(number_of, numbers)
@@ -180,7 +181,7 @@ def dotted(numbers: list[str]) -> str:
 
 
 def number_of(text: str) -> int:
-    """A number of an address, in its base."""
+    """Return a number of an IPv4 address, which may be octal or hexadecimal."""
     for pattern, base in (("0x([0-9a-f]*)", 16), ("0([0-7]+)", 8), ("(0|[1-9][0-9]*)", 10)):
         digits = re.fullmatch(pattern, text)
         if digits:
@@ -200,7 +201,7 @@ def address_of(text: str) -> str:
 
 
 def encoded(text: str, more: str) -> str:
-    """The text with escapes for spaces, controls, what is beyond ASCII, and more."""
+    """Percent-encode spaces, control and non-ASCII characters, and those in `more`."""
     if text.isalnum() and text.isascii():
         return text
     return "".join(
@@ -211,7 +212,7 @@ def encoded(text: str, more: str) -> str:
 
 
 def walked(segments: list[str]) -> tuple[str, ...]:
-    """The segments of a path, without those of dots."""
+    """Return the encoded segments of a path without dot segments."""
     path: list[str] = []
     dots = ""
     for segment in segments:
@@ -239,23 +240,23 @@ def queue_of(url: Url, workers: int) -> int:
     return number % workers
 
 
-# ---------------------------------------------------------------- what inputs say
+# ---------------------------------------------------------------- reading inputs
 
 
 class Fault(Exception):
-    """What the program tells of a bad input."""
+    """Raised for an invalid input, with the message that the program has to print."""
 
     status = 1
 
 
 class Incomplete(Fault):
-    """What it tells of a crawl that lacks a URL."""
+    """Raised for an incomplete crawl, with the message that the program has to print."""
 
     status = 2
 
 
 def lines_of(data: bytes, what: str) -> Iterator[tuple[str, str]]:
-    """Each line with its place, as faults name it, up to one that is too long or no text."""
+    """Yield each line with its position in messages; raise if it is too long or not UTF-8."""
     *whole, last = data.split(b"\n")
     lines = [line[:-1] if line.endswith(b"\r") else line for line in whole]
     for number, line in enumerate([*lines, last] if last else lines, 1):
@@ -270,7 +271,7 @@ def lines_of(data: bytes, what: str) -> Iterator[tuple[str, str]]:
 
 
 class Page:
-    """A page with its links, where None stands for one that is skipped; or where it moved to."""
+    """A page with its links (None for a skipped one), or a redirect with its target."""
 
     def __init__(self) -> None:
         self.links: list[Optional[Url]] = []
@@ -360,11 +361,11 @@ def read_script(data: bytes) -> Script:
     return Script(*numbers, events)
 
 
-# ---------------------------------------------------------------- what the program answers
+# ---------------------------------------------------------------- the expected output
 
 
 class Crawl(NamedTuple):
-    """A crawl's inputs and options."""
+    """The inputs and options of a crawl."""
 
     web: bytes
     seeds: list[str]
@@ -387,14 +388,14 @@ class Crawl(NamedTuple):
 
 
 def crawl_of(crawl: Crawl, workers: int) -> list[str]:
-    """What is told of the crawl; its inputs are looked at in their order."""
+    """Return the report of a crawl; raise if an input is invalid, the first one that is."""
     if crawl.suffix is not None and not re.fullmatch("[a-z0-9.-]+", crawl.suffix):
         raise Fault("bad suffix")
     web = read_web(crawl.web)
     seeds = read_seeds(crawl.listed or b"")
     seeds += [seed_of(text, f"seed {number}") for number, text in enumerate(crawl.seeds, 1)]
     if not seeds:
-        raise Fault("seeds: no seed")
+        raise Fault("seeds: no seed in the list or on the command line")
     found = search(web, crawl, seeds)
     links = [link for url in found if url in web for link in web[url].leads_to()]
     for urls, what in ((seeds, "seed"), (links, "link")):
@@ -404,9 +405,10 @@ def crawl_of(crawl: Crawl, workers: int) -> list[str]:
 
 
 def search(web: Web, crawl: Crawl, seeds: list[Url]) -> set[Url]:
-    """The URLs that are found: the seeds, and then the links of one page after the other.
+    """Return the URLs that are found: the seeds, and then the links of one page after the other.
 
-    No more are pending than there is room for, the opening or the page at work among them.
+    URLs are dropped if there is no room. The seeding phase, and each page in progress, counts as a
+    pending URL.
     """
     waiting: deque[Url] = deque()
     found: set[Url] = set()
@@ -424,7 +426,7 @@ def search(web: Web, crawl: Crawl, seeds: list[Url]) -> set[Url]:
 
 
 def report_of(web: Web, crawl: Crawl, found: list[Url], workers: int) -> list[str]:
-    """The report of the URLs in their order, and what stands behind it."""
+    """Return the report of the URLs in their order, with the lines of --queues and --sources."""
     lines = [line_of(url, web.get(url)) for url in found]
     count = Counter(line.split(" ")[0] for line in lines)
     moved = f" moved {count['moved']}" if count["moved"] else ""
@@ -456,12 +458,12 @@ def line_of(url: Url, page: Optional[Page]) -> str:
 
 
 class Machine:
-    """The frontier's steps, over lists."""
+    """The steps of a frontier, with lists."""
 
     def __init__(self, script: Script) -> None:
         self.most = script.most
         self.opening = 1
-        self.pending = 0  # accepted, and not done
+        self.pending = 0  # the number of accepted URLs that are not done
         self.closed = False
         self.holders: set[int] = set()
         self.words: dict[int, tuple[int, bool]] = {}
@@ -548,11 +550,11 @@ def key_of(text: str, workers: int) -> list[str]:
     return [f"{url} {url.host} {queue_of(url, workers)}"]
 
 
-# ---------------------------------------------------------------- what is drawn
+# ---------------------------------------------------------------- random inputs
 
 
 class Case(NamedTuple):
-    """A command with its inputs, what has to be told, and what else is to be counted of it."""
+    """A command with its inputs, the expected output, and the features of its input to count."""
 
     words: list[str]
     data: bytes
@@ -611,11 +613,11 @@ GOOD = (
     " http://d.test/  ", "http://é.test/€", "http://[::1]:8080/", "http://1.2/", "http://017.0x1/",
     "https:\\\\e.test\\x", "http://u:p@f.test/",
 )
-ONE_HASH = "http://a.test/000000000000010355el8CGH)V"  # with any eight bytes behind it
+ONE_HASH = "http://a.test/000000000000010355el8CGH)V"  # the same hash with any eight bytes after it
 
 
 class Target(NamedTuple):
-    """A URL that may be spelled in several ways; without a port it has the default one."""
+    """A URL that has several spellings; without a port it has the default one."""
 
     scheme: str
     user: str
@@ -656,13 +658,13 @@ def drawn_link(draw: Random, targets: list[Target]) -> str:
 
 
 def odd_text(draw: Random) -> str:
-    """Pieces of URLs in any order."""
+    """Return pieces of URLs in random order."""
     front = draw.choice(("", "", "http://", "http://a.test/", "http://a.test?", "https:", "//"))
     return front + "".join(draw.choices(ODD, k=draw.randrange(1, 6)))
 
 
 def drawn_web(draw: Random) -> tuple[bytes, list[str]]:
-    """A saved web without a fault, and seeds."""
+    """Return a valid saved web, and seeds."""
     version = draw.choice((1, 2))
     lines = [f"savedweb {version}"]
     targets = drawn_targets(draw, 20)
@@ -679,7 +681,7 @@ def drawn_web(draw: Random) -> tuple[bytes, list[str]]:
 
 
 def joined(draw: Random, lines: list[str]) -> bytes:
-    """The lines with their ends, empty lines between some, and the last one perhaps without."""
+    """Join lines with random line ends and empty lines; the last line may have no line end."""
     ends = ("\n", "\n", "\n", "\r\n", "\n\n", "\n\r\n")
     text = "".join(line + draw.choice(ends) for line in lines)
     return (text.rstrip("\r\n") if draw.randrange(4) == 0 else text).encode()
@@ -696,7 +698,7 @@ LONG = (
 
 
 def changed(draw: Random, data: bytes) -> bytes:
-    """The bytes with one byte, line or number dropped, doubled, another, put in or elsewhere."""
+    """Return the data with a byte, line or number removed, doubled, replaced, inserted or moved."""
     kind = draw.randrange(8)
     digits = list(re.finditer(rb"\d+", data))
     if kind == 7 and digits:
@@ -719,7 +721,7 @@ def changed(draw: Random, data: bytes) -> bytes:
 
 
 def of_all_pages(draw: Random, data: bytes) -> Case:
-    """A crawl from all pages of the web, so that each of them is told."""
+    """Return a crawl that begins at all pages, so that each of them is in the report."""
     try:
         seeds = list(map(str, read_web(data)))
     except Fault:
@@ -761,7 +763,7 @@ WEB_HEADERS = (
 
 
 def pieces(draw: Random, data: bytes, choices: tuple[bytes, ...]) -> bytes:
-    """The bytes with up to nine pieces behind them, now and then another byte or a long line."""
+    """Append up to nine pieces to the data, sometimes another byte or a long line."""
     for _ in range(draw.randrange(draw.choice((4, 10)))):
         data += draw.choice(choices)
         if draw.randrange(20) == 0:
@@ -795,7 +797,7 @@ def plain_on_all(text: str) -> bool:
 
 
 def folders(draw: Random) -> list[Case]:
-    """Links that most pages have, in few or many texts; some of them have one hash."""
+    """Return a crawl of pages with few or many common links, some of which have the same hash."""
     texts = [*FOLDER_LINKS, *filter(plain_on_all, (odd_text(draw) for _ in range(30)))]
     if draw.randrange(8) == 0:
         texts += [f"x{number}{end}" for number in range(200) for end in ("", "#f")]
@@ -807,15 +809,15 @@ def folders(draw: Random) -> list[Case]:
     return [of_all_pages(draw, "\n".join(lines).encode())]
 
 
-# so many links are more bytes than one thread looks at
+# this many links have more bytes than one thread reads
 LONG_PAGE = 12_000
 LONG_LINKS = ("/x/", "x/", "http://b.test/", "mailto:")
 
 
 def large_webs(draw: Random) -> list[Case]:
-    """A ring of pages, each with `gone` twice and a missing URL of its own; some of one hash, and one page long.
+    """Return crawls of a ring of pages, each with two links `gone` and a missing URL of its own.
 
-    It is crawled as it is, and with one page once more.
+    Some URLs have the same hash, and one page may be long. The last crawl has one page twice.
     """
     urls = [f"http://a.test/{number}" for number in range(draw.choice((50, 700, 3000)))]
     urls += [f"{ONE_HASH}{number:08}" for number in range(draw.choice((0, 200)))]
@@ -859,7 +861,7 @@ def seeds_files(draw: Random) -> list[Case]:
 
 
 def crawls_at_fault(draw: Random) -> list[Case]:
-    """Each input is good or bad by itself, so that the first that is bad decides."""
+    """Return a crawl whose inputs are each valid or not; the first invalid one decides."""
     data, seeds = drawn_web(draw)
     web = changed(draw, data) if draw.randrange(4) == 0 else data
     listed = joined(draw, drawn_good_seeds(draw)) if draw.random() < 0.5 else None
@@ -888,7 +890,7 @@ EVENTS = (
 
 
 def drawn_script(draw: Random, longest: int) -> bytes:
-    """A script without a fault."""
+    """Return a valid script."""
     workers = draw.choice((1, 1, 2, 2, 3, 7, 512))
     most = draw.choice((1, 2, 3, 4, 9, 2**40))
     senders = draw.choice(((0, 1, 2), (0, 1, 2), (0, 7, 2**64 - 1)))
@@ -905,7 +907,7 @@ def drawn_script(draw: Random, longest: int) -> bytes:
 
 
 def drawn_number(draw: Random, value: int) -> str:
-    """The number, now and then with zeros before it, up to twenty digits."""
+    """Return a number, sometimes with leading zeros, of up to twenty digits."""
     return f"{value:0{draw.randrange(1, 21) if draw.randrange(10) == 0 else 1}}"
 
 
@@ -931,7 +933,7 @@ WORDS = (b"look", b"enter", b"back", b"take", b"done") * 11 + (
 
 
 def script_piece(draw: Random) -> bytes:
-    """A line with its end, or what lines are made of."""
+    """Return a line, or a piece of a line, with a random line end."""
     kind = draw.randrange(64)
     number = draw.choice(NUMBERS) if draw.randrange(16) == 0 else b"%d" % draw.randrange(9)
     if draw.randrange(16) == 0:
@@ -961,13 +963,13 @@ def script_pieces(draw: Random) -> list[Case]:
     return [script_case(header + body)]
 
 
-# ---------------------------------------------------------------- what has to come
+# ---------------------------------------------------------------- the kinds of inputs
 
 
 class Kind(NamedTuple):
     draw: Callable[[Random], list[Case]]
-    share: int  # so many of a thousand
-    ought: list[str]  # what has to come: lines without their numbers and URLs, and what inputs have
+    share: int  # how many of a thousand inputs
+    ought: list[str]  # what must occur: output lines without numbers and URLs, features of inputs
 
 
 def faults(what: str, *texts: str) -> list[str]:
@@ -1022,7 +1024,7 @@ LIST = "seeds.list"
 
 
 def difference(made: Case) -> str:
-    """How what is told differs: on the output at status 0, and else on standard error."""
+    """Return the difference to the expected output (status 0) or standard error, or nothing."""
     if made.listed is not None:
         Path(LIST).write_bytes(made.listed)
     try:
@@ -1031,23 +1033,24 @@ def difference(made: Case) -> str:
             check=False,
         )
     except subprocess.TimeoutExpired:
-        return f"it runs for more than {SECONDS} s"
-    told, silent = done.stdout, done.stderr
+        return f"it did not end within {SECONDS} s"
+    output, other = done.stdout, done.stderr
     if made.status:
-        told, silent = silent, told
+        output, other = other, output
     wanted = "".join(f"{line}\n" for line in made.wanted)
-    if (told, silent, done.returncode) == (wanted.encode(), b"", made.status):
+    if (output, other, done.returncode) == (wanted.encode(), b"", made.status):
         return ""
-    lines = told.decode("utf-8", "backslashreplace").replace("\r", "\\r").split("\n")
-    differing = difflib.unified_diff(wanted.split("\n"), lines, "wanted", "told", lineterm="")
+    lines = output.decode("utf-8", "backslashreplace").replace("\r", "\\r").split("\n")
+    differing = difflib.unified_diff(wanted.split("\n"), lines, "expected", "printed", lineterm="")
+    stream = "standard output" if made.status else "standard error"
     return "\n".join([
-        f"status {done.returncode}, {made.status} wanted; {len(silent)} bytes beside",
+        f"status {done.returncode}, expected {made.status}; {len(other)} bytes on {stream}",
         *list(differing)[:40],
     ])
 
 
 def kept(made: Case, name: str, folder: str) -> str:
-    """The command that shows the difference, with its input in a kept file."""
+    """Keep the input in a file, and return the command that shows the difference."""
     file = f"{name.replace(' ', '-')}.input"
     Path(folder, file).write_bytes(made.data)
     words = made.words
@@ -1059,7 +1062,7 @@ def kept(made: Case, name: str, folder: str) -> str:
 
 
 def run(kind: str, number: int, seed: str, folder: str) -> tuple[Counter[str], list[str]]:
-    """Draws and compares; answers what came, and how each case differs."""
+    """Make random cases and compare them; return what occurred, and the differences."""
     name = f"{kind} {number}"
     draw = Random(f"{name} of seed {seed}")
     cases: list[Case] = []
@@ -1080,7 +1083,7 @@ def run(kind: str, number: int, seed: str, folder: str) -> tuple[Counter[str], l
 
 
 def scratch(folder: str) -> None:
-    """Gives a process of the pool a folder of its own to work in."""
+    """Give a process of the pool a working folder of its own."""
     os.chdir(tempfile.mkdtemp(dir=folder))
 
 
@@ -1094,25 +1097,25 @@ class Totals:
             print(text)
 
 
-def compare_all(words: argparse.Namespace, folder: str, work: str) -> Totals:
+def compare_all(options: argparse.Namespace, folder: str, work: str) -> Totals:
     totals = Totals()
     with ProcessPoolExecutor(len(os.sched_getaffinity(0)), None, scratch, (work,)) as pool:
         for name, kind in KINDS.items():
-            if words.kind and name not in words.kind:
+            if options.kind and name not in options.kind:
                 continue
-            count = max(1, words.count * kind.share // 1000)
+            count = max(1, options.count * kind.share // 1000)
             came: Counter[str] = Counter()
-            rest = ([name] * count, range(count), [words.seed] * count, [folder] * count)
-            for told, differing in pool.map(run, *rest, chunksize=max(1, min(20, count // 16))):
-                came += told
+            rest = ([name] * count, range(count), [options.seed] * count, [folder] * count)
+            for some, differing in pool.map(run, *rest, chunksize=max(1, min(20, count // 16))):
+                came += some
                 totals.passed += not differing
                 for text in differing[:1]:
                     totals.fail(text)
-            for line in kind.ought if words.counts else []:
+            for line in kind.ought if options.counts else []:
                 print(f"{name}: {came[line]} times: {line}")
-            for line in kind.ought if words.count >= COUNT else []:
+            for line in kind.ought if options.count >= COUNT else []:
                 if came[line] < LEAST:
-                    totals.fail(f"{name}: {came[line]} times, {LEAST} wanted: {line}")
+                    totals.fail(f"{name}: {came[line]} times, at least {LEAST} expected: {line}")
     return totals
 
 
@@ -1120,16 +1123,20 @@ def main() -> None:
     parser = argparse.ArgumentParser(
         description=__doc__, formatter_class=argparse.RawDescriptionHelpFormatter
     )
-    parser.add_argument("--count", type=int, default=COUNT, help="about so many inputs")
-    parser.add_argument("--seed", default="1", help="draws other inputs")
-    parser.add_argument("--kind", action="append", choices=KINDS, help="these kinds alone")
-    parser.add_argument("--counts", action="store_true", help="tell how often each thing came")
-    words = parser.parse_args()
+    option = parser.add_argument
+    option("--count", type=int, default=COUNT, metavar="COUNT",
+           help="approximate number of inputs (default: 10000)")
+    option("--seed", default="1", help="seed of the random inputs (default: 1)")
+    option("--kind", action="append", choices=KINDS, metavar="KIND",
+           help="use only this kind of inputs; repeatable")
+    option("--counts", action="store_true",
+           help="print how often each error, reply and line occurred")
+    options = parser.parse_args()
     if not os.path.isfile(PROGRAM):
-        sys.exit(f"{PROGRAM} is not there: `rt run -- --help` in crates/mercator_cli builds it")
+        sys.exit(f"drawn.py: no program {PROGRAM}: run `rt run -- --help` in crates/mercator_cli")
     folder = tempfile.mkdtemp(prefix="drawn-")
     with tempfile.TemporaryDirectory() as work:
-        totals = compare_all(words, folder, work)
+        totals = compare_all(options, folder, work)
     if not os.listdir(folder):
         os.rmdir(folder)
     print(f"{totals.passed} passed, {totals.failed} failed")

@@ -1,16 +1,17 @@
 #!/usr/bin/env python3
-"""Runs the frontier for threads by `library_calls`, and compares what its calls answer with the machine.
+"""Run the frontier for threads by `library_calls`, and compare the results of its calls with the machine.
 
-- drawn calls: workers, the seeder and a sender call in turns that are drawn. Each answer has to be the machine's, which
-  `mercator replay` gives to the events of the call. Hops, numbers and the account have a reckoning of their own here.
-- steps of threads: four workers, each in a thread of its own. Their steps have to make one list of events that the
-  machine answers alike, and with one step changed there must be no such list.
+- random calls: workers, the seeder and a sender make calls in random order. Each result must be the machine's, as
+  `mercator replay` prints it for the events of the call. Hops, numbers and the account are compared with a model here.
+- steps of threads: four workers run in threads of their own. There must be an order of all their steps for which the
+  machine has the same results; if one step is changed, there must be no such order.
 - threads that end: workers and senders in threads offer the same pages until the gate is closed. Each page is accepted
-  once, and whoever calls after a worker was told that the gate is closed is told so.
-- threads that leave: workers are dropped with work in hand, so the gate never closes, and there is no account.
+  once, and after a worker saw the closed gate, all calls do.
+- threads that leave: workers leave with pages in progress, so the gate never closes, and there is no account.
 
-The draws are the same each time for one SEED. CALLS of the environment stands for the built `library_calls`, PROGRAM for
-the built `mercator`. It tells what differs, at last `N passed, M failed`, and ends with status 1 where any failed.
+The random calls depend only on the seed. The environment variables CALLS and PROGRAM are the commands of
+`library_calls` and `mercator` [default: the built ones]. The last line is `N passed, M failed`; the exit status is 1
+if any failed.
 """
 
 from __future__ import annotations
@@ -28,15 +29,15 @@ from typing import Iterator, NamedTuple, Optional, Sequence
 ROOT = Path(__file__).resolve().parent.parent
 CALLS = shlex.split(os.environ.get("CALLS", str(ROOT / "crates/library_calls/out/library_calls")))
 PROGRAM = os.environ.get("PROGRAM", str(ROOT / "crates/mercator_cli/out/mercator_cli"))
-SECONDS = 60  # the time limit of a run: whoever rests and is not woken is ended by it
-HOSTS = 50  # the pages' hosts, as in crates/library_calls/src/running.rt
+SECONDS = 60  # the time limit of a run, which ends it if a waiting thread is not woken
+HOSTS = 50  # the number of hosts of the pages, as in crates/library_calls/src/running.rt
 LINKS = 4
 PAGES = 8_000
 ROOM = 1_000_000
 
 
 class Differs(Exception):
-    """What a run showed otherwise."""
+    """Raised when a result is not the expected one."""
 
 
 def expect(holds: bool, text: str) -> None:
@@ -45,34 +46,34 @@ def expect(holds: bool, text: str) -> None:
 
 
 def answers(blocks: Sequence[list[str]]) -> list[list[str]]:
-    """What the calls of each block answer, and behind them how the frontier ends."""
+    """Return the results of the calls of each block, followed by how the frontier ended."""
     text = "\n\n".join("\n".join(block) for block in blocks) + "\n"
     ran = subprocess.run([*CALLS, "calls"], input=text, capture_output=True, text=True, timeout=2 * SECONDS)
-    told = [block.splitlines() for block in ran.stdout.split("\n\n")][: len(blocks)]
-    is_whole = ran.returncode == 0 and len(told) == len(blocks)
-    expect(is_whole, f"{len(told)} of {len(blocks)} blocks answered, status {ran.returncode}")
-    return told
+    results = [block.splitlines() for block in ran.stdout.split("\n\n")][: len(blocks)]
+    is_whole = ran.returncode == 0 and len(results) == len(blocks)
+    expect(is_whole, f"results of {len(results)} of {len(blocks)} blocks, status {ran.returncode}")
+    return results
 
 
 def replies(workers: int, room: int, events: list[str]) -> list[str]:
-    """What the machine replies to each event."""
+    """Return the machine's reply to each event."""
     script = "\n".join([f"workers {workers} max {room}", *events]) + "\n"
     ran = subprocess.run([PROGRAM, "replay", "-"], input=script, capture_output=True, text=True, timeout=SECONDS)
-    told = ran.stdout.splitlines()
-    expect(ran.returncode == 0 and len(told) == len(events), f"replay: status {ran.returncode}: {ran.stderr.strip()}")
-    return told
+    lines = ran.stdout.splitlines()
+    expect(ran.returncode == 0 and len(lines) == len(events), f"replay: status {ran.returncode}: {ran.stderr.strip()}")
+    return lines
 
 
 def agree(workers: int, room: int, events: list[tuple[str, str]]) -> None:
-    """Whether the machine replies to each event as the calls did; `*` stands for any number."""
+    """Check that the machine replies to each event as expected; `*` matches any number."""
     for (event, wanted), reply in zip(events, replies(workers, room, [event for event, _ in events])):
         fits = len(wanted.split()) == len(reply.split()) and all(
             want in ("*", word) for want, word in zip(wanted.split(), reply.split())
         )
-        expect(fits, f"{event}: the machine says {reply!r}, the frontier {wanted!r}")
+        expect(fits, f"{event}: the machine's reply is {reply!r}, the frontier's {wanted!r}")
 
 
-# ---------------------------------------------------------------- drawn calls
+# ---------------------------------------------------------------- random calls
 
 
 class Row(NamedTuple):
@@ -95,12 +96,12 @@ ROWS = (
 
 
 def drawn_urls(count: int) -> list[str]:
-    """Pages of 30 hosts, a third of them each under `test`, `example` and `invalid`."""
+    """Return pages of 30 hosts, a third of them each below `test`, `example` and `invalid`."""
     return [f"http://h{n % 30}.{('test', 'example', 'invalid')[n % 30 % 3]}/{n}" for n in range(count)]
 
 
 def drawn_calls(row: Row, draw: Random, urls: list[str]) -> Iterator[str]:
-    """The calls: drawn ones, the end of the seeds, turns until all are closed, and a last offer of the sender."""
+    """Yield random calls, the end of the seeds, turns until all are closed, and a last offer of the sender."""
     seeder, sender = row.workers, row.workers + 1
     yield f"another {seeder} {row.sender}"
     for _ in range(row.calls):
@@ -118,15 +119,15 @@ def drawn_calls(row: Row, draw: Random, urls: list[str]) -> Iterator[str]:
 
 
 class Hand:
-    """What a hand is known to do: `idle`, `busy`, `closed`, `seeds` or `sends`."""
+    """The state of a worker, the seeder or a sender: `idle`, `busy`, `closed`, `seeds` or `sends`."""
 
     def __init__(self, kind: str, sender: int) -> None:
         self.kind, self.sender, self.hops = kind, sender, 0
         self.numbers: Counter[int] = Counter()
 
 
-class Reckoning:
-    """The events of calls and what the machine has to reply; hops, numbers and lists by a reckoning of its own."""
+class Model:
+    """Collects the events of calls with their expected replies, and models hops, numbers and lists."""
 
     def __init__(self, row: Row) -> None:
         self.row = row
@@ -144,7 +145,7 @@ class Reckoning:
     def offer(self, hand: Hand, url: str, answer: str) -> None:
         can = hand.kind in ("busy", "seeds", "sends")
         word, first, second = answer.split()
-        expect((word == "none") != can, f"offer by one that is {hand.kind}: {answer}")
+        expect((word == "none") != can, f"offer in the state {hand.kind}: {answer}")
         if not can:
             return
         expect((word == "filtered") != self.allows(url), f"offer {url}: {answer}")
@@ -162,7 +163,7 @@ class Reckoning:
             self.events += [(f"back {hand.sender}", "count *")]
         if word == "accepted":
             queue = int(first)
-            expect(int(second) == hand.numbers[queue], f"offer {url}: number {second}, not {hand.numbers[queue]}")
+            expect(int(second) == hand.numbers[queue], f"offer {url}: number {second}, expected {hand.numbers[queue]}")
             hand.numbers[queue] += 1
             hops = hand.hops + 1 if hand.kind == "busy" else 0
             self.hops[url] = hops
@@ -172,13 +173,13 @@ class Reckoning:
         word, _, rest = answer.partition(" ")
         wanted = {"idle": ("taken", "idle", "closed"), "busy": ("done",), "closed": ("closed",),
                   "seeds": ("ended",), "sends": ("ended",)}[hand.kind]
-        expect(word in wanted, f"next by one that is {hand.kind}: {answer}")
+        expect(word in wanted, f"next in the state {hand.kind}: {answer}")
         if hand.kind in ("closed", "sends"):
             return
         self.tally[word] += 1
         if word == "taken":
             hops, _, url = rest.partition(" ")
-            expect(int(hops) == self.hops.get(url, -1), f"{answer}: {self.hops.get(url)} hops")
+            expect(int(hops) == self.hops.get(url, -1), f"{answer}: expected {self.hops.get(url)} hops")
             self.events += [(f"take {place}", f"taken {url}")]
             hand.kind, hand.hops = "busy", int(hops)
         elif word == "done":
@@ -192,10 +193,10 @@ class Reckoning:
             hand.kind = "idle" if word == "idle" else "closed"
 
     def met(self) -> None:
-        """Each answer that the row is to get came, and no other; each worker was told once that the gate is closed."""
+        """Check that the results of this row occurred, and no others, and that each worker saw the closed gate once."""
         tally, row = self.tally, self.row
         some = all(tally[word] > 0 for word in ("accepted", "seen", "idle")) and tally["taken"] == tally["accepted"]
-        expect(some, f"answers: {dict(tally)}")
+        expect(some, f"results: {dict(tally)}")
         expect((tally["full"] > 0) == row.gets_full, f"full {tally['full']} times")
         expect((tally["filtered"] > 0) == bool(row.suffixes), f"filtered {tally['filtered']} times")
         late = all(hand.kind == "closed" for hand in self.hands[: row.workers])
@@ -205,21 +206,21 @@ class Reckoning:
 def check_row(row: Row, draw: Random) -> None:
     urls = drawn_urls(300)
     calls = list(drawn_calls(row, draw, urls))
-    told = answers([[" ".join(["frontier", str(row.workers), str(row.room), *row.suffixes]), *calls]])[0]
-    known = Reckoning(row)
-    expect(told[0] == "made", f"another sender: {told[0]}")
-    for call, answer in zip(calls[1:], told[1:]):
+    results = answers([[" ".join(["frontier", str(row.workers), str(row.room), *row.suffixes]), *calls]])[0]
+    model = Model(row)
+    expect(results[0] == "made", f"another sender: {results[0]}")
+    for call, answer in zip(calls[1:], results[1:]):
         verb, place, *url = call.split()
-        hand = known.hands[int(place)]
+        hand = model.hands[int(place)]
         if verb == "offer":
-            known.offer(hand, url[0], answer)
+            model.offer(hand, url[0], answer)
         else:
-            known.turn(int(place), hand, answer)
-    known.met()
-    end = told[len(calls):]
-    lists = [entry for queue in range(row.workers) for entry in known.lists[queue]]
-    expect(end == ["account 0 0", *lists], f"the end: {end[:3]} .., {len(end)} lines, not {len(lists) + 1}")
-    agree(row.workers, row.room, known.events)
+            model.turn(int(place), hand, answer)
+    model.met()
+    end = results[len(calls):]
+    lists = [entry for queue in range(row.workers) for entry in model.lists[queue]]
+    expect(end == ["account 0 0", *lists], f"the end: {end[:3]} .., {len(end)} lines, expected {len(lists) + 1}")
+    agree(row.workers, row.room, model.events)
 
 
 # ---------------------------------------------------------------- threads
@@ -239,7 +240,7 @@ class Note(NamedTuple):
 
 
 def notes_of(told: list[str]) -> list[Note]:
-    """The notes of a run's threads, among other answers."""
+    """Return the notes of the threads among the results of a run."""
     notes = []
     for line in told:
         words = line.split()
@@ -265,7 +266,7 @@ class Plan(NamedTuple):
 
 PLANS = (
     Plan("one page, offered until the end", 2, ROOM, 1, 1, True, 30),
-    Plan("one page, which the workers end alone", 2, ROOM, 1, 0, False, 30),
+    Plan("one page, only offered by the seeder", 2, ROOM, 1, 0, False, 30),
     Plan("forty pages, offered once", 2, ROOM, 40, 40, False, 20),
     Plan("all pages, offered until the end", 2, ROOM, PAGES, PAGES, True, 1),
     Plan("all pages, found by links", 4, ROOM, PAGES, 1, False, 1),
@@ -290,27 +291,27 @@ def check_ends(plan: Plan) -> None:
 
 def check_end(plan: Plan, told: list[str]) -> None:
     notes, entries = notes_of(told), entries_of(told)
-    expect(not any(note.late for note in notes), "not told `closed` after closing")
+    expect(not any(note.late for note in notes), "a call did not see the closed gate")
     last = told[1 + len(notes):1 + len(notes) + plan.workers + 2]
     expect(last == ["none 0 0"] * plan.workers + ["closed 0 0"] * 2, f"offers after closing: {last}")
     expect("account 0 0" in told, f"the end: {told[-1]}")
     urls = [entry[4] for entry in entries]
-    expect(len(set(urls)) == len(urls), "a page twice")
+    expect(len(set(urls)) == len(urls), "a page is in the account twice")
     accepted = sorted(page(note.page) for note in notes if note.word == "accepted")
-    expect(accepted == sorted(urls), "not the pages that were accepted")
+    expect(accepted == sorted(urls), "the account does not have the accepted pages")
     taken = sorted(page(note.page) for note in notes if note.word == "took")
-    expect(taken == sorted(urls), "not the pages that were taken")
+    expect(taken == sorted(urls), "the account does not have the taken pages")
     refused = [note.word for note in notes if note.word not in ("accepted", "seen", "took", "done", "idle", "closed")]
     if plan.room > PAGES:
-        expect(sorted(urls) == sorted(page(n) for n in range(plan.pages)), "not all pages")
+        expect(sorted(urls) == sorted(page(n) for n in range(plan.pages)), "the account does not have all pages")
         expect(not refused, f"refused: {refused[:3]}")
     else:
         expect(set(refused) == {"full"}, f"refused: {set(refused)}")
     closed = Counter(note.place for note in notes if note.word == "closed" and note.page >= plan.pages)
-    expect(closed == Counter(range(plan.workers)), f"told `closed`: {closed}")
+    expect(closed == Counter(range(plan.workers)), f"workers that saw the closed gate: {closed}")
 
 
-# When each of four workers leaves: at this URL of those that it takes, with it in hand or behind it; 0: never.
+# When each of four workers leaves: at which URL that it takes (0: never), and whether that URL is still in progress.
 LEAVING = (
     ((1, 1), (0, 0), (0, 0), (0, 0)),
     ((0, 0), (0, 0), (0, 0), (1_000, 1)),
@@ -322,7 +323,7 @@ LEAVING = (
 
 
 def leaving(row: Sequence[tuple[int, int]]) -> list[str]:
-    """The pages are seeded before the workers begin, so that each has some; one gives up after 1,000 idle turns."""
+    """Return the calls of a run. The seeds come before the workers begin, so that each has some pages."""
     return [
         f"frontier 4 {ROOM}",
         "another 4 77",
@@ -337,7 +338,7 @@ def check_left(row: Sequence[tuple[int, int]]) -> None:
     told = answers([leaving(row)])[0]
     notes = notes_of(told)
     expect(told[-1] == "missing 0 0", f"the end: {told[-1]}")
-    expect(not any(note.word == "closed" for note in notes), "closed, with work left")
+    expect(not any(note.word == "closed" for note in notes), "the gate closed with pages in progress")
     took = Counter(note.place for note in notes if note.word == "took")
     for place, (at, busy) in enumerate(row):
         done = sum(note.word == "done" for note in notes if note.place == place)
@@ -350,13 +351,13 @@ def check_left(row: Sequence[tuple[int, int]]) -> None:
 
 def joined(traces: list[list[Note]], order: dict[int, int], waited: dict[int, int], queues: dict[int, int]
            ) -> Optional[list[tuple[int, Note]]]:
-    """One list of the workers' steps, if there is one.
+    """Return an order of all steps of the workers that is consistent with their results, or None.
 
-    What orders them is what calls answer: each worker's steps stand as it made them; an accepted page stands at the
-    place that the account gives it in its subqueue; a page is taken, or seen, after it was accepted; a turn that found
-    nothing stands before the next page that its subqueue accepts; and since the gate was open in each such turn, the end
-    of a fetch is last of all, of a worker that found nothing after it. Each says of two steps which comes first, so
-    taking any step that may come next finds an order if there is one.
+    These rules order the steps: each worker's steps are in the order in which it made them; an accepted page has the
+    position in its subqueue that the account gives; a page is taken, or seen, after it was accepted; a turn that found
+    nothing comes before the next page that its subqueue accepts; and because the gate was open in each such turn, the
+    last step of all is the end of a fetch, by a worker that found nothing after it. Each rule decides for two steps
+    which comes first, so if there is an order, taking any possible next step finds it.
     """
     held = next((place for place, trace in enumerate(traces) if trace and trace[-1].word == "done"), None)
     until = [len(trace) - (place == held) for place, trace in enumerate(traces)]
@@ -392,7 +393,7 @@ def joined(traces: list[list[Note]], order: dict[int, int], waited: dict[int, in
 
 
 def events_of(workers: int, steps: list[tuple[int, Note]], seed: int) -> list[tuple[str, str]]:
-    """The machine's events, and its replies; how many units are out is not compared, nor words that were met."""
+    """Return the machine's events and the expected replies. Numbers of units are not compared."""
 
     def offer(sender: int, number: int, said: str) -> list[tuple[str, str]]:
         events = [(f"look {sender}", "word * open"), (f"enter {sender}", "entered *")]
@@ -417,7 +418,7 @@ def events_of(workers: int, steps: list[tuple[int, Note]], seed: int) -> list[tu
 
 
 def other_than(note: Note) -> Note:
-    """Another step than the one that was made."""
+    """Return a step that differs from the one that was made."""
     if note.word == "took":
         return note._replace(page=note.page + 1)
     if note.word == "accepted":
@@ -440,7 +441,7 @@ def check_steps(pages: int, workers: int) -> None:
         lengths[int(queue)] += 1
 
     def replays(traces: list[list[Note]]) -> int:
-        """How many steps were joined into one list that the machine answers alike."""
+        """Check that there is an order of the steps with the machine's results; return the number of steps."""
         waited: dict[int, int] = {}
         for trace in traces:
             turns = 0
@@ -449,13 +450,13 @@ def check_steps(pages: int, workers: int) -> None:
                 if note.word == "took":
                     waited[note.page] = turns
         steps = joined(traces, order, waited, queues)
-        expect(steps is not None, "the steps of the threads make no one list")
+        expect(steps is not None, "there is no order of the steps of the threads")
         agree(workers, ROOM, events_of(workers, steps or [], queues[0]))
         return len(steps or [])
 
     idle = sum(note.word == "idle" for note in notes)
     links = sum(max(0, min(2 * n + 1 + LINKS, pages) - (2 * n + 1)) for n in range(pages))
-    expect(replays(traces) == 2 * pages + links + idle, "not each page taken, its links offered, and done once")
+    expect(replays(traces) == 2 * pages + links + idle, "not every page was taken, its links offered, and done once")
     longest = max(traces, key=len)
     for at in range(8):
         changed = [[*trace[:at], other_than(trace[at]), *trace[at + 1:]] if trace is longest else trace for trace in traces]
@@ -463,7 +464,7 @@ def check_steps(pages: int, workers: int) -> None:
             replays(changed)
         except Differs:
             continue
-        raise Differs(f"step {at} may be another one")
+        raise Differs(f"there is an order although step {at} was changed")
 
 
 def steps_in_threads(pages: int, workers: int) -> list[str]:
@@ -474,16 +475,16 @@ def steps_in_threads(pages: int, workers: int) -> list[str]:
 
 
 def main() -> None:
-    parser = argparse.ArgumentParser(description=__doc__.split("\n")[0])
-    parser.add_argument("--count", type=int, default=2, help="how often each row of calls is drawn (2)")
-    parser.add_argument("--seed", default="1", help="what the draws begin with (1)")
+    parser = argparse.ArgumentParser(description=__doc__, formatter_class=argparse.RawDescriptionHelpFormatter)
+    parser.add_argument("--count", type=int, default=2, metavar="N", help="number of runs of random calls (default: 2)")
+    parser.add_argument("--seed", default="1", help="seed of the random calls (default: 1)")
     given = parser.parse_args()
     passed, failed = 0, 0
 
-    def judge(name: str, check: object, *words: object) -> None:
+    def judge(name: str, check: object, *arguments: object) -> None:
         nonlocal passed, failed
         try:
-            check(*words)  # type: ignore[operator]
+            check(*arguments)  # type: ignore[operator]
             passed += 1
         except (Differs, subprocess.TimeoutExpired, IndexError, KeyError, ValueError) as fault:
             failed += 1
@@ -491,7 +492,7 @@ def main() -> None:
 
     for number in range(given.count):
         for row in ROWS:
-            judge(f"{row.name}, draw {number}", check_row, row, Random(f"{given.seed} {number} {row.name}"))
+            judge(f"{row.name}, run {number}", check_row, row, Random(f"{given.seed} {number} {row.name}"))
     for plan in PLANS:
         judge(plan.name, check_ends, plan)
     for number, leaves in enumerate(LEAVING):

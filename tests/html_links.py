@@ -1,10 +1,15 @@
 #!/usr/bin/env python3
-"""Compares the links of drawn documents with html5lib's tokens: html_links.py [COUNT] [SEED].
+"""Compare the links that crates/html_links reads in random documents with those of an independent model.
 
-It makes a small program over a copy of `crates/html_links` in a temporary folder, which `rt try` runs. The reckoning
-reads a document by html5lib's tokenizer (Debian's python3-html5lib), a refresh by the Standard's steps, and other values
-by the patterns of tools/site_to_web.py. The names of character references are compared with Python's table, each with
-and without its `;`, behind it a letter, `=` and nothing.
+Usage: html_links.py [COUNT [SEED]]
+COUNT is the number of documents [default: 2000], SEED the seed of the random choices [default: 1].
+
+The script makes a small program with a copy of `crates/html_links` in a temporary folder, and runs it by `rt try`. The
+model reads a document with html5lib's tokenizer (Debian's python3-html5lib), a refresh by the steps of the HTML
+Standard, and other values with the patterns of tools/site_to_web.py. All names of character references are compared
+with Python's table, with and without `;`, and followed by a digit, `=`, other characters, or nothing.
+
+The last line is `N passed, M failed`; the exit status is 1 if any failed.
 """
 
 from __future__ import annotations
@@ -24,8 +29,8 @@ from html5lib import _tokenizer
 from html5lib.constants import tokenTypes
 
 TOP = pathlib.Path(__file__).resolve().parents[1]
-BETWEEN = "\x1d"  # behind a document, and behind its links
-BEHIND = "\x1e"  # behind a link
+BETWEEN = "\x1d"  # ends a document, and the links of a document
+BEHIND = "\x1e"  # ends a link
 
 TAGS = """a area audio body embed frame image img input link object source table td th track use video base meta p div
 svg option br a img link meta a img source""".split()
@@ -50,7 +55,7 @@ PIECES = [
     "<!--<script>", "<script>", "<script ", "<script/>", "<style/>", "<title/>", "script", "a", "href=", "src=x",
     "<style>p{background:url(s.png)}</style>", "<textarea><a href=in></textarea>",
 ]
-PROGRAM = """//! The links of documents that stand in a file, one behind another.
+PROGRAM = """//! Prints the links of the documents in a file.
 #![tactic(auto)]
 
 ghost use Rattle.std.specs.Prelude.{map};
@@ -93,7 +98,7 @@ REFRESH = re.compile(r"[\t\n\f\r ]*[0-9.]+(?=[;,\t\n\f\r ])[\t\n\f\r ]*[;,]?[\t\
 
 
 def load_tool() -> Any:
-    """The converter as a module."""
+    """Return tools/site_to_web.py as a module."""
     spec = importlib.util.spec_from_file_location("site_to_web", TOP / "tools/site_to_web.py")
     assert spec is not None and spec.loader is not None
     tool = importlib.util.module_from_spec(spec)
@@ -105,13 +110,13 @@ TOOL = load_tool()
 
 
 class Reader(TOOL.LinkReader):  # type: ignore[misc, name-defined]
-    """The converter's reader over html5lib's tokens."""
+    """The link reader of site_to_web.py, with html5lib's tokens."""
 
     links: list[str]
     in_style: Optional[str]
 
     def read(self, text: str) -> list[str]:
-        """The links of a document."""
+        """Return the links of a document."""
         tokens = _tokenizer.HTMLTokenizer(text)
         self.in_style = None
         for token in tokens:
@@ -126,12 +131,12 @@ class Reader(TOOL.LinkReader):  # type: ignore[misc, name-defined]
         return self.links
 
     def flush(self, style: Optional[str]) -> None:
-        """Gives the links of a style element."""
+        """Add the links of a style element."""
         if style:
             self.links += TOOL.links_of_style(style)
 
     def read_refresh(self, found: dict[str, str]) -> None:
-        """The target of a refresh, by the Standard's steps."""
+        """Add the target of a refresh, by the steps of the HTML Standard."""
         if found.get("http-equiv", "").lower() != "refresh":
             return
         time = REFRESH.match(found.get("content", ""))
@@ -142,7 +147,7 @@ class Reader(TOOL.LinkReader):  # type: ignore[misc, name-defined]
             self.links += [target] if target else []
 
     def read_tag(self, tag: str, found: dict[str, str], tokens: Any) -> None:
-        """What a start tag names, and the state behind it."""
+        """Add the links of a start tag, and set the state of the tokenizer after it."""
         if "style" in found:
             self.links += TOOL.links_of_style(found["style"])
         if tag == "meta":
@@ -161,7 +166,7 @@ class Reader(TOOL.LinkReader):  # type: ignore[misc, name-defined]
 
 
 def drawn_tag(draw: random.Random) -> str:
-    """A start tag, sometimes broken."""
+    """Return a random start tag, sometimes broken."""
     is_text = draw.random() < 0.08
     name = draw.choice(TEXT_TAGS if is_text else TAGS)
     text = "<" + (name.upper() if draw.random() < 0.1 else name)
@@ -180,7 +185,7 @@ def drawn_tag(draw: random.Random) -> str:
 
 
 def drawn_document(draw: random.Random, wild: bool) -> str:
-    """A document; a wild one has broken markup in every place."""
+    """Return a random document; a wild one has broken markup everywhere."""
     parts = []
     for _ in range(draw.randint(1, 40 if wild else 12)):
         parts.append(draw.choice(PIECES) if draw.random() < (0.8 if wild else 0.2) else drawn_tag(draw))
@@ -189,7 +194,7 @@ def drawn_document(draw: random.Random, wild: bool) -> str:
 
 
 def named_values() -> list[tuple[str, str]]:
-    """Values with each name of Python's table and some that are none, and the texts that they stand for."""
+    """Return values with each name of Python's table, and with unknown names, and the decoded texts."""
     table = html.entities.html5
     rows = []
     for name in table:
@@ -209,7 +214,7 @@ def named_values() -> list[tuple[str, str]]:
 
 
 def crate_links(documents: list[str]) -> list[str]:
-    """The links that the crate gives."""
+    """Return the links that the crate reads in each document."""
     with tempfile.TemporaryDirectory() as folder:
         top = pathlib.Path(folder)
         shutil.copytree(TOP / "crates/html_links", top / "crates/html_links", ignore=shutil.ignore_patterns("out"))
@@ -218,17 +223,17 @@ def crate_links(documents: list[str]) -> list[str]:
         (top / "documents").write_text(BETWEEN.join(documents))
         (top / "crates.txt").write_text("html_links: memchr\ndrawn_links: html_links\n")
         subprocess.run(["git", "init", "-q", folder], check=True)
-        words = ["rt", "try", "--steps", "2000000000", "--seconds", "600", "--data", f"documents={top / 'documents'}"]
-        run = subprocess.run(words, cwd=top / "crates/drawn_links", capture_output=True, check=False)
+        command = ["rt", "try", "--steps", "2000000000", "--seconds", "600", "--data", f"documents={top / 'documents'}"]
+        run = subprocess.run(command, cwd=top / "crates/drawn_links", capture_output=True, check=False)
         if not run.stdout:
             sys.exit(run.stderr.decode(errors="replace"))
         return run.stdout.decode(errors="replace").split(BETWEEN)
 
 
 def main() -> int:
-    """Draws, compares and tells the shortest differences."""
-    words = sys.argv[1:]
-    count, seed = int(words[0]) if words else 2000, int(words[1]) if len(words) > 1 else 1
+    """Compare random documents, and print the shortest differences."""
+    arguments = sys.argv[1:]
+    count, seed = int(arguments[0]) if arguments else 2000, int(arguments[1]) if len(arguments) > 1 else 1
     draw = random.Random(seed)
     documents = [drawn_document(draw, number % 2 == 1) for number in range(count)]
     rows = named_values()
@@ -245,7 +250,7 @@ def main() -> int:
             failed.append((document, wanted, links))
     missing = count - passed - len(failed)
     for document, wanted, links in sorted(failed, key=lambda row: len(row[0]))[:5]:
-        print(f"document {document!r}\n  wanted {wanted!r}\n  given  {links!r}")
+        print(f"document {document!r}\n  expected {wanted!r}\n  crate    {links!r}")
     print(f"{passed} passed, {len(failed) + missing} failed")
     return 1 if failed or missing else 0
 

@@ -1,13 +1,14 @@
 #!/usr/bin/env python3
-"""Crawls one large web by the built program, from a file of seeds, and compares the report.
+"""Crawl a large saved web from a file of seeds by the built program, and compare the report.
 
-Usage: large_crawl.py [PROGRAM [WORKERS..]]; 1 and 4 workers where they are not named. PROGRAM is
-crates/mercator_cli/out/mercator_cli where it is not named (`rt run` in that folder makes it).
+Usage: large_crawl.py [PROGRAM [WORKERS..]]
+PROGRAM is the path of the program [default: crates/mercator_cli/out/mercator_cli, which `rt run` in its crate's folder
+builds], WORKERS the numbers of workers [default: 1 4].
 
-The web has 1,100,000 pages that the seeds reach, 20,000 that they do not, and links to URLs that are no pages. The seeds
-are a file of more than 2^20 bytes, and the report has tens of megabytes: tables, lists and texts are larger than in any
-other test. The report that each run has to have is a search of this script through the graph that the web was made from, in
-the format of docs/FORMATS.md. All is drawn from a fixed seed. It ends with status 1 at the first run that ends otherwise.
+The saved web has 1,100,000 pages that can be reached from the seeds, 20,000 that cannot, and links to missing pages. The
+file of seeds has more than 2^20 bytes and the report tens of megabytes, so tables, lists and texts are larger than in any
+other test. The expected report is that of a search by this script through the graph of the pages, in the format of
+docs/FORMATS.md. The random choices have a fixed seed. The script stops with status 1 at the first run that fails.
 """
 import os
 import random
@@ -20,12 +21,12 @@ from typing import Iterator, Optional, Tuple
 from stress_crawl import PROGRAM
 
 PAGES = 1_100_000
-BESIDE = 20_000  # pages behind them, to which no page links
+BESIDE = 20_000  # additional pages that no page links to
 HOSTS = 997
 SEEDS = 60_000
 STEP = 6_007
 SEED = 20_261_125
-TIME_LIMIT = 600  # seconds a run
+TIME_LIMIT = 600  # seconds per run
 
 
 def url(page: int) -> str:
@@ -33,17 +34,17 @@ def url(page: int) -> str:
 
 
 def gone(page: int) -> Optional[str]:
-    """The URL without a page to which every fiftieth page links; two such pages share it."""
+    """Return the missing URL that every fiftieth page links to; two such pages have the same one."""
     return f"http://host{page // 100 % HOSTS}.test/gone/{page // 100}" if page % 50 == 0 else None
 
 
 class Web:
-    """Pages that link to the page STEP behind them, and each to a page that is drawn."""
+    """Pages that each link to the page STEP after them, and to a random page."""
 
     def __init__(self) -> None:
-        drawn = random.Random(SEED)
-        self.far = [drawn.randrange(PAGES) for _ in range(PAGES + BESIDE)]
-        self.seeds = [drawn.randrange(PAGES) for _ in range(SEEDS)]
+        rng = random.Random(SEED)
+        self.far = [rng.randrange(PAGES) for _ in range(PAGES + BESIDE)]
+        self.seeds = [rng.randrange(PAGES) for _ in range(SEEDS)]
 
     def links(self, page: int) -> Tuple[int, int]:
         return (page + STEP) % PAGES, self.far[page]
@@ -57,7 +58,7 @@ class Web:
                 yield f"link {gone(page)}\n"
 
     def reached(self) -> bytearray:
-        """A search through the graph from the seeds: for each page, whether it is found."""
+        """Search the graph from the seeds, and return for each page whether it is found."""
         found = bytearray(PAGES + BESIDE)
         waiting = list(self.seeds)
         for page in waiting:
@@ -80,7 +81,7 @@ class Web:
 
 
 def made(folder: str) -> Tuple[str, str, bytes]:
-    """The names of a file with the web, of one with its seeds, and the report."""
+    """Write the saved web and the seeds, and return their paths and the expected report."""
     web = Web()
     names = os.path.join(folder, "large.web"), os.path.join(folder, "large.seeds")
     with open(names[0], "w", encoding="ascii") as file:
@@ -91,23 +92,23 @@ def made(folder: str) -> Tuple[str, str, bytes]:
 
 
 def main() -> None:
-    words = sys.argv[1:]
-    if words[:1] in (["-h"], ["--help"]):
+    arguments = sys.argv[1:]
+    if arguments[:1] in (["-h"], ["--help"]):
         print(__doc__)
         return
-    program = words[0] if words else PROGRAM
+    program = arguments[0] if arguments else PROGRAM
     with tempfile.TemporaryDirectory() as folder:
         web, seeds, report = made(folder)
         sizes = f"{os.path.getsize(web)} bytes, seeds of {os.path.getsize(seeds)} bytes, a report of {len(report)} bytes"
-        for workers in words[1:] or ("1", "4"):
+        for workers in arguments[1:] or ("1", "4"):
             start = time.monotonic()
             command = [program, "crawl", "--workers", workers, "--max-pending", str(2**40), "--seeds", seeds, web]
             done = subprocess.run(command, stdin=subprocess.DEVNULL, capture_output=True, timeout=TIME_LIMIT, check=False)
             if (done.returncode, done.stdout, done.stderr) != (0, report, b""):
-                told = done.stderr[:400].decode("utf-8", "replace")
-                sys.exit(f"{workers} workers: status {done.returncode}, {len(done.stdout)} bytes of {len(report)}: {told}")
+                errors = done.stderr[:400].decode("utf-8", "replace")
+                sys.exit(f"{workers} workers: status {done.returncode}, {len(done.stdout)} of {len(report)} bytes: {errors}")
             print(f"{workers} workers: {time.monotonic() - start:.1f} s", flush=True)
-    print(f"a web of {sizes}: each run has the one report")
+    print(f"a saved web of {sizes}: all runs have the expected report")
 
 
 if __name__ == "__main__":

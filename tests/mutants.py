@@ -1,18 +1,23 @@
-"""Tries wrong bodies, many in one check, for tests/mutants.sh: mutants.py CLONE AT_ONCE CRATE | CRATE/NAME ..
+"""Try mutants (wrong bodies), several in one check, for tests/mutants.sh.
 
-CLONE is a clean clone whose libraries are built, an edit is crates/CRATE/mutants/NAME.edit, and AT_ONCE crates are
-tried at a time. Each edit has to leave a goal open. A check of many has one answer, `refused`, by such a goal:
+Usage: mutants.py CLONE AT_ONCE CRATE | CRATE/NAME ..
+CLONE is a clean clone whose libraries are built, AT_ONCE the number of crates that are tried at a time. A mutant is an
+edit, the file crates/CRATE/mutants/NAME.edit.
 
-- A proof sees of other functions what their contracts say, and no body, but where functions call each other in a
-  circle. So what an edit of a body can leave open are goals of that function, or of its circle.
-- The modules of all edits are proved first as they stand, so a goal that is left open is the doing of an edit.
-- The edits of one check are in functions of different names, so a goal's function tells whose doing it is. A goal of a
-  circle tells nothing there. If a goal is open of a function that no edit changes, the check counts for nothing.
-- An error is no goal where it only says that what an edit took away is missing, or that a limit was met.
+The prover must leave a goal open for each edit. A check of several edits shows only that an edit is refused, by such a
+goal, for these reasons:
 
-What is not refused so is tried alone, where each goal is the edit's doing, as is what changes more than bodies: a
-constant, a type, an import. What is not refused then goes to `rt must-fail`, which judges as CI does, and which alone
-says NOT REFUSED.
+- A proof uses only the contracts of other functions, not their bodies, unless functions call each other in a cycle. So
+  an edit of a body can only leave goals of its own function open, or of its cycle.
+- The modules of all edits are first proved without the edits, so an open goal is caused by an edit.
+- The edits of one check are in functions with different names, so the function of a goal shows which edit causes it. A
+  goal of a cycle shows nothing. If a goal of a function is open that no edit changes, the result of the check is ignored.
+- An error does not count as a goal if it only says that something that an edit removed is missing, or that a limit was
+  reached.
+
+An edit that is not refused in this way is tried in a check of its own, where each goal counts; so is an edit that changes
+more than bodies: a constant, a type, an import. An edit that is still not refused goes to `rt must-fail`, which judges it
+like CI; only this can lead to NOT REFUSED.
 """
 
 from __future__ import annotations
@@ -26,21 +31,21 @@ from concurrent.futures import FIRST_COMPLETED, Future, ThreadPoolExecutor, wait
 from pathlib import Path
 from typing import Dict, FrozenSet, Iterator, List, NamedTuple, Optional, Sequence, Tuple
 
-MOST = 12  # so many edits are tried in one check
-REFUSED = "refused, as it must be"  # as `rt must-fail` says it
+MOST = 12  # the maximum number of edits in one check
+REFUSED = "refused, as it must be"  # the text of `rt must-fail`
 
-# A function: how deep it stands, its name, the lines of its body. A constant function is none: callers see its body.
+# A function: its indentation, its name, the lines of its body. A `const fn` is not one, since callers see its body.
 FUNCTION = re.compile(
     r"^( *)(?:pub(?:\([^)]*\))? )?fn (\w+)(?:.*\{|.*[^;}\n]\n(?:(?:\1(?: +.*|[>)].*|where))?\n)*?\1(?:\).*)?\{)\n"
     r"((?:\1 .*\n|\n)*)\1\}\n",
     re.MULTILINE,
 )
-# A goal without an answer that `search` does not prove, and one whose answer in a proof file does not prove it.
+# A goal without a written proof that `search` does not prove, and one whose written proof is rejected.
 UNPROVED = re.compile(r"fn \S+: .*\bproofs/(\S+)/(?:Answers|Proof)\.antt; `search` did not prove `")
 REJECTED = re.compile(r"(?:note: )?(?:\./)?proofs/(\S+)/(?:Answers|Proof)\.antt:\d+:\d+: error: ")
 MISSING = re.compile(r"has no field|is not in scope|has no `|was not admitted|: record `[^`]*` \(nearest|: module `")
 LIMIT = re.compile(r"antt ran out of|outgrew the memory limit|stopped at the step limit")
-# What leaves a check without a verdict: an edited text that cannot be read, a library whose kept work is another's.
+# Errors after which a check has no result: an edited file cannot be parsed, or the kept work of a library does not fit.
 UNREAD = re.compile(r"^(?:\./)?(?:src|specs)/\S+:\d+:\d+: error|Run the lower steps again", re.MULTILINE)
 ENDED = re.compile(r"^only=\d+ proved=\d+", re.MULTILINE)
 
@@ -54,19 +59,19 @@ class Change(NamedTuple):
 
 
 class Edit(NamedTuple):
-    """An edit, and the functions whose bodies it changes: none where it changes anything else."""
+    """An edit, and the functions whose bodies it changes: none if it changes anything else."""
 
     name: str
     changes: Tuple[Change, ...]
     functions: FrozenSet[str]
 
     def modules(self) -> List[str]:
-        """The modules of its files as a check names them, an empty name for a file that is no module."""
+        """Return the modules of its files as a check names them; the name is empty if a file is not a module."""
         return sorted({module_of(change.file) for change in self.changes})
 
 
 def changes_of(edit: Path) -> Tuple[Change, ...]:
-    """The changes of an edit as `rt must-fail` reads them."""
+    """Return the changes of an edit as `rt must-fail` reads them."""
     changes = []
     file = old = ""
     for line in edit.read_text("utf-8", "replace").split("\n"):
@@ -85,7 +90,7 @@ def module_of(file: str) -> str:
 
 
 def applied(changes: Sequence[Change], texts: Texts) -> Optional[Texts]:
-    """The changed texts; None where an old text does not stand in its file once."""
+    """Return the changed texts, or None if an old text does not occur exactly once in its file."""
     for file, old, new in changes:
         text = texts.get(file, "")
         if not old or text.count(old) != 1:
@@ -95,7 +100,7 @@ def applied(changes: Sequence[Change], texts: Texts) -> Optional[Texts]:
 
 
 def functions_of(changes: Sequence[Change], texts: Texts) -> FrozenSet[str]:
-    """The functions whose bodies the changes are in; none where one is elsewhere, or brings a function of its own."""
+    """Return the functions whose bodies the changes are in; none if a change is elsewhere, or contains a function."""
     names = set()
     for change in changes:
         text = texts[change.file]
@@ -110,7 +115,7 @@ def functions_of(changes: Sequence[Change], texts: Texts) -> FrozenSet[str]:
 
 
 def batches(edits: Sequence[Edit], texts: Texts) -> Iterator[List[Edit]]:
-    """The edits of bodies, those of one check in functions of different names."""
+    """Yield the edits of bodies for each check; those of one check are in functions with different names."""
     rest = [edit for edit in edits if edit.functions]
     while rest:
         batch: List[Edit] = []
@@ -124,24 +129,24 @@ def batches(edits: Sequence[Edit], texts: Texts) -> Iterator[List[Edit]]:
         yield batch
 
 
-def open_goals(told: str) -> Iterator[Tuple[str, str]]:
-    """Each goal that a check left open, behind its function's name, which is empty for functions in a circle."""
-    for line in told.split("\n"):
+def open_goals(output: str) -> Iterator[Tuple[str, str]]:
+    """Yield the function and the line of each goal that a check left open; the function is empty in a cycle."""
+    for line in output.split("\n"):
         found = UNPROVED.match(line) or REJECTED.match(line)
         if found and not MISSING.search(line) and not LIMIT.search(line):
             yield function_at(found[1].split("/")), line
 
 
 def function_at(path: Sequence[str]) -> str:
-    """The function of a path, which ends with it. A closure stands behind the word `fn` and its function's name."""
+    """Return the function of a path, which is its last name. In a closure it is the name after `fn`."""
     name = path[path.index("fn") + 1] if "fn" in path[:-1] else path[-1]
     return "" if name.startswith("+") else name
 
 
-def refused_by(batch: Sequence[Edit], told: str) -> Dict[str, str]:
-    """The edits of a check that are refused, and by what."""
+def refused_by(batch: Sequence[Edit], output: str) -> Dict[str, str]:
+    """Return the edits of a check that are refused, each with the first open goal."""
     refused: Dict[str, str] = {}
-    for function, line in open_goals(told):
+    for function, line in open_goals(output):
         changed_by = [edit for edit in batch if len(batch) == 1 or function in edit.functions]
         if function and not changed_by:
             return {}
@@ -151,7 +156,7 @@ def refused_by(batch: Sequence[Edit], told: str) -> Dict[str, str]:
 
 
 class Crate:
-    """A crate in a tree of its own, so that no check waits for another crate's. Its files are links to the clone's."""
+    """A crate in a tree of its own, so that checks of several crates can run. Its files are hard links to the clone's."""
 
     def __init__(self, clone: Path, name: str, edits: Sequence[Path]) -> None:
         self.clone, self.name, self.paths = clone, name, {path.stem: path for path in edits}
@@ -161,7 +166,7 @@ class Crate:
         self.memory = memory_of(clone / "crates" / name)
 
     def try_all(self) -> int:
-        """Tries the edits, prints a line for each, and returns how many are refused."""
+        """Try the edits, print a line for each, and return how many are refused."""
         self.link()
         edits = [edit for edit in map(self.read, self.paths.values()) if edit]
         refused = 0
@@ -184,7 +189,7 @@ class Crate:
         shutil.copytree(self.clone / "crates", self.tree / "crates", ignore=left_out, copy_function=os.link)
 
     def read(self, path: Path) -> Optional[Edit]:
-        """The edit; None where only `rt must-fail` can say what it is."""
+        """Return the edit, or None if it can only be tried by `rt must-fail`."""
         changes = changes_of(path)
         edit = Edit(path.stem, changes, frozenset())
         if not changes or not all(edit.modules()):
@@ -195,66 +200,66 @@ class Crate:
         return edit._replace(functions=functions_of(changes, texts))
 
     def texts(self, edits: Sequence[Edit]) -> Texts:
-        """The texts of the edits' files, as they stand."""
+        """Return the current texts of the edits' files."""
         files = {change.file for edit in edits for change in edit.changes}
         return {file: path.read_text("utf-8") for file in files for path in [self.folder / file] if path.is_file()}
 
     def is_proved(self, edits: Sequence[Edit]) -> bool:
-        """Whether the edits' modules are proved as they stand. What that check keeps is what the others begin with."""
-        status, told = self.check(edits)
+        """Return whether the edits' modules are proved without the edits. The other checks start from its work."""
+        status, output = self.check(edits)
         if status:
-            print(f"{self.name}: not proved as it stands:\n{told[-2000:]}", flush=True)
+            print(f"{self.name}: not proved without edits:\n{output[-2000:]}", flush=True)
             return False
         self.work.rename(self.proved)
         return True
 
     def tried(self, batch: Sequence[Edit]) -> Dict[str, str]:
-        """The edits that a check refuses, and by what. Where one of many has no verdict, each half is checked."""
+        """Return the edits that a check refuses, each with a goal. If a check has no result, check each half."""
         before = self.texts(batch)
         after = applied([change for edit in batch for change in edit.changes], before) or {}
         self.write(after)
         self.begin()
-        status, told = self.check(batch)
+        status, output = self.check(batch)
         self.write(before)
-        if status == 1 and ENDED.search(told) and not UNREAD.search(told):
-            return refused_by(batch, told)
+        if status == 1 and ENDED.search(output) and not UNREAD.search(output):
+            return refused_by(batch, output)
         half = len(batch) // 2
         return {**self.tried(batch[:half]), **self.tried(batch[half:])} if half and status else {}
 
     def begin(self) -> None:
-        """Has the next check begin with what is proved. A check replaces a file of it, and writes into none."""
+        """Let the next check start from what is proved. A check replaces these files, and does not write into them."""
         shutil.rmtree(self.work, ignore_errors=True)
         shutil.copytree(self.proved, self.work, copy_function=link_proved)
 
     def check(self, edits: Sequence[Edit]) -> Tuple[int, str]:
-        """Checks the modules of the edits, or where there are none all; the status, and what the check told."""
+        """Check the modules of the edits, or all if there are none, and return the status and the output."""
         modules = sorted({module for edit in edits for module in edit.modules()})
         only = [word for module in modules for word in ("--only", module)]
         return run(["rt", "check", "--jobs", "1", *only], self.folder)
 
     def write(self, texts: Texts) -> None:
-        """Writes each text to a new file in the place of the link."""
+        """Write each text to a new file, which replaces the link."""
         for file, text in texts.items():
             new = self.folder / f"{file}.new"
             new.write_text(text, "utf-8")
             os.replace(new, self.folder / file)
 
     def tried_by_ci(self) -> Dict[str, str]:
-        """What `rt must-fail` answers to each edit that is left."""
+        """Return the result of `rt must-fail` for each remaining edit."""
         if not self.paths:
             return {}
         (self.folder / "must-fail").mkdir()
         for path in self.paths.values():
             shutil.copy(path, self.folder / "must-fail")
         self.begin()
-        told = run(["rt", "must-fail", self.name], self.tree)[1]
-        answers = re.findall(rf"^(?:rt: )?must-fail {self.name}/(\S+)\.edit: (.*)", told, re.MULTILINE)
+        output = run(["rt", "must-fail", self.name], self.tree)[1]
+        answers = re.findall(rf"^(?:rt: )?must-fail {self.name}/(\S+)\.edit: (.*)", output, re.MULTILINE)
         if len(answers) < len(self.paths):
-            print(f"{self.name}: `rt must-fail` broke off:\n{told[-2000:]}", flush=True)
+            print(f"{self.name}: `rt must-fail` did not finish:\n{output[-2000:]}", flush=True)
         return dict(answers)
 
     def tell(self, answers: Dict[str, str]) -> int:
-        """Prints the answers to edits, and returns how many are refused."""
+        """Print the results of edits, and return how many are refused."""
         for name, answer in answers.items():
             print(f"{self.name}/{name}: {answer}", flush=True)
             self.paths.pop(name, None)
@@ -262,7 +267,7 @@ class Crate:
 
 
 def memory_of(folder: Path) -> float:
-    """The gigabytes that a check of a crate takes at most, reckoned by its lines."""
+    """Estimate the maximum memory of a check of a crate, in gigabytes, from its number of lines."""
     code, *proofs = [
         sum(path.read_bytes().count(b"\n") for path in (folder / part).rglob("*.*t"))
         for part in ("src", "specs", "proofs")
@@ -271,18 +276,21 @@ def memory_of(folder: Path) -> float:
 
 
 def link_proved(one: str, other: str) -> None:
-    """Links a file of what was proved, and copies the lists beside them."""
+    """Link a file of proved work, and copy the lists next to it."""
     if one.endswith(".oantt"):
         os.link(one, other)
     else:
         shutil.copy2(one, other)
 
 
-def run(words: Sequence[str], folder: Path) -> Tuple[int, str]:
-    """The status of a command, and what it told. A check that was killed, for memory, ends: `rt` would build all."""
+def run(command: Sequence[str], folder: Path) -> Tuple[int, str]:
+    """Run a command and return its status and output.
+
+    It is ended when a check was killed for lack of memory, since `rt` would then build everything.
+    """
     lines = []
     with subprocess.Popen(
-        words,
+        command,
         cwd=folder,
         env={**os.environ, "PYTHONUNBUFFERED": "1", "RT_JOBS": "1"},
         stdin=subprocess.DEVNULL,
@@ -299,13 +307,13 @@ def run(words: Sequence[str], folder: Path) -> Tuple[int, str]:
 
 
 def free_memory() -> float:
-    """The gigabytes that may be used: most of what is free."""
+    """Return the gigabytes of memory that may be used: most of the free memory."""
     found = re.search(r"MemAvailable: +(\d+) kB", Path("/proc/meminfo").read_text("utf-8"))
     return 0.85 * int(found[1]) / 1e6 if found else 4
 
 
 def try_crates(crates: Sequence[Crate], at_once: int) -> int:
-    """Tries the edits of the crates, the longest first, as many crates at once as are wanted and memory holds."""
+    """Try the edits of the crates, the longest first, `at_once` crates at a time if there is enough memory."""
     waiting = sorted(crates, key=lambda crate: -crate.memory * len(crate.paths))
     running: Dict[Future[int], float] = {}
     memory, refused = free_memory(), 0
@@ -330,7 +338,7 @@ def main() -> int:
         found = sorted((clone / "crates" / crate / "mutants").glob(f"{edit or '*'}.edit"))
         by_crate.setdefault(crate, {}).update((str(path), path) for path in found)
         if not found:
-            print(f"{name}: NOT TRIED: there is no such edit", flush=True)
+            print(f"{name}: NOT TRIED: there is no such mutant", flush=True)
             lost += 1
     wanted = sum(map(len, by_crate.values()))
     crates = [Crate(clone, name, list(edits.values())) for name, edits in by_crate.items() if edits]

@@ -1,12 +1,10 @@
 #!/usr/bin/env python3
-"""Asks crawl_keys for texts that are one byte away from those which it knows without the parser, each in two spellings.
+"""Test URLs in crawl_keys that are one byte away from the common forms that skip the parser, each in two ways.
 
-For each plain text one byte is put in, taken out or changed, at each kind of place, by one of each class. The answer must be
-the same by both ways: of an absolute text and the text with a space before it, which takes the parser; of a link by
-`Base::resolve` and by `resolve`, which always parses. Wants crates/library_calls/out/library_calls, as `rt run` of that crate
-leaves it.
-
-Usage: plain_texts.py [--count N] [--seed N]; 100000 texts and seed 1 where none is given
+In random URLs and links of a common form, one byte is inserted, removed or replaced. Both ways must have the same result:
+for an absolute URL, the text itself and the text after a space, which always uses the parser; for a link, `Base::resolve`
+and `resolve`, which always parses. The script needs crates/library_calls/out/library_calls, which `rt run` in its crate's
+folder builds.
 """
 import argparse
 import os
@@ -18,8 +16,8 @@ from typing import List
 
 PROGRAM = os.path.join(os.path.dirname(os.path.abspath(__file__)), "../crates/library_calls/out/library_calls")
 
-# One or more bytes of each class that the scan or the parser tells apart. A line feed would end a vector's line in the
-# output, so the tab stands for what the parser strips.
+# One or more characters of each class that the scan or the parser treats differently. A line feed would end a line of the
+# output, so only the tab represents the characters that the parser removes.
 CLASSES = [
     "a", "z", "A", "Z", "0", "9", "-", "_", "~", ".", "/", "\\", "%", "%2e", "%41", ":", "@", "?", "#", "[", "]",
     "!", "$", "&", "'", "(", ")", "*", "+", ",", ";", "=", '"', "<", ">", "^", "`", "{", "|", "}",
@@ -102,41 +100,42 @@ def escape(text: str) -> str:
 
 
 def ask(lines: List[str]) -> List[str]:
-    """The answers to vectors that expect nothing, a line each."""
+    """Return the result of each vector, one per line."""
     with tempfile.TemporaryDirectory() as folder:
         with open(os.path.join(folder, "vectors.txt"), "w") as vectors:
             vectors.writelines(line + "\n" for line in lines)
         done = subprocess.run([PROGRAM, "vectors"], cwd=folder, stdout=subprocess.PIPE, check=True)
-    told = done.stdout.decode().split("\n")[:-2]
-    return [line.rsplit(" => ", 1)[1].removesuffix(", and not ") for line in told]
+    lines = done.stdout.decode().split("\n")[:-2]
+    return [line.rsplit(" => ", 1)[1].removesuffix(", and not ") for line in lines]
 
 
 def main() -> None:
     parser = argparse.ArgumentParser(description=__doc__, formatter_class=argparse.RawDescriptionHelpFormatter)
-    parser.add_argument("--count", type=int, default=100000)
-    parser.add_argument("--seed", type=int, default=1)
-    words = parser.parse_args()
-    draw = random.Random(words.seed)
+    parser.add_argument("--count", type=int, default=100000, metavar="N", help="number of texts (default: 100000)")
+    parser.add_argument("--seed", type=int, default=1, metavar="N", help="seed of the random texts (default: 1)")
+    options = parser.parse_args()
+    draw = random.Random(options.seed)
     texts, lines = [], []
-    for _ in range(words.count // 2):
+    for _ in range(options.count // 2):
         text = one_away(draw, absolute(draw))
         texts.append(text)
         lines += [escape(text) + " => ", escape(" " + text) + " => "]
     for page in PAGES:
         lines.append("base " + page)
-        for _ in range(words.count // 2 // len(PAGES)):
+        for _ in range(options.count // 2 // len(PAGES)):
             text = one_away(draw, link(draw))
             texts.append(page + " and " + text)
             lines.append(escape(text) + " => ")
-    told = ask(lines)
-    if len(told) != 2 * len(texts):
-        sys.exit(f"{len(told)} answers to {len(texts)} texts")
-    differing = [(text, told[2 * n], told[2 * n + 1]) for n, text in enumerate(texts) if told[2 * n] != told[2 * n + 1]]
+    results = ask(lines)
+    if len(results) != 2 * len(texts):
+        sys.exit(f"{len(results)} results for {len(texts)} texts")
+    pairs = zip(texts, results[::2], results[1::2])
+    differing = [(text, one, other) for text, one, other in pairs if one != other]
     for text, one, other in differing[:20]:
-        print(f"{text!r} leads to {one}, and to {other}")
-    urls = sum("://" in answer for answer in told) // 2
-    print(f"{len(texts)} texts, of which {urls} are URLs, {len(differing)} differ")
-    sys.exit(1 if differing or 2 * urls <= len(texts) else 0)  # most texts have to lead to something
+        print(f"{text!r}: {one} in one way, {other} in the other")
+    urls = sum("://" in result for result in results) // 2
+    print(f"{len(texts)} texts, of which {urls} are URLs; {len(differing)} differ")
+    sys.exit(1 if differing or 2 * urls <= len(texts) else 0)  # most texts have to be URLs
 
 
 if __name__ == "__main__":

@@ -1,6 +1,8 @@
-"""What tests/refused-growths.sh runs, which says what is tried: refused_growths.py PROGRAM SCRATCH commands|tests
+"""Run programs with failing memory allocations, for tests/refused-growths.sh, which describes the tests.
 
-SCRATCH is a folder with refuse.so, which is tests/refused_growths.c, and inputs: pages.web, requests and known.
+Usage: refused_growths.py PROGRAM SCRATCH commands|tests
+SCRATCH is a folder with refuse.so, which is built from tests/refused_growths.c, and the inputs pages.web, requests and
+known.
 """
 
 from __future__ import annotations
@@ -28,7 +30,7 @@ FAULT = re.compile(
 
 
 class Command(NamedTuple):
-    """The words of the program, and the file on its standard input."""
+    """The arguments of the program, and the file on its standard input."""
 
     words: Sequence[str]
     given: Optional[str] = None
@@ -38,16 +40,16 @@ class Command(NamedTuple):
 
 
 class Ended(NamedTuple):
-    """How a run ended, and whether it asked for the growth that was to be refused."""
+    """The result of a run, and whether it reached the failing allocation."""
 
     status: int
     out: bytes
-    told: bytes
+    errors: bytes
     met: bool
 
 
 def commands_with(scratch: str) -> tuple[Command, ...]:
-    """The commands: those that answer, and behind them one for each kind of fault."""
+    """Return commands that succeed, and then one for each kind of error."""
     return (
         Command(["crawl", "--workers", "1", RING, "http://a.test/"]),
         Command(["crawl", "--workers", "2", RING, "http://a.test/"]),
@@ -94,13 +96,13 @@ def commands_with(scratch: str) -> tuple[Command, ...]:
 
 
 class Growths:
-    """Runs of programs with a growth refused."""
+    """Runs of programs with a failing allocation."""
 
     def __init__(self, program: str, scratch: str) -> None:
         self.program, self.scratch = program, scratch
 
     def run(self, command: Command, growth: int, mark: str, program: Optional[str] = None) -> Ended:
-        """A run with this growth refused, which makes the file `mark`; with none refused where it is 0."""
+        """Run a program whose allocation with this number fails and makes the file `mark`; none fails if it is 0."""
         env = {"LD_PRELOAD": f"{self.scratch}/refuse.so", "REFUSE": str(growth), "REFUSED": mark}
         with open(command.given or os.devnull, "rb") as stdin:
             done = subprocess.run(
@@ -113,24 +115,24 @@ class Growths:
         return Ended(done.returncode, done.stdout, done.stderr, met)
 
     def wrong(self, command: Command, growth: int, whole: Ended) -> tuple[Optional[str], bool]:
-        """What is wrong with the run whose growth is refused, and whether it asked for it."""
+        """Return what is wrong with a run, or None, and whether it reached the failing allocation."""
         try:
             ended = self.run(command, growth, f"{self.scratch}/met.{os.getpid()}.{growth}.{id(command)}")
         except subprocess.TimeoutExpired:
-            return f"it does not end in {SECONDS} s", True
-        told = f"status {ended.status}: {ended.out[:200]!r} {ended.told[:200]!r}"
+            return f"it did not end within {SECONDS} s", True
+        result = f"status {ended.status}: {ended.out[:200]!r} {ended.errors[:200]!r}"
         if ended[:3] == whole[:3]:
             return None, ended.met
         if not ended.met:
-            return f"another answer, though nothing was refused: {told}", ended.met
-        # A session has answered the lines before.
+            return f"another result, although no allocation failed: {result}", ended.met
+        # A session may have answered its first lines.
         is_begun = list(command.words[:1]) == ["serve"] and whole.out.startswith(ended.out) and ended.out.endswith(b"\n")
-        if ended.status in (1, 2, 3) and (not ended.out or is_begun) and is_told(ended.status, ended.told):
+        if ended.status in (1, 2, 3) and (not ended.out or is_begun) and is_message(ended.status, ended.errors):
             return None, ended.met
-        return told, ended.met
+        return result, ended.met
 
     def all_of(self, command: Command, numbers: Iterable[int], pool: ThreadPoolExecutor) -> tuple[int, int]:
-        """The last growth that the command asked for, and how many runs ended otherwise."""
+        """Return the number of the last allocation that the command made, and how many runs failed."""
         whole = self.run(command, 0, f"{self.scratch}/none")
         failed = asked = 0
         rest = iter(numbers)
@@ -140,7 +142,7 @@ class Growths:
                 asked = max(asked, number) if met else asked
                 if text:
                     failed += 1
-                    print(f"{command.name(self.scratch)}: growth {number}: {text}")
+                    print(f"{command.name(self.scratch)}: allocation {number}: {text}")
             if not all(met for _, met in found):
                 break
         return asked, failed
@@ -154,20 +156,20 @@ class Growths:
             for command in commands_with(self.scratch):
                 asked, wrongs = self.all_of(command, range(1, 1_000_000), pool)
                 failed += wrongs
-                print(f"{asked:6} growths: mercator {command.name(self.scratch)}", flush=True)
+                print(f"{asked:6} allocations: mercator {command.name(self.scratch)}", flush=True)
             pages = Command(["crawl", "--workers", "2", f"{self.scratch}/pages.web", first_page])
             asked, wrongs = self.all_of(pages, (1_000, 3_000, 10_000, 10_001, 10_002, 10_003), pool)
             failed += wrongs
-            print(f"a crawl of 2,000 pages: growth {asked} and others before it refused")
+            print(f"a crawl of 2,000 pages: some allocations up to {asked} failed")
             if asked < 10_000:
                 failed += 1
-                print("it asks for fewer than 10,000 growths")
+                print("it makes fewer than 10,000 allocations")
         return failed
 
     def test_fails(self, program: str, name: str) -> tuple[Optional[str], int]:
-        """How a test ends otherwise than it may, and how many growths were refused to it.
+        """Return what is wrong with a test, or None, and how many allocations failed.
 
-        A test whose result is an error ends with 101, and one that an assertion of its own stops says so and aborts.
+        A test that returns an error ends with status 101, and one that an assertion stops prints this and aborts.
         """
         refused = 0
         for growth in apart():
@@ -175,13 +177,13 @@ class Growths:
             try:
                 ended = self.run(Command([name]), growth, mark, program)
             except subprocess.TimeoutExpired:
-                return f"growth {growth}: did not end in {SECONDS} s", refused
+                return f"allocation {growth}: it did not end within {SECONDS} s", refused
             if not ended.met:
                 break
             refused += 1
             stopped = ended.status == -6 and ended.out.startswith(b"\ntest stopped at src/tests")
             if ended.status not in (0, 101) and not stopped:
-                return f"growth {growth}: status {ended.status}: {ended.out[-200:]!r} {ended.told[:400]!r}", refused
+                return f"allocation {growth}: status {ended.status}: {ended.out[-200:]!r} {ended.errors[:400]!r}", refused
         return None, refused
 
     def tests(self) -> int:
@@ -190,7 +192,7 @@ class Growths:
         for crate in sorted(ROOT.glob("crates/*_tests")):
             if not any(program.startswith(f"{crate}/") for program in built):
                 failed += 1
-                print(f"{crate.name}: no tests are built: `rt test` in it builds them")
+                print(f"{crate.name}: no tests are built: run `rt test` in this crate")
         for program in built:
             listed = subprocess.run([program, "--list"], capture_output=True, text=True, check=True).stdout
             names = [line.removesuffix(": test") for line in listed.splitlines() if line.endswith(": test")]
@@ -201,12 +203,12 @@ class Growths:
                     failed += 1
                     print(f"{name}: {text}")
             refused = sum(count for _, count in found)
-            failed += refused == 0  # each program has tests, and they ask for memory
-            print(f"{refused:6} growths refused: {len(names)} tests of {os.path.basename(program)}", flush=True)
+            failed += refused == 0  # each program has tests that allocate memory
+            print(f"{refused:6} failed allocations: {len(names)} tests of {os.path.basename(program)}", flush=True)
         return failed
 
     def calls(self) -> int:
-        """How many runs of the calls of a frontier end otherwise than they may: each ends by itself, with status 0 or 1."""
+        """Return how many runs of the calls of a frontier fail: each must end by itself with status 0 or 1."""
         folder, refused, failed = ROOT / "crates/library_calls", 0, 0
         for growth in apart():
             command = Command(["calls"], str(folder / "stdin"))
@@ -214,22 +216,22 @@ class Growths:
             if not ended.met:
                 break
             refused += 1
-            if ended.status not in (0, 1) or ended.told:
+            if ended.status not in (0, 1) or ended.errors:
                 failed += 1
-                print(f"calls of a frontier: growth {growth}: status {ended.status}: {ended.told[:400]!r}")
-        print(f"{refused:6} growths refused: calls of a frontier", flush=True)
+                print(f"calls of a frontier: allocation {growth}: status {ended.status}: {ended.errors[:400]!r}")
+        print(f"{refused:6} failed allocations: calls of a frontier", flush=True)
         return failed + (refused == 0)
 
 
-def is_told(status: int, told: bytes) -> bool:
-    """A fault's line, what `clap` tells, or a beginning of either that was cut off, or nothing."""
-    if not told or (status in (1, 2) and FAULT.fullmatch(told)):
+def is_message(status: int, errors: bytes) -> bool:
+    """Return whether standard error is an error message, a text of `clap` or its beginning, or empty."""
+    if not errors or (status in (1, 2) and FAULT.fullmatch(errors)):
         return True
-    return status == 3 and told.startswith((b"error: ", b"The URL frontier"))
+    return status == 3 and errors.startswith((b"error: ", b"A link checker for folders of HTML pages"))
 
 
 def apart() -> Iterator[int]:
-    """Numbers of growths, more and more apart."""
+    """Yield numbers of allocations in longer and longer steps."""
     number = 1
     while number < 10_000_000:
         yield number
@@ -240,7 +242,7 @@ def main() -> None:
     program, scratch, what = sys.argv[1:]
     growths = Growths(program, scratch)
     failed = growths.tests() + growths.calls() if what == "tests" else growths.commands()
-    print(f"{failed} runs ended otherwise" if failed else "all as wanted")
+    print(f"{failed} runs failed" if failed else "all runs ended as expected")
     sys.exit(1 if failed else 0)
 
 

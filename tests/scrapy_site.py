@@ -1,20 +1,17 @@
 #!/usr/bin/python3
-"""Crawls sites by Scrapy with the scheduler `clients/python/mercator_scrapy.py`.
+"""Test crawls by Scrapy with the scheduler `clients/python/mercator_scrapy.py`.
 
-    scrapy_site.py [--program PROGRAM] [--keep]
+The sites are the example site and generated ones, which have links in several spellings, redirects,
+pages that fail at first or always, and requests that a middleware answers or drops. A server of
+this script, on seven addresses of the loopback, counts the requests. Each site is crawled with
+Scrapy's own scheduler and with this one; both must request the same URLs. With this one,
 
-A server of this script counts what it is asked for, on seven addresses of the loopback. The sites
-are the shipped one and generated ones. Those have links in several spellings, redirects, pages that
-fail for a while or for good, and pages that a middleware answers or drops. Each is crawled with
-Scrapy's own scheduler and with this one, which have to ask for the same URLs. With this one,
-
-- each URL is asked for once, but for retries, as an own search finds it;
-- never are two requests of one host out at a time;
+- each URL is requested once, except for retries, as a search by this script finds it;
+- no host has two requests in progress at the same time;
 - the spider ends by itself, and the frontier has closed.
 
-PROGRAM is the environment's MERCATOR, or the built program, where it is not given. The script
-wants Scrapy; Debian's package `python3-scrapy` is for /usr/bin/python3. `--keep` leaves the logs of
-the crawls. The last line is `N passed, M failed`.
+The script needs Scrapy; Debian's package `python3-scrapy` is for /usr/bin/python3. The last line is
+`N passed, M failed`; the exit status is 1 if any failed.
 """
 
 from __future__ import annotations
@@ -56,12 +53,12 @@ OWN = "scrapy.core.scheduler.Scheduler"
 MERCATOR = "mercator_scrapy.MercatorScheduler"
 HOSTS = 7
 RETRIES = 2
-WORK = 0.003  # seconds that the server takes for an answer, in which a second request would be seen
-LONGEST = 240  # seconds for a crawl
-TOLD = 600  # characters that a failure tells
+WORK = 0.003  # seconds that the server takes for a response, so that a second request would be seen
+LONGEST = 240  # time limit of a crawl, in seconds
+TOLD = 600  # most characters of a failure message
 
-Asked = Tuple[str, str]  # what a server is asked for: its address and the path
-Told = Dict[str, Any]  # what a crawl is to do, or what came of it
+Asked = Tuple[str, str]  # a request: the address of the server and the path
+Told = Dict[str, Any]  # the settings of a crawl, or its results
 
 
 def name_of(number: int) -> str:
@@ -76,7 +73,7 @@ def address_of(number: int) -> str:
 
 
 class Page(NamedTuple):
-    """What a path answers: a status, or `flaky` once and then 200; a body or a target."""
+    """The response for a path: a status, or `flaky` for 503 and then 200; a body or a target."""
 
     kind: str
     body: str = ""
@@ -84,7 +81,7 @@ class Page(NamedTuple):
 
 
 class Site:
-    """Pages by host and path, and what the crawl of them has to ask for."""
+    """Pages by host and path, and the requests that a crawl has to make."""
 
     def __init__(self, seed: Asked) -> None:
         self.seed = seed
@@ -94,7 +91,7 @@ class Site:
         return self.pages.get(asked, Page("404"))
 
     def wanted(self) -> Dict[Asked, int]:
-        """How often each URL has to be asked for, by a search of this script's own."""
+        """Search the site, and return how many times each URL has to be requested."""
         found, todo = {self.seed}, deque([self.seed])
         while todo:
             for link in self.answer(todo.popleft()).links:
@@ -106,10 +103,10 @@ class Site:
 
 
 def spelled(rand: Random, port: int, asked: Asked) -> str:
-    """A URL in one of its spellings. All of them are the same URL by the URL Standard."""
+    """Return a random spelling of a URL. By the URL Standard, all of them are the same URL."""
     host, path = asked
     number = int(host.rsplit(".", 1)[1]) - 1
-    if number == HOSTS - 1:  # this host is known by its address
+    if number == HOSTS - 1:  # this host has no name, only its address
         host = rand.choice((host, f"127.0.{256 + number + 1}", f"0x7f0001{number + 1:02x}"))
     else:
         host = rand.choice((name_of(number), name_of(number).upper()))
@@ -125,7 +122,7 @@ def page_of(links: Iterable[str]) -> str:
 
 
 def drawn_site(rand: Random, port: int, pages: int) -> Site:
-    """A generated site over all hosts."""
+    """Return a random site on all hosts."""
     kinds = ["200"] * 14 + ["302", "301", "flaky", "500", "404", "dropped", "made", "raises"]
     paths = []
     for number in range(pages):
@@ -143,8 +140,8 @@ def drawn_site(rand: Random, port: int, pages: int) -> Site:
             links += paths[number + 1:number + 2]
             body = page_of(spelled(rand, port, link) for link in links)
         if kind == "raises":
-            links = []  # its callback gives up before the links
-        # A scheduler of Scrapy's drops a redirect to what was seen before, as this one does.
+            links = []  # its callback fails before it reads the links
+        # Scrapy's own scheduler drops a redirect to a URL that was seen before, like this one.
         site.pages[asked] = Page(kind, body, tuple(links))
     return site
 
@@ -172,7 +169,7 @@ class FolderSite(Site):
 
 
 def without_dots(target: str) -> str:
-    """A path of a request line without its dot segments, as the URL Standard removes them."""
+    """Return the path of a request without dot segments, by the rules of the URL Standard."""
     path, mark, query = target.partition("?")
     kept: List[str] = []
     segments = path.split("/")[1:]
@@ -189,7 +186,7 @@ def without_dots(target: str) -> str:
 
 
 class Count:
-    """What the servers were asked for."""
+    """Counts the requests to the servers."""
 
     def __init__(self, site: Site) -> None:
         self.site = site
@@ -197,7 +194,7 @@ class Count:
         self.asked: Counter[Asked] = Counter()
         self.posted: Counter[Asked] = Counter()
         self.active: Counter[str] = Counter()
-        self.most = 0  # requests at a time of one host
+        self.most = 0  # the greatest number of requests in progress at one host
         self.order: List[Asked] = []
 
     def begins(self, method: str, asked: Asked) -> int:
@@ -240,8 +237,8 @@ class Handler(BaseHTTPRequestHandler):
         elif page.kind == "file":
             headers["Content-Type"] = "application/octet-stream"
         body = page.body.encode() if status == 200 else b""
-        # A client that waits for this answer sends nothing before it, so what comes from here on
-        # would not be beside this request.
+        # The client has no response yet, so a request that arrives from here on does not count as
+        # one at the same time.
         count.ends(asked)
         self.send_response(status)
         for name, value in headers.items():
@@ -259,11 +256,11 @@ class Server(ThreadingHTTPServer):
     request_queue_size = 128
 
     def handle_error(self, *args: Any) -> None:
-        """A connection that a crawl leaves when it ends is no error."""
+        """Ignore connections that a crawl leaves open when it ends."""
 
 
 def free_port() -> int:
-    """A port that is free on all addresses."""
+    """Return a port that is free on all addresses."""
     for _ in range(100):
         with socket.socket() as first:
             first.bind((address_of(0), 0))
@@ -279,7 +276,7 @@ def free_port() -> int:
 
 
 class Servers:
-    """A server for each address, on one port."""
+    """One server per address, all on the same port."""
 
     def __init__(self) -> None:
         self.port = free_port()
@@ -294,11 +291,11 @@ class Servers:
         return count
 
 
-# ---------------------------------------------------------------- a crawl, a process of its own
+# ---------------------------------------------------------------- a crawl, in its own process
 
 
 class Resolver(CachingThreadedResolver):
-    """Leads the names of the sites to the addresses of the servers."""
+    """Resolves the names of the sites to the addresses of the servers."""
 
     def getHostByName(self, name: str, timeout: Any = None) -> Any:
         number = re.fullmatch(r"h(\d+)\.test", name)
@@ -307,7 +304,7 @@ class Resolver(CachingThreadedResolver):
         try:
             return succeed(socket.inet_ntoa(socket.inet_aton(name)))
         except OSError:
-            return succeed("127.0.1.200")  # where nothing listens
+            return succeed("127.0.1.200")  # nothing listens there
 
 
 class Answers:
@@ -323,7 +320,7 @@ class Answers:
 
 
 class Spider(scrapy.Spider):
-    """Follows all links."""
+    """A spider that follows all links."""
 
     name = "site"
 
@@ -368,7 +365,7 @@ class Spider(scrapy.Spider):
             yield scrapy.Request(url, self.parse, errback=self.fail, priority=priority)
 
     def idle(self) -> None:
-        """Finds more to do, as spiders do that are fed from outside."""
+        """Add another request, like a spider that gets its requests from outside."""
         if self.asked.get("when_idle"):
             self.crawler.engine.crawl(scrapy.Request(self.asked["when_idle"].pop(), self.parse))
             raise DontCloseSpider
@@ -378,7 +375,7 @@ class Spider(scrapy.Spider):
 
 
 def crawl(asked: Dict[str, Any]) -> None:
-    """Crawls as the object says, and writes what came of it to its file."""
+    """Run a crawl with these settings, and write its results to the file that they name."""
     sys.path.insert(0, CLIENTS)
     settings = {
         "DNS_RESOLVER": "__main__.Resolver",
@@ -433,7 +430,7 @@ class Tests:
         return f"http://{host}:{self.servers.port}{asked[1]}"
 
     def crawl(self, site: Site, scheduler: str, asked: Told) -> Tuple[Count, Told]:
-        """Crawls a site in a process of its own, and checks that it ends by itself."""
+        """Crawl a site in a process of its own, and check that it ends by itself."""
         self.crawls += 1
         count = self.servers.counts(site)
         settings = {"SCHEDULER": scheduler, "MERCATOR_PROGRAM": self.program}
@@ -458,7 +455,7 @@ class Tests:
     def check_mercator(
         self, what: str, count: Count, told: Told, wanted: Optional[Dict[Asked, int]]
     ) -> None:
-        """Checks what holds for every crawl with this scheduler that comes to its end."""
+        """Check what holds for every complete crawl with this scheduler."""
         stats = told["stats"]
         if wanted is not None:
             differ = {
@@ -500,7 +497,7 @@ class Tests:
             rand = Random(number)
             site = drawn_site(rand, self.servers.port, pages)
             asked = {"settings": {"MERCATOR_WORKERS": workers}, **self.answers(site)}
-            what = f"drawn site {number}"
+            what = f"random site {number}"
             own, _ = self.crawl(site, OWN, asked)
             count, told = self.crawl(site, MERCATOR, asked)
             wanted = {one: times for one, times in site.wanted().items() if times}
@@ -508,14 +505,14 @@ class Tests:
             differ = {*own.asked} ^ {*count.asked}
             self.check(f"{what}: the URLs of Scrapy's scheduler", not differ, differ)
             if pages > 100:
-                # So the server sees it where two requests of a host meet, and the spellings tell.
-                self.check(f"{what}: Scrapy's meet at a host", own.most > 1, own.most)
+                # Show that the server detects simultaneous requests and repeated spellings.
+                self.check(f"{what}: Scrapy has two requests of a host", own.most > 1, own.most)
                 totals = (sum(own.asked.values()), sum(wanted.values()))
-                self.check(f"{what}: Scrapy's come by each spelling", totals[0] > totals[1], totals)
+                self.check(f"{what}: Scrapy repeats spellings", totals[0] > totals[1], totals)
 
     @staticmethod
     def answers(site: Site) -> Dict[str, Any]:
-        """What the middleware and the spider have to know of a drawn site."""
+        """Return the settings of the middleware and the spider for a random site."""
         answers = {}
         for (_, path), page in site.pages.items():
             if page.kind in ("dropped", "made"):
@@ -524,7 +521,7 @@ class Tests:
         return {"answers": answers, "raising": raising}
 
     def odd_requests(self) -> None:
-        """Requests that are not the frontier's, beside some that are."""
+        """Requests that do not go to the frontier, together with some that do."""
         host, other, numeric = address_of(0), address_of(1), address_of(HOSTS - 1)
         site = Site((host, "/"))
         links = tuple((host, f"/p/{number}") for number in range(20))
@@ -550,7 +547,7 @@ class Tests:
         extra += [["get", url, ""] for url in failing_urls]
         count, told = self.crawl(site, MERCATOR, {"extra": extra})
         wanted = {site.seed: 1, (host, "/" + "x" * 5000): 1, **{asked: 1 for asked in links}}
-        wanted[again] = 3  # three that are not to be filtered; the page's link to itself is seen
+        wanted[again] = 3  # three with dont_filter; the page's link to itself was seen
         self.check_mercator("odd requests", count, told, wanted)
         posted = {(host, "/form"): 2, (other, "/form"): 1, (other, "/failing"): RETRIES + 1}
         posted.update({(numeric, f"/form/{number}"): 1 for number in range(4)})
@@ -561,14 +558,14 @@ class Tests:
         self.check("odd requests: errbacks", not missing, missing)
 
     def small_frontier(self) -> None:
-        """More URLs than the frontier holds: the rest waits in the scheduler."""
+        """More URLs than the frontier has room for: the others wait in the scheduler."""
         rand = Random(99)
         site = drawn_site(rand, self.servers.port, 120)
         wanted = {one: times for one, times in site.wanted().items() if times}
         for most in (2, 8):
             settings = {"MERCATOR_WORKERS": 4, "MERCATOR_MAX_PENDING": most}
             count, told = self.crawl(site, MERCATOR, {"settings": settings, **self.answers(site)})
-            # A URL of which two wait outside is stored twice, and dropped by the scheduler itself.
+            # If two requests for a URL wait outside, the scheduler itself drops one later.
             told["dropped"] = told["stats"].get("dupefilter/filtered", 0)
             self.check_mercator(f"{most} pending", count, told, wanted)
 
@@ -584,7 +581,7 @@ class Tests:
         self.check("within: kept out", filtered == HOSTS - 2, filtered)
 
     def priorities(self) -> None:
-        """Of requests that wait for several hosts the one with the highest priority goes first."""
+        """If several hosts have requests, the one with the highest priority is sent first."""
         site = Site((address_of(0), "/"))
         links = tuple((address_of(number), f"/{number}") for number in (4, 2, 5, 1, 3))
         site.pages[site.seed] = Page("200", page_of(map(self.url, links)), links)
@@ -593,13 +590,13 @@ class Tests:
         settings = {"CONCURRENT_REQUESTS": 1, "MERCATOR_WORKERS": 512}
         count, told = self.crawl(site, MERCATOR, {"by_number": True, "settings": settings})
         self.check_mercator("priorities", count, told, {asked: 1 for asked in site.pages})
-        # The engine may ask for a request once the first of these has come.
+        # The engine may take a request as soon as the first of these was stored.
         first, *rest = count.order[1:] or links
         order = sorted({*links} - {first}, reverse=True)
         self.check("priorities: the highest first", rest == order, count.order)
 
     def idle_spider(self) -> None:
-        """A spider that finds more to do when it is idle, twice a URL that was seen."""
+        """A spider that adds requests when it is idle, two of them for URLs that were seen."""
         site = drawn_site(Random(5), self.servers.port, 30)
         more = [(address_of(number), f"/more/{number}") for number in range(3)]
         urls = [self.url(asked) for asked in [*more, more[0], site.seed]]
@@ -608,7 +605,7 @@ class Tests:
         self.check_mercator("idle spider", count, told, {**wanted, **{asked: 1 for asked in more}})
 
     def closed_spider(self) -> None:
-        """A spider that is closed before its end."""
+        """A spider that is closed before the crawl is complete."""
         site = drawn_site(Random(1), self.servers.port, 150)
         settings = {"CLOSESPIDER_PAGECOUNT": 10}
         count, told = self.crawl(site, MERCATOR, {"settings": settings, **self.answers(site)})
@@ -620,35 +617,38 @@ class Tests:
         self.check("closed spider: one request of a host at a time", count.most == 1, count.most)
 
     def lost_frontier(self) -> None:
-        """The program is killed: the spider is closed and says so."""
+        """The program is killed: the spider is closed with a reason of its own."""
         site = drawn_site(Random(1), self.servers.port, 150)
         count, told = self.crawl(site, MERCATOR, {"kill_after": 10, **self.answers(site)})
         stats = told["stats"]
-        self.check("lost frontier: told", stats.get("finish_reason") == "mercator_ended", stats)
+        reason = stats.get("finish_reason")
+        self.check("lost frontier: the reason", reason == "mercator_ended", stats)
         self.check("lost frontier: not closed", "mercator/closed" not in stats, stats)
 
     def missing_program(self) -> None:
         site = Site((address_of(0), "/"))
         settings = {"MERCATOR_PROGRAM": "/no/such/program"}
         count, _ = self.crawl(site, MERCATOR, {"settings": settings})
-        self.check("missing program: nothing is asked for", not count.asked, count.asked)
+        self.check("missing program: no requests", not count.asked, count.asked)
 
     def refused_settings(self) -> None:
-        """The program refuses its words: the spider is closed, and the log has no other fault."""
+        """The program rejects its arguments: the spider is closed, and the log has one error."""
         site = Site((address_of(0), "/"))
         count, told = self.crawl(site, MERCATOR, {"settings": {"MERCATOR_WORKERS": 513}})
         reason = told["stats"].get("finish_reason")
-        self.check("refused settings: told", reason == "mercator_ended" and not count.asked, reason)
+        is_right = reason == "mercator_ended" and not count.asked
+        self.check("refused settings: the reason", is_right, reason)
         log = (self.kept / f"{self.crawls}.log").read_text(encoding="utf-8")
-        faults = re.findall(r"^.*(?:CRITICAL:|Error\b).*", log, re.M)
-        self.check("refused settings: why", len(faults) == 1 and "513" in faults[0], faults)
+        errors = re.findall(r"^.*(?:CRITICAL:|Error\b).*", log, re.M)
+        self.check("refused settings: why", len(errors) == 1 and "513" in errors[0], errors)
 
 
 def main() -> int:
     parser = argparse.ArgumentParser(
         description=__doc__, formatter_class=argparse.RawDescriptionHelpFormatter
     )
-    parser.add_argument("--program", help="the program mercator")
+    parser.add_argument("--program", metavar="FILE",
+                        help="path of mercator (default: $MERCATOR, else the built one)")
     parser.add_argument("--keep", action="store_true", help="keep the logs of the crawls")
     parser.add_argument("--crawl", help=argparse.SUPPRESS)
     asked = parser.parse_args()
@@ -657,7 +657,7 @@ def main() -> int:
         return 0
     program = shutil.which(asked.program or os.environ.get("MERCATOR") or BUILT)
     if program is None:
-        parser.error("no program: give --program or MERCATOR, or build it")
+        parser.error("no program: build it, or give --program or MERCATOR")
     kept = Path(tempfile.mkdtemp(prefix="scrapy_site."))
     tests = Tests(str(Path(program).resolve()), kept)
     for test in (tests.shipped_site, tests.drawn_sites, tests.odd_requests, tests.small_frontier,
@@ -665,7 +665,7 @@ def main() -> int:
                  tests.lost_frontier, tests.missing_program, tests.refused_settings):
         test()
     if asked.keep or tests.failed:
-        print(f"the logs of the crawls are in {kept}")
+        print(f"logs of the crawls: {kept}")
     else:
         shutil.rmtree(kept)
     print(f"{tests.passed} passed, {tests.failed} failed")

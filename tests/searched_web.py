@@ -1,8 +1,10 @@
-"""An independent search of a saved web, for tests/real-site.sh: searched_web.py WEB SEED PLAIN WANTED
+"""Search a saved web independently of the program, for tests/real-site.sh.
 
-It joins links by Python's standard library, and leaves out those where that may differ from the URL Standard. It writes the
-web without them to PLAIN, and what a crawl from SEED has to tell of it: the report to WANTED.report, and the lines of sources
-to WANTED.sources. It prints how many it left out.
+Usage: searched_web.py WEB SEED PLAIN WANTED
+
+The script resolves links by Python's standard library, and skips those for which it may differ from the URL Standard. It
+writes the saved web WEB without these links to PLAIN, and the expected output of a crawl of PLAIN from SEED: the report to
+WANTED.report, and the lines of --sources to WANTED.sources. It prints how many links it skipped.
 """
 
 from __future__ import annotations
@@ -12,15 +14,14 @@ import sys
 from typing import Dict, List, NamedTuple, Optional
 from urllib.parse import urldefrag, urljoin, urlsplit
 
-# A text that the standard library joins as the URL Standard does: no byte that is escaped, no backslash, no empty or
-# dotted segment that only one of them takes away, no host but plain names.
+# The characters of links that the standard library resolves like the URL Standard. Further conditions are in `is_plain`.
 PLAIN = re.compile(r"[A-Za-z0-9._~:/?#@!$&()*+,;=%-]*")
 SCHEME = re.compile(r"([A-Za-z][A-Za-z0-9+.-]*):")
 HOST = re.compile(r"[a-z0-9-]+(\.[a-z0-9-]+)*\.[a-z][a-z0-9-]*")
 
 
 class Page:
-    """A page of the web: whether it has moved, its links, and how many links are skipped."""
+    """A page: whether it is a redirect, its links, and the number of skipped links."""
 
     def __init__(self) -> None:
         self.has_moved = False
@@ -34,7 +35,7 @@ class Page:
 
 
 class Web(NamedTuple):
-    """The pages by their URLs, the lines without what is left out, and how many lines that is."""
+    """The pages by URL, the lines without the skipped links, and the number of skipped links."""
 
     pages: Dict[str, Page]
     lines: List[str]
@@ -63,7 +64,7 @@ def is_plain(text: str) -> bool:
 
 
 def joined(base: str, text: str) -> Optional[str]:
-    """The canonical URL of a plain link, or None where its scheme is another."""
+    """Return the canonical URL of a plain link, or None if it is not http or https."""
     if other_scheme(text):
         return None
     url = urldefrag(urljoin(base, text)).url
@@ -130,7 +131,7 @@ def main() -> None:
         with open(path, "w", encoding="utf-8", newline="\n") as file:
             file.writelines(line + "\n" for line in lines)
     links = sum(len(page.links) + page.skipped for page in web.pages.values())
-    print(f"{len(web.pages)} pages, {links} links; {web.left_out} links left out of the search; {report[-1]}")
+    print(f"{len(web.pages)} pages, {links} links; {web.left_out} links skipped; {report[-1]}")
 
 
 if __name__ == "__main__":

@@ -1,8 +1,8 @@
 #!/usr/bin/env python3
-"""Tests of tools/site_to_web.py, by the standard library alone.
+"""Test tools/site_to_web.py. Only the standard library is needed.
 
-Expected lines are written by hand from the rules that the tool's help states, and from a server of the standard library
-for the shipped site. Each web that a test gets is held against the format's rules first, by a check of this file's own.
+The expected lines are written by hand, by the rules in the help of the tool. For the example site, they are also
+compared with a server of the standard library. Each saved web is first checked by the rules of its format.
 """
 
 from __future__ import annotations
@@ -34,18 +34,18 @@ Content = Union[str, bytes]
 
 
 class Done(NamedTuple):
-    """A run's status, its output and what it told."""
+    """The status, the output and the standard error of a run."""
 
     status: int
     out: bytes
-    told: str
+    notes: str
 
 
-# ---------------------------------------------------------------- the format's rules
+# ---------------------------------------------------------------- the rules of the format
 
 
 def checked_lines(web: bytes) -> list[str]:
-    """The lines of a saved web, version 2; an AssertionError where it breaks a rule of the format."""
+    """Return the lines of a saved web, version 2; raise AssertionError if it breaks a rule of the format."""
     assert web.endswith(b"\n") and b"\r\n" not in web, "line ends"
     raw = web[:-1].split(b"\n")
     assert all(len(line) <= LINE_LIMIT for line in raw), "a line is too long"
@@ -55,9 +55,9 @@ def checked_lines(web: bytes) -> list[str]:
     words: Optional[list[str]] = None
     for line in lines[1:]:
         word, space, text = line.partition(" ")
-        assert space and word in ("page", "link", "moved"), f"no line of the format: {line}"
+        assert space and word in ("page", "link", "moved"), f"bad line: {line}"
         if word == "page":
-            assert urlsplit(text).scheme in ("http", "https") and urlsplit(text).netloc, f"no URL: {line}"
+            assert urlsplit(text).scheme in ("http", "https") and urlsplit(text).netloc, f"not a URL: {line}"
             assert "#" not in text and text.isascii() and " " not in text, f"not canonical: {line}"
             pages.append(text)
             words = []
@@ -71,7 +71,7 @@ def checked_lines(web: bytes) -> list[str]:
 
 
 def pages_of(lines: list[str]) -> dict[str, list[str]]:
-    """The lines below each page, by its URL."""
+    """Return the lines after each page, by its URL."""
     pages: dict[str, list[str]] = {}
     below: list[str] = []
     for line in lines[1:]:
@@ -83,7 +83,7 @@ def pages_of(lines: list[str]) -> dict[str, list[str]]:
 
 
 class TheCheckItself(unittest.TestCase):
-    def test_breaks_of_each_rule_are_seen(self) -> None:
+    def test_violations_of_each_rule_are_found(self) -> None:
         page = b"page http://a.test/\n"
         for name, web in {
             "no header": page,
@@ -109,13 +109,13 @@ class TheCheckItself(unittest.TestCase):
 
 
 def run(*words: str) -> Done:
-    """The tool's status, output and what it told."""
+    """Run the tool."""
     done = subprocess.run([sys.executable, TOOL, *words], capture_output=True, check=False)
     return Done(done.returncode, done.stdout, done.stderr.decode())
 
 
 class Converting(unittest.TestCase):
-    """A test with a folder of its own, and ways to convert it."""
+    """A test with a folder of its own, and methods to convert it."""
 
     maxDiff = None
 
@@ -124,39 +124,39 @@ class Converting(unittest.TestCase):
         self.addCleanup(scratch.cleanup)
         self.folder = os.path.join(scratch.name, "site")
         os.mkdir(self.folder)
-        self.told = ""
+        self.notes = ""
 
     def put(self, name: Content, content: Content = "") -> None:
-        """Writes a file below the folder; its name may be bytes."""
+        """Write a file below the folder; its name may be bytes."""
         path = os.path.join(os.fsencode(self.folder), os.fsencode(name))
         os.makedirs(os.path.dirname(path), exist_ok=True)
         with open(path, "wb") as file:
             file.write(content if isinstance(content, bytes) else content.encode())
 
     def web(self, *words: str) -> list[str]:
-        """The checked lines that the tool writes for these words."""
+        """Run the tool with these arguments, and return the checked lines of its output."""
         done = run(*words)
-        self.told = done.told
-        self.assertEqual(done.status, 0, done.told)
+        self.notes = done.notes
+        self.assertEqual(done.status, 0, done.notes)
         return checked_lines(done.out)
 
     def converted(self, *options: str, base: str = "http://a.test/") -> dict[str, list[str]]:
-        """The pages of the folder: the lines below each."""
+        """Convert the folder, and return the lines after each page."""
         return pages_of(self.web(*options, self.folder, base))
 
     def links(self, document: Content, *options: str) -> list[str]:
-        """The lines of one document at http://a.test/dir/page.html."""
+        """Return the lines of a document at http://a.test/dir/page.html."""
         self.put("dir/page.html", document)
         return self.converted(*options)["http://a.test/dir/page.html"]
 
-    def assertFault(self, status: int, *words: str, says: str) -> None:
-        """The tool ends with this status, writes nothing, and says so."""
+    def assert_error(self, status: int, *words: str, says: str) -> None:
+        """Check that the tool ends with this status, writes nothing, and prints this text."""
         done = run(*words)
-        self.assertEqual((done.status, done.out), (status, b""), done.told)
-        self.assertIn(says, done.told)
+        self.assertEqual((done.status, done.out), (status, b""), done.notes)
+        self.assertIn(says, done.notes)
 
 
-# ---------------------------------------------------------------- the shipped site
+# ---------------------------------------------------------------- the example site
 
 TOP = [
     "link style.css",
@@ -224,7 +224,7 @@ SHIPPED = {
 
 
 class QuietServer(http.server.SimpleHTTPRequestHandler):
-    """The standard library's server of a folder, which lists no folder and tells nothing."""
+    """The server of the standard library, without lists of folders and without messages."""
 
     def list_directory(self, path: Union[str, os.PathLike[str]]) -> None:
         self.send_error(404)
@@ -235,7 +235,7 @@ class QuietServer(http.server.SimpleHTTPRequestHandler):
 
 @contextlib.contextmanager
 def served(folder: str) -> Iterator[Callable[[str], tuple[int, Optional[str]]]]:
-    """A call that answers the status and the Location that a server of the folder gives for a path."""
+    """Serve a folder, and yield a function that returns the status and the Location for a path."""
     handler = functools.partial(QuietServer, directory=folder)
     server = http.server.ThreadingHTTPServer(("127.0.0.1", 0), handler)
     thread = threading.Thread(target=server.serve_forever)
@@ -257,18 +257,18 @@ def served(folder: str) -> Iterator[Callable[[str], tuple[int, Optional[str]]]]:
 
 
 class TheShippedSite(Converting):
-    def test_its_lines_are_those_of_the_rules(self) -> None:
+    def test_its_lines_follow_the_rules(self) -> None:
         lines = self.web(SITE, "http://site.test/")
         self.assertEqual(pages_of(lines), {"http://site.test" + path: below for path, below in SHIPPED.items()})
         links = sum(line.startswith("link ") for line in lines)
-        self.assertIn(f"{len(SHIPPED)} pages, 5 of them redirects; {links} links; ", self.told)
+        self.assertIn(f"{len(SHIPPED)} pages, 5 of them redirects; {links} links; ", self.notes)
 
     def test_its_stored_web_is_what_the_tool_writes(self) -> None:
         with open(os.path.join(ROOT, "examples", "site.web"), "rb") as stored:
             self.assertEqual(run(SITE, "http://site.test/").out, stored.read())
 
     def test_a_server_answers_as_the_web_says(self) -> None:
-        """Each page, and each target of a link on the site, is asked of a server of the same folder."""
+        """Request each page, and each target of a link in the site, from a server of the same folder."""
         pages = pages_of(self.web(SITE, "http://site.test/"))
         asked = set(pages)
         for url, lines in pages.items():
@@ -309,16 +309,16 @@ class Folders(Converting):
             self.put(name)
         self.assertEqual(self.converted(), {f"http://a.test/{path}": [] for path in sorted(names.values())})
 
-    def test_names_that_are_no_utf8_are_written_by_their_bytes_and_told(self) -> None:
+    def test_names_that_are_not_utf8_are_percent_encoded_and_reported(self) -> None:
         try:
             self.put(b"caf\xe9.html", '<html><a href="caf%E9.html"><a href="caf%e9.html">')
         except OSError:
-            self.skipTest("this file system takes no such name")
+            self.skipTest("this file system does not accept such a name")
         below = ["link caf%E9.html", "link caf%e9.html"]
         self.assertEqual(
             self.converted(), {"http://a.test/caf%E9.html": below, "http://a.test/caf%e9.html": below}
         )
-        self.assertIn("name is not UTF-8, so its bytes are percent-encoded: http://a.test/caf%E9.html\n", self.told)
+        self.assertIn("name is not UTF-8, so its bytes are percent-encoded: http://a.test/caf%E9.html\n", self.notes)
 
     def test_the_base_is_made_canonical(self) -> None:
         self.put("x.txt")
@@ -335,7 +335,7 @@ class Folders(Converting):
             with self.subTest(base):
                 self.assertEqual(self.converted(base=base), {page: []})
 
-    def test_bases_that_it_cannot_write_are_bad_words(self) -> None:
+    def test_unsupported_bases_are_bad_command_lines(self) -> None:
         self.put("x.txt")
         for base in (
             "a.test",
@@ -352,9 +352,9 @@ class Folders(Converting):
             "http://[::1]/",
         ):
             with self.subTest(base):
-                self.assertFault(3, self.folder, base, says="BASE must be an http or https URL with a plain ASCII host")
+                self.assert_error(3, self.folder, base, says="BASE must be an http or https URL with")
 
-    def test_a_folder_is_moved_to_its_index_with_the_query_that_it_was_asked_with(self) -> None:
+    def test_a_folder_redirects_to_its_index_with_its_query(self) -> None:
         self.put("index.html", '<html><a href="dir?x=1"><a href="dir?x=1"><a href="d%69r">')
         self.put("dir/index.html", '<html><a href="?y">')
         self.put("empty/name.txt")
@@ -392,7 +392,7 @@ class Folders(Converting):
         self.put("dir/b.html", '<html><a href="/dir/a.html">')
         spelled = [url for url in self.converted() if "%" in url]
         self.assertEqual(spelled, ["http://a.test/%64ir/a.html", "http://a.test/%64ir/b.html"])
-        self.assertIn("pages that are other spellings of a page: 2\n", self.told)
+        self.assertIn("pages that are other spellings of a page: 2\n", self.notes)
 
     def test_an_escaped_slash_and_other_hosts_are_no_other_spelling(self) -> None:
         self.put("dir/x.html", '<html><a href="/dir%2Fx.html"><a href="http://b.test/dir/x.html?q">')
@@ -417,8 +417,8 @@ class Folders(Converting):
             self.converted("--queries"),
             {"http://a.test/list.html?page=2": []},
         )
-        told = "file skipped, another file has the same URL: list.html?page=2, http://a.test/list.html?page=2\n"
-        self.assertIn(told, self.told)
+        notes = "file skipped, another file has the same URL: list.html?page=2, http://a.test/list.html?page=2\n"
+        self.assertIn(notes, self.notes)
 
     def test_queries_of_index_files(self) -> None:
         self.put("dir/index.html?page=2", '<html><a href="x">')
@@ -432,7 +432,7 @@ class Folders(Converting):
         )
         self.assertEqual(list(self.converted()), ["http://a.test/dir", "http://a.test/dir/index.html%3Fpage=2"])
 
-    def test_images_alone_are_pages_without_links(self) -> None:
+    def test_images_are_pages_without_links(self) -> None:
         for name in ("a.png", "b.jpg", "c.svg"):
             self.put("images/" + name, b'\x89<html><a href="x">')
         self.assertEqual(
@@ -444,7 +444,7 @@ class Folders(Converting):
                 "http://a.test/images/c.svg": [],
             },
         )
-        self.assertIn("4 pages, 1 of them redirects; 0 links;", self.told)
+        self.assertIn("4 pages, 1 of them redirects; 0 links;", self.notes)
 
     def test_html_is_known_by_suffix_or_first_bytes(self) -> None:
         document = '<!-- c --> <!DOCTYPE html><a href="x">'
@@ -477,32 +477,32 @@ class Folders(Converting):
                 for path in ("dir", "dir/up", "dir/x.txt", "other", "other/up", "other/x.txt")
             ],
         )
-        self.assertIn("folder skipped, it leads back to a folder above it: dir/up\n", self.told)
-        self.assertIn("skipped, neither a file nor a folder: gone\n", self.told)
+        self.assertIn("folder skipped, it leads back to a folder above it: dir/up\n", self.notes)
+        self.assertIn("skipped, neither a file nor a folder: gone\n", self.notes)
 
-    def test_a_page_whose_line_is_too_long_is_left_out_and_told(self) -> None:
+    def test_a_page_whose_line_is_too_long_is_skipped_and_reported(self) -> None:
         deep = "/".join(["\u00fc" * 100] * 7)
         self.put(deep + "/x.txt")
         self.put("y.txt")
         pages = self.converted()
         # The slash and 600 letters for each folder, six of which fit
         self.assertEqual([len(url) - len("http://a.test") for url in pages], [*range(601, 3607, 601), 6])
-        self.assertEqual(self.told.count("page skipped, its URL is too long: http://a.test/%C3%BC"), 2)
-        self.assertIn("page skipped, its URL is too long: 2\n", self.told)
+        self.assertEqual(self.notes.count("page skipped, its URL is too long: http://a.test/%C3%BC"), 2)
+        self.assertIn("page skipped, its URL is too long: 2\n", self.notes)
 
-    def test_faults_write_nothing(self) -> None:
-        self.assertFault(1, self.folder, "http://a.test/", says="no files in")
+    def test_errors_write_nothing(self) -> None:
+        self.assert_error(1, self.folder, "http://a.test/", says="no files in")
         os.mkdir(os.path.join(self.folder, "empty"))
-        self.assertFault(1, self.folder, "http://a.test/", says="no files in")
-        self.assertFault(1, self.folder + "x", "http://a.test/", says=": not a folder")
-        self.assertFault(3, self.folder, says="give FOLDER and BASE, or --warc FILE..")
-        self.assertFault(3, says="give FOLDER and BASE, or --warc FILE..")
-        self.assertFault(3, self.folder, "http://a.test/", "--warc", "x", says="give FOLDER and BASE")
-        self.assertFault(3, "--unheard", says="unrecognized arguments: --unheard")
+        self.assert_error(1, self.folder, "http://a.test/", says="no files in")
+        self.assert_error(1, self.folder + "x", "http://a.test/", says=": not a folder")
+        self.assert_error(3, self.folder, says="give FOLDER and BASE, or --warc FILE..")
+        self.assert_error(3, says="give FOLDER and BASE, or --warc FILE..")
+        self.assert_error(3, self.folder, "http://a.test/", "--warc", "x", says="give FOLDER and BASE")
+        self.assert_error(3, "--unheard", says="unrecognized arguments: --unheard")
 
-    def test_help_is_no_fault(self) -> None:
+    def test_help_is_not_an_error(self) -> None:
         done = run("--help")
-        self.assertEqual((done.status, done.told), (0, ""))
+        self.assertEqual((done.status, done.notes), (0, ""))
         for words in ("usage: site_to_web.py", "exit status:", "--warc FILE", "4,096 bytes"):
             self.assertIn(words, done.out.decode())
         self.assertEqual(done.out.count(b"FOLDER BASE > WEB"), 1)
@@ -563,7 +563,7 @@ class Documents(Converting):
             with self.subTest(document):
                 self.assertEqual(self.links(document), [f"link {text}" for text in expected])
 
-    def test_styles_are_read_where_they_are_asked_for(self) -> None:
+    def test_styles_are_read_with_the_option(self) -> None:
         document = '<div style="background: url(x)"><style>@import "y"; /* url(n) */</style><a href="z">'
         self.assertEqual(self.links(document, "--styles"), ["link x", "link y", "link z"])
         self.put("s.css", '@import "t.css"; a { background: url( "u v.png" ) }')
@@ -575,7 +575,7 @@ class Documents(Converting):
         self.assertEqual(self.links(document), ["link x", "link y", "link x", "link x#f"])
         self.assertEqual(self.links(document, "--once"), ["link x", "link y", "link x#f"])
 
-    def test_line_breaks_tabs_and_edges_are_taken_out(self) -> None:
+    def test_line_breaks_tabs_and_edges_are_removed(self) -> None:
         for document, expected in {
             '<a href="a\nb">': ["ab"],
             '<a href="a\r\nb\tc">': ["abc"],
@@ -590,7 +590,7 @@ class Documents(Converting):
             with self.subTest(document):
                 self.assertEqual(self.links(document), [f"link {text}" for text in expected])
         self.links('<a href="a\nb"><a href="\na\n"><a href="c\nd">')
-        self.assertIn("links over several lines, joined: 2\n", self.told)
+        self.assertIn("links over several lines, joined: 2\n", self.notes)
 
     def test_lines_are_at_most_4096_bytes(self) -> None:
         room = LINE_LIMIT - len("link ")
@@ -609,8 +609,8 @@ class Documents(Converting):
             with self.subTest(name):
                 lines = [] if expected is None else [f"link {expected}"]
                 self.assertEqual(self.links(f'<meta charset="utf-8"><a href="{text}">'), lines)
-                told = "link skipped, it is too long: http://a.test/dir/page.html"
-                self.assertEqual(told in self.told, not lines)
+                notes = "link skipped, it is too long: http://a.test/dir/page.html"
+                self.assertEqual(notes in self.notes, not lines)
 
     def test_a_base_resolves_what_is_below_it(self) -> None:
         for document, expected in {
@@ -672,10 +672,10 @@ class Documents(Converting):
             with self.subTest(name):
                 self.assertEqual(self.links(document), [f"link {expected}"])
 
-    def test_of_an_encoding_that_is_not_known_ascii_is_read(self) -> None:
+    def test_only_ascii_is_read_in_an_unknown_encoding(self) -> None:
         links = b'<a href="\xe9"><a href="a#\xe9"><a href="&eacute;?&eacute;"><img srcset="\xe9 1x, b 2x"><a href="c?\xe9#d">'
         self.assertEqual(self.links(b'<meta charset="unheard">' + links), ["link a#", "link \u00e9?%E9", "link b"])
-        self.assertIn("unknown encoding, only ASCII was read: http://a.test/dir/page.html\n", self.told)
+        self.assertIn("unknown encoding, only ASCII was read: http://a.test/dir/page.html\n", self.notes)
         for base, expected in {
             b"/\xe9/": ["http://a.test/c", "mailto:m"],
             b"/d/#\xe9": ["http://a.test/d/a", "http://a.test/c", "http://a.test/d/e", "mailto:m"],
@@ -685,45 +685,45 @@ class Documents(Converting):
                 document = b'<meta charset="unheard"><base href="' + base + b'">' + links
                 self.assertEqual(self.links(document), [f"link {text}" for text in expected])
 
-    def test_what_is_told_has_no_control_characters(self) -> None:
+    def test_notes_have_no_control_characters(self) -> None:
         self.links(f'<a href="a\x1b[2J{"x" * 9000}">')
-        self.assertIn("page.html links to a\\x1b[2Jxxx", self.told)
-        self.assertNotIn("\x1b", self.told)
-        self.assertNotIn("page.html", run("--quiet", self.folder, "http://a.test/").told)
+        self.assertIn("page.html links to a\\x1b[2Jxxx", self.notes)
+        self.assertNotIn("\x1b", self.notes)
+        self.assertNotIn("page.html", run("--quiet", self.folder, "http://a.test/").notes)
 
 
 # ---------------------------------------------------------------- web archives
 
 
 def record(kind: str, url: str, block: bytes, *headers: str) -> bytes:
-    """A record of a WARC."""
+    """Return a record of a WARC."""
     lines = ["WARC/1.0", f"WARC-Type: {kind}", f"WARC-Target-URI: {url}", *headers, f"Content-Length: {len(block)}"]
     return "\r\n".join(lines).encode() + b"\r\n\r\n" + block + b"\r\n\r\n"
 
 
 def answer(status: int, body: Content = b"", *headers: str, kind: str = "text/html") -> bytes:
-    """An HTTP answer."""
+    """Return an HTTP response."""
     body = body if isinstance(body, bytes) else body.encode()
     lines = [f"HTTP/1.1 {status} Words", f"Content-Type: {kind}", *headers]
     return "\r\n".join(lines).encode() + b"\r\n\r\n" + body
 
 
 def chunked(body: bytes) -> bytes:
-    """A body in chunks of seven bytes."""
+    """Return a body in chunks of seven bytes."""
     parts = [body[place : place + 7] for place in range(0, len(body), 7)]
     return b"".join(b"%x\r\n%s\r\n" % (len(part), part) for part in [*parts, b""])
 
 
 class WithArchives(Converting):
-    """A test that makes web archives."""
+    """A test with web archives."""
 
     def archive(self, *records: bytes, packed: bool = False) -> str:
-        """The name of a WARC of these records; where it is packed, each record is packed by itself."""
+        """Write a WARC of these records, each compressed if `packed`, and return its path."""
         self.put("site.warc", b"".join(map(gzip.compress, records) if packed else records))
         return os.path.join(self.folder, "site.warc")
 
     def read(self, *records: bytes, options: Sequence[str] = ()) -> dict[str, list[str]]:
-        """The pages of a WARC of these records, which are the same where it is packed."""
+        """Return the pages of a WARC of these records; they must be the same if it is compressed."""
         plain = self.web(*options, "--warc", self.archive(*records))
         self.assertEqual(self.web(*options, "--warc", self.archive(*records, packed=True)), plain)
         return pages_of(plain)
@@ -754,9 +754,9 @@ class Archives(WithArchives):
                 "http://b.test/picture": [],
             },
         )
-        self.assertIn("responses that are not pages, status 404: 1\n", self.told)
-        self.assertNotIn("status none", self.told)
-        self.assertIn("records of URLs that are neither http nor https: 2\n", self.told)
+        self.assertIn("responses that are not pages, status 404: 1\n", self.notes)
+        self.assertNotIn("status none", self.notes)
+        self.assertIn("records of URLs that are neither http nor https: 2\n", self.notes)
 
     def test_each_status(self) -> None:
         statuses: dict[int, Optional[list[str]]] = {
@@ -774,10 +774,10 @@ class Archives(WithArchives):
             with self.subTest(status):
                 self.assertEqual(pages.get(f"http://a.test/{status}"), expected)
 
-    def test_a_redirect_without_a_target_is_no_page(self) -> None:
+    def test_a_redirect_without_a_target_is_not_a_page(self) -> None:
         pages = self.read(record("response", "http://a.test/", answer(301)))
         self.assertEqual(pages, {})
-        self.assertIn("responses that are not pages, status 301: 1\n", self.told)
+        self.assertIn("responses that are not pages, status 301: 1\n", self.notes)
 
     def test_targets_of_redirects(self) -> None:
         room = LINE_LIMIT - len("moved ")
@@ -793,9 +793,9 @@ class Archives(WithArchives):
             with self.subTest(name):
                 pages = self.read(record("response", "http://a.test/", answer(302, "", f"Location: {target}")))
                 self.assertEqual(pages, {"http://a.test/": expected})
-                self.assertEqual("target of the redirect skipped, it is too long" in self.told, not expected)
+                self.assertEqual("target of the redirect skipped, it is too long" in self.notes, not expected)
 
-    def test_of_two_pages_with_one_url_the_first_counts(self) -> None:
+    def test_the_first_of_two_pages_with_the_same_url_counts(self) -> None:
         pages = self.read(
             record("response", "http://a.test", answer(404)),
             record("response", "http://a.test/", answer(200, '<a href="first">')),
@@ -803,9 +803,9 @@ class Archives(WithArchives):
             record("response", "http://a.test/", answer(301, "", "Location: third")),
         )
         self.assertEqual(pages, {"http://a.test/": ["link first"]})
-        self.assertIn("page skipped, an earlier page has the same URL: 2\n", self.told)
+        self.assertIn("page skipped, an earlier page has the same URL: 2\n", self.notes)
 
-    def test_pages_that_are_visited_again(self) -> None:
+    def test_revisits(self) -> None:
         digest = "WARC-Payload-Digest: sha1:A"
         pages = self.read(
             record("response", "http://a.test/1", answer(200, '<a href="x">'), digest),
@@ -820,7 +820,7 @@ class Archives(WithArchives):
         below = dict.fromkeys([f"http://a.test/{number}" for number in range(1, 5)], ["link x"])
         others = {"1b": ["link http://a.test/b/x"], "5": ["moved y"], "7": []}
         self.assertEqual(pages, {**below, **{f"http://a.test/{name}": lines for name, lines in others.items()}})
-        self.assertIn("links skipped, the first record with this content is missing: http://a.test/7\n", self.told)
+        self.assertIn("links skipped, the first record with this content is missing: http://a.test/7\n", self.notes)
 
     def test_codings(self) -> None:
         body = b'<!DOCTYPE html><a href="x">'
@@ -840,9 +840,10 @@ class Archives(WithArchives):
                 self.assertEqual(pages, {"http://a.test/": ["link x"]})
         pages = self.read(record("response", "http://a.test/", answer(200, body, "Content-Encoding: br")))
         self.assertEqual(pages, {"http://a.test/": []})
-        self.assertIn("links skipped, the content coding is unknown or the body is invalid: http://a.test/\n", self.told)
+        note = "links skipped, the content coding is unknown or the body is invalid: http://a.test/\n"
+        self.assertIn(note, self.notes)
 
-    def test_the_servers_word_on_kind_and_encoding(self) -> None:
+    def test_the_content_type_of_the_server(self) -> None:
         document = b'<a href="\xf6?\xf6">'
         for kind, expected in {
             "text/html": ["link \u00f6?%F6"],
@@ -856,14 +857,14 @@ class Archives(WithArchives):
                 pages = self.read(record("response", "http://a.test/", answer(200, document, kind=kind)))
                 self.assertEqual(pages, {"http://a.test/": expected})
 
-    def test_hosts_that_are_not_plain_are_left_out_and_told(self) -> None:
+    def test_unsupported_hosts_are_skipped_and_reported(self) -> None:
         hosts = ("\u00fc.test", "me@a.test", "[::1]", "a.test:65536", "1.2", "0x7f.1", "a..test", "a b", "xn--a")
         pages = self.read(
             *(record("response", f"http://{host}/", answer(200)) for host in hosts),
             record("response", "http://xn--tda.test:8080/", answer(200)),
         )
         self.assertEqual(pages, {"http://xn--tda.test:8080/": []})
-        self.assertIn(f"page skipped, its host cannot be written in canonical form: {len(hosts)}\n", self.told)
+        self.assertIn(f"page skipped, its host cannot be written in canonical form: {len(hosts)}\n", self.notes)
 
     def test_pages_come_in_order_of_url_whatever_the_order_of_records(self) -> None:
         records = [record("response", f"http://{host}.test/", answer(200, f'<a href="{host}">')) for host in "cab"]
@@ -871,60 +872,61 @@ class Archives(WithArchives):
             self.web("--warc", self.archive(*records)), self.web("--warc", self.archive(*reversed(records)))
         )
 
-    def test_faults_write_nothing(self) -> None:
+    def test_errors_write_nothing(self) -> None:
         good = record("response", "http://a.test/", answer(200, '<a href="x">' * 100))
-        self.assertFault(1, "--warc", self.archive(good, good[:-200]), says="a WARC record is cut off")
-        self.assertFault(1, "--warc", self.archive(b"<html>"), says="not a WARC file: a record does not begin with WARC/")
+        self.assert_error(1, "--warc", self.archive(good, good[:-200]), says="a WARC record is cut off")
+        self.assert_error(1, "--warc", self.archive(b"<html>"), says="not a WARC file: a record does not begin")
         for length in ("", "Content-Length: x\r\n", f"Content-Length: {'9' * 5000}\r\n"):
             path = self.archive(f"WARC/1.0\r\n{length}\r\n".encode())
-            self.assertFault(1, "--warc", path, says="a WARC record has no valid Content-Length")
+            self.assert_error(1, "--warc", path, says="a WARC record has no valid Content-Length")
         packed = gzip.compress(good)
         self.put("cut.gz", packed[: len(packed) // 2])
-        self.assertFault(1, "--warc", os.path.join(self.folder, "cut.gz"), says="cut.gz: ")
-        self.assertFault(1, "--warc", os.path.join(self.folder, "none"), says=f"{self.folder}/none: No such file or directory")
+        self.assert_error(1, "--warc", os.path.join(self.folder, "cut.gz"), says="cut.gz: ")
+        missing = os.path.join(self.folder, "none")
+        self.assert_error(1, "--warc", missing, says=f"{missing}: No such file or directory")
 
-    def test_an_empty_archive_is_a_web_without_pages(self) -> None:
+    def test_an_empty_archive_gives_no_pages(self) -> None:
         self.assertEqual(self.web("--warc", self.archive(b"")), ["savedweb 2"])
 
 
 class Limits(WithArchives):
-    """Tests with lower limits than the true ones, which take much memory."""
+    """Tests with lower limits than the real ones, which would need much memory."""
 
     def run_with(self, limit: str, number: int, *words: str) -> Done:
-        """The tool's status, output and what it told, with another number for a limit."""
+        """Run the tool with another number for a limit."""
         spec = importlib.util.spec_from_file_location("site_to_web_tool", TOOL)
         assert spec is not None and spec.loader is not None
         tool = importlib.util.module_from_spec(spec)
         spec.loader.exec_module(tool)
-        written, told, status = io.BytesIO(), io.StringIO(), 0
+        written, notes, status = io.BytesIO(), io.StringIO(), 0
         out = io.TextIOWrapper(written)
         with contextlib.ExitStack() as patches:
             patches.enter_context(mock.patch.object(tool, limit, number))
             patches.enter_context(mock.patch.object(sys, "stdout", out))
-            patches.enter_context(mock.patch.object(sys, "stderr", told))
+            patches.enter_context(mock.patch.object(sys, "stderr", notes))
             patches.enter_context(mock.patch.object(sys, "argv", ["site_to_web.py", *words]))
             try:
                 tool.main()
             except SystemExit as ended:
                 status = int(ended.code or 0)
-        return Done(status, written.getvalue(), told.getvalue())
+        return Done(status, written.getvalue(), notes.getvalue())
 
-    def test_a_web_that_no_crawl_takes_is_a_fault(self) -> None:
+    def test_a_saved_web_that_is_too_large_is_an_error(self) -> None:
         words = SITE, "http://site.test/"
         whole = run(*words).out
         self.assertEqual(self.run_with("INPUT_LIMIT", len(whole), *words)[:2], (0, whole))
         done = self.run_with("INPUT_LIMIT", len(whole) - 1, *words)
         self.assertEqual(done[:2], (1, b""))
-        self.assertIn("the most that a crawl reads", done.told)
+        self.assertIn("the most that a crawl reads", done.notes)
 
-    def test_large_records_are_read_in_their_first_bytes(self) -> None:
+    def test_only_the_beginning_of_large_records_is_read(self) -> None:
         document = '<a href="x">' + " " * 1000 + '<a href="y">'
         packed = gzip.compress(document.encode())
         cases: tuple[tuple[str, Content, list[str], str], ...] = (
             ("record", document, [], "only the beginning of the record was read, it"),
             ("document", packed, ["Content-Encoding: gzip"], "only the links at the beginning were read, the page"),
         )
-        for name, body, headers, told in cases:
+        for name, body, headers, notes in cases:
             block = answer(200, body, *headers)
             path = self.archive(record("response", "http://a.test/", block), record("resource", "http://b.test/", b""))
             done = self.run_with("DOCUMENT_LIMIT", 500, "--warc", path)
@@ -932,8 +934,8 @@ class Limits(WithArchives):
                 self.assertEqual(
                     pages_of(checked_lines(done.out)), {"http://a.test/": ["link x"], "http://b.test/": []}
                 )
-                self.assertIn(f"{told} is too large: http://a.test/\n", done.told)
-                self.assertNotIn("too large", run("--warc", path).told)
+                self.assertIn(f"{notes} is too large: http://a.test/\n", done.notes)
+                self.assertNotIn("too large", run("--warc", path).notes)
 
 
 if __name__ == "__main__":

@@ -1,4 +1,4 @@
-//! What no clause says and no command shows: that calls succeed, answers as values, results that no crawl gives.
+//! Tests of what no contract says and no command shows: that calls succeed, results as values, and results that no crawl has.
 mod findings;
 mod indices;
 mod keys;

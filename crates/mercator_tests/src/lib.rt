@@ -1,4 +1,4 @@
-//! The tests of `mercator`, by what any crate can call: crawls, failing readers and writers, faults and inputs.
+//! Tests of the public calls of `mercator`, `mercator_site` and `saved_site`: crawls, checks, failing readers and writers, errors.
 #![tactic(auto)]
 
 #[cfg(test)]

@@ -1,4 +1,4 @@
-//! What no clause says: that calls succeed, the texts, and that the definitions mean the formats.
+//! Tests of what no contract says: that calls succeed, what messages say, and that the definitions describe the formats.
 mod crawls;
 mod failing;
 mod faults;

@@ -1,5 +1,5 @@
-//! What no clause says: that a growth which is refused comes out as an error, and leaves the index as it was. The lists are
-//! drawn, of texts that have three hashes in all and want the same slots.
+//! Tests of what no contract says: that a failed allocation is an error, and leaves the index as it was. The lists are random. Their
+//! texts have only three hashes, so that they compete for the same slots.
 ghost use Rattle.std.specs.Prelude.{◌≡◌, ◌*◌, ◌%◌, ℕ, List, map, length};
 ghost use Rattle.hash_index.specs.Index.{IsIndexOf};
 
@@ -7,13 +7,13 @@ use hash_index::{HashIndex, Keyed};
 use std::alloc::{AllocError, Global};
 use std::marker::Model;
 
-/// How many lists are drawn.
+/// The number of random lists.
 const LISTS: u64 = 100_000;
 
-/// As many as `rt try` gets through, with each capacity at the start once.
+/// As many as `rt try` can run, with each initial capacity once.
 const FEW_LISTS: u64 = 24;
 
-/// How many texts are drawn for a list.
+/// The number of random texts for a list.
 const DRAWS: usize = 40;
 
 /// As many of each of the three hashes, of which one slot's bucket takes eight.
@@ -77,7 +77,7 @@ impl Words {
         })
     }
 
-    /// Adds the word, unless it is there, and tells where it was found.
+    /// Adds the word unless it is there, and returns where it was found.
     fn add(&mut self, word: Word) -> Result<Option<usize>, AllocError> {
         let found = self.index.find_or_insert(&self.list, &word)?;
         if found.is_some() {
@@ -91,7 +91,7 @@ impl Words {
         self.index.find(&self.list.as_slice(), word)
     }
 
-    /// Where the text stands, by a look at each.
+    /// The index of the text, by a search through all.
     fn search(&self, text: &str) -> Option<usize> {
         for index in 0..self.list.len() {
             if self.list[index].text == text {
@@ -101,7 +101,7 @@ impl Words {
         None
     }
 
-    /// Whether each text is found where it stands.
+    /// Whether each text is found at its index.
     fn finds_all(&self) -> bool {
         for number in 0..TEXTS.len() {
             let word = nth_word(number);
@@ -112,7 +112,7 @@ impl Words {
         true
     }
 
-    /// Adds the word, and tells whether it was found where it stands. After a refused growth all are found as before.
+    /// Adds the word, and returns whether it was found at its index. After a failed allocation all are found as before.
     fn adds(&mut self, word: Word) -> bool {
         let wanted = self.search(word.text);
         match self.add(word) {
@@ -128,7 +128,7 @@ fn nth_word(number: usize) -> Word {
     }
 }
 
-/// Whether all is found in one drawn list, as it grows and when it is done.
+/// Whether all texts are found in one random list, while it grows and at the end.
 fn finds_drawn(alloc: Global, seed: u64) -> bool {
     let Ok(mut words) = Words::with_capacity(alloc, seed as usize % 24) else {
         return true;
@@ -145,7 +145,7 @@ fn finds_drawn(alloc: Global, seed: u64) -> bool {
     words.finds_all()
 }
 
-/// Whether all is found in each of so many drawn lists.
+/// Whether all texts are found in each of this number of random lists.
 fn finds_in_each(alloc: Global, lists: u64) -> bool {
     for seed in 0..lists {
         if !finds_drawn(alloc, seed) {
@@ -160,7 +160,7 @@ fn finds_what_a_plain_search_finds(rt: HostRuntime) {
     assert!(&rt; finds_in_each(rt.alloc(), LISTS));
 }
 
-// `rt try --test --fail-alloc N -- refused` refuses the Nth growth.
+// `rt try --test --fail-alloc N -- refused` makes the Nth allocation fail.
 #[test]
 fn finds_all_after_a_refused_growth(rt: HostRuntime) {
     assert!(&rt; finds_in_each(rt.alloc(), FEW_LISTS));

@@ -1,4 +1,4 @@
-//! What no clause says of keys: that each call succeeds where there is memory, and that the definitions mean the standard.
+//! Tests of what no contract says of keys: that each call succeeds if there is memory, and that the definitions are the standard's.
 use crawl_keys::*;
 use std::alloc::Global;
 use std::cmp::Ordering;
@@ -89,7 +89,7 @@ fn has_hash_0(alloc: Global, text: &str) -> bool {
     }
 }
 
-/// A text, and the URL that it leads to or why it leads nowhere.
+/// A link, and the URL that it leads to or the reason why it leads to none.
 type Row = (&'static str, &'static str);
 
 const LINKS: &[Row] = &[
@@ -179,7 +179,7 @@ fn is_base(alloc: Global, row: &Row) -> bool {
     }
 }
 
-// Whether the URL that the base keeps, and a link to a part of the page, are the page's.
+// Whether the URL that the base keeps, and a link to an anchor of the page, are the page's.
 fn keeps(alloc: Global, base: &Base) -> bool {
     is_answer(base.keep(alloc), base.as_str())
         && is_answer(base.resolve(alloc, "#g"), base.as_str())
@@ -298,7 +298,7 @@ const ALLOWED: &[(&str, bool)] = &[
     ("http://a.test./", false),
 ];
 
-// A filter and its copy allow the same URLs; a bad suffix is told by its place.
+// A filter and its copy allow the same URLs. An error has the index of a bad suffix.
 #[test]
 fn filter_suffixes(rt: HostRuntime) {
     assert!(rt; second_is_bad(rt.alloc()));

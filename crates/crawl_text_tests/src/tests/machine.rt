@@ -1,4 +1,4 @@
-//! The worked rows of a machine that no script shows. `tests/drawn.py` draws scripts and reckons their replies by itself.
+//! Named cases of a machine that no script can show. `tests/drawn.py` compares random scripts with an independent model.
 mod steps;
 
 use crawl_core::{Core, CoreError, Text, Word, run};
@@ -18,7 +18,7 @@ static LIMITS: [(u32, u64, Option<CoreError>); 7] = [
     (1, 1, None),
 ];
 
-// A machine with these limits, and a run without events, are refused so.
+// The errors of a machine with these limits, and of a run without events.
 fn is_limit(alloc: Global, workers: u32, max: u64, refusal: Option<CoreError>) -> bool {
     Core::new(alloc, workers, max).err() == refusal
         && match run(alloc, workers, max, &[]) {
@@ -53,7 +53,7 @@ static CLOSES_WHEN_DRAINED: [Step; 9] = [
     (Call::Enter(2), (Kind::NotOpen, 0, 0, "")),
 ];
 
-// What no script can say, since there a URL names its subqueue.
+// Events that no script can have, since the URL in a script determines its subqueue.
 static QUEUES_OF_ANY_NAME: [Step; 10] = [
     (Call::Look(1), (Kind::Open, 1, 0, "")),
     (Call::Enter(1), (Kind::Entered, 2, 0, "")),

@@ -1,9 +1,9 @@
-//! Pages as values: the order of their links, and where they moved to.
+//! Pages as values: the order of their links, and their redirects.
 use crate::tests::results::{are_urls, result_of};
 use crawl_web::{Page, SavedWeb, links_of};
 use std::alloc::Global;
 
-/// What a web has at a URL: its kind, the number of links that are skipped, and the URLs that it leads to.
+/// The page of a saved web at a URL: its kind, the number of skipped links, and the URLs that it leads to.
 struct Row {
     web: &'static str,
     url: &'static str,
@@ -97,7 +97,7 @@ fn pages_of_saved_webs(rt: HostRuntime) {
     }
 }
 
-// A page that is fetched again is the same.
+// A second fetch returns the same page.
 fn has_page(alloc: Global, row: &Row) -> bool {
     match SavedWeb::read(alloc, row.web.as_bytes()) {
         Ok(web) => gives_page(alloc, &web, row) && gives_page(alloc, &web, row),

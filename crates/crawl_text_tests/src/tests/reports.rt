@@ -1,4 +1,4 @@
-//! Reports and their sources, of results in any order, that stand there twice, or that no crawl gives.
+//! Reports and their sources, of results in any order, with duplicates, or that no crawl has.
 use crate::tests::results::{Asked, result_at};
 use crawl_sources::sources_text;
 use crawl_web::{Page, PageResult, report_text};
@@ -44,7 +44,7 @@ const THIRD: Asked = (NONE, "http://a.test/");
 const MOVED: &str =
     "savedweb 2\npage http://a.test/\nmoved http://b.test/\npage http://b.test/\nmoved mailto:x\npage http://c.test/\nlink gone\n";
 
-// `gone` twice on one page and once on another; `c.test/x` linked from `b`, and where `b.test` moved to.
+// `gone` is twice on one page and once on another. `b` links to `c.test/x`, and `b.test` redirects there.
 const BROKEN: &str =
     "savedweb 2\npage http://a.test/\nlink gone\nlink /b\nlink gone#there\npage http://a.test/b\nlink gone\nlink http://c.test/x\npage http://b.test/\nmoved http://c.test/x\n";
 
@@ -78,7 +78,7 @@ const ROWS: &[Row] = &[
         report: RING_REPORT,
         sources: RING_SOURCES,
     },
-    // Results of one URL stay as they came.
+    // Results with one URL keep their order.
     Row {
         results: &[OTHER, FIRST, SECOND, THIRD],
         report: "ok 1 0 http://a.test/\nok 2 1 http://a.test/\nmissing http://a.test/\nmissing http://a.test/2\ntotal 4 ok 2 missing 2\n",
@@ -122,7 +122,7 @@ const ROWS: &[Row] = &[
         report: BROKEN_REPORT,
         sources: BROKEN_SOURCES,
     },
-    // `gone` is linked from both, and is no result.
+    // `gone` is linked from both, and is not a result.
     Row {
         results: &[(BROKEN, "http://a.test/"), (BROKEN, "http://a.test/b")],
         report: "ok 3 0 http://a.test/\nok 2 0 http://a.test/b\ntotal 2 ok 2 missing 0\n",
@@ -133,7 +133,7 @@ const ROWS: &[Row] = &[
         report: "missing http://a.test/gone\ntotal 1 ok 0 missing 1\n",
         sources: "from 0 - http://a.test/gone\n",
     },
-    // Bytes decide, not numbers or letters; a result that stands there twice counts twice, and has two lines.
+    // The order is by bytes, not by number or letter. A duplicate result counts twice, and has two lines.
     Row {
         results: &[
             (LETTERS, "http://a.test/x"),
@@ -210,7 +210,7 @@ fn is_copied(one: &PageResult) -> bool {
     }
 }
 
-/// A saved web, and the report of its page as if that had the most links that a `u64` counts besides.
+/// A saved web, and the report of its page as if it had as many more links as a `u64` can count.
 const PAST_64_BITS: &[Asked] = &[
     (
         "savedweb 1\npage http://a.test/",

@@ -1,12 +1,12 @@
-//! Results by saved webs, and lists of URLs.
+//! Results of saved webs, and lists of URLs.
 use crawl_keys::{CanonUrl, canonical};
 use crawl_web::{Fetch, PageResult, SavedWeb};
 use std::alloc::Global;
 
-/// The text of a saved web, and of a URL that is asked for.
+/// The text of a saved web, and a URL.
 pub type Asked = (&'static str, &'static str);
 
-/// What the web has at the URL.
+/// The page of the saved web at the URL.
 pub fn result_at(alloc: Global, asked: &Asked) -> Option<PageResult> {
     match SavedWeb::read(alloc, asked.0.as_bytes()) {
         Ok(web) => result_of(alloc, &web, asked.1),

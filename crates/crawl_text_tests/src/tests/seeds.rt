@@ -13,7 +13,7 @@ const ROWS: &[Row] = &[
         "\nhttp://A.test:80/x/../y#f\r\n\r\nhttps://b.test",
         &["http://a.test/y", "https://b.test/"],
     ),
-    // URLs may stand there twice, and stay in their order.
+    // Duplicate URLs are kept, in their order.
     (
         "http://b.test/\r\nhttp://a.test/\nhttp://b.test/#x\n",
         &["http://b.test/", "http://a.test/", "http://b.test/"],

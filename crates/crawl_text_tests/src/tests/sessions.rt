@@ -1,4 +1,4 @@
-//! What no command shows: a line for which memory was out is asked again, a log is compacted whose last line has no end, and
+//! Tests of what no command shows: a line is sent again after out of memory, a log without an end of its last line is compacted, and
 //! the first line of a log is read as a value.
 use crawl_keys::Filter;
 use crawl_replay::Header;
@@ -13,7 +13,7 @@ fn session(alloc: Global) -> Option<Session> {
     }
 }
 
-/// Requests of one session, and what each is answered.
+/// The requests of a session, each with its answer.
 const ROWS: &[(&str, &str)] = &[
     ("offer http://a.test/", "accepted 0 0"),
     ("offer http://A.test:80/#x", "seen"),
@@ -33,7 +33,7 @@ const ROWS: &[(&str, &str)] = &[
     ("offer http://a.test/", "refused closed"),
 ];
 
-/// What a line is answered, which is asked again where memory was out.
+/// The answer to a line, which is sent again after out of memory.
 fn answer(alloc: Global, session: &mut Session, line: &str) -> Result<String, AllocError> {
     let answer = match session.answer(line.as_bytes()) {
         Ok(answer) => answer,
@@ -68,14 +68,14 @@ fn a_line_for_which_memory_was_out_is_asked_again(rt: HostRuntime) {
     assert!(rt; answered);
 }
 
-/// Whether so much is kept of a log.
+/// Whether this part of a log is kept.
 fn is_compacted(alloc: Global, session: &mut Session, log: &str, wanted: &str) -> bool {
     let mut kept = Vec::new(alloc);
     let ended = Compactor::new(alloc).compact(session, log.as_bytes(), &mut kept);
     ended.is_ok() && kept.as_slice() == wanted.as_bytes()
 }
 
-// A command cuts such a line off.
+// A command removes such a line.
 #[test]
 fn compacts_a_log_whose_last_line_has_no_end(rt: HostRuntime) {
     let compacted = match session(rt.alloc()) {
@@ -87,8 +87,7 @@ fn compacts_a_log_whose_last_line_has_no_end(rt: HostRuntime) {
     assert!(rt; compacted);
 }
 
-/// The first line of a log; the number of its part and how many parts there are, or 0 of 0; its identity, or nothing; and what
-/// stands behind them.
+/// The first line of a log; the number of its part and the number of parts, or 0 of 0; its identity, or nothing; and the rest.
 const STARTS: &[(&str, u32, u32, &str, &str)] = &[
     (
         "part 1 of 4 identity x workers 2 max 9",

@@ -1,5 +1,5 @@
-//! The start tags of documents, of which a command shows the links alone: each as its name, its attributes with their values
-//! in brackets, and a slash where it closes itself.
+//! The start tags of documents, of which commands show only the links. A tag is its name, its attributes with their values in
+//! brackets, and a slash if it closes itself.
 use html_links::{AttributeAt, StartTagAt, tags};
 use std::alloc::Global;
 
@@ -17,11 +17,11 @@ const ROWS: &[(&str, &str)] = &[
     ("<!--><d><!---><e><!-- --!> <f>", "d;e;f;"),
     ("<!- > <g><!-- <!-- --> <h>", "g;h;"),
     ("<!-- -- > <i>", ""),
-    // End tags, bogus comments, and what is no tag.
+    // End tags, bogus comments, and text that is not a tag.
     ("a < b <1> </a href='>'><c>", "c;"),
     ("<?x <b> ><c></ d><e></><f>", "c;e;f;"),
     ("<a></g h=\"<i>\"><j k='", "a;"),
-    // Elements whose content is text.
+    // Elements that contain only text.
     ("<Title><b></title><p>", "Title;p;"),
     ("<style>a<b></styles></ style></STYLE x='>'><i>", "style;i;"),
     ("<textarea></textarea", "textarea;"),
@@ -35,14 +35,14 @@ const ROWS: &[(&str, &str)] = &[
     ("<script><!-- --><script></script><e>", "script;e;"),
 ];
 
-/// What stands behind the attribute in a text that begins with it.
+/// The text after the attribute, if the text begins with it.
 fn behind_attribute<'a>(attribute: &AttributeAt, text: &'a [u8]) -> Option<&'a [u8]> {
     let name = text.strip_prefix(b" ")?.strip_prefix(attribute.name)?;
     let value = name.strip_prefix(b"[")?.strip_prefix(attribute.value)?;
     value.strip_prefix(b"]")
 }
 
-/// What stands behind the tag in a text that begins with it.
+/// The text after the tag, if the text begins with it.
 fn behind_tag<'a>(tag: &StartTagAt, text: &'a [u8]) -> Option<&'a [u8]> {
     let mut rest = text.strip_prefix(tag.name)?;
     for attribute in &tag.attributes {
@@ -52,7 +52,7 @@ fn behind_tag<'a>(tag: &StartTagAt, text: &'a [u8]) -> Option<&'a [u8]> {
     rest.strip_prefix(end.as_bytes())
 }
 
-/// Whether the text is just these tags.
+/// Whether the text has exactly these tags.
 fn are_told(found: &[StartTagAt], text: &[u8]) -> bool {
     let mut rest = text;
     for tag in found {

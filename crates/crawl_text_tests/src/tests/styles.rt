@@ -1,4 +1,4 @@
-//! The links of documents with those of their styles, which no command reads: each has a bar behind it.
+//! The links of documents and of their styles, which no command reads. Each is followed by a bar.
 ghost use Rattle.std.specs.Prelude.{map};
 
 use html_links::{Links, read_links};
@@ -28,12 +28,12 @@ const ROWS: &[(&str, &str)] = &[
     ("<style>url(a</style><a href=b>", "a|b|"),
 ];
 
-/// What stands behind the link in a text that begins with it.
+/// The text after the link, if the text begins with it.
 fn behind_link<'a>(link: &[u8], text: &'a [u8]) -> Option<&'a [u8]> {
     text.strip_prefix(link)?.strip_prefix(b"|")
 }
 
-/// Whether the text is just these links.
+/// Whether the text has exactly these links.
 fn are_told(found: &[Vec<u8>], text: &[u8]) -> bool {
     let mut rest = text;
     for link in found {

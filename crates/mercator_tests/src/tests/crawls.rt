@@ -1,4 +1,4 @@
-//! Crawls of saved webs, with their workers in turn and in threads, and by numbers that no words give.
+//! Crawls of saved webs, with workers in turn and in threads, and with settings that no command line can give.
 use crate::tests::runs::words;
 use crate::tests::webs::{NOTHING, RING, RING_REPORT, TWO_LINKS, TWO_LINKS_REPORT};
 use crawl_certificate::CertError;
@@ -14,7 +14,7 @@ use std::thread::Threads;
 
 /// A crawl of a saved web from these seeds.
 struct Row {
-    /// Its plain name.
+    /// The name of the row.
     name: &'static str,
     web: &'static str,
     /// The seeds, with a space between two of them.
@@ -24,7 +24,7 @@ struct Row {
     told: Told,
 }
 
-/// What comes of it.
+/// The expected result.
 enum Told {
     /// The report, and the queues that have URLs, with how many.
     Report(&'static str, &'static [(usize, u64)]),
@@ -163,7 +163,7 @@ fn report_from<R: Threads + Wait + Sync>(
     }
 }
 
-/// What the row's crawl tells.
+/// The result of the row's crawl.
 fn report_of<R: Threads + Wait + Sync>(
     rt: &R,
     alloc: Global,
@@ -182,7 +182,7 @@ fn is_told(row: &Row, found: &Report, text: &str, counts: &[(usize, u64)]) -> bo
         && are_counts(&found.counts, counts)
 }
 
-/// Whether it is what the row says.
+/// Whether the result is the expected one.
 fn holds<R: Threads + Wait + Sync>(rt: &R, alloc: Global, row: &Row, mode: Mode) -> bool {
     match report_of(rt, alloc, row, mode) {
         Ok(found) => match &row.told {
@@ -196,7 +196,7 @@ fn holds<R: Threads + Wait + Sync>(rt: &R, alloc: Global, row: &Row, mode: Mode)
     }
 }
 
-/// The first row that does not hold.
+/// The first row with another result.
 fn first_wrong<R: Threads + Wait + Sync>(
     rt: &R,
     alloc: Global,
@@ -210,8 +210,8 @@ fn first_wrong<R: Threads + Wait + Sync>(
     None
 }
 
-// A crawl that refuses whatever comes (`always_refuses`), as by want of memory, is proved under every contract: the rows
-// `small_web` and `no_seeds` show that it is not ours.
+// A mutant that always fails (`always_refuses`), as if out of memory, would satisfy every contract. It would fail in the rows
+// `small_web` and `no_seeds`.
 #[test]
 fn saved_webs_in_turn_and_in_threads(rt: HostRuntime) {
     assert_eq!(rt; first_wrong(&rt, rt.alloc(), Mode::Turns), None);

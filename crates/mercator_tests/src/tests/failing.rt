@@ -270,7 +270,7 @@ const ROWS: [(Row, Failing); 16] = [
     ),
 ];
 
-/// The first row that does not hold.
+/// The first row with another result.
 fn first_wrong<R: Files + Threads + Wait + Sync>(rt: &R, alloc: Global) -> Option<&'static str> {
     for (row, failing) in &ROWS {
         if !holds(rt, alloc, row, *failing) {

@@ -1,4 +1,4 @@
-//! The lines of the faults that no command leads to.
+//! The messages of errors that no command can cause.
 use crawl_certificate::CertError;
 use crawl_frontier::{FinishError, FrontierError};
 use crawl_workers::RunError;
@@ -64,7 +64,7 @@ const ROWS: [(Fault, u8, &str); 12] = [
     (Fault::NoMemory, 1, "mercator: out of memory\n"),
 ];
 
-/// Whether the fault has this status and this line.
+/// Whether the error has this exit status and this message.
 fn holds(alloc: Global, fault: Fault, status: u8, line: &str) -> bool {
     match fault_line(alloc, "-", fault) {
         Ok(told) => fault.status() == status && told.as_str() == line,

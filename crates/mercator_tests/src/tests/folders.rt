@@ -1,4 +1,4 @@
-//! Files in memory: the saved web and the pages that they are, and a check of them.
+//! Files in memory: their saved web, their pages, and a check of them.
 use crawl_keys::{CanonUrl, canonical};
 use crawl_web::{Fetch, Page, SavedWeb, SessionFetch};
 use mercator_site::{
@@ -12,7 +12,7 @@ use std::thread::Threads;
 
 const BASE: &str = "http://a.test/";
 
-/// A site of one file, with a link that leads to no page.
+/// A site of one file with a broken link.
 #[derive(Drop)]
 struct OneFile {
     names: Vec<String>,
@@ -134,7 +134,7 @@ fn is_checked_by_its_web<R: Threads + Wait + Sync>(
     Some(tells_its_link(&report))
 }
 
-// The page is at the top, in the web's bytes and in memory, and its link is told.
+// The saved web and the pages in memory have the page at the top, and the check reports its link.
 #[test]
 fn files_in_memory(rt: HostRuntime) {
     let alloc = rt.alloc();

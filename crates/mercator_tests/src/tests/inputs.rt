@@ -1,9 +1,9 @@
-//! An input within its limits, by a reader that gives a byte a time.
+//! Inputs and their limits, with a reader that returns one byte at a time.
 use crate::tests::runs::Reader;
 use mercator::{InputLimits, Unread, read_input};
 use std::alloc::Global;
 
-/// An input, the most bytes and the most reads, and why it is not read.
+/// An input, the most bytes and the most reads, and the error if it is not read.
 const ROWS: [(&str, usize, u32, Option<Unread>); 6] = [
     ("abcd", 4, 9, None),
     ("abcd", 3, 9, Some(Unread::Beyond)),
@@ -13,7 +13,7 @@ const ROWS: [(&str, usize, u32, Option<Unread>); 6] = [
     ("", 0, 0, Some(Unread::Beyond)),
 ];
 
-/// Whether the input is read whole, or not for this reason.
+/// Whether the input is read completely, or fails with this error.
 fn holds(alloc: Global, text: &str, limits: InputLimits, unread: Option<Unread>) -> bool {
     let mut reader = Reader {
         left: text.as_bytes(),

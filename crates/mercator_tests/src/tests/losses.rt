@@ -1,4 +1,4 @@
-//! What an incomplete crawl lost, by why.
+//! The losses of incomplete crawls, by cause.
 use crate::tests::sources::WithoutHost;
 use crate::tests::webs::RING;
 use crawl_keys::{CanonUrl, Filter, canonical};
@@ -18,7 +18,7 @@ const NO_LOSSES: Losses = Losses {
     no_memory: 0,
 };
 
-/// What a crawl from this seed loses, by three workers, where it is incomplete.
+/// The losses of a crawl from this seed by three workers, if it is incomplete.
 fn lost_from<R: Threads + Wait + Sync>(
     rt: &R,
     alloc: Global,
@@ -43,7 +43,7 @@ fn lost_from<R: Threads + Wait + Sync>(
     }
 }
 
-/// What a crawl of the ring loses whose source fails for one host.
+/// The losses of a crawl of the ring whose source fails for one host.
 fn lost<R: Threads + Wait + Sync>(
     rt: &R,
     alloc: Global,
@@ -69,7 +69,7 @@ fn lost<R: Threads + Wait + Sync>(
     }
 }
 
-// A fetch fails; or the opening unit is the only one, so that the seed meets the gate full.
+// A fetch fails; or the unit of the seeding phase is the only one, so that the seed finds the gate full.
 #[test]
 fn losses_by_why(rt: HostRuntime) {
     let failed = Some(Losses {

@@ -1,4 +1,4 @@
-//! Calls for reports that no command makes: a text by threads, and the queues alone.
+//! Calls for reports that no command uses: text by threads, and only the queues.
 use crawl_keys::canonical;
 use crawl_report::{Parts, Report, print_in_threads};
 use crawl_web::{Page, PageResult};
@@ -14,7 +14,7 @@ const REPORT: &str = "missing http://a.test/\n\
 
 const QUEUES: &str = "queue 0 3\nqueue 1 0\n";
 
-// The report of two pages that are not there, of a crawl with two queues.
+// The report of two missing pages, of a crawl with two queues.
 fn printed<R: Threads + Sync>(rt: &R, alloc: Global) -> Option<Vec<u8>> {
     let mut pages = Vec::new(alloc);
     for text in ["http://a.test/", "http://b.test/"] {

@@ -1,4 +1,4 @@
-//! Runs of the program by its words, over a reader and writers that may fail.
+//! Runs of the program by its arguments, with a reader and writers that may fail.
 use mercator::run_words;
 use std::alloc::{AllocError, Global};
 use std::fs::Files;
@@ -6,7 +6,7 @@ use std::io::{self, ErrorKind, Read, Write};
 use std::sync::Wait;
 use std::thread::Threads;
 
-/// The statuses: done, a fault, an incomplete crawl, a bad command line.
+/// The exit statuses: success, an error, an incomplete crawl, a bad command line.
 pub const DONE: u8 = 0;
 
 pub const FAULT: u8 = 1;
@@ -17,14 +17,14 @@ pub const BAD_COMMAND: u8 = 3;
 
 /// A run of the program.
 pub struct Row {
-    /// Its plain name.
+    /// The name of the row.
     pub name: &'static str,
-    /// The words, with a space between two of them.
+    /// The arguments, separated by spaces.
     pub words: &'static str,
-    /// What stands at the input.
+    /// The contents of the input.
     pub input: &'static str,
     pub status: u8,
-    /// What the writers have in the end.
+    /// The contents of the writers at the end.
     pub out: &'static str,
     pub err: &'static str,
 }
@@ -32,20 +32,20 @@ pub struct Row {
 /// What fails in a run.
 #[derive(Clone, Copy)]
 pub struct Failing {
-    /// Whether a read fails behind the input's last byte.
+    /// Whether a read fails after the last byte of the input.
     pub reads: bool,
-    /// How many bytes the output takes.
+    /// The number of bytes that the output accepts.
     pub out: usize,
-    /// Whether the output is flushed.
+    /// Whether a flush of the output succeeds.
     pub flushes: bool,
-    /// How many bytes the writer for faults takes.
+    /// The number of bytes that the writer for messages accepts.
     pub err: usize,
 }
 
 /// More bytes than any row has.
 pub const ALL: usize = 1_000_000;
 
-/// Gives what it has, at most so many bytes a read, and then ends or fails.
+/// A reader that returns at most this number of bytes per read, and then ends or fails.
 #[derive(Drop)]
 pub struct Reader<'a> {
     pub left: &'a [u8],
@@ -63,7 +63,7 @@ impl Read for Reader<'_> {
     }
 }
 
-/// Takes so many bytes, one a time, and no more; and is flushed or not.
+/// A writer that accepts this number of bytes, one at a time, and whose flush succeeds or fails.
 #[derive(Drop)]
 struct Writer {
     taken: Vec<u8>,
@@ -101,7 +101,7 @@ fn push_word(alloc: Global, words: &mut Vec<String>, word: &str) -> Result<(), A
     Ok(())
 }
 
-/// The words of a text with a space between two of them.
+/// The arguments in a text that are separated by spaces.
 pub fn words(alloc: Global, text: &str) -> Result<Vec<String>, AllocError> {
     let mut words = Vec::new(alloc);
     for word in text.split(' ') {
@@ -138,7 +138,7 @@ fn ends<R: Files + Threads + Wait + Sync>(
     status == row.status && out.has(row.out) && err.has(row.err)
 }
 
-/// Whether the program ends as the row says, where these fail.
+/// Whether the program ends as the row says, with these failures.
 pub fn holds<R: Files + Threads + Wait + Sync>(
     rt: &R,
     alloc: Global,

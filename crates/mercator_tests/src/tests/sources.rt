@@ -36,7 +36,7 @@ impl Fetch for OneLink {
     }
 }
 
-// The pages of a saved web, where those of one host cannot be fetched.
+// The pages of a saved web, of which those of one host cannot be fetched.
 #[derive(Drop)]
 pub struct WithoutHost<'a> {
     pub web: SavedWeb<'a>,
@@ -72,10 +72,10 @@ impl Fetch for ThirdFails<'_> {
     }
 }
 
-// How often a fetch looks whether another has begun, before it gives up.
+// How often a fetch checks whether another one has started, before it gives up.
 const LOADS: u64 = 200_000_000;
 
-// Whether so many fetches have begun, now or within that many looks.
+// Whether this number of fetches have started, now or within that number of checks.
 fn have_begun(begun: &AtomicU64, count: u64) -> bool {
     for _ in 0..LOADS {
         if begun.load(Ordering::SeqCst) >= count {
@@ -86,7 +86,7 @@ fn have_begun(begun: &AtomicU64, count: u64) -> bool {
     false
 }
 
-// The first fetch waits until the second has begun.
+// The first fetch waits until the second has started.
 #[derive(Drop)]
 pub struct FirstWaits {
     pub begun: AtomicU64,

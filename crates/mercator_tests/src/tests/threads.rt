@@ -1,4 +1,4 @@
-//! Crawls by `crawl`, over sources that fail, wait or are one's own.
+//! Calls of `crawl` with sources that fail, wait, or are defined here.
 use crate::tests::sources::{FirstWaits, OneLink, ThirdFails, WithoutHost};
 use crate::tests::webs::{RING, RING_REPORT};
 use crawl_certificate::CertError;
@@ -12,16 +12,16 @@ use std::thread::Threads;
 
 const NOT_FETCHED: CrawlError = CrawlError::Cert(CertError::NotFetched);
 
-/// What came of a crawl.
+/// The result of a crawl.
 #[derive(Clone, Copy, PartialEq, Eq)]
 enum Told {
-    /// The report and the counts that are asked for.
+    /// The expected report and counts.
     Asked,
-    /// Other ones.
+    /// Another report or other counts.
     Other,
-    /// A page lacks.
+    /// A page is missing.
     Lacks,
-    /// Another fault.
+    /// Another error.
     Fault,
 }
 
@@ -78,7 +78,7 @@ fn urls(alloc: Global, hosts: &[&str]) -> Vec<CanonUrl> {
     urls
 }
 
-/// How many workers a crawl has, and where they run.
+/// The number of workers, and where they run.
 #[derive(Clone, Copy)]
 struct Workers {
     count: u32,
@@ -95,7 +95,7 @@ const ONE_IN_A_THREAD: Workers = Workers {
     mode: Mode::Threads,
 };
 
-/// What comes of a crawl from these seeds, with room for all.
+/// The result of a crawl from these seeds, with room for all URLs.
 fn told_from<F: Fetch + Sync, R: Threads + Wait + Sync>(
     rt: &R,
     alloc: Global,
@@ -195,7 +195,7 @@ fn failing_host(rt: HostRuntime) {
     }
 }
 
-/// A crawl of two pages whose fetch that waits for another one ends well only where two workers fetch at once.
+/// A crawl of two pages in which the first fetch waits for another one. It succeeds only if two workers fetch at the same time.
 fn first_waits<R: Threads + Wait + Sync>(rt: &R, alloc: Global, mode: Mode) -> Told {
     let source = FirstWaits {
         begun: AtomicU64::new(0),
@@ -215,8 +215,8 @@ fn first_waits<R: Threads + Wait + Sync>(rt: &R, alloc: Global, mode: Mode) -> T
     )
 }
 
-// Two wrong bodies that no clause refuses show here: threads that run one after the other (`threads_in_turn`), which lose a
-// URL; and a crawl that walks the web itself (`crawls_without_workers`), which loses none in turn either.
+// Two mutants that satisfy every contract would fail here: `threads_in_turn`, whose threads run one after the other, would lose a
+// URL in threads; `crawls_without_workers`, which walks the saved web itself, would lose none in turn.
 #[test]
 fn workers_run_together(rt: HostRuntime) {
     assert!(rt; first_waits(&rt, rt.alloc(), Mode::Threads) == Told::Asked);
@@ -237,7 +237,7 @@ fn third_fails<R: Threads + Wait + Sync>(rt: &R, alloc: Global, count: u32) -> T
     }
 }
 
-// The ring has four URLs, so one fetch fails; whatever is lost, all workers end, and no report is made up.
+// The ring has four URLs, so one fetch fails. Whatever is lost, all workers end, and the crawl is incomplete or has the right report.
 #[test]
 fn incomplete_or_the_one_report(rt: HostRuntime) {
     for workers in [1, 4, 64] {

@@ -1,4 +1,4 @@
-//! Crawls that are watched: what their observer is told, and that nothing else changes.
+//! Crawls with an observer: what it is told, and that nothing else changes.
 ghost use Rattle.crawl_web.specs.KnownPages.{page_at};
 
 use crawl_keys::{CanonUrl, Filter, canonical};
@@ -9,7 +9,7 @@ use std::sync::Wait;
 use std::sync::atomic::{AtomicU64, Ordering};
 use std::thread::Threads;
 
-/// How often it was told, and what at last.
+/// The number of calls of the observer, and the last value.
 #[derive(Drop)]
 struct Heard {
     calls: AtomicU64,
@@ -36,7 +36,7 @@ impl Heard {
     }
 }
 
-/// The pages of a saved web, with how many were fetched.
+/// The pages of a saved web, and the number that were fetched.
 #[derive(Drop)]
 struct Counting<'a> {
     web: SavedWeb<'a>,
@@ -52,7 +52,7 @@ impl Fetch for Counting<'_> {
     }
 }
 
-/// A page that links to so many of its host, which are missing.
+/// A page that links to this number of missing pages of its host.
 fn star(alloc: Global, links: u64) -> Result<String, AllocError> {
     let mut web = String::from_str(alloc, "savedweb 1\npage http://a.test/\n")?;
     for link in 0..links {
@@ -118,7 +118,7 @@ fn are_same(watched: Option<Vec<u8>>, plain: Option<Vec<u8>>) -> bool {
     }
 }
 
-/// Whether a crawl of this source fetches each of 301 pages once and has its report, and its observer is told of each 64.
+/// Whether a crawl of this source fetches each of 301 pages once, has its report, and calls its observer every 64 pages.
 fn is_told_of<R: Threads + Wait + Sync>(
     rt: &R,
     alloc: Global,

@@ -1,4 +1,4 @@
-//! The webs of the worked rows, and what a crawl of all of each tells.
+//! The saved webs of the rows, and the report of a complete crawl of each.
 
 pub const RING: &str = "savedweb 1\n\
     page http://a.test/\n\

@@ -15,7 +15,7 @@ pub enum Call {
     Close,
 }
 
-/// Which reply it is: of a word whether it is that of an open gate, and of a refusal why.
+/// The kind of a reply: for a word whether the gate is open, for a refusal the reason.
 #[derive(Clone, Copy, PartialEq, Eq)]
 pub enum Kind {
     Open,
@@ -39,7 +39,7 @@ pub enum Kind {
 /// A reply: its kind, its numbers in their order, and its URL.
 type Said<'a> = (Kind, u64, u64, &'a str);
 
-/// An event with the reply that it has to get.
+/// An event with its expected reply.
 pub type Step = (Call, Said<'static>);
 
 fn event_of(alloc: Global, call: Call) -> Option<Event> {
@@ -105,7 +105,7 @@ fn are_said(replies: &[Reply], steps: &[Step]) -> bool {
     replies.len() == steps.len()
 }
 
-/// A run of a machine with so many subqueues and units has the replies of the steps.
+/// Whether a run of a machine with this number of subqueues and units has the replies of the steps.
 pub fn as_by_run(alloc: Global, workers: u32, max: u64, steps: &[Step]) -> Option<bool> {
     let events = events_of(alloc, steps)?;
     let replies = run(alloc, workers, max, &events).ok()?;

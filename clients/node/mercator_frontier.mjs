@@ -1,0 +1,400 @@
+// @ts-check
+/**
+ * A client of `mercator serve`, the URL frontier for crawlers, for Node 18 or later. README.md
+ * shows how to use it, and docs/SESSION.md describes the protocol.
+ *
+ * - There is one queue per worker, numbered from 0. All URLs of a host are in one queue.
+ * - Each URL is given out once, however it is spelled. The crawl is over when all of them are done.
+ * - With `log`, a crawl that was killed resumes: run it again with the same options.
+ * - URLs that are refused because too many are unfinished are kept in memory, and are offered again
+ *   when there is room. A kill loses them.
+ */
+
+import { spawn } from 'node:child_process';
+import { setTimeout as sleep } from 'node:timers/promises';
+
+/**
+ * The result of an offer: the queue that the URL waits in, and its number there from 0; or why it
+ * was not accepted. After `refused full`, the client offers the URL again by itself.
+ * @typedef {{accepted: true, queue: number, number: number}
+ *   | {accepted: false, reason: Refusal}} Offer
+ * @typedef {'seen' | 'filtered' | 'not a URL' | 'not http or https' | 'line too long' | 'not UTF-8'
+ *   | 'refused closed' | 'refused full'} Refusal
+ *
+ * @typedef {object} Options
+ * @property {number} [workers] Number of workers and queues, 1 to 512; 4 by default.
+ * @property {number} [maxPending] Most URLs waiting or in progress at a time.
+ * @property {string} [within] Accept only hosts equal to this suffix or subdomains of it.
+ * @property {string} [log] File that gets all requests, from which a crawl resumes.
+ * @property {boolean} [sync] Sync the log to disk before each answer.
+ * @property {string} [program] The program; by default $MERCATOR, or `mercator` on the PATH.
+ */
+
+const PIECE = 32_768; // requests are sent in pieces of this size, each after the last one's answers
+const LONGEST = 5_000; // longer texts are cut: above 4,096 bytes, all are answered `line too long`
+const KEPT = 64; // at most this many of the URLs that are kept are offered at a time
+const EXIT_MS = 10_000; // how long the program may take to exit
+const REFUSALS = new Set(['seen', 'filtered', 'not a URL', 'not http or https', 'line too long',
+  'not UTF-8', 'refused closed', 'refused full']);
+
+/** The base class of all errors of this module. */
+export class FrontierError extends Error {
+  get name() { return this.constructor.name; }
+}
+
+/** The program `mercator` could not be started. */
+export class ProgramMissing extends FrontierError {}
+/** Another program uses the log. */
+export class LogInUse extends FrontierError {}
+/** A URL was taken from a queue whose last URL is not done. */
+export class QueueBusy extends FrontierError {}
+/** The queue is not working on a URL. */
+export class NothingTaken extends FrontierError {}
+/** There is no queue with this number. */
+export class NoSuchQueue extends FrontierError {}
+/** The program gave an answer that this client does not know. */
+export class UnknownAnswer extends FrontierError {}
+
+/** The program has exited, or was closed, so that no request is answered any more. */
+export class FrontierEnded extends FrontierError {
+  status = /** @type {number | null} */ (null); // the program's exit status
+  signal = /** @type {string | null} */ (null); // the signal that killed it
+  stderr = ''; // the end of what it printed on standard error
+}
+
+/** The program as a process, and the answers that it owes. */
+class Channel {
+  /** @type {{left: number, each: (answer: string) => void, fail: (error: Error) => void}[]} */
+  #owed = [];
+  #rest = '';
+  #stderr = '';
+  /** @type {FrontierError | undefined} */
+  #end;
+
+  /** `onEnd` is called once, when no more answers will come. */
+  constructor(/** @type {string} */ program, /** @type {string[]} */ args,
+    /** @type {(error: FrontierError) => void} */ onEnd) {
+    this.onEnd = onEnd;
+    // In a session of its own, so that Ctrl-C reaches only the crawler.
+    const child = this.child = spawn(program, args, { detached: true, stdio: 'pipe' });
+    child.stdout.setEncoding('utf8').on('data', (text) => this.#read(text));
+    // It has to be read, or the program could wait for a reader. Its end is kept for errors.
+    child.stderr.setEncoding('utf8').on('data', (text) => {
+      this.#stderr = (this.#stderr + text).slice(-8_192);
+    });
+    // EPIPE: the program has exited, and the event `close` says how.
+    child.stdin.on('error', () => {});
+    this.exited = /** @type {Promise<void>} */ (new Promise((resolve) => {
+      child.on('error', (error) => {
+        if (child.pid !== undefined) return;
+        this.#fail(new ProgramMissing(`${program}: ${error.message}`));
+        resolve();
+      });
+      child.on('close', (status, signal) => {
+        const stderr = this.#stderr.trim();
+        const how = signal ? `was killed by ${signal}` : `exited with status ${status}`;
+        const error = new FrontierEnded(`${program} ${how}${stderr && `: ${stderr}`}`);
+        this.#fail(Object.assign(error, { status, signal, stderr }));
+        resolve();
+      });
+    }));
+  }
+
+  /** Sends one or more lines. `each` gets each answer before the next answer is handled. */
+  send(/** @type {string[]} */ lines, /** @type {(answer: string) => void} */ each,
+    /** @type {(error: Error) => void} */ fail) {
+    if (this.#end) return fail(this.#end);
+    this.#owed.push({ left: lines.length, each, fail });
+    this.child.stdin.write(`${lines.join('\n')}\n`);
+  }
+
+  #read(/** @type {string} */ text) {
+    const lines = (this.#rest + text).split('\n');
+    this.#rest = lines.pop() ?? '';
+    let head = 0; // the answers before it are complete
+    for (const line of lines) {
+      const owed = this.#owed[head];
+      if (this.#end) return;
+      if (!owed) return this.kill(new UnknownAnswer(`an answer without a request: ${line}`));
+      if (--owed.left === 0) head += 1;
+      owed.each(line);
+    }
+    this.#owed.splice(0, head);
+  }
+
+  #fail(/** @type {FrontierError} */ error) {
+    if (this.#end) return;
+    this.#end = error;
+    for (const owed of this.#owed) owed.fail(error);
+    this.onEnd(error);
+  }
+
+  kill(/** @type {FrontierError} */ error) {
+    this.#fail(error);
+    this.child.kill('SIGKILL');
+  }
+
+  /** Ends the program's input, and waits until the program has exited. */
+  async close() {
+    this.#fail(new FrontierEnded('the frontier was closed by the crawler'));
+    this.child.stdin.end();
+    const timer = setTimeout(() => this.child.kill('SIGKILL'), EXIT_MS);
+    await this.exited;
+    clearTimeout(timer);
+  }
+}
+
+/** A frontier that runs as a process, with one queue per worker. `Frontier.open` starts one. */
+export class Frontier {
+  #channel;
+  /** @type {{ask: () => void, fail: (error: Error) => void}[][]} who waits in each queue */
+  #waiting;
+  /** @type {Map<number, string>} what was in progress when the log ended */
+  #resumed = new Map();
+  /** @type {string[]} requests that were refused for lack of room */
+  #kept = [];
+  #mayHaveRoom = false;
+  /** @type {Promise<void> | undefined} */
+  #offering;
+
+  constructor(/** @type {Options} */ options) {
+    const { workers = 4, maxPending, within, log, sync = false } = options;
+    const values = Object.entries({ workers, 'max-pending': maxPending, within, log })
+      .filter(([, value]) => value !== undefined).map(([name, value]) => `--${name}=${value}`);
+    const args = ['serve', ...values, ...(sync ? ['--sync'] : [])];
+    this.workers = workers;
+    this.#waiting = Array.from({ length: workers }, () => []);
+    const program = options.program ?? (process.env.MERCATOR || 'mercator');
+    this.#channel = new Channel(program, args, (error) => {
+      for (const waiting of this.#waiting) for (const { fail } of waiting.splice(0)) fail(error);
+    });
+  }
+
+  /**
+   * Starts a frontier. If `log` exists, the crawl resumes, and each queue first gives out the URL
+   * that was in progress. The program of a crawler that was killed may use the log a moment longer:
+   * this call waits for it, and after about nine seconds throws `LogInUse`.
+   */
+  static async open(/** @type {Options} */ options = {}) {
+    for (let wait = 50; ; wait *= 1.5) {
+      const frontier = new Frontier(options);
+      try {
+        await frontier.#resume();
+        return frontier;
+      } catch (error) {
+        await frontier.close();
+        const text = error instanceof FrontierEnded && error.status === 1 ? error.stderr : '';
+        if (!/^mercator: log .*: in use/m.test(text)) throw error;
+        if (wait > 3_000) throw new LogInUse(text);
+      }
+      await sleep(wait);
+    }
+  }
+
+  /** How many URLs were refused, and are kept to be offered again. */
+  get kept() { return this.#kept.length; }
+
+  /** Offers a URL. */
+  async offer(/** @type {string} */ url) { return (await this.offerAll([url]))[0]; }
+
+  /** Offers URLs in their order. There is one result per URL. */
+  offerAll(/** @type {Iterable<string>} */ urls) { return this.#offerEach('offer ', urls); }
+
+  /**
+   * Offers the URLs of a page's links, in their order. Await it before the page is done. `base` is
+   * the URL of the page, or that of its `<base>`, and `texts` are the links as they appear on it.
+   */
+  links(/** @type {string} */ base, /** @type {Iterable<string>} */ texts) {
+    // In a request the base ends at its first space. The rest is what the URL Standard strips.
+    const trimmed = base.replace(/^[\0- ]+|[\0- ]+$|[\t\n\r]/g, '').replace(/ /g, '%20');
+    return this.#offerEach(`link ${trimmed.slice(0, LONGEST)} `, texts);
+  }
+
+  /**
+   * Says that all seeds were offered, so that the crawl can end. Returns how many URLs are
+   * unfinished, or null if the seeds had already ended, as they may have before a restart.
+   */
+  async endSeeds() {
+    const asked = this.#ask(['endseeds']);
+    this.#offerKept();
+    const [answer] = await asked;
+    return answer === 'refused nothing' ? null : this.#countOf(answer);
+  }
+
+  /**
+   * Takes the URL that has waited longest in a queue. If there is none, waits until there is one,
+   * or until the crawl is over: then it returns null.
+   * @param {number} queue
+   * @returns {Promise<string | null>}
+   */
+  take(queue) {
+    return new Promise((resolve, reject) => {
+      this.#check(queue);
+      const ask = /** @type {() => void} */ (() => {
+        // The crawl must not end while URLs that were refused are offered again.
+        if (this.#offering) return void this.#offering.then(ask);
+        this.#channel.send([`next ${queue}`], (answer) => {
+          if (answer.startsWith('taken ')) return resolve(answer.slice(6));
+          if (answer === 'closed') return resolve(null);
+          if (!answer.startsWith('pending ')) return reject(this.#errorOf(answer));
+          // It waits from here on, not from when a promise is fulfilled: the next answer, which may
+          // have been read already, may be the one that ends the wait.
+          this.#waiting[queue].push({ ask, fail: reject });
+        }, reject);
+      });
+      const url = this.#resumed.get(queue);
+      this.#resumed.delete(queue);
+      if (url === undefined) ask(); else resolve(url);
+    });
+  }
+
+  /** Says that a queue's URL is finished, fetched or not. Returns how many URLs are unfinished. */
+  async done(/** @type {number} */ queue) {
+    this.#check(queue);
+    this.#resumed.delete(queue);
+    const asked = this.#ask([`done ${queue}`]);
+    this.#offerKept();
+    return this.#countOf((await asked)[0]);
+  }
+
+  /** The URL that a queue is working on, or null. */
+  async again(/** @type {number} */ queue) {
+    this.#check(queue);
+    return this.#urlOf((await this.#ask([`again ${queue}`]))[0]);
+  }
+
+  /**
+   * The URLs of a queue, for `for await`. A URL is done when the loop asks for the next one. If the
+   * loop is left early, its URL stays in progress: with a log, the next run gets it again.
+   */
+  async* queue(/** @type {number} */ queue) {
+    let url = await this.take(queue);
+    while (url !== null) {
+      yield url;
+      [, url] = await Promise.all([this.done(queue), this.take(queue)]);
+    }
+  }
+
+  /**
+   * Calls `handler` for each URL, for one at a time per queue, until the crawl is over. A URL is
+   * done when its handler returns. If one throws, the frontier is closed, and after the other
+   * handlers have ended `run` throws that error.
+   */
+  async run(/** @type {(url: string, queue: number) => unknown} */ handler) {
+    const errors = /** @type {unknown[]} */ ([]);
+    await Promise.all(this.#waiting.map(async (_, queue) => {
+      try {
+        for await (const url of this.queue(queue)) await handler(url, queue);
+      } catch (error) {
+        errors.push(error);
+        await this.close();
+      }
+    }));
+    if (errors.length) throw errors[0];
+  }
+
+  /** Ends the program. Calls that wait, and later ones, throw `FrontierEnded`. */
+  close() { return this.#channel.close(); }
+
+  async #resume() {
+    const answers = await this.#ask(this.#waiting.map((_, queue) => `again ${queue}`));
+    for (const [queue, answer] of answers.entries()) {
+      const url = this.#urlOf(answer);
+      if (url !== null) this.#resumed.set(queue, url);
+    }
+  }
+
+  async #offerEach(/** @type {string} */ word, /** @type {Iterable<string>} */ texts) {
+    const offers = /** @type {Offer[]} */ ([]);
+    for (const lines of piecesOf(word, texts)) {
+      const answers = await this.#ask(lines);
+      this.#kept.push(...lines.filter((_, i) => answers[i] === 'refused full'));
+      for (const answer of answers) offers.push(this.#offerOf(answer));
+    }
+    return offers;
+  }
+
+  /**
+   * Offers what was kept, since there may be room now. The first requests are sent before this
+   * returns, and `take` sends nothing until all are answered, so the crawl cannot end without them.
+   */
+  #offerKept() {
+    this.#mayHaveRoom = true;
+    if (this.#offering || !this.#kept.length) return;
+    const offerAll = async () => {
+      for (let some = 1; this.#mayHaveRoom && this.#kept.length; some = Math.min(2 * some, KEPT)) {
+        this.#mayHaveRoom = false;
+        const lines = this.#kept.splice(0, some);
+        const answers = await this.#ask(lines);
+        const refused = lines.filter((_, i) => answers[i] === 'refused full');
+        this.#kept.unshift(...refused);
+        this.#mayHaveRoom ||= !refused.length;
+      }
+    };
+    // If the program has ended, the calls that follow say so.
+    this.#offering = offerAll().catch(() => {}).finally(() => { this.#offering = undefined; });
+  }
+
+  /** Sends requests, and returns their answers. */
+  #ask(/** @type {string[]} */ lines) {
+    const answers = /** @type {string[]} */ ([]);
+    return new Promise((/** @type {(answers: string[]) => void} */ resolve, reject) => {
+      this.#channel.send(lines, (answer) => {
+        if (answer.startsWith('accepted ')) this.#wake(Number(answer.split(' ')[1]));
+        if (answer === 'count 0') this.#waiting.forEach((_, queue) => this.#wake(queue));
+        if (answers.push(answer) === lines.length) resolve(answers);
+      }, reject);
+    });
+  }
+
+  #wake(/** @type {number} */ queue) {
+    for (const { ask } of this.#waiting[queue].splice(0)) ask();
+  }
+
+  #check(/** @type {number} */ queue) {
+    if (!this.#waiting[queue]) throw new NoSuchQueue(`there is no queue ${queue}`);
+  }
+
+  /** @param {string} answer @returns {Offer} */
+  #offerOf(answer) {
+    const [word, queue, number] = answer.split(' ');
+    if (word === 'accepted') return { accepted: true, queue: +queue, number: +number };
+    if (!REFUSALS.has(answer)) throw this.#errorOf(answer);
+    return { accepted: false, reason: /** @type {Refusal} */ (answer) };
+  }
+
+  #countOf(/** @type {string} */ answer) {
+    if (!answer.startsWith('count ')) throw this.#errorOf(answer);
+    return Number(answer.slice(6));
+  }
+
+  #urlOf(/** @type {string} */ answer) {
+    if (answer === 'refused nothing') return null;
+    if (!answer.startsWith('taken ')) throw this.#errorOf(answer);
+    return answer.slice(6);
+  }
+
+  #errorOf(/** @type {string} */ answer) {
+    if (answer === 'refused busy') return new QueueBusy('the last URL of the queue is not done');
+    if (answer === 'refused nothing') return new NothingTaken('the queue is not working on a URL');
+    const error = new UnknownAnswer(`unknown answer: ${answer}`);
+    this.#channel.kill(error); // nobody knows what the program means
+    return error;
+  }
+}
+
+/** The requests for these texts, in pieces. */
+function* piecesOf(/** @type {string} */ word, /** @type {Iterable<string>} */ texts) {
+  let [lines, size] = [/** @type {string[]} */ ([]), 0];
+  for (const text of texts) {
+    // A request is one line. The URL Standard removes each LF.
+    const line = word + text.replace(/\n/g, '').slice(0, LONGEST);
+    size += line.length;
+    if (size > PIECE && lines.length) {
+      yield lines;
+      [lines, size] = [[], line.length];
+    }
+    lines.push(line);
+  }
+  if (lines.length) yield lines;
+}

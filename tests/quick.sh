@@ -1,0 +1,210 @@
+#!/bin/bash
+# Tests a change in minutes, without the proofs: the layout of the sources, the documents, the tests in Rattle by `rt try --test`,
+# and the tests of tests/run.sh that need the program, with a program that is built without proofs (tools/unproved.sh). Parts run
+# side by side. The output of a part is printed only if something failed in it. The last line is `N passed, M failed` over all,
+# and the exit status is 1 if anything failed.
+#
+# Usage: tests/quick.sh [--anew] [PART]..
+# PART is one of those that `parts` lists below; without PART all are run. A part that passed is run again only after a change of
+# something that it reads; --anew runs it in any case. Requires the Rattle toolchain. In the end a change must pass tests/run.sh.
+set -uo pipefail
+cd "$(dirname "$0")/.." || exit 1
+# shellcheck source=tests/parts.sh
+. tests/parts.sh
+
+parts=(format documents mercator_tests crawl_run_tests crawl_text_tests frontier cases drawn serve bell_model site_to_web)
+kept=tests/out/quick
+
+# command PART: sets `words` to its command.
+command_of() {
+    case $1 in
+    format) words=(format) ;;
+    documents) words=(docs/check.py) ;;
+    *_tests) words=(rt try "$1" --test --seconds 600) ;;
+    frontier) words=(tests/frontier.py --count 1) ;;
+    cases) words=(tests/cases.py --quick --seconds 300) ;;
+    drawn) words=(tests/drawn.py --count 1000) ;;
+    serve) words=(tests/serve.py --lines 2000 --part drawn_sessions --part drawn_parts --part all_at_once --part byte_by_byte --part compacted_logs) ;;
+    bell_model) words=(tests/bell_model.py) ;;
+    site_to_web) words=(tests/site_to_web.py) ;;
+    esac
+}
+
+# programs PART: the crates of the programs that it needs.
+programs() {
+    case $1 in
+    cases | drawn | serve) echo mercator_cli ;;
+    frontier) echo mercator_cli library_calls ;;
+    esac
+}
+
+# reads PART: the files that it reads; nothing, if it is run each time.
+reads() {
+    local crates
+    read -ra crates < <(programs "$1")
+    case $1 in
+    format | documents) return ;;
+    *_tests) crates+=("$1") ;;
+    # A command may read any file, except those that only a build or a check reads.
+    cases) git ls-files -co --exclude-standard | grep -Ev '^bench/|^crates/\w+/(src|specs|proofs|must-fail|mutants)/' ;;
+    *) git ls-files -co --exclude-standard | grep -E '^(tests/[^/]+|tests/serving/.*|tools/.*|clients/.*|examples/.*)$' ;;
+    esac
+    [ ${#crates[@]} -eq 0 ] || tools/unproved.sh --sources "${crates[@]}"
+}
+
+# checksum PART: of the tools, of its command, and of what it reads.
+checksum() {
+    command_of "$1"
+    {
+        echo "$tools ${words[*]}"
+        reads "$1" | tr '\n' '\0' | xargs -0r sha256sum 2>&1
+    } | sha256sum | cut -d ' ' -f 1
+}
+
+# Says whether the files of each crate have the layout that `rt fmt` gives them.
+format() {
+    local crate passed=0 failed=0 files
+    for crate in crates/*; do
+        mapfile -t files < <(find "$crate" -path "$crate/out" -prune -o \( -name '*.rt' -o -name '*.antt' \) -print)
+        if "$rattle" fmt --check "${files[@]}"; then
+            passed=$((passed + 1))
+        else
+            failed=$((failed + 1))
+            echo "$crate: run \`rt fmt\` in this folder"
+        fi
+    done
+    echo "$passed passed, $failed failed"
+}
+
+# say LINE [FILE]: prints a line, and then the file.
+say() {
+    flock "$work/lock" cat <(printf '%s\n' "$1") "${@:2}"
+}
+
+# build CRATE: builds its program, and then lets the parts begin that need it.
+build() {
+    local status=0
+    tools/unproved.sh "$1" > "$work/$1.program" 2> "$work/$1.messages" || status=$?
+    [ ! -s "$work/$1.messages" ] || say "program of $1: $(tail -n 1 "$work/$1.messages")"
+    echo "$status" > "$work/$1.status"
+    mv "$work/$1.status" "$work/$1.built"
+}
+
+# has_programs PART: waits for the programs that it needs. The status is 1 if one was not built.
+has_programs() {
+    local crate
+    for crate in $(programs "$1"); do
+        until [ -e "$work/$crate.built" ]; do sleep 0.2; done
+        if [ "$(cat "$work/$crate.built")" -ne 0 ]; then
+            cat "$work/$crate.messages"
+            return 1
+        fi
+    done
+}
+
+# command PART: runs its command.
+command_in_place() {
+    local words
+    command_of "$1"
+    # `rt` takes a crate from the folder that it is called in.
+    if [[ $1 == *_tests ]]; then cd "crates/$1" || return 1; fi
+    "${words[@]}"
+}
+
+# run PART: runs it, and writes its counts to the file PART.counts.
+run() {
+    local status=0 passed failed start=$SECONDS sum
+    sum=$(checksum "$1")
+    (has_programs "$1" && command_in_place "$1") > "$work/$1.output" 2>&1 < /dev/null || status=$?
+    read -r passed failed < <(judged "$status" "$work/$1.output")
+    if [ "$failed" -gt 0 ]; then
+        say "$1: $passed passed, $failed FAILED, $((SECONDS - start)) s" "$work/$1.output"
+    else
+        say "$1: $passed passed, $((SECONDS - start)) s"
+        # It passed with what it read, if that is still the same.
+        if [ "$(checksum "$1")" = "$sum" ]; then
+            echo "$sum $passed" > "$kept/$1"
+        fi
+    fi
+    echo "$passed $failed" > "$work/$1.counts"
+}
+
+# Ends what still runs.
+end() {
+    local group
+    for group in $(jobs -p); do
+        kill -- "-$group" 2> /dev/null
+    done
+    rm -rf "$work"
+}
+
+anew=
+if [ "${1:-}" = --anew ]; then
+    anew=1
+    shift
+fi
+for part; do
+    if [[ " ${parts[*]} " != *" $part "* ]]; then
+        echo "usage: tests/quick.sh [--anew] [PART].., of: ${parts[*]}" >&2
+        exit 3
+    fi
+done
+[ $# -eq 0 ] || parts=("$@")
+if ! command -v rt > /dev/null; then
+    echo "quick.sh: the Rattle toolchain is required, and its command rt is not in PATH" >&2
+    exit 1
+fi
+rattle=$(dirname "$(realpath "$(command -v rt)")")/rattle
+tools="$(rt version) $(python3 --version)"
+mkdir -p "$kept"
+work=$(mktemp -d)
+trap end EXIT
+trap 'exit 130' INT TERM HUP
+
+# What is left to do: first the builds and tests that take longest.
+queue=()
+needed=
+for part in "${parts[@]}"; do
+    sum='' passed=''
+    [ -n "$anew" ] || read -r sum passed 2> /dev/null < "$kept/$part"
+    if [ -n "$passed" ] && [ -n "$(reads "$part")" ] && [ "$sum" = "$(checksum "$part")" ]; then
+        echo "$part: unchanged since it passed: $passed passed"
+        echo "$passed 0" > "$work/$part.counts"
+    else
+        rm -f "$kept/$part"
+        queue+=("run $part")
+        needed+=" $(programs "$part")"
+    fi
+done
+for crate in library_calls mercator_cli; do
+    [[ $needed != *$crate* ]] || queue=("build $crate" "${queue[@]}")
+done
+export PROGRAM=$PWD/crates/mercator_cli/out/mercator_unproved
+export MERCATOR=$PROGRAM
+CALLS=$(printf %q "$PWD/crates/library_calls/out/library_calls_unproved")
+export CALLS
+
+# As many at a time as there are processors, but a build needs up to 3.5 GB.
+lanes=$(awk '/^MemAvailable/ { print int($2 / 3500000) }' /proc/meminfo)
+lanes=$((lanes < $(nproc) ? lanes : $(nproc)))
+lanes=$((lanes > 1 ? lanes : 1))
+running=0
+set -m
+for item in "${queue[@]}"; do
+    if [ "$running" -ge "$lanes" ]; then
+        wait -n
+        running=$((running - 1))
+    fi
+    $item &
+    running=$((running + 1))
+done
+set +m
+wait
+echo
+for part in "${parts[@]}"; do
+    passed=0 failed=1
+    read -r passed failed < "$work/$part.counts"
+    add "$part" "$passed" "$failed"
+done
+echo "$SECONDS s"
+total
