@@ -38,7 +38,7 @@ A document is Markdown with prose, inputs and commands:
 Usage: cases.py [--quick] [--seconds N] [FILE]..
 
 Without FILE it runs tests/cases/*.txt, README.md, and in docs MANUAL.md,
-FORMATS.md and GUIDE.md. `mercator` is the built program, or the file that
+FORMATS.md, GUIDE.md and SESSION.md. `mercator` is the built program, or the file that
 the environment variable PROGRAM names. It prints a diff for each answer that
 differs, and on the last line `N passed, M failed`. The exit status is 1 if
 anything failed or nothing ran.
@@ -59,7 +59,8 @@ from typing import Iterator, NamedTuple
 
 ROOT = Path(__file__).resolve().parent.parent
 BUILT = ROOT / "crates/mercator_cli/out/mercator_cli"
-DOCUMENTS = ("README.md", "docs/MANUAL.md", "docs/FORMATS.md", "docs/GUIDE.md")
+DOCUMENTS = ("README.md", "docs/MANUAL.md", "docs/FORMATS.md", "docs/GUIDE.md",
+             "docs/SESSION.md")
 LINKED = ("crates", "examples", "tools")
 SECONDS = 60
 BLOCK = re.compile(r"^```(\S+)(?: (\S+))?\n(.*?)^```$", re.M | re.S)

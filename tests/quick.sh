@@ -12,7 +12,7 @@ cd "$(dirname "$0")/.." || exit 1
 # shellcheck source=tests/parts.sh
 . tests/parts.sh
 
-parts=(format documents mercator_tests crawl_run_tests crawl_text_tests frontier cases drawn serve bell_model site_to_web)
+parts=(format documents mercator_tests crawl_run_tests crawl_text_tests frontier cases command_line drawn serve bell_model site_to_web)
 kept=tests/out/quick
 # A test of crawl_text_tests that no time limit fits. tests/run.sh runs it.
 too_long=tests::indices::finds_what_a_plain_search_finds
@@ -25,6 +25,7 @@ command_of() {
     *_tests) words=(tests_of "$1") ;;
     frontier) words=(tests/frontier.py --count 1) ;;
     cases) words=(tests/cases.py --quick --seconds 300) ;;
+    command_line) words=(tests/command-line.sh) ;;
     drawn) words=(tests/drawn.py --count 1000) ;;
     serve) words=(tests/serve.py --lines 2000 --part drawn_sessions --part drawn_parts --part all_at_once --part byte_by_byte --part compacted_logs) ;;
     bell_model) words=(tests/bell_model.py) ;;
@@ -35,7 +36,7 @@ command_of() {
 # programs PART: the crates of the programs that it needs.
 programs() {
     case $1 in
-    cases | drawn | serve) echo mercator_cli ;;
+    cases | command_line | drawn | serve) echo mercator_cli ;;
     frontier) echo mercator_cli library_calls ;;
     esac
 }
