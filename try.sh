@@ -21,7 +21,7 @@ is_new() {
 if [ "${1:-}" = --proved ]; then
     shift
     echo "try.sh: proving and building the program, unless that was done; it takes 75 CPU minutes .." >&2
-    messages=$(cd "$folder" && rt run -- --help 2>&1) || { echo "$messages" >&2; exit 1; }
+    (cd "$folder" && rt run -- --version) >&2
 elif ! is_new; then
     program=$("$here/tools/unproved.sh")
     echo "try.sh: running a program without proofs (\`./try.sh --proved\` proves it)" >&2

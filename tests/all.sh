@@ -1,26 +1,26 @@
 #!/bin/bash
-# Runs the long tests, which tests/run.sh leaves out, one after another, over the program and the tests that it has built.
-# The wrong bodies, which take longest, are tried beside them, on all processors but one.
-# It prints a line for each, with what one that failed told at last, and at last `N passed, M failed`; its status is 1 where
-# one failed. tests/README.md says what each shows and how long it takes.
+# Runs the long tests, which tests/run.sh leaves out. They need the program and the tests that run.sh has built. The mutants take
+# longest, so they run at the same time as the others, on all processors but one. For each test it prints a line, and the end of its
+# output if it failed. The last line is `N passed, M failed`, and the exit status is 1 if one failed. tests/README.md says what each
+# tests and how long it takes.
 #
 # Usage: tests/all.sh
 set -uo pipefail
 cd "$(dirname "$0")/.." || exit 1
-told=$(mktemp -d)
+outputs=$(mktemp -d)
 passed=0
 failed=0
-beside=
+mutants_job=
 
-# Ends what runs beside, where this script is stopped.
+# Ends the mutants if this script is stopped.
 end() {
-    [ -z "$beside" ] || kill -- "-$beside" 2> /dev/null
-    rm -rf "$told"
+    [ -z "$mutants_job" ] || kill -- "-$mutants_job" 2> /dev/null
+    rm -rf "$outputs"
 }
 trap end EXIT
 
-# tell FILE STATUS SECONDS COMMAND WORD..
-tell() {
+# report FILE STATUS SECONDS COMMAND ARGUMENT..: counts and prints how a test ended.
+report() {
     if [ "$2" -eq 0 ]; then
         passed=$((passed + 1))
         echo "${*:4}: passed, $3 s: $(tail -n 1 "$1")"
@@ -31,25 +31,25 @@ tell() {
     fi
 }
 
-# part COMMAND WORD..
+# part COMMAND ARGUMENT..: runs a test.
 part() {
     local start=$SECONDS status=0
-    "$@" < /dev/null > "$told/part" 2>&1 || status=$?
-    tell "$told/part" "$status" $((SECONDS - start)) "$@"
+    "$@" < /dev/null > "$outputs/part" 2>&1 || status=$?
+    report "$outputs/part" "$status" $((SECONDS - start)) "$@"
 }
 
-# run_mutants FILE COMMAND WORD..: its status and its seconds go to FILE.ended.
+# run_mutants FILE COMMAND ARGUMENT..: runs a test, and writes its status and its seconds to FILE.ended.
 run_mutants() {
     local status=0
     nice "${@:2}" < /dev/null > "$1" 2>&1 || status=$?
     echo "$status $SECONDS" > "$1.ended"
 }
 
-at_once=$(nproc)
-mutants=(tests/mutants.sh -j $((at_once > 1 ? at_once - 1 : 1)))
+processors=$(nproc)
+mutants=(tests/mutants.sh -j $((processors > 1 ? processors - 1 : 1)))
 set -m
-run_mutants "$told/mutants" "${mutants[@]}" &
-beside=$!
+run_mutants "$outputs/mutants" "${mutants[@]}" &
+mutants_job=$!
 set +m
 part docs/check.py
 part docs/definitions.py --check
@@ -68,9 +68,9 @@ part tests/cluster_model.py
 part tests/cluster.sh
 part tests/manual_page.py
 part tests/install.sh
-wait "$beside"
-beside=
-read -r status seconds < "$told/mutants.ended"
-tell "$told/mutants" "$status" "$seconds" "${mutants[@]}"
+wait "$mutants_job"
+mutants_job=
+read -r status seconds < "$outputs/mutants.ended"
+report "$outputs/mutants" "$status" "$seconds" "${mutants[@]}"
 echo "$passed passed, $failed failed"
 [ "$failed" -eq 0 ]
