@@ -52,6 +52,24 @@ is_typed() {
     (cd "$scratch" && mypy --python-executable "$1" typed.py) | grep 'note: Revealed type is "Union\[builtins.str, None\]"'
 }
 
+# install.sh, try.sh and README state the same CPU time to prove and build the program.
+has_one_build_time() {
+    local times
+    times=$(cat install.sh try.sh <(grep prove README.md) | grep -oE '[0-9]+ CPU minutes|an hour and a (quarter|half)' \
+        | sed 's/an hour and a quarter/75 CPU minutes/; s/an hour and a half/90 CPU minutes/' | sort -u)
+    echo "$times"
+    [ "$(wc -l <<< "$times")" -eq 1 ]
+}
+
+# install.sh, try.sh and README state the same CPU time to prove and build the program.
+has_one_build_time() {
+    local times
+    times=$(cat install.sh try.sh <(grep prove README.md) | grep -oE '[0-9]+ CPU minutes|an hour and a (quarter|half)' \
+        | sed 's/an hour and a quarter/75 CPU minutes/; s/an hour and a half/90 CPU minutes/' | sort -u)
+    echo "$times"
+    [ "$(wc -l <<< "$times")" -eq 1 ]
+}
+
 # Tests the help of install.sh and make_wheel.py, a bad command line, and that the time to build is the same in all texts.
 texts() {
     expect "install.sh --help" sh -c './install.sh --help | grep -q "^Usage: install.sh"'
@@ -60,8 +78,7 @@ texts() {
         './install.sh --program /no/such/program 2>&1 | grep -qxF "install.sh: /no/such/program is not an executable file"'
     expect "make_wheel.py --help" sh -c 'cd "$1" && python3 "$2" --help | grep -q "^usage: " && [ ! -e ./--help ]' \
         sh "$scratch" "$PWD/clients/python/make_wheel.py"
-    expect "one time to prove and build" sh -c \
-        '[ "$(grep -ohE "an hour and a (quarter|half|third)" install.sh README.md try.sh | sort -u | wc -l)" -le 1 ]'
+    expect "one time to prove and build" has_one_build_time
 }
 
 # The description of the package names the three main commands.
