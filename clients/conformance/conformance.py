@@ -1,0 +1,438 @@
+#!/usr/bin/env python3
+"""Checks a client of `mercator serve` against the mistakes that clients make.
+
+Usage: conformance.py [--trap NAME].. COMMAND [WORD..]
+       conformance.py --list
+       conformance.py --self-test
+
+COMMAND is a small crawler that uses the client; README.md says what it has to do. For each trap, a
+file in traps/, it is started with MERCATOR naming a fake program, which plays the trap and judges
+the requests. The pages are served on 127.0.0.1 and the following addresses. --self-test runs a
+crawler of this kit with one mistake at a time, and checks that the traps notice it.
+
+SECONDS in the environment is the time limit of a crawl; 20 by default. The last line is `N passed,
+M failed`, and the exit status is 1 if a trap fails.
+"""
+
+from __future__ import annotations
+
+import argparse
+import fcntl
+import http.client
+import http.server
+import json
+import os
+import re
+import signal
+import subprocess
+import sys
+import tempfile
+import threading
+import time
+from contextlib import suppress
+from pathlib import Path
+from typing import Dict, Iterator, List, NamedTuple, Optional, Sequence, Set, Tuple
+from urllib.parse import quote, urljoin, urlsplit
+
+HERE = Path(__file__).resolve().parent
+HOSTS = 4
+SECONDS = float(os.environ.get("SECONDS", "20"))
+# How many times a queue may be asked in vain when nothing has changed.
+POLLS = 20
+MARKER = "/marker"
+
+
+# ---------------------------------------------------------------- URLs, as far as traps have them
+
+class NotUrl(Exception):
+    """The answer to an offer whose text is no URL."""
+
+
+def canonical(text: str, base: Optional[str] = None) -> str:
+    text = re.sub("[\t\n\r]", "", text.strip("".join(map(chr, range(33))))).replace(" ", "%20")
+    try:
+        url = urljoin(canonical(base), text) if base is not None else text
+        parts = urlsplit(url)
+        host = parts.hostname
+    except ValueError:
+        raise NotUrl("not a URL") from None
+    if not parts.scheme:
+        raise NotUrl("not a URL")
+    if parts.scheme not in ("http", "https"):
+        raise NotUrl("not http or https")
+    if not host:
+        raise NotUrl("not a URL")
+    port = f":{parts.port}" if parts.port else ""
+    query = f"?{parts.query}" if parts.query else ""
+    url = f"{parts.scheme}://{host}{port}{without_dots(parts.path or '/')}{query}"
+    return quote(url, "".join(map(chr, range(33, 127))))
+
+
+def without_dots(path: str) -> str:
+    kept: List[str] = []
+    pieces = path.split("/")[1:]
+    for number, piece in enumerate(pieces):
+        if piece == "..":
+            del kept[-1:]
+        if piece not in (".", ".."):
+            kept.append(piece)
+        elif number == len(pieces) - 1:
+            kept.append("")
+    return "/" + "/".join(kept)
+
+
+# ---------------------------------------------------------------- traps
+
+class Page(NamedTuple):
+    """What a URL leads to: a page with lines, a redirect, or a connection that is dropped."""
+
+    lines: List[str]
+    redirect: Optional[str] = None
+    is_dropped: bool = False
+    delay: float = 0.0
+
+
+class Event(NamedTuple):
+    """What the fake program does at the COUNT-th request, or answer, that begins with WORD."""
+
+    count: int
+    word: str
+    action: str  # exit, kill, half, answer
+    text: str
+
+
+class Trap:
+    """A file of traps/: a web, how the fake program behaves, and what is expected."""
+
+    def __init__(self, name: str, text: str, port: int) -> None:
+        self.name = name
+        self.title = text.split("\n", 1)[0].lstrip("# ")
+        self.workers, self.max_pending, self.chop, self.pipe, self.stderr = 2, 2**20, 0, 0, 0
+        self.hold = self.locked = 0.0
+        self.limit = SECONDS
+        self.expected = "closed"
+        self.mistakes: List[str] = []
+        self.events: List[Event] = []
+        self.seeds: List[str] = []
+        self.log: Optional[List[str]] = None
+        self.pages: Dict[str, Page] = {}
+        into: List[str] = []
+        for line in text.replace("HOST", "http://127.0.0.").replace("PORT", str(port)).split("\n"):
+            if line.startswith("  "):
+                match = re.fullmatch(r"repeat (\d+) (.*)", line[2:])
+                into += [match[2] % i for i in range(int(match[1]))] if match else [line[2:]]
+            elif line.strip() and not line.startswith("#"):
+                into = self.read(*line.split(" ", 1))
+
+    def read(self, word: str, rest: str = "") -> List[str]:
+        """Reads a line of the file; returns the list that the indented lines after it belong to."""
+        words = rest.split(" ")
+        if word in ("workers", "max_pending", "chop", "pipe", "stderr"):
+            setattr(self, word, int(rest))
+        elif word in ("hold", "locked", "limit"):
+            setattr(self, word, float(rest))
+        elif word in ("page", "drop", "redirect"):
+            target = words[1] if word == "redirect" else None
+            delay = float(words[1]) if word == "page" and len(words) > 1 else 0.0
+            page = self.pages[words[0]] = Page([], target, word == "drop", delay)
+            return page.lines
+        elif word == "log":
+            self.log = []
+            return self.log
+        elif word == "at":
+            self.events.append(Event(int(words[0]), words[1], words[2], " ".join(words[3:])))
+        elif word in ("seeds", "mistakes"):
+            setattr(self, word, words)
+        elif word == "expect" and rest in ("closed", "failure"):
+            self.expected = rest
+        else:
+            sys.exit(f"{self.name}: unknown line: {word} {rest}")
+        return []
+
+    def targets(self, url: str) -> Iterator[str]:
+        """The URLs that have to be offered before a page is done."""
+        page = self.pages.get(url, Page([]))
+        base = url
+        for text in [page.redirect] if page.redirect is not None else page.lines:
+            if text.startswith("base "):
+                base = text[5:]
+                continue
+            text = text.replace("\\n", "\n")
+            with suppress(NotUrl):
+                if len(f"link {base} {text}") <= 4096:
+                    yield canonical(text, base)
+
+    def reached(self) -> Set[str]:
+        """The URLs of the whole crawl, by a search of its own."""
+        found = [canonical(seed) for seed in self.seeds]
+        for url in found:
+            found += sorted(set(self.targets(url)) - set(found))
+        return set(found)
+
+
+def trap_names() -> List[str]:
+    return sorted(path.stem for path in (HERE / "traps").glob("*.txt"))
+
+
+def read_trap(name: str, port: int) -> Trap:
+    return Trap(name, (HERE / "traps" / f"{name}.txt").read_text("utf-8"), port)
+
+
+# ---------------------------------------------------------------- the web
+
+class Web:
+    """Servers on HOSTS addresses and one port. They serve what `pages` has at the time."""
+
+    def __init__(self) -> None:
+        self.pages: Dict[str, Page] = {}
+        self.requests: List[Tuple[float, str]] = []
+        self.lock, self.open = threading.Lock(), 0
+        web = self
+
+        class Handler(http.server.BaseHTTPRequestHandler):
+            def do_GET(self) -> None:
+                url = f"http://{self.server.server_address[0]}:{web.port}{self.path}"
+                if self.path != MARKER:
+                    web.requests.append((time.monotonic(), url))
+                page = web.pages.get(url)
+                if page is None:
+                    self.send_error(404)
+                    return
+                time.sleep(page.delay)
+                if page.is_dropped:
+                    self.close_connection = True
+                    return
+                body = "".join(f"{line}\n" for line in page.lines).encode()
+                self.send_response(200 if page.redirect is None else 302)
+                self.send_header("Content-Type", "text/plain; charset=utf-8")
+                self.send_header("Content-Length", str(len(body)))
+                if page.redirect is not None:
+                    self.send_header("Location", page.redirect)
+                self.end_headers()
+                self.wfile.write(body)
+
+            def log_message(self, format: str, *words: object) -> None:
+                return
+
+        class Server(http.server.ThreadingHTTPServer):
+            daemon_threads = True
+            request_queue_size = 128
+
+            def process_request(self, request: object, client_address: object) -> None:
+                with web.lock:
+                    web.open += 1
+                super().process_request(request, client_address)
+
+            def process_request_thread(self, request: object, client_address: object) -> None:
+                super().process_request_thread(request, client_address)
+                with web.lock:
+                    web.open -= 1
+
+            def handle_error(self, request: object, client_address: object) -> None:
+                return  # a crawler was killed
+
+        self.port = 0
+        self.servers = []
+        for host in range(1, HOSTS + 1):
+            server = Server((f"127.0.0.{host}", self.port), Handler)
+            self.port = server.server_port
+            self.servers.append(server)
+            threading.Thread(target=server.serve_forever, args=(0.05,), daemon=True).start()
+
+    def serve(self, pages: Dict[str, Page]) -> None:
+        self.pages, self.requests = pages, []
+
+    def settle(self) -> None:
+        """Waits until the requests of a crawler that has ended are in `requests`."""
+        for server in self.servers:
+            # Connections are accepted in their order.
+            connection = http.client.HTTPConnection(str(server.server_address[0]), self.port)
+            connection.request("GET", MARKER)
+            connection.getresponse()
+            connection.close()
+        while self.open:
+            time.sleep(0.001)
+
+
+# ---------------------------------------------------------------- a crawl, and its judgement
+
+class Run:
+    """A crawl over the fake program."""
+
+    def __init__(self, web: Web, trap: Trap, command: Sequence[str]) -> None:
+        self.web, self.trap, self.command = web, trap, command
+        self.faults: List[str] = []
+
+    def run(self) -> List[str]:
+        """What the crawler did wrong."""
+        trap = self.trap
+        self.web.serve(trap.pages)
+        with tempfile.TemporaryDirectory(prefix="conformance-") as name:
+            folder = Path(name)
+            program = folder / "mercator"
+            program.write_text(
+                f"#!/bin/sh\nexec '{sys.executable}' -S '{HERE}/fake_mercator.py' '{folder}' \"$@\"\n"
+            )
+            program.chmod(0o755)
+            (folder / "trap").write_text(f"{trap.name} {self.web.port}")
+            (folder / "facts").touch()
+            log = "-"
+            if trap.log is not None:
+                log = str(folder / "crawl.log")
+                head = f"workers {trap.workers} max {trap.max_pending}"
+                Path(log).write_text("".join(f"{line}\n" for line in [head, *trap.log]))
+            status, stderr = self.crawl(program, log)
+            facts = [json.loads(line) for line in (folder / "facts").read_text().splitlines()]
+        self.judge(status, stderr, facts)
+        return self.faults
+
+    def crawl(self, program: Path, log: str) -> Tuple[Optional[int], str]:
+        """The exit status, if it ends in time, and what it prints on standard error."""
+        lock = None
+        if self.trap.locked:
+            lock = os.open(log, os.O_RDONLY)
+            fcntl.flock(lock, fcntl.LOCK_EX)
+            timer = threading.Timer(self.trap.locked, os.close, (lock,))
+            timer.daemon = True
+            timer.start()
+        words = [*self.command, str(self.trap.workers), log, *self.trap.seeds]
+        environment = {**os.environ, "MERCATOR": str(program), "PYTHONUNBUFFERED": "1"}
+        with tempfile.TemporaryFile() as errors:
+            process = subprocess.Popen(
+                words, env=environment, stdin=subprocess.DEVNULL, stdout=subprocess.DEVNULL,
+                stderr=errors, start_new_session=True,
+            )
+            status: Optional[int] = None
+            with suppress(subprocess.TimeoutExpired):
+                status = process.wait(self.trap.limit)
+            with suppress(ProcessLookupError):
+                os.killpg(process.pid, signal.SIGKILL)
+            process.wait()
+            self.web.settle()
+            self.end_programs(program.parent)
+            errors.seek(0)
+            return status, errors.read().decode("utf-8", "replace").strip()
+
+    def end_programs(self, folder: Path) -> None:
+        """Each fake program has to end, since its input has ended."""
+        for fact in (folder / "facts").read_text().splitlines():
+            pid = json.loads(fact).get("pid")
+            if pid is None:
+                continue
+            end = time.monotonic() + 5
+            while is_running(pid) and time.monotonic() < end:
+                time.sleep(0.01)
+            if is_running(pid):
+                self.faults.append("the program's input is still open after the crawler's end")
+                os.kill(pid, signal.SIGKILL)
+
+    def judge(self, status: Optional[int], stderr: str, facts: List[Dict[str, object]]) -> None:
+        trap = self.trap
+        self.faults += [str(fact["fault"]) for fact in facts if "fault" in fact]
+        if status is None:
+            self.faults.append(f"the crawler runs on for {trap.limit:g} seconds")
+        elif trap.expected == "failure":
+            if status == 0:
+                self.faults.append("the crawler ended with status 0, as if the crawl were over")
+            if not stderr:
+                self.faults.append("the crawler did not say on standard error what failed")
+        elif status != 0:
+            last = stderr.splitlines()[-1] if stderr else ""
+            self.faults.append(f"the crawler ended with status {status}: {last[:200]}")
+        self.judge_fetches(facts)
+
+    def judge_fetches(self, facts: List[Dict[str, object]]) -> None:
+        """Each URL is fetched once each time that it is given out, and at no other time."""
+        given: List[Tuple[float, float, str]] = []
+        for fact in facts:
+            if "taken" in fact:
+                given.append((float(str(fact["at"])), float("inf"), str(fact["taken"])))
+            if "done" in fact:
+                last = max(i for i, (_, _, url) in enumerate(given) if url == fact["done"])
+                given[last] = (given[last][0], float(str(fact["at"])), given[last][2])
+        left = list(given)
+        for when, url in self.web.requests:
+            mine = [one for one in left if one[2] == url and one[0] <= when <= one[1]]
+            if mine:
+                left.remove(mine[0])
+            elif any(one[2] == url and one[0] <= when <= one[1] for one in given):
+                self.faults.append(f"{url} was requested twice")
+            else:
+                self.faults.append(f"{url} was requested while it was not given out")
+        if self.trap.expected == "closed":
+            self.faults += [f"{url} was given out, but not requested" for _, _, url in left]
+            fetched = {url for _, url in self.web.requests}
+            done = {str(fact["was_done"]) for fact in facts if "was_done" in fact}
+            lost = sorted(self.trap.reached() - fetched - done)
+            self.faults += [f"{url} was never requested" for url in lost]
+
+
+def is_running(pid: int) -> bool:
+    try:
+        state = Path(f"/proc/{pid}/stat").read_text().rpartition(")")[2].split()[0]
+    except OSError:
+        return False
+    return state != "Z"
+
+
+# ---------------------------------------------------------------- what is run
+
+def check(web: Web, names: Sequence[str], command: Sequence[str]) -> int:
+    """Runs the command over each trap, and returns how many fail."""
+    failed = 0
+    for name in names:
+        begun = time.monotonic()
+        faults = Run(web, read_trap(name, web.port), command).run()
+        took = time.monotonic() - begun
+        print(f"{name}: {'FAILED' if faults else 'passed'}, {took:.1f} s", flush=True)
+        for fault in list(dict.fromkeys(faults))[:5]:
+            print(f"  {fault}", flush=True)
+        failed += bool(faults)
+    print(f"{len(names) - failed} passed, {failed} failed")
+    return failed
+
+
+def self_test(web: Web, names: Sequence[str]) -> int:
+    """Runs the kit's own crawler, right and with each mistake; returns how many results are wrong."""
+    passed = failed = 0
+    for name in names:
+        for mistake in ["none", *read_trap(name, web.port).mistakes]:
+            trap = read_trap(name, web.port)
+            crawler = HERE / "crawlers/crawl_mistakes.py"
+            # A mistake that hangs is noticed in a few seconds.
+            trap.limit = trap.limit if mistake == "none" else min(trap.limit, 5.0)
+            faults = Run(web, trap, [sys.executable, "-S", str(crawler), mistake]).run()
+            if bool(faults) == (mistake != "none"):
+                passed += 1
+                print(f"{name}, {mistake}: {faults[0] if faults else 'passed'}", flush=True)
+            else:
+                failed += 1
+                print(f"{name}, {mistake}: FAILED: {faults[:3] or 'not noticed'}", flush=True)
+    print(f"{passed} passed, {failed} failed")
+    return failed
+
+
+def main() -> int:
+    parser = argparse.ArgumentParser(
+        description=__doc__, formatter_class=argparse.RawDescriptionHelpFormatter
+    )
+    option = parser.add_argument
+    option("--trap", action="append", choices=trap_names(), metavar="NAME", help="run this trap only")
+    option("--list", action="store_true", help="list the traps")
+    option("--self-test", action="store_true", help="check that the traps notice mistakes")
+    option("command", nargs=argparse.REMAINDER, metavar="COMMAND")
+    words = parser.parse_args()
+    names = words.trap or trap_names()
+    if words.list:
+        for name in names:
+            print(f"{name}: {read_trap(name, 0).title}")
+        return 0
+    if not words.self_test and not words.command:
+        parser.error("COMMAND is missing")
+    web = Web()
+    failed = self_test(web, names) if words.self_test else check(web, names, words.command)
+    return 1 if failed else 0
+
+
+if __name__ == "__main__":
+    sys.exit(main())

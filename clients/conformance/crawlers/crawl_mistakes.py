@@ -1,0 +1,234 @@
+#!/usr/bin/env python3
+"""A crawler that speaks the protocol itself, with one mistake: for the self-test of the kit.
+
+Usage: crawl_mistakes.py MISTAKE WORKERS LOG SEED..
+
+With the mistake `none` it does what README.md says. The other mistakes are the branches below.
+"""
+
+from __future__ import annotations
+
+import asyncio
+import http.client
+import os
+import sys
+from collections import deque
+from typing import Deque, Dict, List, Optional, Tuple
+from urllib.parse import urljoin, urlsplit
+
+MISTAKE, WORKERS, LOG, SEEDS = sys.argv[1], int(sys.argv[2]), sys.argv[3], sys.argv[4:]
+
+
+class Failure(Exception):
+    """The frontier does not go on."""
+
+
+class Client:
+    """The program, and who waits for which answer."""
+
+    def __init__(self, process: asyncio.subprocess.Process) -> None:
+        self.process = process
+        self.owed: Deque[Tuple[str, asyncio.Future[str]]] = deque()
+        self.waiting: Dict[int, asyncio.Future[None]] = {}
+        self.kept: List[str] = []
+        self.end: Optional[str] = None
+        self.reader = asyncio.ensure_future(self.read())
+
+    async def read(self) -> None:
+        assert self.process.stdout
+        rest = b""
+        while some := await self.process.stdout.read(65_536):
+            if MISTAKE == "read_is_line":
+                self.handle(some.split(b"\n")[0].decode())
+                continue
+            *lines, rest = (rest + some).split(b"\n")
+            for line in lines:
+                self.handle(line.decode())
+        if MISTAKE == "half_line" and rest and self.owed:
+            self.handle(rest.decode())
+            await asyncio.sleep(0.5)
+        if MISTAKE == "quiet_end":
+            os._exit(0)
+        errors = await self.process.stderr.read() if self.process.stderr else b""
+        status = await self.process.wait()
+        self.end = f"the program ended with status {status}: {errors.decode()[-500:]}"
+        for _, answer in self.owed:
+            answer.set_exception(Failure(self.end))
+        for waiter in self.waiting.values():
+            waiter.set_exception(Failure(self.end))
+
+    def handle(self, line: str) -> None:
+        request, answer = self.owed.popleft()
+        word, _, rest = line.partition(" ")
+        if word == "accepted":
+            self.wake(int(rest.split()[0]))
+        if line == "count 0" and MISTAKE != "deaf_to_end":
+            for queue in range(WORKERS):
+                self.wake(queue)
+        if request.startswith("next ") and word == "pending" and MISTAKE != "late_waiter":
+            self.waiting[int(request[5:])] = asyncio.get_running_loop().create_future()
+        if line == "refused full" and MISTAKE != "lose_full":
+            self.kept.append(request)
+        answer.set_result(line)
+
+    def wake(self, queue: int) -> None:
+        waiter = self.waiting.get(queue)
+        if waiter and not waiter.done():
+            waiter.set_result(None)
+
+    def ask(self, request: str) -> asyncio.Future[str]:
+        if self.end is not None:
+            raise Failure(self.end)
+        assert self.process.stdin
+        answer: asyncio.Future[str] = asyncio.get_running_loop().create_future()
+        self.owed.append((request, answer))
+        self.process.stdin.write(request.encode() + b"\n")
+        return answer
+
+    async def take(self, queue: int) -> Optional[str]:
+        while True:
+            answer = await self.ask(f"next {queue}")
+            if answer.startswith("taken "):
+                return answer[6:]
+            if answer == "closed":
+                return None
+            if MISTAKE == "poll":
+                await asyncio.sleep(0.01)
+                continue
+            if not answer.startswith("pending ") and MISTAKE != "guess":
+                raise Failure(f"unknown answer: {answer}")
+            if queue not in self.waiting:
+                self.waiting[queue] = asyncio.get_running_loop().create_future()
+            await self.waiting[queue]
+            self.waiting.pop(queue, None)
+
+    async def done(self, queue: int) -> None:
+        """What was refused is offered before any other request. The seeds end when nothing is left."""
+        answer = self.ask(f"done {queue}")
+        kept, self.kept = self.kept, []
+        offers = [self.ask(request) for request in kept]
+        count = await answer
+        await asyncio.gather(*offers)
+        if count == "count 1" and not self.kept and not any(map(accepted, offers)):
+            await self.ask("endseeds")
+
+
+def accepted(offer: asyncio.Future[str]) -> bool:
+    return offer.result().startswith("accepted")
+
+
+def fetch(url: str) -> Tuple[int, List[str]]:
+    """The status, and the lines of a page or the target of a redirect."""
+    parts = urlsplit(url)
+    connection = http.client.HTTPConnection(parts.netloc, timeout=10)
+    try:
+        connection.request("GET", url[len(f"http://{parts.netloc}"):])
+        reply = connection.getresponse()
+        if reply.status in (301, 302):
+            return reply.status, [reply.getheader("Location") or ""]
+        return reply.status, reply.read().decode().split("\n")[:-1] if reply.status == 200 else []
+    except (OSError, http.client.HTTPException):
+        if MISTAKE == "stop_on_drop":
+            raise
+        if MISTAKE == "retry":
+            return fetch_again(url)
+        return 0, []
+    finally:
+        connection.close()
+
+
+def fetch_again(url: str) -> Tuple[int, List[str]]:
+    try:
+        http.client.HTTPConnection(urlsplit(url).netloc).request("GET", urlsplit(url).path)
+    except OSError:
+        pass
+    return 0, []
+
+
+async def links(client: Client, url: str) -> None:
+    status, lines = await asyncio.to_thread(fetch, url)
+    if status in (301, 302) and MISTAKE == "no_redirect":
+        return
+    if status in (301, 302) and MISTAKE == "follow":
+        url = urljoin(url, lines[0])
+        status, lines = await asyncio.to_thread(fetch, url)
+    base = url
+    answers = []
+    for line in lines:
+        if line.startswith("base ") and status == 200:
+            base = line[5:] if MISTAKE == "raw_base" else line[5:].replace(" ", "%20")
+            continue
+        text = line.replace("\\n", "\n" if MISTAKE == "raw_lf" else "")
+        answers.append(client.ask(f"link {base} {text}"))
+        assert client.process.stdin
+        if MISTAKE == "send_all":
+            os.set_blocking(client.process.stdin.get_extra_info("pipe").fileno(), True)
+        elif len(answers) % 100 == 0:
+            await client.process.stdin.drain()
+    if MISTAKE != "done_first":
+        await asyncio.gather(*answers)
+        return
+    await asyncio.sleep(0)
+
+
+async def work(client: Client, queue: int) -> None:
+    url: Optional[str] = None
+    if LOG != "-" and MISTAKE != "no_again":
+        answer = await client.ask(f"again {queue}")
+        url = answer[6:] if answer.startswith("taken ") else None
+        if url is not None and MISTAKE == "again_is_done":
+            await client.ask(f"done {queue}")
+            url = None
+    if url is None:
+        url = await client.take(queue)
+    while url is not None:
+        if MISTAKE == "done_first":
+            await client.done(queue)
+            await links(client, url)
+        else:
+            await links(client, url)
+            await client.done(queue)
+        url = await client.take(queue)
+
+
+async def opened() -> Client:
+    """The client, once the log is not in use."""
+    words = [os.environ["MERCATOR"], "serve", f"--workers={WORKERS}"]
+    words += [] if LOG == "-" else [f"--log={LOG}"]
+    for attempt in range(10**6 if MISTAKE == "patient" else 50):
+        process = await asyncio.create_subprocess_exec(
+            *words, stdin=asyncio.subprocess.PIPE, stdout=asyncio.subprocess.PIPE,
+            stderr=asyncio.subprocess.PIPE if LOG != "-" or MISTAKE == "unread_stderr" else None,
+        )
+        client = Client(process)
+        if LOG == "-":
+            return client
+        try:
+            await client.ask("again 0")
+            return client
+        except Failure as failure:
+            if ": in use" not in str(failure) or MISTAKE == "impatient":
+                raise
+        await asyncio.sleep(0.1)
+    raise Failure("the log is in use")
+
+
+async def crawl() -> None:
+    client = await opened()
+    for seed in SEEDS:
+        answer = await client.ask(f"offer {seed}")
+        if MISTAKE == "seeds_must_be_new" and not answer.startswith("accepted "):
+            raise Failure(f"{seed}: {answer}")
+    if LOG != "-" or MISTAKE in ("late_waiter", "deaf_to_end"):
+        await client.ask("endseeds")
+    await asyncio.gather(*(work(client, queue) for queue in range(WORKERS)))
+    assert client.process.stdin
+    client.process.stdin.close()
+    await client.process.wait()
+
+
+if __name__ == "__main__":
+    try:
+        asyncio.run(crawl())
+    except (Failure, OSError, http.client.HTTPException) as error:
+        sys.exit(f"crawl_mistakes: {error!r}")

@@ -1,0 +1,50 @@
+#!/usr/bin/env node
+/** The crawler of the conformance kit over the Node client: crawl_node.mjs WORKERS LOG SEED.. */
+
+import http from 'node:http';
+
+import { Frontier } from '../../node/mercator_frontier.mjs';
+
+/** The target of a redirect, and the lines of a page. */
+function get(url) {
+  return new Promise((resolve) => {
+    const fail = () => resolve({ lines: [] });
+    const request = http.get(url, { agent: false, timeout: 10_000 }, async (response) => {
+      let body = '';
+      try {
+        for await (const text of response.setEncoding('utf8')) body += text;
+      } catch {
+        return fail();
+      }
+      const lines = response.statusCode === 200 ? body.split('\n').slice(0, -1) : [];
+      return resolve({ target: response.headers.location, lines });
+    });
+    request.on('error', fail).on('timeout', () => request.destroy());
+  });
+}
+
+async function visit(frontier, url) {
+  const { target, lines } = await get(url);
+  let base = url;
+  const texts = target === undefined ? [] : [target];
+  for (const line of lines) {
+    if (line.startsWith('base ')) base = line.slice(5);
+    else texts.push(line.replaceAll('\\n', '\n'));
+  }
+  await frontier.links(base, texts);
+}
+
+const [workers, log, ...seeds] = process.argv.slice(2);
+try {
+  const frontier = await Frontier.open({ workers: Number(workers), log: log === '-' ? undefined : log });
+  try {
+    await frontier.offerAll(seeds);
+    await frontier.endSeeds();
+    await frontier.run((url) => visit(frontier, url));
+  } finally {
+    await frontier.close();
+  }
+} catch (error) {
+  console.error(`crawl_node: ${error.message}`);
+  process.exit(1);
+}

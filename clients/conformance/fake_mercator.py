@@ -1,0 +1,311 @@
+#!/usr/bin/env python3
+"""A fake `mercator` that plays a trap, and judges the requests: `fake_mercator.py FOLDER serve ..`.
+
+conformance.py starts it through the environment variable MERCATOR. It answers as `mercator serve`
+does, as far as traps need it: URLs are those of traps, and host 127.0.0.K belongs to queue K - 1
+modulo the number of workers. In FOLDER, `trap` names the trap, and `facts` gets what happens: which
+URL was given out and done at which time, and each fault of the client.
+"""
+
+from __future__ import annotations
+
+import argparse
+import fcntl
+import json
+import os
+import re
+import select
+import signal
+import socket
+import sys
+import time
+from collections import Counter, deque
+from pathlib import Path
+from typing import Deque, Dict, List, NoReturn, Optional, Set
+
+from conformance import POLLS, NotUrl, Trap, canonical, read_trap
+
+F_SETPIPE_SZ = 1031
+READ_SIZE = 65_536
+
+
+class Frontier:
+    """The frontier, and what it has seen of its client."""
+
+    def __init__(self, trap: Trap, facts: Path) -> None:
+        self.trap, self.facts = trap, facts
+        self.waiting: List[Deque[str]] = [deque() for _ in range(trap.workers)]
+        self.numbers = [0] * trap.workers
+        self.in_progress: Dict[int, str] = {}
+        self.seen: Set[str] = set()
+        self.offered: Set[str] = set()
+        self.count = 1
+        self.has_seeds, self.is_closed, self.is_replaying = True, False, False
+        # The queues whose URL was in progress at the end of the log, until the client asks for it.
+        self.resumed: Set[int] = set()
+        # How many times each queue was asked in vain since something changed for it.
+        self.polls = [0] * trap.workers
+
+    def note(self, **fact: object) -> None:
+        with open(self.facts, "a", encoding="utf-8") as file:
+            file.write(json.dumps({"at": time.monotonic(), **fact}) + "\n")
+
+    def fault(self, text: str) -> None:
+        if not self.is_replaying:
+            self.note(fault=text)
+
+    def answer(self, line: bytes) -> str:
+        if len(line) > 4096:
+            return "line too long"
+        try:
+            text = line.decode()
+        except UnicodeDecodeError:
+            self.fault(f"the request {line!r} is not UTF-8")
+            return "not UTF-8"
+        word, space, rest = text.partition(" ")
+        if word == "offer" and space:
+            return self.offer(rest, None)
+        if word == "link" and " " in rest:
+            base, _, rest = rest.partition(" ")
+            return self.offer(rest, base)
+        if text == "endseeds":
+            return self.end_seeds()
+        if word in ("next", "done", "again") and re.fullmatch("[0-9]{1,20}", rest):
+            queue = int(rest)
+            if queue < self.trap.workers:
+                return {"next": self.next, "done": self.done, "again": self.again}[word](queue)
+            answer = "refused nosuch"
+        else:
+            answer = "bad line"
+        self.fault(f"the request `{text[:100]}` is answered `{answer}`")
+        return answer
+
+    def offer(self, text: str, base: Optional[str]) -> str:
+        try:
+            url = canonical(text, base)
+        except NotUrl as error:
+            return str(error)
+        self.offered.add(url)
+        if self.is_closed:
+            return "refused closed"
+        if url in self.seen:
+            return "seen"
+        if self.count >= self.trap.max_pending:
+            return "refused full"
+        host = url.split("/")[2].split(":")[0]
+        queue = (int(host.rpartition(".")[2]) - 1) % self.trap.workers
+        self.seen.add(url)
+        self.waiting[queue].append(url)
+        self.count += 1
+        self.numbers[queue] += 1
+        self.polls[queue] = 0
+        return f"accepted {queue} {self.numbers[queue] - 1}"
+
+    def end_seeds(self) -> str:
+        if not self.has_seeds:
+            return "refused nothing"
+        self.has_seeds = False
+        return self.lower()
+
+    def lower(self) -> str:
+        self.count -= 1
+        if self.count == 0:
+            self.polls = [0] * self.trap.workers
+        return f"count {self.count}"
+
+    def next(self, queue: int) -> str:
+        if queue in self.in_progress:
+            self.fault(f"`next {queue}` was sent before `done {queue}`")
+            return "refused busy"
+        if self.waiting[queue]:
+            url = self.in_progress[queue] = self.waiting[queue].popleft()
+            if not self.is_replaying:
+                self.note(taken=url)
+            self.polls[queue] = 0
+            return f"taken {url}"
+        if self.count == 0:
+            self.is_closed = True
+            return "closed"
+        self.polls[queue] += 1
+        if self.polls[queue] == POLLS:
+            self.fault(f"`next {queue}` was sent {POLLS} times although nothing had changed")
+        return f"pending {self.count}"
+
+    def done(self, queue: int) -> str:
+        if queue not in self.in_progress:
+            self.fault(f"`done {queue}` was sent, but no URL is in progress")
+            return "refused nothing"
+        url = self.in_progress.pop(queue)
+        if self.is_replaying:
+            self.note(was_done=url)
+        else:
+            self.note(done=url)
+            for target in sorted(set(self.trap.targets(url)) - self.offered):
+                self.fault(f"{url} was done before {target} was offered")
+        return self.lower()
+
+    def again(self, queue: int) -> str:
+        url = self.in_progress.get(queue)
+        if url is None:
+            return "refused nothing"
+        if queue in self.resumed:
+            self.resumed.remove(queue)
+            self.note(taken=url)
+        return f"taken {url}"
+
+    def replay(self, lines: List[bytes]) -> None:
+        self.is_replaying = True
+        for line in lines:
+            self.answer(line)
+        self.is_replaying = False
+        self.resumed = set(self.in_progress)
+
+
+class Log:
+    """The log, which one program at a time may use."""
+
+    def __init__(self, name: str, trap: Trap) -> None:
+        self.file = os.open(name, os.O_RDWR | os.O_CREAT | os.O_APPEND, 0o666)
+        try:
+            fcntl.flock(self.file, fcntl.LOCK_EX | fcntl.LOCK_NB)
+        except BlockingIOError:
+            fail(f"log {name}: in use by another program")
+        head = f"workers {trap.workers} max {trap.max_pending}".encode()
+        first, *self.lines = Path(name).read_bytes().split(b"\n")[:-1] or [b""]
+        if not first:
+            os.write(self.file, head + b"\n")
+        elif first != head:
+            fail(f"log {name}: made with other options")
+
+    def append(self, lines: List[bytes]) -> None:
+        os.write(self.file, b"".join(line + b"\n" for line in lines))
+
+
+def fail(why: str) -> NoReturn:
+    print(f"mercator: {why}", file=sys.stderr)
+    sys.exit(1)
+
+
+class Session:
+    """Reads requests and writes answers, as the trap has it."""
+
+    def __init__(self, trap: Trap, frontier: Frontier, log: Optional[Log]) -> None:
+        self.trap, self.frontier, self.log = trap, frontier, log
+        self.words: Counter[str] = Counter()
+        self.events = {(event.count, event.word): event for event in trap.events}
+        # Answers that are not written yet, and the queues whose answer `pending` is held back.
+        self.out: List[bytes] = []
+        self.held: Dict[int, int] = {}
+
+    def run(self) -> None:
+        rest = b""
+        while True:
+            some = os.read(0, READ_SIZE)
+            *lines, rest = (rest + some).split(b"\n")
+            lines = [line[:-1] if line.endswith(b"\r") else line for line in lines]
+            if not some and rest:
+                lines.append(rest)
+            if self.log and lines:
+                self.log.append(lines)
+            for line in lines:
+                self.answer(line)
+            if not some:
+                return self.write()
+            self.write(min(self.held.values(), default=len(self.out)))
+            # If nothing else comes, the client waits for the answers that are held back.
+            if self.held and not select.select([0], [], [], self.trap.hold)[0]:
+                self.held.clear()
+                self.write()
+
+    def answer(self, line: bytes) -> None:
+        request = line.split(b" ", 1)[0].decode("utf-8", "replace")
+        answer = self.frontier.answer(line)
+        for word in (request, answer.split(" ", 1)[0]):
+            self.words[word] += 1
+            event = self.events.get((self.words[word], word))
+            if event and event.action == "answer":
+                answer = event.text
+            elif event:
+                self.end(event.action, event.text, answer)
+        if self.trap.hold:
+            self.hold(line, answer)
+        self.out.append(answer.encode() + b"\n")
+
+    def hold(self, line: bytes, answer: str) -> None:
+        """Holds `pending` back until the answer that ends the wait can be written with it."""
+        if answer.startswith("pending "):
+            self.held[int(line.split()[1])] = len(self.out)
+        if answer.startswith("accepted "):
+            self.held.pop(int(answer.split()[1]), None)
+        if answer == "count 0":
+            self.held.clear()
+
+    def end(self, action: str, text: str, answer: str) -> NoReturn:
+        if action == "half":
+            self.out.append(answer.encode()[:-1])
+        self.write()
+        if action == "kill":
+            os.kill(os.getpid(), signal.SIGKILL)
+        fail(text or "cannot write")
+
+    def write(self, count: Optional[int] = None) -> None:
+        """Writes the first answers, or all."""
+        some, self.out = self.out[:count], self.out[count:] if count is not None else []
+        self.held = {queue: at - len(some) for queue, at in self.held.items()}
+        answers = b"".join(some)
+        size = self.trap.chop or len(answers)
+        while answers:
+            try:
+                answers = answers[os.write(1, answers[:size]):]
+            except BrokenPipeError:
+                sys.exit(1)
+            if self.trap.chop:
+                time.sleep(0.0002)
+
+
+def make_small(size: int) -> None:
+    """Makes the pipes of this process small, which some clients make as pairs of sockets."""
+    for pipe in (0, 1):
+        try:
+            fcntl.fcntl(pipe, F_SETPIPE_SZ, size)
+        except OSError:
+            with socket.socket(fileno=os.dup(pipe)) as end:
+                end.setsockopt(socket.SOL_SOCKET, socket.SO_SNDBUF, size)
+
+
+def main() -> None:
+    folder = Path(sys.argv[1])
+    parser = argparse.ArgumentParser(prog="mercator")
+    serve = parser.add_subparsers(required=True).add_parser("serve")
+    serve.add_argument("--workers", type=int, default=4)
+    serve.add_argument("--max-pending", type=int)
+    serve.add_argument("--within")
+    serve.add_argument("--log")
+    serve.add_argument("--sync", action="store_true")
+    serve.exit_on_error = False
+    name, port = (folder / "trap").read_text().split(" ")
+    trap = read_trap(name, int(port))
+    frontier = Frontier(trap, folder / "facts")
+    frontier.note(pid=os.getpid())
+    words = parser.parse_args(sys.argv[2:])
+    if words.workers != trap.workers:
+        frontier.fault(f"--workers is {words.workers}, and not {trap.workers}")
+    if (words.log is not None) != (trap.log is not None):
+        frontier.fault(f"--log is {words.log}")
+    for event in trap.events:
+        if event.word == "start":
+            print(f"error: {event.text}", file=sys.stderr)
+            sys.exit(3)
+    if trap.pipe:
+        make_small(trap.pipe)
+    sys.stderr.write("warning\n" * (trap.stderr // 8))
+    sys.stderr.flush()
+    log = None
+    if words.log is not None:
+        log = Log(words.log, trap)
+        frontier.replay(log.lines)
+    Session(trap, frontier, log).run()
+
+
+if __name__ == "__main__":
+    main()
