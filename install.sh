@@ -1,25 +1,39 @@
 #!/bin/bash
-# Installs mercator: the program, its manual page, completions for bash and zsh, and the Python clients.
+# Install mercator: the program, its man page, completions for bash and zsh, and the Python clients.
 #
-# Usage: install.sh [--program FILE] [PREFIX]         below PREFIX, else below ~/.local
-#        install.sh [--program FILE] --deb [FOLDER]   makes a Debian package in FOLDER, else here, and prints its name
+# Usage: install.sh [--program FILE] [PREFIX]
+#        install.sh [--program FILE] --deb [FOLDER]
 #
-# The program is proved and built, which takes an hour and a half of processor where that was not done; or it is FILE. Wants the Rattle kit
-# for that, and Python 3.9. A package has the maintainer that DEBFULLNAME and DEBEMAIL name, else git's user.
+#   PREFIX          Install below this folder [default: ~/.local]
+#   --program FILE  Install this program instead of building one
+#   --deb           Make a Debian package instead, in FOLDER [default: .], and print its name
+#
+# Without --program, the program is proved and built, unless that was done before. This needs the Rattle toolchain,
+# and takes an hour and a quarter of CPU time.
+# Everything else needs Python 3.9 or later, and --deb also dpkg-dev and binutils. The maintainer of the package is
+# taken from DEBFULLNAME and DEBEMAIL, or from git's user.
+# Exit status: 0 success, 1 error, 3 bad command line.
 set -euo pipefail
 
+help() {
+    sed -n '2,/^[^#]/s/^# \{0,1\}//p' "$0"
+}
+
+# Prints the usage and, if there is one, a message, and exits with status 3.
 usage() {
     sed -n 's/^# Usage: /usage: /p; s/^#        install.sh/       install.sh/p' "$0" >&2
+    [ $# -eq 0 ] || echo "install.sh: $1" >&2
     exit 3
 }
 
 built() {
-    echo "proving and building the program, where that was not done .." >&2
+    echo "building the program; unless it is built already, this takes an hour and a quarter of CPU time .." >&2
     (cd "$here/crates/mercator_cli" && rt run -- --help) > "$scratch/told" 2>&1 || { cat "$scratch/told" >&2; exit 1; }
     echo "$here/crates/mercator_cli/out/mercator_cli"
 }
 
-# place PROGRAM ROOT PYTHON ZSH: all files below ROOT, the clients in its folder PYTHON, and zsh's completions in share/zsh/ZSH.
+# place PROGRAM ROOT PYTHON ZSH: installs all files below ROOT, the clients in its folder PYTHON and the completions for zsh in
+# share/zsh/ZSH.
 place() {
     install -D -m 755 "$1" "$2/bin/mercator"
     install -D -m 644 "$here/docs/mercator.1" "$2/share/man/man1/mercator.1"
@@ -28,7 +42,7 @@ place() {
     python3 "$here/clients/python/make_wheel.py" "$2/$3"
 }
 
-# The folder of modules that the Python of this machine has below PREFIX.
+# Prints the folder below PREFIX in which this machine's Python looks for modules.
 python_folder() {
     python3 -c 'import sysconfig; print(sysconfig.get_path("purelib", "posix_prefix", {"base": ""}).lstrip("/"))'
 }
@@ -38,8 +52,8 @@ install_below() {
     folder=$(python_folder)
     place "$1" "$2" "$folder" site-functions
     echo "installed below $2: bin/mercator, share/man/man1/mercator.1, completions, and the Python clients in $folder"
-    [[ :$PATH: == *:$2/bin:* ]] || echo "for the program: PATH=$2/bin:\$PATH"
-    (cd / && python3 -c 'import mercator_frontier') 2> /dev/null || echo "for the clients: PYTHONPATH=$2/$folder"
+    [[ :$PATH: == *:$2/bin:* ]] || echo "to run the program, set PATH=$2/bin:\$PATH"
+    (cd / && python3 -c 'import mercator_frontier') 2> /dev/null || echo "to use the clients, set PYTHONPATH=$2/$folder"
 }
 
 version() {
@@ -53,7 +67,7 @@ maintainer() {
     echo "$name <$email>"
 }
 
-# The libraries that the program was linked with, as packages.
+# Prints the packages of the libraries that the program is linked with.
 libraries() {
     mkdir -p "$scratch/shlibs/debian"
     printf 'Source: mercator\n\nPackage: mercator\nArchitecture: any\n' > "$scratch/shlibs/debian/control"
@@ -71,29 +85,33 @@ Depends: $(libraries "$1/usr/bin/mercator")python3 (>= 3.9)
 Suggests: python3-redis, python3-scrapy
 Section: web
 Priority: optional
-Description: URL frontier for crawlers, and crawls of saved web sites
- mercator crawls a saved web site, and tells which of its links lead to no
- page. The report is the same, byte for byte, for any number of threads.
+Description: link checker for folders of HTML pages, and URL frontier for crawlers
+ mercator check finds broken links in a folder of HTML pages, and prints the
+ file, line and column of each. It reads the files, and never uses the
+ network.
  .
- mercator serve is the URL frontier of a crawler in any language, with
- clients for Python. It gives out each URL once, and those of a host one at
- a time.
+ mercator crawl crawls a saved web, which is a text file of pages and their
+ links. The report is the same, byte for byte, for any number of threads.
  .
- A prover checks the program's code.
+ mercator serve is a URL frontier for crawlers in any language, with clients
+ for Python. It gives out each URL once, and the URLs of a host one at a
+ time.
+ .
+ The code of the program is checked by a prover.
 END
 }
 
 copyright() {
     cat << END
-mercator, its manual page and its clients: MIT or Apache-2.0, as you like.
-On Debian systems the text of Apache-2.0 is in
+mercator, its man page and its clients are licensed under either MIT or
+Apache-2.0, at your option. On Debian systems, the text of Apache-2.0 is in
 /usr/share/common-licenses/Apache-2.0.
 
 END
     cat "$here/LICENSE-MIT"
 }
 
-# The newest part of CHANGELOG.md, as Debian writes changes.
+# Prints the newest section of CHANGELOG.md as a Debian changelog.
 changes() {
     printf 'mercator (%s) unstable; urgency=medium\n\n' "$(version)"
     sed -n '/^## /,/^## /{/^- /p}' "$here/CHANGELOG.md" | sed 's/^- //; s/`//g' | while read -r line; do
@@ -102,7 +120,7 @@ changes() {
     printf '\n -- %s  %s\n' "$(maintainer)" "$(date -R -u -d "@$SOURCE_DATE_EPOCH")"
 }
 
-# script NAME COMMAND..: a script of the package, for the bytecode of Python's modules.
+# script NAME COMMAND: makes a maintainer script of the package that runs COMMAND on the bytecode of the Python modules.
 script() {
     printf '#!/bin/sh\nset -e\nif command -v %s > /dev/null; then\n    %s -p mercator\nfi\n' "$2" "$2" > "$root/DEBIAN/$1"
     chmod 755 "$root/DEBIAN/$1"
@@ -130,14 +148,20 @@ make_package() {
 
 here=$(cd "$(dirname "$0")" && pwd)
 program='' deb=''
-while [[ ${1:-} == --* ]]; do
+while [[ ${1:-} == -* ]]; do
     case $1 in
-    --program) [ -x "${2:-}" ] || usage; program=$(realpath "$2"); shift 2 ;;
+    --program)
+        [ -n "${2:-}" ] || usage "--program needs the path of a program"
+        if [ ! -f "$2" ] || [ ! -x "$2" ]; then usage "$2 is not an executable file"; fi
+        program=$(realpath "$2")
+        shift 2
+        ;;
     --deb) deb=1; shift ;;
-    *) usage ;;
+    -h | --help) help; exit ;;
+    *) usage "unknown option $1" ;;
     esac
 done
-[ $# -le 1 ] || usage
+[ $# -le 1 ] || usage "unexpected argument $2"
 scratch=$(mktemp -d)
 trap 'rm -rf "$scratch"' EXIT
 program=${program:-$(built)}

@@ -1,9 +1,11 @@
 #!/usr/bin/env python3
-"""The public calls, crate by crate, as a page on standard output: `docs/calls.py [CRATE ..]`.
+"""Print the public calls of each crate, or of the crates named: `docs/calls.py [CRATE ..]`.
 
-Each call has its signature, its first words, whether it may wait (a bound `Wait` or `Threads`), whether it may run out of
-memory (its errors have `NoMemory`, or it answers an `AllocError`), its errors in the order of their checks, and its clauses.
-Where an error is a struct, its errors are those of the field that has them. The script reads `src/` as text.
+For each call the page has its signature, the first sentence of its comment, and its clauses. It
+also says whether the call may wait (it has a bound `Wait` or `Threads`) and whether it may run out
+of memory (`NoMemory` is one of its errors, or it returns an `AllocError`), and lists its errors in
+the order in which they are checked. If an error is a struct, these are the errors of its error
+field. The script reads `src/` as text.
 """
 
 from __future__ import annotations
@@ -44,15 +46,17 @@ def errors_in(crates: list[Path]) -> dict[str, list[str]]:
 
 
 def exported(crate: Path) -> set[str]:
-    """The names that the root file, or a public module of it, gives to other crates."""
+    """The names that the root file or one of its public modules exports."""
     root = (crate / "src/lib.rt").read_text("utf-8")
-    texts = [root] + [(crate / f"src/{name}.rt").read_text("utf-8") for name in re.findall(r"^pub mod (\w+);", root, re.M)]
+    modules = re.findall(r"^pub mod (\w+);", root, re.M)
+    texts = [root, *((crate / f"src/{name}.rt").read_text("utf-8") for name in modules)]
     uses = re.findall(r"^pub use [^;]*;", "\n".join(texts), re.M)
-    return set(re.findall(r"\w+", " ".join(uses))) | set(re.findall(r"^pub fn (\w+)", "\n".join(texts[1:]), re.M))
+    calls = re.findall(r"^pub fn (\w+)", "\n".join(texts[1:]), re.M)
+    return set(re.findall(r"\w+", " ".join(uses))) | set(calls)
 
 
 def doc_above(lines: list[str], start: int) -> str:
-    """The doc comment that stands above a line, as one text."""
+    """The doc comment above a line, as one text."""
     said: list[str] = []
     for line in map(str.strip, reversed(lines[:start])):
         if not line.startswith(("///", "#[")):
@@ -63,13 +67,14 @@ def doc_above(lines: list[str], start: int) -> str:
 
 def head_of(lines: list[str], start: int) -> list[str]:
     """The lines of a function from its name to its body."""
-    end = next(k for k, line in enumerate(lines[start:], start) if line.strip() in ("{", "{}") or line.endswith((" {", " {}")))
+    rest = enumerate(lines[start:], start)
+    end = next(k for k, line in rest if line.strip() in ("{", "{}") or line.endswith((" {", " {}")))
     last = lines[end].rstrip("{} ")
     return lines[start:end] + ([last] if last else [])
 
 
 def clauses_of(text: str) -> Iterator[tuple[str, str, str]]:
-    """The kind, the label and the text of each clause, up to the brace that ends it."""
+    """The kind, label and text of each clause, up to its closing brace."""
     for match in CLAUSE.finditer(text):
         depth, end = 1, match.end()
         while depth and end < len(text):
@@ -86,7 +91,8 @@ def calls_of(text: str) -> Iterator[Call]:
             continue
         owners = OWNER.findall("\n".join(lines[:start])) if found[1] else []
         head = head_of(lines, start)
-        split = next((k for k, it in enumerate(head) if CLAUSE.match(it) or it.strip().startswith("//")), len(head))
+        ends = (k for k, it in enumerate(head) if CLAUSE.match(it) or it.strip().startswith("//"))
+        split = next(ends, len(head))
         signature = re.sub(r"\s+", " ", " ".join(head[:split])).partition(found[2])[2].strip()
         yield Call(
             f"{owners[-1]}::{found[2]}" if owners else found[2],
@@ -96,14 +102,16 @@ def calls_of(text: str) -> Iterator[Call]:
         )
 
 
-def told(call: Call, errors: dict[str, list[str]]) -> Iterator[str]:
+def lines_of(call: Call, errors: dict[str, list[str]]) -> Iterator[str]:
     error = re.search(r"Result<.*?,\s*(\w+)>", call.signature)
     variants = errors.get(error[1], []) if error else []
     waits = re.search(r"\b(Wait|Threads)\b", call.signature) is not None
     memory = "NoMemory" in variants or bool(error and error[1] in ("AllocError", "NoMemory"))
     yield f"### `{call.name}`\n"
     yield f"```rust\nfn {call.name.split('::')[-1]}{call.signature}\n```\n"
-    yield f"{call.says or '(no words)'} {'May wait' if waits else 'Does not wait'}; {'may' if memory else 'does not'} run out of memory.\n"
+    says = call.says or "(no comment)"
+    waiting = "May wait" if waits else "Does not wait"
+    yield f"{says} {waiting}; {'may' if memory else 'does not'} run out of memory.\n"
     if error:
         yield f"Errors: {', '.join(f'`{it}`' for it in variants) or f'`{error[1]}`'}.\n"
     for kind, label, clause in call.clauses:
@@ -112,7 +120,8 @@ def told(call: Call, errors: dict[str, list[str]]) -> Iterator[str]:
 
 
 def main(names: list[str]) -> None:
-    crates = [path.parent.parent for path in sorted(ROOT.glob("crates/*/src/lib.rt")) if not path.parent.parent.name.endswith("_tests")]
+    libraries = [path.parent.parent for path in sorted(ROOT.glob("crates/*/src/lib.rt"))]
+    crates = [path for path in libraries if not path.name.endswith("_tests")]
     errors = errors_in(crates)
     print("# Public calls\n")
     for crate in crates:
@@ -123,7 +132,7 @@ def main(names: list[str]) -> None:
         for path in sorted(crate.glob("src/**/*.rt")):
             for call in calls_of(path.read_text("utf-8")):
                 if call.name.split("::")[0] in names_out:
-                    print("\n".join(told(call, errors)))
+                    print("\n".join(lines_of(call, errors)))
 
 
 if __name__ == "__main__":

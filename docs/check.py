@@ -1,135 +1,519 @@
 #!/usr/bin/env python3
-"""Checks the repository's documents, and prints what is wrong with them.
+"""Check the repository's documents, and the English of its pages and messages.
 
-- A link leads to a file that is there, and to a heading of it where it has a fragment.
-- A path in backticks names a file or folder, from the document's folder, its crate, `crates/` or the
-  root. What a build makes, below a crate's `out`, need not be there.
-- A name in backticks stands in some file that is no document.
-- Code below a line that begins with "From `PATH`" stands in that file, function by function.
-- No sentence has more than LONGEST words, where code in backticks counts as one.
-- A document is no larger than LIMITS allow, and all together are at most TOTAL bytes.
-- No document tells when something was so: dates stand in FIGURES and CHANGELOG alone.
-- No entry of DECISIONS has more than ENTRY lines.
+  docs/check.py                     check everything, and exit with status 1 if a check fails
+  docs/check.py --words [FILE ..]   list each phrase to avoid in these files, or in all
+  docs/check.py --counts [REVISION] count these phrases, now and in a revision
+  docs/check.py --ceilings          print the table CEILINGS with the counts as they are now
 
-`tests/cases.py` runs the commands that README, MANUAL, FORMATS and GUIDE show. The status is 1 where
-anything is wrong.
+Each document is checked for:
+
+- links: every link leads to a file of the repository, and to a heading of it if it has a fragment.
+- names: a path in backticks exists in the document's folder, its crate, `crates/`, `docs/`,
+  `tests/` or the root, unless a build makes it; a name in backticks occurs in a file that is no
+  document.
+- quotations: code after a line that begins with "From `PATH`" is in that file, piece by piece.
+- dates: only the figures and the change log say when something was so.
+- size: README is at most README_BYTES long, an entry of DECISIONS at most ENTRY_WORDS.
+
+Three groups of files (see GROUPS) are searched for phrases that a reader has to translate (see
+PHRASES). In documents they are also searched for table cells of more than CELL_WORDS words, and
+sentences of more than SENTENCE_WORDS; code in backticks counts as one word. Phrases in quotation
+marks do not count. The table CEILINGS has the most that a group may have of each. These numbers may
+be lowered, but not raised.
+
+The last line is `N passed, M failed`. The commands that the pages show are run by `tests/cases.py`.
 """
 
 from __future__ import annotations
 
+import argparse
+import ast
+import io
 import re
 import subprocess
 import sys
+import tarfile
 from pathlib import Path
-from typing import Iterator
+from typing import Callable, Iterable, Iterator, NamedTuple, Optional
 
-ROOT = Path(__file__).resolve().parent.parent
-TOTAL = 200_000
-LONGEST = 40
-ENTRY = 6
-LIMITS = (
-    (re.compile(r"README\.md"), 7_000),
-    (re.compile(r"crates/\w+/README\.md"), 6_000),
-    (re.compile(r"docs/(THEOREMS|DECISIONS|PROOFS)\.md"), 20_000),
-    (re.compile(r"docs/GUIDE\.md"), 12_000),
+HERE = Path(__file__).resolve().parent.parent
+README_BYTES = 8_200
+ENTRY_WORDS = 100
+CELL_WORDS = 25
+SENTENCE_WORDS = 35
+
+DATED = ("bench/FIGURES.md", "CHANGELOG.md")
+DATE = re.compile(
+    r"\b(today|tonight|yesterday|until then|this morning|20\d\d-\d\d-\d\d"
+    r"|(?:November|December) 20\d\d)\b",
+    re.I,
 )
-HISTORY = ("bench/FIGURES.md", "CHANGELOG.md")
-DIARY = re.compile(r"\b(today|tonight|yesterday|until then|this morning|20\d\d-\d\d-\d\d|(?:November|December) 20\d\d)\b", re.I)
 QUOTED = re.compile(r"^From `([^`]+)`.*\n\n```rust\n(.*?)^```$", re.M | re.S)
-ITEM = re.compile(r"\s*(?:[-*#]+|\d+\.)\s+")
-SENTENCE_END = re.compile(r"[.:?!](?:\*\*|\))?\s")
+ENTRY = re.compile(r"^- .*\n(?:(?!- |#).+\n?)*", re.M)
 LINK = re.compile(r"\]\(([^)#\s]*)(?:#([^)\s]*))?\)")
 HEADING = re.compile(r"^#+ (.*)$", re.M)
 TICKED = re.compile(r"`([^`]+)`")
+QUOTATION = re.compile(r'"[^"]*"')
 PATH = re.compile(r"(?:[\w.-]+/)+[\w.-]*")
 NAME = re.compile(r"(?:[A-Za-z_]\w*(?:::|\.))*([A-Za-z_]\w{4,})(?:\(.*\)|!)?")
-# What stands for any name, and what decisions and proofs say of things that were not taken.
-STANDS_FOR = {"NAME_tests"}
-OURS = {"crates", "docs", "tests", "tools", "bench", "examples", "clients", "src", "specs", "proofs"}
-OURS |= {crate.name for crate in (ROOT / "crates").iterdir()}
-# Paths of the kit's documents.
-OF_THE_KIT = ("docs/NOT_COVERED.md", "docs/REFUSED.md")
-UNCHECKED_NAMES = ("docs/DECISIONS.md", "docs/PROOFS.md")
+WORD = re.compile(r"[A-Za-z_]\w*")
+# A placeholder for any name, and documents of the toolchain that pages name.
+PLACEHOLDERS = {"NAME_tests"}
+TOOLCHAIN = ("docs/NOT_COVERED.md", "docs/REFUSED.md")
+# Pages that also name what was rejected.
+WITH_REJECTED_NAMES = ("docs/DECISIONS.md", "docs/PROOFS.md")
 
 
-def tracked() -> list[Path]:
-    listed = subprocess.run(["git", "ls-files"], cwd=ROOT, check=True, capture_output=True, text=True)
-    paths = [ROOT / line for line in listed.stdout.splitlines()]
-    return [path for path in paths if path.is_file()]
+# ---------------------------------------------------------------- the files
+
+class Files:
+    """The tracked text files of a work tree or a revision, by name."""
+
+    def __init__(self, texts: dict[str, str]) -> None:
+        self.texts = texts
+
+    @classmethod
+    def of_work_tree(cls, root: Path) -> Files:
+        listed = git(root, "ls-files", "-z").decode().split("\0")
+        paths = [(name, root / name) for name in listed if name]
+        return cls({name: path.read_text("utf-8", "replace")
+                    for name, path in paths if path.is_file()})
+
+    @classmethod
+    def of_revision(cls, root: Path, revision: str) -> Files:
+        texts = {}
+        with tarfile.open(fileobj=io.BytesIO(git(root, "archive", revision))) as archive:
+            for member in archive:
+                file = archive.extractfile(member) if member.isfile() else None
+                if file is not None:
+                    texts[member.name] = file.read().decode("utf-8", "replace")
+        return cls(texts)
+
+    def documents(self) -> list[str]:
+        return [name for name in self.texts if name.endswith(".md")]
 
 
-def words_of(paths: list[Path]) -> set[str]:
-    """The names in all files but documents."""
-    words: set[str] = set()
-    for path in paths:
-        name = path.relative_to(ROOT).as_posix()
-        words.update(re.findall(r"[A-Za-z_]\w*", name))
-        if path.suffix != ".md":
-            words.update(re.findall(r"[A-Za-z_]\w*", path.read_text("utf-8", "replace")))
-    return words
+def git(root: Path, *arguments: str) -> bytes:
+    return subprocess.run(["git", *arguments], cwd=root, check=True, capture_output=True).stdout
+
+
+# ---------------------------------------------------------------- texts of a file
+
+class Unit(NamedTuple):
+    """A paragraph, an item of a list, a cell of a table, or a string of a program."""
+
+    line: int
+    text: str
+    is_cell: bool = False
+    is_title: bool = False
+
+
+ITEM = re.compile(r"\s*(?:[-*#>]+|\d+\.)\s+")
+PLACEHOLDER = re.compile(r"\{[\w:?.#<>]*\}")
+SCRIPT_OF_PAGE = "'use strict'"
+ROFF_TEXT = re.compile(r"\.(?:B|I|BR|RB|BI|IB|IR|RI|SM|SB) (.*)")
+RATTLE_TOKEN = re.compile(
+    r"//[^\n]*|/\*.*?\*/|'(?:\\.[^']*|[^'\\])'"
+    r"|r\"([^\"]*)\"|r(#+)\"(.*?)\"\2|\"((?:\\.|[^\"\\])*)\"",
+    re.S,
+)
+RATTLE_ESCAPES = {"n": "\n", "t": " ", "r": "", '"': '"', "\\": "\\", "0": ""}
 
 
 def prose(text: str) -> Iterator[tuple[int, str]]:
-    """The lines outside fenced blocks, with their numbers."""
-    fenced = False
+    """The lines of a document outside fenced blocks, with their numbers."""
+    is_fenced = False
     for number, line in enumerate(text.splitlines(), 1):
-        if line.startswith("```"):
-            fenced = not fenced
-        elif not fenced:
+        if line.lstrip().startswith("```"):
+            is_fenced = not is_fenced
+        elif not is_fenced:
             yield number, line
 
 
-def units(text: str) -> Iterator[tuple[int, str]]:
-    """The paragraphs, items of lists and cells of tables, each with the number of its first line."""
-    unit: list[str] = []
-    above = first = 0
+def units_of_markdown(text: str) -> Iterator[Unit]:
+    """Paragraphs, items and cells. Code in backticks becomes one word, and links their texts."""
+    pieces: list[str] = []
+    first = above = 0
     for number, line in prose(text + "\n\n"):
         item = ITEM.match(line)
-        if unit and (not line.strip() or item or line[0] == "|" or number > above + 1):
-            yield first, " ".join(unit)
-            unit = []
+        is_row = line[:1] == "|"
+        if pieces and (not line.strip() or item or is_row or number > above + 1):
+            yield Unit(first, " ".join(pieces))
+            pieces = []
         above = number
-        line = TICKED.sub("code", line)
-        if line[:1] == "|":
-            yield from ((number, cell) for cell in line.split("|"))
+        line = TICKED.sub("code", line).replace("**", "")
+        line = re.sub(r"!?\[([^\]]*)\]\([^)]*\)", r"\1", line)
+        if is_row:
+            yield from (Unit(number, cell.strip(), True) for cell in line.split("|"))
+        elif line.startswith("#"):
+            yield Unit(number, line.strip("# "), is_title=True)
         elif line.strip():
-            first = first if unit else number
-            unit.append(line[item.end() if item else 0:])
+            first = first if pieces else number
+            pieces.append(line[item.end() if item else 0:].strip())
 
 
-def faults_of_sentences(text: str) -> Iterator[tuple[int, str]]:
-    for number, unit in units(text):
-        for sentence in SENTENCE_END.split(unit):
-            words = len(sentence.split())
-            if words > LONGEST:
-                yield number, f"a sentence of {words} words, where {LONGEST} are the most"
-
-
-def faults_of_entries(text: str) -> Iterator[tuple[int, str]]:
-    for entry in re.finditer(r"^- .*\n(?:(?!- |#).+\n?)*", text, re.M):
-        lines = entry[0].rstrip("\n").count("\n") + 1
-        if lines > ENTRY:
-            yield text.count("\n", 0, entry.start()) + 1, f"an entry of {lines} lines, where {ENTRY} are the most"
-
-
-def faults_of_quotations(document: Path, text: str) -> Iterator[tuple[int, str]]:
-    for quoted in QUOTED.finditer(text):
-        path, code = quoted.groups()
-        number = text.count("\n", 0, quoted.start()) + 1
-        file = next((it for it in (ROOT / path, document.parent / path) if it.is_file()), None)
-        if file is None:
-            yield number, f"code of {path}, which is not there"
+def units_of_manual_page(text: str) -> Iterator[Unit]:
+    pieces: list[str] = []
+    first = 1
+    for number, line in enumerate((text + "\n.PP\n").splitlines(), 1):
+        macro = ROFF_TEXT.match(line)
+        if line.startswith(".") and not macro:
+            if pieces:
+                yield Unit(first, " ".join(pieces))
+            pieces = []
             continue
-        source = file.read_text("utf-8")
-        for piece in code.rstrip("\n").split("\n\n"):
-            if piece not in source:
-                yield number, f"code that is not in {path}: {piece.splitlines()[0]}"
+        said = macro[1].replace('"', "") if macro else line
+        first = first if pieces else number
+        pieces.append(re.sub(r"\\f.", "", said).replace("\\-", "-").replace("\\|", ""))
 
 
-def is_there(document: Path, path: str) -> bool:
-    path = re.sub(r"(?<=/)out/.*", "", path)
-    places = [document.parent, ROOT, ROOT / "crates", *(ROOT / "crates").iterdir(), ROOT / "docs", ROOT / "tests"]
-    return any((place / path).exists() for place in places)
+def units_of_rattle(text: str) -> Iterator[Unit]:
+    """The string literals of a Rattle file, but for the script of a page, cut at empty lines."""
+    for token in RATTLE_TOKEN.finditer(text):
+        said = next((it for it in (token[1], token[3], token[4]) if it is not None), "")
+        if SCRIPT_OF_PAGE in said:
+            continue
+        if token[4] is not None:
+            said = re.sub(r"\\\n\s*", "", said)
+            said = re.sub(r"\\(.)", lambda it: RATTLE_ESCAPES.get(it[1], " "), said)
+        said = PLACEHOLDER.sub("X", said)
+        line = text.count("\n", 0, token.start()) + 1
+        yield from (Unit(line, paragraph) for paragraph in said.split("\n\n") if paragraph.strip())
+
+
+def units_of_python(text: str) -> Iterator[Unit]:
+    """The docstring and strings of a program, without the docstrings inside it."""
+    tree = ast.parse(text)
+    inner = inner_docstrings(tree)
+    yield from units_of_strings(it for it in ast.walk(tree) if it not in inner)
+
+
+def units_of_library(text: str) -> Iterator[Unit]:
+    """All docstrings and strings of a module that others import."""
+    yield from units_of_strings(ast.walk(ast.parse(text)))
+
+
+def inner_docstrings(tree: ast.AST) -> set[ast.AST]:
+    found: set[ast.AST] = set()
+    for node in ast.walk(tree):
+        if isinstance(node, (ast.FunctionDef, ast.AsyncFunctionDef, ast.ClassDef)):
+            first = node.body[0]
+            if isinstance(first, ast.Expr):
+                found.add(first.value)
+    return found
+
+
+def units_of_strings(nodes: Iterable[ast.AST]) -> Iterator[Unit]:
+    for node in nodes:
+        if isinstance(node, ast.Constant) and isinstance(node.value, str):
+            for paragraph in node.value.split("\n\n"):
+                yield Unit(node.lineno, re.sub(r"``?[^`\n]+``?", "code", paragraph))
+
+
+def units_of_shell(text: str) -> Iterator[Unit]:
+    """The comment at the top of a script, and the texts that it prints."""
+    is_top = True
+    for number, line in enumerate(text.splitlines(), 1):
+        is_top = is_top and line.startswith("#")
+        if is_top:
+            yield Unit(number, line)
+        elif re.match(r".*\b(?:echo|printf|fail|die) ", line):
+            for said in re.findall(r"\"[^\"]*\"|'[^']*'", line):
+                yield Unit(number, re.sub(r"\$\w+", "X", said.strip("\"'")))
+
+
+READERS: tuple[tuple[str, Callable[[str], Iterator[Unit]]], ...] = (
+    (r".*\.md", units_of_markdown),
+    (r".*\.1", units_of_manual_page),
+    (r".*\.rt", units_of_rattle),
+    (r"clients/.*\.py", units_of_library),
+    (r".*\.py", units_of_python),
+    (r".*\.sh", units_of_shell),
+)
+
+
+def units_of(name: str, text: str) -> list[Unit]:
+    reader = next((it for pattern, it in READERS if re.fullmatch(pattern, name)), None)
+    return sorted(reader(text)) if reader is not None else []
+
+
+# ---------------------------------------------------------------- phrases
+
+class Phrase(NamedTuple):
+    """A phrase to avoid: of which rule it is, and what to write."""
+
+    rule: str
+    name: str
+    pattern: re.Pattern[str]
+    instead: str
+
+
+def phrase(rule: str, name: str, pattern: str, instead: str) -> Phrase:
+    return Phrase(rule, name, re.compile(pattern, re.I), instead)
+
+
+VERBS, CONDITIONS, TERMS, GRAMMAR = "verbs", "conditions", "terms", "grammar"
+# Before these words "where" is about a place: "the file where", "resumes where", "see where".
+BEFORE_PLACES = (
+    "place places page pages file files folder folders directory line lines column section table"
+    " machine host location locations position point site row part"
+    " begin begins start starts stop stops stopped end ends resume resumes resumed continue"
+    " continues stay stays tell tells write writes say says know knows known see find finds"
+    " show shows print prints list lists report reports remember remembers learn learns decide"
+    " decides matter matters also is are was were to from of about on or and"
+)
+WHERE = (
+    r"(?<![\w-])" + "".join(rf"(?<!\b{it} )" for it in BEFORE_PLACES.split()) + r"where\b(?!-)"
+    r"(?! code(?: is| are| and|[;,.]))(?! (?:to|is|are|do|does|can)\b)(?![^.?!]*\?)"
+)
+PHRASES = (
+    phrase(VERBS, "tell", r"\b(?:tells?|told|telling)\b", "report, print, list, show"),
+    phrase(VERBS, "stand", r"(?<!-)\b(?:stands?|stood|standing)\b(?!-)", "be, appear; match"),
+    phrase(VERBS, "want", r"(?<!you )(?<!who )\b(?:wants?|wanted)\b", "need, require"),
+    phrase(VERBS, "answer (of a function)", r"\banswer(?:s|ed|ing)?\b", "return"),
+    phrase(VERBS, "asked", r"\basked\b", "target; requested; called"),
+    phrase(VERBS, "go on", r"\b(?:go|goes|going|went|gone) on\b", "resume, continue"),
+    phrase(VERBS, "mend", r"\bmend(?:s|ed|ing)?\b", "fix"),
+    phrase(CONDITIONS, "where (condition)", WHERE, "if, when"),
+    phrase(CONDITIONS, "behind", r"\bbehind\b", "after, following"),
+    phrase(CONDITIONS, "beside", r"\bbesides?\b", "next to, in addition to, except"),
+    phrase(CONDITIONS, "at once", r"\bat once\b", "immediately; at the same time"),
+    phrase(TERMS, "growth", r"\bgrowths?\b", "allocation"),
+    phrase(TERMS, "wrong body", r"\bwrong bod(?:y|ies)\b", "mutant"),
+    phrase(TERMS, "not taken", r"\bnot taken\b", "rejected"),
+    phrase(TERMS, "drawn", r"\b(?:drawn|draws)\b", "random, generated"),
+    phrase(TERMS, "reckon", r"\breckon\w*", "compute, estimate; an independent model"),
+    phrase(TERMS, "of processor, of clock", r"\bof (?:a )?(?:processors?|clock)\b",
+           "CPU minutes, elapsed minutes"),
+    phrase(TERMS, "fault", r"\bfault(?:s|y)?\b", "error"),
+    phrase(TERMS, "words (arguments)", r"(?<!plain )(?<!other )\bwords\b", "arguments"),
+    phrase(TERMS, "in hand", r"\bin hand\b", "in progress"),
+    phrase(TERMS, "strangers", r"\bstrangers?\b|\bwhoever\b", "an attacker, untrusted input"),
+    phrase(TERMS, "kit", r"\bkits?\b", "the Rattle toolchain"),
+    phrase(TERMS, "plain texts", r"\bplain (?:texts?|urls?)\b", "common URL forms"),
+    phrase(TERMS, "worked row", r"\bworked rows?\b", "test vector, named case"),
+    phrase(TERMS, "subqueue", r"\bsubqueues?\b", "queue"),
+    phrase(GRAMMAR, "one a line", r"\ba line each\b|\b(?:(?:an?|one) \w+|one|each) an? (?:line"
+           r"|request|row|page|step|file|host|function|link|record|copy)\b", "one .. per line"),
+    phrase(GRAMMAR, "alone (only)", r"\balone\b", "only"),
+    phrase(GRAMMAR, "so many, as many", r"\b(?:so|as) many\b", "N, the given number of"),
+    phrase(GRAMMAR, "the same of", r"\bthe same of\b", "likewise for"),
+)
+CELLS = f"cells over {CELL_WORDS} words"
+SENTENCES = f"sentences over {SENTENCE_WORDS} words"
+ALL_NAMES = (*(it.name for it in PHRASES), CELLS, SENTENCES)
+
+# An answer is right in what speaks of requests to `mercator serve` or to a server.
+OF_SESSIONS = re.compile(r"docs/(?:SESSION|SCALE|FORMATS)\.md|clients/.*|crates/crawl_session/.*")
+SESSION = re.compile(
+    r"\b(?:request|session|client|server|protocol|serve|co-process|http|redis|identity|sync)", re.I)
+# The word of the gate is one of the machine's.
+GATE = re.compile(
+    r"\b(?:gate|atomic|closed|open|met|load|seat|sender|exchange|in (?:the )?words)", re.I)
+SENTENCE_END = re.compile(r"(?<![.]\.)[.?!][)\"'*]*\s")
+
+
+class Group(NamedTuple):
+    name: str
+    files: re.Pattern[str]
+    # Phrases that this group may have.
+    without: frozenset[str] = frozenset()
+
+
+GROUPS = (
+    Group("pages", re.compile(
+        r"(?:README|CHANGELOG|CONTRIBUTING|SECURITY)\.md|docs/mercator\.1|examples/README\.md"
+        r"|docs/(?:GUIDE|MANUAL|SESSION|FORMATS|SCALE|GLOSSARY)\.md|clients/python/README\.md")),
+    Group("help", re.compile(
+        r"crates/mercator/src/commands/.*\.rt"
+        r"|crates/(?:check_report|mercator_cli|mercator_site|saved_site)/src/.*\.rt"
+        r"|(?:examples|clients|tools)/.*\.(?:py|sh)|(?:try|install)\.sh")),
+    Group("others", re.compile(r".*\.md"), frozenset({"subqueue"})),
+)
+
+
+class Found(NamedTuple):
+    """A phrase at a line of a file, with what is around it."""
+
+    file: str
+    line: int
+    name: str
+    context: str
+
+
+def group_of(name: str) -> Optional[Group]:
+    return next((group for group in GROUPS if group.files.fullmatch(name)), None)
+
+
+def is_meant(it: Phrase, file: str, unit: Unit) -> bool:
+    """Whether the phrase is right in this unit, in another sense than the one to avoid."""
+    if it.name.startswith("answer"):
+        return OF_SESSIONS.fullmatch(file) is not None or SESSION.search(unit.text) is not None
+    if it.name.startswith("words"):
+        return GATE.search(unit.text) is not None
+    if it.name.startswith("where"):
+        return unit.is_title or unit.is_cell and len(unit.text.split()) < 4
+    return False
+
+
+def phrases_in(file: str, text: str) -> Iterator[Found]:
+    for unit in units_of(file, text):
+        said = re.sub(r"\s+", " ", unit.text)
+        searched = QUOTATION.sub('""', said) if file.endswith(".md") else said
+        for it in PHRASES:
+            for match in it.pattern.finditer(searched):
+                if not is_meant(it, file, unit):
+                    around = searched[max(0, match.start() - 40):match.end() + 40]
+                    yield Found(file, unit.line, it.name, around.strip())
+        if file.endswith((".md", ".1")):
+            yield from too_long(file, unit, said)
+
+
+def too_long(file: str, unit: Unit, said: str) -> Iterator[Found]:
+    if unit.is_cell:
+        count = len(said.split())
+        if count > CELL_WORDS:
+            yield Found(file, unit.line, CELLS, f"{count} words: {said[:60]} ..")
+        return
+    for sentence in SENTENCE_END.split(said):
+        count = len(sentence.split())
+        if count > SENTENCE_WORDS:
+            yield Found(file, unit.line, SENTENCES, f"{count} words: {sentence[:60]} ..")
+
+
+Counts = dict[str, list[int]]
+
+
+def counts_of(files: Files) -> Counts:
+    """How often each group of files has each phrase."""
+    counts: Counts = {name: [0] * len(GROUPS) for name in ALL_NAMES}
+    for name, text in files.texts.items():
+        group = group_of(name)
+        if group is not None:
+            for found in phrases_in(name, text):
+                if found.name not in group.without:
+                    counts[found.name][GROUPS.index(group)] += 1
+    return counts
+
+
+# The most that each group of files may have of each phrase. Run `docs/check.py --ceilings` to print
+# this table with the counts as they are now.
+CEILINGS: Counts = {
+    "tell": [36, 27, 40],
+    "stand": [30, 8, 40],
+    "want": [11, 6, 6],
+    "answer (of a function)": [8, 2, 46],
+    "asked": [1, 4, 19],
+    "go on": [5, 10, 0],
+    "mend": [3, 2, 0],
+    "where (condition)": [23, 33, 67],
+    "behind": [14, 2, 8],
+    "beside": [6, 3, 9],
+    "at once": [4, 4, 9],
+    "growth": [2, 0, 4],
+    "wrong body": [0, 0, 5],
+    "not taken": [0, 0, 1],
+    "drawn": [0, 0, 16],
+    "reckon": [4, 0, 4],
+    "of processor, of clock": [0, 2, 12],
+    "fault": [21, 4, 40],
+    "words (arguments)": [3, 5, 6],
+    "in hand": [2, 7, 2],
+    "strangers": [1, 0, 7],
+    "kit": [2, 2, 4],
+    "plain texts": [0, 0, 2],
+    "worked row": [0, 0, 3],
+    "subqueue": [21, 7, 0],
+    "one a line": [14, 7, 4],
+    "alone (only)": [7, 9, 6],
+    "so many, as many": [2, 5, 7],
+    "the same of": [2, 0, 4],
+    "cells over 25 words": [8, 0, 39],
+    "sentences over 35 words": [1, 0, 4],
+}
+
+
+# ---------------------------------------------------------------- checks of a document
+
+class Result(NamedTuple):
+    """What a check of one document found."""
+
+    check: str
+    errors: list[str]
+
+
+class Checker:
+    """Checks documents against the files of a work tree."""
+
+    def __init__(self, root: Path, files: Files) -> None:
+        self.root = root
+        self.files = files
+        crates = sorted(path for path in (root / "crates").iterdir() if path.is_dir())
+        self.folders = [root, root / "crates", *crates, root / "docs", root / "tests"]
+        self.tops = {"crates", "docs", "tests", "tools", "bench", "examples", "clients", "src",
+                     "specs", "proofs", *(crate.name for crate in crates)}
+        self.names = set(PLACEHOLDERS)
+        for name, text in files.texts.items():
+            self.names.update(WORD.findall(name))
+            if not name.endswith(".md"):
+                self.names.update(WORD.findall(text))
+
+    def results(self) -> Iterator[Result]:
+        for name in self.files.documents():
+            text = self.files.texts[name]
+            yield Result(f"{name}: links", list(self.links(name, text)))
+            yield Result(f"{name}: names", list(self.wrong_names(name, text)))
+            yield Result(f"{name}: quotations", list(self.quotations(name, text)))
+            if name not in DATED:
+                yield Result(f"{name}: dates", list(dates(text)))
+            if name == "README.md":
+                yield Result(f"{name}: size", list(size(text)))
+            if name == "docs/DECISIONS.md":
+                yield Result(f"{name}: entries", list(entries(text)))
+
+    def links(self, name: str, text: str) -> Iterator[str]:
+        document = self.root / name
+        for number, line in prose(text):
+            for link, fragment in LINK.findall(TICKED.sub("", line)):
+                target = document.parent / link if link else document
+                if "://" in link or link.startswith("mailto:"):
+                    continue
+                if not target.exists():
+                    yield f"{number}: link to {link}, which does not exist"
+                elif fragment and fragment not in headings_of(target):
+                    yield f"{number}: link to #{fragment}, not a heading of {target.name}"
+
+    def wrong_names(self, name: str, text: str) -> Iterator[str]:
+        for number, line in prose(text):
+            for ticked in TICKED.findall(line):
+                if PATH.fullmatch(ticked) and self.is_ours(ticked):
+                    if not self.exists((self.root / name).parent, ticked):
+                        yield f"{number}: `{ticked}` does not exist"
+                called = NAME.fullmatch(ticked.strip())
+                if called and name not in WITH_REJECTED_NAMES and called[1] not in self.names:
+                    yield f"{number}: `{ticked}` is not a name in any file"
+
+    def is_ours(self, path: str) -> bool:
+        return path.split("/")[0] in self.tops and "NAME" not in path and path not in TOOLCHAIN
+
+    def exists(self, folder: Path, path: str) -> bool:
+        path = re.sub(r"(?<=/)out/.*", "", path)
+        return any((place / path).exists() for place in (folder, *self.folders))
+
+    def quotations(self, name: str, text: str) -> Iterator[str]:
+        for quoted in QUOTED.finditer(text):
+            path, code = quoted.groups()
+            number = text.count("\n", 0, quoted.start()) + 1
+            places = (self.root / path, (self.root / name).parent / path)
+            file = next((it for it in places if it.is_file()), None)
+            if file is None:
+                yield f"{number}: code of {path}, which does not exist"
+                continue
+            source = file.read_text("utf-8")
+            for piece in code.rstrip("\n").split("\n\n"):
+                if piece not in source:
+                    yield f"{number}: code that is not in {path}: {piece.splitlines()[0]}"
 
 
 def headings_of(document: Path) -> set[str]:
@@ -138,54 +522,133 @@ def headings_of(document: Path) -> set[str]:
     return {re.sub(r"[^\w -]", "", title.lower()).strip().replace(" ", "-") for title in titles}
 
 
-def faults_of_line(document: Path, name: str, line: str, words: set[str]) -> Iterator[str]:
-    for link, part in LINK.findall(line):
-        target = document.parent / link if link else document
-        if "://" not in link and not target.exists():
-            yield f"a link to {link}, which is not there"
-        elif part and "://" not in link and part not in headings_of(target):
-            yield f"a link to the heading {part} of {target.name}, which is not there"
-    for ticked in TICKED.findall(line):
-        if PATH.fullmatch(ticked) and "NAME" not in ticked and ticked not in OF_THE_KIT and not is_there(document, ticked):
-            if ticked.split("/")[0] in OURS:
-                yield f"`{ticked}` is not there"
-        called = NAME.fullmatch(ticked.strip())
-        if called and name not in UNCHECKED_NAMES and called[1] not in words | STANDS_FOR:
-            yield f"`{ticked}` is the name of nothing"
-    diary = DIARY.search(line)
-    if name not in HISTORY and diary:
-        yield f"a diary: {diary[0]}"
+def dates(text: str) -> Iterator[str]:
+    for number, line in prose(text):
+        found = DATE.search(line)
+        if found:
+            yield f"{number}: says when: {found[0]}"
 
 
-def faults(paths: list[Path]) -> Iterator[str]:
-    words = words_of(paths)
-    total = 0
-    for document in (path for path in paths if path.suffix == ".md"):
-        name = document.relative_to(ROOT).as_posix()
-        text = document.read_text("utf-8")
-        size = len(text.encode())
-        total += size
-        for pattern, limit in LIMITS:
-            if pattern.fullmatch(name) and size > limit:
-                yield f"{name}: {size} bytes, where {limit} are the most"
-        found = [(number, fault) for number, line in prose(text)
-                 for fault in faults_of_line(document, name, line, words)]
-        found += [*faults_of_sentences(text), *faults_of_quotations(document, text)]
-        if name == "docs/DECISIONS.md":
-            found += faults_of_entries(text)
-        for number, fault in found:
-            yield f"{name}:{number}: {fault}"
-    if total > TOTAL:
-        yield f"all documents: {total} bytes, where {TOTAL} are the most"
+def size(text: str) -> Iterator[str]:
+    count = len(text.encode())
+    if count > README_BYTES:
+        yield f"{count} bytes, more than {README_BYTES}"
 
 
-def main() -> None:
-    found = list(faults(tracked()))
-    for fault in found:
-        print(fault)
-    print(f"{len(found)} faults")
-    sys.exit(1 if found else 0)
+def entries(text: str) -> Iterator[str]:
+    for entry in ENTRY.finditer(text):
+        count = len(TICKED.sub("code", entry[0]).split()) - 1
+        if count > ENTRY_WORDS:
+            number = text.count("\n", 0, entry.start()) + 1
+            yield f"{number}: an entry of {count} words, more than {ENTRY_WORDS}"
+
+
+def results_of_counts(counts: Counts) -> Iterator[Result]:
+    for name in ALL_NAMES:
+        for group, count, most in zip(GROUPS, counts[name], CEILINGS.get(name, [0] * len(GROUPS))):
+            if name not in group.without:
+                errors = [f"{count}, more than {most}"] if count > most else []
+                yield Result(f"{group.name}: {name}", errors)
+
+
+# ---------------------------------------------------------------- the command line
+
+def check(root: Path) -> int:
+    files = Files.of_work_tree(root)
+    passed = failed = 0
+    for result in (*Checker(root, files).results(), *results_of_counts(counts_of(files))):
+        for error in result.errors:
+            print(f"{result.check}: {error}")
+        passed += not result.errors
+        failed += bool(result.errors)
+    print(f"{passed} passed, {failed} failed")
+    return 1 if failed else 0
+
+
+def print_words(root: Path, paths: Iterable[str]) -> None:
+    """List the phrases in these files, or in all that are counted."""
+    texts = Files.of_work_tree(root).texts
+    for path in paths:
+        if not Path(path).is_file():
+            sys.exit(f"docs/check.py: no file {path}")
+    chosen = {path: Path(path).read_text("utf-8", "replace") for path in paths}
+    known = {it.name: it.instead for it in PHRASES}
+    count = 0
+    for name, text in (chosen or texts).items():
+        inside = name_in_repository(Path(name)) if chosen else name
+        group = group_of(inside)
+        if not chosen and group is None:
+            continue
+        for found in phrases_in(inside, text):
+            if group is None or found.name not in group.without:
+                count += 1
+                advice = f" ({known[found.name]})" if found.name in known else ""
+                print(f"{name}:{found.line}: {found.name}{advice}: {found.context}")
+    print(f"{count} found")
+
+
+def name_in_repository(path: Path) -> str:
+    """The name of a file in the repository that it is in."""
+    place = path.resolve()
+    top = next((it for it in place.parents if (it / ".git").exists()), place.parent)
+    return place.relative_to(top).as_posix()
+
+
+def print_counts(root: Path, revision: Optional[str]) -> None:
+    now = counts_of(Files.of_work_tree(root))
+    then = counts_of(Files.of_revision(root, revision)) if revision else None
+    heads = [f"{group.name:>16}" for group in GROUPS]
+    print(f"{'':32}{''.join(heads)}" + (f"   ({revision} -> work tree)" if revision else ""))
+    rules = {it.name: it.rule for it in PHRASES}
+    for rule in (VERBS, CONDITIONS, TERMS, GRAMMAR, None):
+        names = [name for name in ALL_NAMES if rules.get(name) == rule]
+        for name in names:
+            print(f"{name:32}{row_of(now[name], then[name] if then else None)}")
+        if rule:
+            before = sums_of(then, names) if then else None
+            print(f"{'all ' + rule:32}{row_of(sums_of(now, names), before)}\n")
+
+
+def sums_of(counts: Counts, names: list[str]) -> list[int]:
+    return [sum(column) for column in zip(*(counts[name] for name in names))]
+
+
+def row_of(now: list[int], then: Optional[list[int]]) -> str:
+    cells = [f"{a} -> {b}" for a, b in zip(then, now)] if then else [str(it) for it in now]
+    return "".join(f"{cell:>16}" for cell in cells)
+
+
+def print_ceilings(root: Path) -> None:
+    print("CEILINGS: Counts = {")
+    for name, row in counts_of(Files.of_work_tree(root)).items():
+        print(f'    "{name}": {row},')
+    print("}")
+
+
+def main() -> int:
+    about, _, more = (__doc__ or "").partition("\n\n")
+    parser = argparse.ArgumentParser(
+        description=about, epilog=more, formatter_class=argparse.RawDescriptionHelpFormatter)
+    tasks = parser.add_mutually_exclusive_group()
+    tasks.add_argument("--words", nargs="*", metavar="FILE", help="list each phrase to avoid")
+    tasks.add_argument("--counts", nargs="?", const="", metavar="REVISION",
+                       help="print how often each group of files has each phrase")
+    tasks.add_argument("--ceilings", action="store_true",
+                       help="print the table CEILINGS with the counts as they are now")
+    parser.add_argument("--root", type=Path, default=HERE, metavar="FOLDER",
+                        help="the repository to check (default: the one with this script)")
+    given = parser.parse_args()
+    root = given.root.resolve()
+    if given.words is not None:
+        print_words(root, given.words)
+    elif given.counts is not None:
+        print_counts(root, given.counts or None)
+    elif given.ceilings:
+        print_ceilings(root)
+    else:
+        return check(root)
+    return 0
 
 
 if __name__ == "__main__":
-    main()
+    sys.exit(main())

@@ -1,14 +1,15 @@
 #!/usr/bin/env python3
-"""The definitions that contracts reach, and what each says, as a page on standard output.
+"""Print the definitions that contracts use, directly or through others, and what each says.
 
-  docs/definitions.py            prints the page: a reading list for each theorem of THEOREMS,
-                                 and a table of each crate's definitions
-  docs/definitions.py --check    status 1 where a public contract reaches a definition that has no
-                                 row, or a theorem names a call that is not there
+  docs/definitions.py            print a page: a reading list for each theorem of THEOREMS, and a
+                                 table of each crate's definitions
+  docs/definitions.py --check    check that each definition that a public contract uses is in a
+                                 table, and that the calls of each theorem exist; the last line is
+                                 `N passed, M failed`, and the exit status is 1 if one failed
 
-A row has the words of the comment that stands above a definition in `specs/`; a definition without
-one stands with the one above it. The script reads `specs/` and `src/` as text: a definition reaches
-the names that its text has and its file imports or defines.
+A row of a table has the comment above the definition in `specs/`. A definition without a comment is
+in the row of the one above it. The script reads `specs/` and `src/` as text: a definition uses the
+names in its text that its file imports or defines.
 """
 
 from __future__ import annotations
@@ -51,6 +52,7 @@ THEOREMS = (
     )),
     ("A check, from files to the report", (
         Calls("mercator_site", "check.rt", ("report_of_files",)),
+        Calls("mercator_site", "folder.rt", ("report_of_folder",)),
         Calls("mercator_site", "program.rt", ("run_site_plan",)),
     )),
     ("A replay, from bytes to bytes", (
@@ -65,11 +67,13 @@ THEOREMS = (
         Calls("html_links", "style.rt", ("style_links",)),
     )),
     ("The program", (
-        Calls("mercator", "commands.rt", ("run_words", "run_plan")), Calls("mercator", "commands/words.rt", ("plan",)),
+        Calls("mercator", "commands.rt", ("run_words_with", "run_plan")),
+        Calls("mercator", "commands/words.rt", ("plan",)),
+        Calls("mercator_site", "program.rt", ("run_site_words", "run_site_plan")),
     )),
 )
 
-# Names of the kit that every page of mathematics has.
+# Names of the toolchain that mean what they mean in every text of mathematics.
 PLAIN = frozenset(
     "◌≡◌ ◌≢◌ ◌+◌ ◌-◌ ◌*◌ ◌/◌ ◌%◌ ◌^◌ ◌<◌ ◌≤◌ ◌⊎◌ ◌↔◌ ◌∷◌ ◌++◌ ◌&&◌ ◌||◌ ◌==◌ ◌∧◌ [] ℕ zero suc Bool"
     " true false not List Option Some None Result Ok Err Type if◌then◌else◌ length map Unit tt".split()
@@ -95,14 +99,14 @@ class Definition(NamedTuple):
 
 
 class Name(NamedTuple):
-    """A name of the kit, and its module."""
+    """A name of the toolchain's crates, and its module."""
 
     module: str
     name: str
 
 
 class Imports(NamedTuple):
-    """What a file imports: names, and whole modules by their last part."""
+    """What a file imports: names, and whole modules by the last name in their path."""
 
     names: dict[str, Name]
     modules: dict[str, str]
@@ -110,11 +114,11 @@ class Imports(NamedTuple):
 
 class Reached(NamedTuple):
     ours: set[Definition]
-    kits: set[Name]
+    others: set[Name]
 
     def add(self, more: Reached) -> None:
         self.ours.update(more.ours)
-        self.kits.update(more.kits)
+        self.others.update(more.others)
 
 
 class SpecFile(NamedTuple):
@@ -141,7 +145,7 @@ def imports_of(text: str, is_ghost: bool) -> Imports:
 
 
 def words(text: str) -> set[str]:
-    """The identifiers of a text, qualified ones too, without the fields that stand behind a dot."""
+    """The identifiers of a text, also qualified ones, without the fields after a dot."""
     text = re.sub(r"(--|//).*", "", text)
     found: set[str] = set()
     for match in WORD.finditer(text):
@@ -179,7 +183,7 @@ class Crates:
                 self.files[path] = SpecFile(imports_of(text, False), definitions_in(path, text))
 
     def home(self, module: str) -> Optional[str]:
-        """The file of `specs/` that a module is, if it is one of ours."""
+        """The file in `specs/` of a module, if the module is one of ours."""
         match = re.match(r"Rattle\.(\w+)\.specs\.(?!declared)([\w.]+)$", module)
         if not match:
             return None
@@ -187,7 +191,7 @@ class Crates:
         return path if path in self.files else None
 
     def reached(self, text: str, imports: Imports, own: dict[str, Definition]) -> Reached:
-        """What a text names: definitions of ours, and names of the kit."""
+        """What a text uses: definitions of ours, and names of the toolchain."""
         found = Reached(set(), set())
         used = words(text)
         for word in used:
@@ -207,7 +211,7 @@ class Crates:
     def resolve(self, name: Name, found: Reached) -> None:
         path, own = self.home(name.module), name.name
         if path is None and re.match(r"Rattle\.\w+\.specs\.", name.module):
-            # The constructors of a record or of data stand in a module of its name.
+            # The constructors of a record or of data are in a module with its name.
             above, _, last = name.module.rpartition(".")
             path = self.home(above)
             own = own if path is None else last
@@ -216,11 +220,11 @@ class Crates:
             if definition is not None:
                 found.ours.add(definition)
         elif ".declared." not in name.module and own not in PLAIN:
-            found.kits.add(name)
+            found.others.add(name)
 
     def closure(self, found: Reached) -> Reached:
-        """All that is reached from there."""
-        rest, all_of = list(found.ours), Reached(set(), set(found.kits))
+        """Everything that these use, directly or through others."""
+        rest, all_of = list(found.ours), Reached(set(), set(found.others))
         while rest:
             definition = rest.pop()
             if definition in all_of.ours:
@@ -229,7 +233,7 @@ class Crates:
             file = self.files[definition.path]
             others = {name: other for name, other in file.own.items() if name != definition.name}
             more = self.reached(definition.text, file.imports, others)
-            all_of.kits.update(more.kits)
+            all_of.others.update(more.others)
             rest += more.ours - all_of.ours
         return all_of
 
@@ -245,8 +249,8 @@ def clauses_of(text: str, names: tuple[str, ...] = ()) -> str:
     return "\n".join(re.sub(r"///.*", "", head) for head in heads)
 
 
-def not_there() -> Iterator[str]:
-    """Calls that a theorem names, and that are not there."""
+def missing_calls() -> Iterator[str]:
+    """The calls of theorems that do not exist."""
     for title, theorem in THEOREMS:
         for crate, file, names in theorem:
             path = f"crates/{crate}/src/{file}"
@@ -275,12 +279,12 @@ def reading_list(crates: Crates, title: str, theorem: Iterable[Calls]) -> Iterat
         yield f"| `{path.replace('crates/', '')}` | {lines} | {', '.join(f'`{it.name}`' for it in here)} |"
     lines = sum(definition.lines() for definition in found.ours)
     yield f"| **in all** | **{lines}** | {len(found.ours)} definitions |\n"
-    kits = sorted({it.name for it in found.kits if not it.name.startswith("◌")}, key=str.lower)
-    yield f"The kit's: {', '.join(f'`{name}`' for name in kits)}.\n"
+    others = sorted({it.name for it in found.others if not it.name.startswith("◌")}, key=str.lower)
+    yield f"From the toolchain: {', '.join(f'`{name}`' for name in others)}.\n"
 
 
 def comment_above(lines: list[str], start: int) -> str:
-    """The comment that stands directly above a line, as one sentence."""
+    """The comment directly above a line, as one sentence."""
     found: list[str] = []
     for line in reversed(lines[:start]):
         match = re.match(r"-- ?(.*)", line)
@@ -291,7 +295,7 @@ def comment_above(lines: list[str], start: int) -> str:
 
 
 def table_of(path: str) -> Iterator[str]:
-    """A table of a file's definitions, each with the comment above it."""
+    """A table of a file's definitions, each with its comment."""
     lines = read(path).splitlines()
     count = next((number for number, line in enumerate(lines) if not line.startswith("--")), len(lines))
     head = " ".join(line.lstrip("- ").strip() for line in lines[:count])
@@ -314,7 +318,7 @@ def table_of(path: str) -> Iterator[str]:
 
 
 def reached_by_contracts(crates: Crates) -> set[Definition]:
-    """Every definition that a public contract or a ghost member reaches."""
+    """Every definition that a public contract or a ghost member uses."""
     found = Reached(set(), set())
     for file in sorted(ROOT.glob("crates/*/src/**/*.rt")):
         if "tests" not in str(file.relative_to(ROOT)):
@@ -335,30 +339,39 @@ def page_of(crates: Crates) -> str:
     return "\n\n".join(part.strip() for part in parts) + "\n"
 
 
-def without_row(crates: Crates) -> list[str]:
-    """What public contracts reach and the page's tables do not have."""
+def without_row(crates: Crates, reached: set[Definition]) -> list[str]:
+    """What public contracts use and the page's tables do not have."""
     rows: set[str] = set()
     for line in page_of(crates).splitlines():
         if line.startswith("| `"):
             rows.update(re.findall(r"`([^`]+)`", line.split(" | ")[0]))
-    reached = reached_by_contracts(crates)
-    if not reached:
-        return ["no contract reaches a definition"]
     return sorted(f"no row for {it.path}: {it.name}" for it in reached if it.name not in rows)
 
 
-def main() -> None:
-    wrong = list(not_there())
-    if not wrong:
+def check() -> int:
+    """Print what is missing and the counts, and return the exit status."""
+    missing = list(missing_calls())
+    all_calls = sum(len(theorem) for _, theorem in THEOREMS)
+    if not missing:
         crates = Crates()
-        if sys.argv[1:] != ["--check"]:
-            print(page_of(crates), end="")
-            return
-        wrong = without_row(crates)
-    print(*wrong, sep="\n", end="\n" if wrong else "")
-    print(f"{len(wrong)} faults")
-    sys.exit(1 if wrong else 0)
+        reached = reached_by_contracts(crates)
+        missing = without_row(crates, reached) if reached else ["no contract uses a definition"]
+        all_calls += len(reached)
+    print(*missing, sep="\n", end="\n" if missing else "")
+    print(f"{all_calls - len(missing)} passed, {len(missing)} failed")
+    return 1 if missing else 0
+
+
+def main() -> int:
+    if sys.argv[1:] == ["--check"]:
+        return check()
+    missing = list(missing_calls())
+    if missing:
+        print(*missing, sep="\n", file=sys.stderr)
+        return 1
+    print(page_of(Crates()), end="")
+    return 0
 
 
 if __name__ == "__main__":
-    main()
+    sys.exit(main())

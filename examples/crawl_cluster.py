@@ -1,24 +1,22 @@
 #!/usr/bin/python3
-"""The crawler of crawl_http.py on several machines: one of K parts that share a crawl over Redis.
+"""Crawl sites over HTTP on several machines: run one of K parts that share a crawl over Redis.
 
-Usage: crawl_cluster.py --part I/K --log FILE [--redis URL] [--name NAME] [--workers N]
-                        [--within SUFFIX] [--max-pending M] [--delay S] [--largest BYTES]
-                        [--agent NAME] [--program FILE] SEED..
-
-Each part is started with the same words, but for I, from 0, and for its own log::
+Start each part with the same arguments, except for its number I, from 0, and its log:
 
     redis-server --appendonly yes --maxmemory-policy noeviction &
     crawl_cluster.py --part 0/2 --log part0.log --within example.org http://example.org/ &
     crawl_cluster.py --part 1/2 --log part1.log --within example.org http://example.org/
 
-It writes a line for each URL that it has fetched: the status, how many links it has, the URL. A
-part that was ended in any way goes on from its log. A crawl begins anew with other logs and another
---name. It wants `redis`; Debian's python3-redis is for /usr/bin/python3.
+For each URL that a part fetched, it prints a line with the status, the number of links, and the
+URL. It fetches like crawl_http.py, and obeys robots.txt.
 
-A Redis that does not answer is told once, and tried for ten minutes. Then the part fails. Where
-Redis wants another password it fails at once.
+To resume a part, however it ended, run its command again. To begin a new crawl, use new logs and
+another --name. If Redis does not answer, the part prints one message, tries to connect for ten
+minutes, and then fails. If Redis needs another password, the part fails immediately.
 
-Status 0: no URL is left at any part; 1: the part failed; 2: Ctrl-C.
+The script needs the Python package `redis`. Debian's python3-redis is for /usr/bin/python3.
+
+Exit status: 0 no URL is left in any part, 1 error, 2 bad command line or Ctrl-C.
 """
 
 from __future__ import annotations
@@ -27,6 +25,7 @@ import argparse
 import logging
 import sys
 from collections import defaultdict
+from contextlib import suppress
 from pathlib import Path
 from typing import DefaultDict, List, Tuple
 
@@ -38,61 +37,75 @@ from mercator_cluster import Crawl, Part, run
 from mercator_frontier import FrontierError
 
 
-def words_of_command_line() -> argparse.Namespace:
+def options_of_command_line() -> argparse.Namespace:
     parser = argparse.ArgumentParser(
         description=__doc__, formatter_class=argparse.RawDescriptionHelpFormatter
     )
     option = parser.add_argument
-    option("--part", required=True, type=part_of, metavar="I/K", help="this part, and how many")
-    option("--log", required=True, metavar="FILE", help="what this part goes on from")
+    option("--part", required=True, type=part_of, metavar="I/K",
+           help="run part I, from 0, of K parts that share the crawl")
+    option("--log", required=True, metavar="FILE",
+           help="log file of this part; run again with it to resume")
     option("--redis", default="redis://127.0.0.1:6379/0", type=redis_of, metavar="URL",
-           help="where Redis is: redis://HOST:PORT/0, rediss:// or unix://PATH")
-    option("--name", default="crawl", metavar="NAME", help="what the crawl's keys begin with")
-    option("--workers", type=int, default=4, metavar="N", help="fetchers of each part; 4")
-    option("--within", metavar="SUFFIX", help="only this host and those that end with a dot and it")
+           help="URL of Redis: redis://HOST:PORT/0, rediss://HOST:PORT/0 or unix://PATH"
+           " (default: redis://127.0.0.1:6379/0)")
+    option("--name", default="crawl", metavar="NAME",
+           help="name of the crawl, with which its keys in Redis begin (default: crawl)")
+    option("--workers", type=int, default=4, metavar="N",
+           help="number of fetchers of each part (default: 4)")
+    option("--within", metavar="SUFFIX",
+           help="crawl only hosts equal to SUFFIX or subdomains of it")
     option("--max-pending", type=most_of, metavar="M",
-           help="the most URLs of a part that are not done; at least 2")
-    option("--delay", type=float, default=1, metavar="S", help="between two requests to a host; 1")
-    option("--largest", type=int, default=5_000_000, metavar="BYTES", help="of a page; 5000000")
-    option("--agent", default="crawl_http", metavar="NAME", help="User-Agent: name yourself")
-    option("--program", metavar="FILE", help="mercator; else what MERCATOR names, else `mercator`")
-    option("seed", nargs="+", metavar="SEED")
+           help="most URLs of a part waiting or in progress at a time, at least 2"
+           " (default: 1048576)")
+    option("--delay", type=float, default=1, metavar="S",
+           help="seconds between two requests to a host (default: 1)")
+    option("--largest", type=int, default=5_000_000, metavar="BYTES",
+           help="most bytes to read of a page (default: 5000000)")
+    option("--agent", default="crawl_http", metavar="NAME",
+           help="User-Agent to send; choose a name of your own (default: crawl_http)")
+    option("--program", metavar="FILE",
+           help="path of mercator (default: $MERCATOR if it is set, else `mercator`)")
+    option("seed", nargs="+", metavar="SEED", help="URL to start from")
     return parser.parse_args()
 
 
 def part_of(text: str) -> Tuple[int, int]:
     part, _, parts = text.partition("/")
-    if not 0 <= int(part) < int(parts):
-        raise ValueError(text)
-    return int(part), int(parts)
+    with suppress(ValueError):
+        if 0 <= int(part) < int(parts):
+            return int(part), int(parts)
+    raise argparse.ArgumentTypeError(f"must be I/K with I from 0 to K - 1, such as 0/2: {text}")
 
 
 def redis_of(url: str) -> str:
-    if not url.startswith(("redis://", "rediss://", "unix://")):
-        raise ValueError(url)
-    return url
+    if url.startswith(("redis://", "rediss://", "unix://")):
+        return url
+    raise argparse.ArgumentTypeError(f"must begin with redis://, rediss:// or unix://: {url}")
 
 
 def most_of(text: str) -> int:
-    if int(text) < 2:
-        raise ValueError(text)
-    return int(text)
+    with suppress(ValueError):
+        if int(text) >= 2:
+            return int(text)
+    raise argparse.ArgumentTypeError(f"must be a number of at least 2: {text}")
 
 
 def main() -> int:
-    words = words_of_command_line()
+    options = options_of_command_line()
     logging.basicConfig(format="crawl_cluster: %(message)s")
-    part, parts = words.part
-    crawl = Crawl(parts, words.workers, words.within, words.name, words.redis)
+    part, parts = options.part
+    crawl = Crawl(parts, options.workers, options.within, options.name, options.redis)
     known: DefaultDict[int, crawl_http.Known] = defaultdict(crawl_http.Known)
 
     def start() -> Part:
         return Part(
-            crawl, part, words.log, words.seed, max_pending=words.max_pending, program=words.program
+            crawl, part, options.log, options.seed, max_pending=options.max_pending,
+            program=options.program,
         )
 
     def fetch(queue: int, url: str) -> Tuple[str, List[str]]:
-        status, base, texts = crawl_http.visited(url, known[queue], words)
+        status, base, texts = crawl_http.visited(url, known[queue], options)
         sys.stdout.write(f"{status} {len(texts)} {url}\n")
         sys.stdout.flush()
         return base, texts

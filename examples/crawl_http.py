@@ -1,20 +1,20 @@
 #!/usr/bin/env python3
-"""A crawler over `mercator serve`: fetches pages by HTTP in N threads, each host by one of them.
+"""Crawl sites over HTTP, with `mercator serve` as the URL frontier.
 
-Usage: crawl_http.py [--workers N] [--within SUFFIX] [--log FILE] [--delay S] [--largest BYTES]
-                     [--pages N] [--agent NAME] [--program FILE] SEED..
+N fetchers run in threads, and each host is fetched by one of them. For each URL, the crawler prints
+a line with the status, the number of new links, and the URL. The status is `robots` if robots.txt
+forbids the URL, and `failed` if there was no response.
 
-It writes a line for each URL that it has fetched: the status, how many of its links are new, the
-URL. The status is `robots` where robots.txt forbids the URL, and `failed` where there is no answer.
+- The crawler obeys robots.txt. Between two requests to a host it waits --delay seconds, or the
+  Crawl-delay of robots.txt if that is longer. It skips a host if its robots.txt cannot be read, or
+  asks for a delay of more than a day.
+- It reads at most --largest bytes of a page, for at most 30 seconds, and cuts a request off after
+  60 seconds.
+- It does not follow a redirect, but offers its target to the frontier.
+- With --log, the crawl can be ended by Ctrl-C, `kill -9` or a crash: run the same command again to
+  resume it.
 
-- It keeps to robots.txt, and waits between two requests to a host: --delay seconds, or the
-  Crawl-delay of robots.txt where that is longer. It leaves a host alone whose robots.txt asks for
-  more than a day, or cannot be read.
-- It reads --largest bytes of a page at most, in at most SECONDS. A host has twice as long in all.
-- It offers where a redirect leads to, and does not follow it.
-- With --log it goes on where it was ended, by Ctrl-C, `kill -9` or a crash: give the same words.
-
-Status 0: no URL is left; 1: the frontier failed; 2: Ctrl-C, or --pages URLs were fetched.
+Exit status: 0 no URL is left, 1 error, 2 bad command line, Ctrl-C, or --pages URLs were fetched.
 """
 
 from __future__ import annotations
@@ -47,16 +47,16 @@ LINKS = {
 
 
 class Reply(NamedTuple):
-    """What a host answers; the status is `failed` where it does not."""
+    """The response to a request."""
 
-    status: str
-    leads_to: Optional[str] = None
-    kind: str = ""
+    status: str  # the HTTP status, or `failed` if there was no response
+    leads_to: Optional[str] = None  # the target of a redirect
+    kind: str = ""  # the media type
     text: str = ""
 
 
 class Links(HTMLParser):
-    """The texts of the links of a page, and the base that they are read by."""
+    """The texts of a page's links, and the base URL that they are resolved against."""
 
     def __init__(self, url: str, text: str) -> None:
         super().__init__()
@@ -67,7 +67,7 @@ class Links(HTMLParser):
             self.feed(text)
             self.close()
         except (AssertionError, ValueError):
-            pass  # at markup that the parser gives up on, so far as it came
+            pass  # the parser gives up on some markup: keep the links before it
 
     def handle_starttag(self, tag: str, attrs: List[Tuple[str, Optional[str]]]) -> None:
         for name, value in attrs:
@@ -78,7 +78,10 @@ class Links(HTMLParser):
 
 
 def joined(base: str, text: str) -> str:
-    """The URL of a base, or of a redirect of robots.txt. Links are resolved by the frontier."""
+    """Resolve the URL of a `<base>`, or of a redirect of robots.txt.
+
+    The frontier resolves all other links.
+    """
     try:
         return urljoin(base, text)
     except ValueError:
@@ -86,8 +89,8 @@ def joined(base: str, text: str) -> str:
 
 
 def connected(parts: SplitResult) -> http.client.HTTPConnection:
-    """A connection to the host of a URL."""
-    # Without a port `http.client` takes the end of an IPv6 address for one.
+    """Return a connection to the host of a URL; it is not opened yet."""
+    # Without a port, `http.client` would take the end of an IPv6 address for one.
     port = PORTS[parts.scheme] if parts.port is None else parts.port
     if parts.scheme == "https":
         return http.client.HTTPSConnection(parts.hostname or "", port, timeout=SECONDS)
@@ -95,6 +98,7 @@ def connected(parts: SplitResult) -> http.client.HTTPConnection:
 
 
 def fetch(url: str, agent: str, largest: int, is_robots: bool = False) -> Reply:
+    """Fetch a URL, and at most `largest` bytes of its page."""
     try:
         parts = urlsplit(url)
         with closing(connected(parts)) as connection, in_time(connection):
@@ -107,7 +111,10 @@ def fetch(url: str, agent: str, largest: int, is_robots: bool = False) -> Reply:
 
 @contextmanager
 def in_time(connection: http.client.HTTPConnection) -> Iterator[None]:
-    """Cuts a host off that answers byte by byte, by which no wait of the socket's gets too long."""
+    """Close the connection after twice SECONDS.
+
+    A host that sends one byte at a time would never exceed the time limit of the socket.
+    """
     connection.connect()
     watch = threading.Timer(2 * SECONDS, cut_off, (connection.sock,))
     watch.daemon = True
@@ -124,17 +131,18 @@ def cut_off(end: socket.socket) -> None:
 
 
 def reply_of(answer: http.client.HTTPResponse, largest: int, is_robots: bool) -> Reply:
+    """Read a response."""
     if answer.status in REDIRECTS:
         return Reply(str(answer.status), location_of(answer))
     kind = answer.headers.get_content_type()
-    # A robots.txt holds whatever kind of text it is said to be.
+    # A robots.txt is obeyed whatever its media type.
     if answer.status != 200 or not (is_robots or kind in PAGES):
         return Reply(str(answer.status))
     return Reply("200", None, kind, text_of(answer, largest))
 
 
 def location_of(answer: http.client.HTTPResponse) -> Optional[str]:
-    """Where a redirect leads to. Hosts write it in UTF-8, and Python reads it as Latin-1."""
+    """Return the target of a redirect. Hosts send UTF-8, but Python decodes it as Latin-1."""
     text = answer.getheader("Location")
     try:
         return text and text.encode("latin-1").decode()
@@ -143,7 +151,10 @@ def location_of(answer: http.client.HTTPResponse) -> Optional[str]:
 
 
 def text_of(answer: http.client.HTTPResponse, largest: int) -> str:
-    """The text of a page: by UTF-8, where Python cannot read it by the charset that it names."""
+    """Return the text of a page.
+
+    If Python does not know its charset, or there is none, the page is decoded as UTF-8.
+    """
     body = body_of(answer, largest)
     try:
         return body.decode(answer.headers.get_content_charset() or "utf-8", "replace")
@@ -152,7 +163,7 @@ def text_of(answer: http.client.HTTPResponse, largest: int) -> str:
 
 
 def body_of(answer: http.client.HTTPResponse, largest: int) -> bytes:
-    """The first bytes of a page, as far as they come in time."""
+    """Return at most `largest` bytes of a page, received in at most SECONDS."""
     body = b""
     end = time.monotonic() + SECONDS
     while len(body) < largest and time.monotonic() < end:
@@ -164,12 +175,12 @@ def body_of(answer: http.client.HTTPResponse, largest: int) -> bytes:
 
 
 class Site:
-    """What a fetcher knows of a scheme, host and port: its robots.txt, and the delay."""
+    """The robots.txt and the delay of a scheme, host and port."""
 
     def __init__(
         self, site: str, asked: Dict[Optional[str], float], agent: str, delay: float
     ) -> None:
-        """`asked` has the moments at which hosts were asked last, on whatever port."""
+        """Fetch robots.txt. `asked` has the time of the last request to each host, on any port."""
         self.host, self.asked = urlsplit(site).hostname, asked
         self.agent, self.delay = agent, delay
         self.robots = RobotFileParser()
@@ -178,7 +189,7 @@ class Site:
             if reply.leads_to is None:
                 break
             reply = self.fetch(joined(site, reply.leads_to), 500_000, is_robots=True)
-        # No answer, or that of a broken host, may hide a robots.txt that forbids all.
+        # If the host does not answer or is broken, its robots.txt might forbid everything.
         self.is_shut = reply.status == "failed" or reply.status.startswith("5")
         try:
             self.robots.parse(reply.text.splitlines())
@@ -189,13 +200,14 @@ class Site:
             self.is_shut = True
 
     def allows(self, url: str) -> bool:
+        """Return whether robots.txt allows the URL."""
         try:
             return not self.is_shut and self.robots.can_fetch(self.agent, url)
         except ValueError:
             return False  # urllib cannot read the URL
 
     def fetch(self, url: str, largest: int, is_robots: bool = False) -> Reply:
-        """Fetches, once the delay since the last request is over."""
+        """Fetch a URL after the delay since the last request to the host."""
         if self.host in self.asked:
             time.sleep(max(0.0, self.asked[self.host] + self.delay - time.monotonic()))
         try:
@@ -205,7 +217,7 @@ class Site:
 
 
 class Known:
-    """What a fetcher knows of all that it visits."""
+    """The sites that a fetcher has visited, and when it requested from each host last."""
 
     def __init__(self) -> None:
         self.sites: Dict[str, Site] = {}
@@ -213,42 +225,42 @@ class Known:
 
 
 class Visit(NamedTuple):
-    """What came of a URL: its links as they stand on the page, and the base that they have."""
+    """The result of fetching a URL."""
 
     status: str
-    base: str
-    texts: List[str]
+    base: str  # the URL that the links are resolved against
+    texts: List[str]  # the links as they are written in the page
 
 
-def visited(url: str, known: Known, words: argparse.Namespace) -> Visit:
-    """Fetches the URL, where its host allows."""
+def visited(url: str, known: Known, options: argparse.Namespace) -> Visit:
+    """Fetch a URL, if robots.txt allows it."""
     name = "{0.scheme}://{0.netloc}".format(urlsplit(url))
     if name not in known.sites:
-        known.sites[name] = Site(name, known.asked, words.agent, words.delay)
+        known.sites[name] = Site(name, known.asked, options.agent, options.delay)
     site = known.sites[name]
     reply = Reply("robots")
     if site.allows(url):
-        reply = site.fetch(url, words.largest)
+        reply = site.fetch(url, options.largest)
     links = Links(url, reply.text if reply.kind in PAGES else "")
     texts = links.texts if reply.leads_to is None else [reply.leads_to]
     return Visit(reply.status, links.base, texts)
 
 
 class Crawl:
-    """What the fetchers share."""
+    """A crawl by several fetchers, each in a thread."""
 
-    def __init__(self, frontier: Frontier, words: argparse.Namespace) -> None:
-        self.frontier, self.words = frontier, words
+    def __init__(self, frontier: Frontier, options: argparse.Namespace) -> None:
+        self.frontier, self.options = frontier, options
         self.lock = threading.Lock()
-        self.left: int = words.pages
+        self.left: int = options.pages
         self.stopped = threading.Event()
         self.failed: Optional[Exception] = None
 
     def run(self) -> None:
-        """Crawls until no URL is left, or until the crawl is stopped."""
+        """Crawl until no URL is left or the crawl is stopped."""
         fetchers = [
             threading.Thread(target=self.work, args=(queue,), daemon=True)
-            for queue in range(self.words.workers)
+            for queue in range(self.options.workers)
         ]
         for fetcher in fetchers:
             fetcher.start()
@@ -259,67 +271,74 @@ class Crawl:
             self.stopped.set()
 
     def work(self, queue: int) -> None:
+        """Fetch the URLs of one queue."""
         known = Known()
         try:
             while (url := self.frontier.take(queue)) is not None:
                 self.visit(url, known)
                 self.frontier.done(queue)
                 self.count()
-        except Exception as error:  # whatever it is, the other fetchers would wait for this one
+        except Exception as error:  # stop, since the other fetchers would wait for this one forever
             if not self.stopped.is_set():
                 self.failed = error
             self.stopped.set()
 
     def visit(self, url: str, known: Known) -> None:
-        """Fetches the URL, offers its links, and tells of it."""
-        status, base, texts = visited(url, known, self.words)
+        """Fetch a URL, offer its links, and print a line."""
+        status, base, texts = visited(url, known, self.options)
         offers = self.frontier.links(base, texts)
         with self.lock:
             print(status, sum(map(bool, offers)), url, flush=True)
             if Refusal.FULL in offers:
-                print(f"crawl_http: no room for all links of {url}", file=sys.stderr)
+                print(f"crawl_http: {url}: links lost, the frontier is full", file=sys.stderr)
 
     def count(self) -> None:
+        """Stop the crawl after --pages URLs."""
         with self.lock:
             self.left -= 1
             if self.left == 0:
                 self.stopped.set()
 
 
-def words_of_command_line() -> argparse.Namespace:
+def options_of_command_line() -> argparse.Namespace:
     parser = argparse.ArgumentParser(
         description=__doc__, formatter_class=argparse.RawDescriptionHelpFormatter
     )
     option = parser.add_argument
-    option("--workers", type=int, default=4, metavar="N", help="fetchers; 4")
-    option("--within", metavar="SUFFIX", help="only this host and those that end with a dot and it")
-    option("--log", metavar="FILE", help="what the crawl goes on from")
-    option("--delay", type=float, default=1, metavar="S", help="between two requests to a host; 1")
-    option("--largest", type=int, default=5_000_000, metavar="BYTES", help="of a page; 5000000")
-    option("--pages", type=int, default=0, metavar="N", help="stops after so many URLs")
-    option("--agent", default="crawl_http", metavar="NAME", help="User-Agent: name yourself")
-    option("--program", metavar="FILE", help="mercator; else what MERCATOR names, else `mercator`")
-    option("seed", nargs="+", metavar="SEED")
+    option("--workers", type=int, default=4, metavar="N", help="number of fetchers (default: 4)")
+    option("--within", metavar="SUFFIX",
+           help="crawl only hosts equal to SUFFIX or subdomains of it")
+    option("--log", metavar="FILE", help="log file; run again with it to resume")
+    option("--delay", type=float, default=1, metavar="S",
+           help="seconds between two requests to a host (default: 1)")
+    option("--largest", type=int, default=5_000_000, metavar="BYTES",
+           help="most bytes to read of a page (default: 5000000)")
+    option("--pages", type=int, default=0, metavar="N", help="stop after N URLs")
+    option("--agent", default="crawl_http", metavar="NAME",
+           help="User-Agent to send; choose a name of your own (default: crawl_http)")
+    option("--program", metavar="FILE",
+           help="path of mercator (default: $MERCATOR if it is set, else `mercator`)")
+    option("seed", nargs="+", metavar="SEED", help="URL to start from")
     return parser.parse_args()
 
 
 def main() -> int:
-    words = words_of_command_line()
-    options = {"within": words.within, "log": words.log, "program": words.program}
+    options = options_of_command_line()
+    settings = {"within": options.within, "log": options.log, "program": options.program}
     try:
-        with Frontier(words.workers, **options) as frontier:
-            for seed, offer in zip(words.seed, frontier.offer_all(words.seed)):
-                # A crawl that goes on has seen its seeds, or has come to its end.
+        with Frontier(options.workers, **settings) as frontier:
+            for seed, offer in zip(options.seed, frontier.offer_all(options.seed)):
+                # A resumed crawl has seen its seeds before, or is over.
                 if isinstance(offer, Refusal) and offer not in (Refusal.SEEN, Refusal.CLOSED):
-                    print(f"crawl_http: {seed}: {offer.value}", file=sys.stderr)
+                    print(f"crawl_http: seed {seed}: {offer.value}", file=sys.stderr)
             frontier.end_seeds()
-            crawl = Crawl(frontier, words)
+            crawl = Crawl(frontier, options)
             crawl.run()
     except FrontierError as error:
         print(f"crawl_http: {error}", file=sys.stderr)
         return 1
     if crawl.failed:
-        print(f"crawl_http: {crawl.failed!r}", file=sys.stderr)
+        print(f"crawl_http: a fetcher failed: {crawl.failed!r}", file=sys.stderr)
         return 1
     return 2 if crawl.stopped.is_set() else 0
 

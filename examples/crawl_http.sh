@@ -1,12 +1,14 @@
 #!/bin/bash
-# A crawler in bash over `mercator serve`, with curl: one fetcher, which shows the protocol in another language.
-# It reads no robots.txt, so it is for hosts of your own; crawl_http.py is the one for others.
+# Crawls sites over HTTP with curl, and `mercator serve` as the URL frontier. It shows the protocol in another language than
+# Python. There is one fetcher, and robots.txt is not read, so use it only for your own hosts, and crawl_http.py for others.
 #
 # Usage: crawl_http.sh SUFFIX SEED..
-# It crawls the hosts within SUFFIX, and writes the status and the URL of each that it has fetched. The program is what
-# MERCATOR names, else `mercator`. DELAY is the time between two requests, in seconds; 1.
+# It crawls hosts equal to SUFFIX or subdomains of it, and prints the status and the URL of each page.
+#
+# Environment: MERCATOR is the path of the program [default: mercator]; DELAY is the number of seconds between two requests
+# [default: 1].
 set -euo pipefail
-export LC_ALL=C  # a page is bytes
+export LC_ALL=C  # pages are read as bytes
 if [ $# -lt 2 ]; then
     echo "usage: crawl_http.sh SUFFIX SEED.." >&2
     exit 3
@@ -17,13 +19,13 @@ page=$(mktemp)
 trap 'rm -f "$page"' EXIT
 coproc SERVE { exec "${MERCATOR:-mercator}" serve --workers 1 --within="$suffix"; }
 
-# ask REQUEST: sends a line, and reads its answer into `answer`.
+# ask REQUEST: sends a request, and reads its answer into the variable `answer`.
 ask() {
     printf '%s\n' "$1" >&"${SERVE[1]}"
     IFS= read -r answer <&"${SERVE[0]}"
 }
 
-# links: the texts of the links of the page, as they stand.
+# links: prints the links of the page, one per line, as they are written in it.
 links() {
     tr '\n\t' '  ' < "$page" | grep -aoiE '<(a|area|link|img|script|iframe) [^>]*(href|src)="[^"]*"' \
         | sed -E 's/.*(href|src)="([^"]*)"$/\2/I; s/&amp;/\&/g' || true
@@ -33,7 +35,7 @@ for seed in "$@"; do
     ask "offer $seed"
     case $answer in
         accepted*|seen) ;;
-        *) echo "crawl_http.sh: $seed: $answer" >&2 ;;
+        *) echo "crawl_http.sh: seed $seed: $answer" >&2 ;;
     esac
 done
 ask endseeds
@@ -43,13 +45,13 @@ while ask "next 0"; do
         taken*) url=${answer#taken } ;;
         *) break ;;
     esac
-    told=$(curl --silent --globoff --max-time 30 --max-filesize 5000000 --user-agent crawl_http --output "$page" \
-        --write-out '%{http_code} %header{location}' -- "$url") || told="failed "
-    echo "${told%% *} $url"
-    if [[ $told == 3* ]]; then
-        ask "link $url ${told#* }"
-    elif [[ $told == 200* ]]; then
-        # The next request is sent once the answer is read, so neither side waits for the other.
+    reply=$(curl --silent --globoff --max-time 30 --max-filesize 5000000 --user-agent crawl_http --output "$page" \
+        --write-out '%{http_code} %header{location}' -- "$url") || reply="failed "
+    echo "${reply%% *} $url"
+    if [[ $reply == 3* ]]; then
+        ask "link $url ${reply#* }"
+    elif [[ $reply == 200* ]]; then
+        # Each request is sent after the answer to the previous one was read, so there is no deadlock.
         while IFS= read -r text; do
             ask "link $url $text"
         done < <(links)
@@ -59,5 +61,5 @@ while ask "next 0"; do
     sleep "${DELAY:-1}"
 done
 
-# With one fetcher, what ended the crawl is `closed`, and then nothing is left.
+# With one fetcher, the last answer is `closed`: no URL is left. Any other answer is an error.
 [ "$answer" = closed ]

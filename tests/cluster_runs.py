@@ -742,14 +742,23 @@ def words_like_options(trial: Trial) -> None:
     expect((folder / "--x").exists(), "no log")
 
 
-def refused_words(trial: Trial) -> None:
-    """Words that `examples/crawl_cluster.py` cannot use, and an output that is closed."""
-    for number, words in enumerate((["--redis", "127.0.0.1:6379"], ["--max-pending", "1"])):
-        log = trial.folder / f"words-{number}"
-        process = crawler(trial, "--log", str(log), *words, "http://a.test/")
+def refused_arguments(trial: Trial) -> None:
+    """Arguments that `examples/crawl_cluster.py` cannot use, its help, and a closed output."""
+    part = "must be I/K with I from 0 to K - 1, such as 0/2"
+    most = "must be a number of at least 2"
+    for number, (option, value, why) in enumerate((
+        ("--redis", "127.0.0.1:6379", "must begin with redis://, rediss:// or unix://"),
+        ("--max-pending", "1", most), ("--max-pending", "many", most),
+        ("--part", "2/2", part), ("--part", "-1/2", part), ("--part", "1", part),
+    )):
+        log = trial.folder / f"arguments-{number}"
+        process = crawler(trial, "--log", str(log), f"{option}={value}", "http://a.test/")
         _, errors = process.communicate(timeout=SECONDS)
-        is_told = f"argument {words[0]}: invalid" in errors and words[1] in errors
+        last = errors.splitlines()[-1]
+        is_told = last == f"crawl_cluster.py: error: argument {option}: {why}: {value}"
         expect(process.returncode == 2 and is_told, f"status {process.returncode}: {errors}")
+    output, errors = crawler(trial, "--help").communicate(timeout=SECONDS)
+    expect(output.lower().count("usage:") == 1 and not errors, f"--help: {output}{errors}")
     log = trial.folder / "closed"
     process = crawler(trial, "--name", "closed", "--log", str(log), "http://127.0.0.1:0/")
     assert process.stdout and process.stderr
@@ -763,7 +772,7 @@ def told_seeds(trial: Trial) -> None:
     """`examples/crawl_cluster.py` tells seeds that no part takes, as `crawl_http.py` does."""
     seeds = ["notaurl", "ftp://a.test/", "", "http://a.test/", "http://127.0.0.1:0/" + "x" * 5_000]
     whys = ["not a URL", "not http or https", "not a URL", "filtered", "line too long"]
-    wanted = [f"crawl_cluster: {seed}: {why}" for seed, why in zip(seeds, whys)]
+    wanted = [f"crawl_cluster: seed {seed}: {why}" for seed, why in zip(seeds, whys)]
     words = ["--name", "seeds", "--log", str(trial.folder / "seeds"), "--within", "127.0.0.1"]
     process = crawler(trial, *words, *seeds, "http://127.0.0.1:0/", "HTTP://127.1:0")
     output, errors = process.communicate(timeout=SECONDS)
@@ -782,7 +791,7 @@ def absent_redis(trial: Trial) -> None:
         assert process.stderr
         expect(any(select.select([process.stderr], [], [], SECONDS)), "nothing is told")
         line = process.stderr.readline()
-        is_told = line.startswith("crawl_cluster: Redis does not answer, and is tried for 600 s: ")
+        is_told = line.startswith("crawl_cluster: Redis does not answer, trying for 600 s: ")
         expect(is_told and "refused" in line, f"told: {line}")
         time.sleep(3 * mercator_cluster._PAUSE)
         trial.server.start()
@@ -907,7 +916,7 @@ def speed(trial: Trial) -> None:
 
 PARTS: Tuple[Callable[[Trial], None], ...] = (
     plain, killed, twice_and_late, lost_redis, lost_at_the_end, full, one_host, many_queues,
-    refused, full_redis, http, words_like_options, refused_words, told_seeds, absent_redis,
+    refused, full_redis, http, words_like_options, refused_arguments, told_seeds, absent_redis,
     locked_redis, long_base, unix_socket, interrupted, gone_redis, speed,
 )
 

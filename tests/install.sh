@@ -48,6 +48,27 @@ is_typed() {
     (cd "$scratch" && mypy --python-executable "$1" typed.py) | grep 'note: Revealed type is "Union\[builtins.str, None\]"'
 }
 
+# The help of install.sh and make_wheel.py, a bad command line, and the time to build, which other pages state too.
+texts() {
+    expect "install.sh --help" sh -c './install.sh --help | grep -q "^Usage: install.sh"'
+    expect "install.sh -h is not a folder" sh -c './install.sh -h > /dev/null && [ ! -e ./-h ]'
+    expect "install.sh with a program that is not there" sh -c \
+        './install.sh --program /no/such/program 2>&1 | grep -qxF "install.sh: /no/such/program is not an executable file"'
+    expect "make_wheel.py --help" sh -c 'cd "$1" && python3 "$2" --help | grep -q "^usage: " && [ ! -e ./--help ]' \
+        sh "$scratch" "$PWD/clients/python/make_wheel.py"
+    expect "one time to prove and build" sh -c \
+        '[ "$(grep -ohE "an hour and a (quarter|half|third)" install.sh README.md try.sh | sort -u | wc -l)" -le 1 ]'
+}
+
+# The description of the package names each thing that the program is for.
+is_described() {
+    local text command
+    text=$(dpkg-deb --field "$1" Description)
+    for command in check crawl serve; do
+        grep -q "mercator $command" <<< "$text" || { echo "no mercator $command: $text"; return 1; }
+    done
+}
+
 by_pip() {
     local python=$scratch/venv/bin/python
     expect "a virtual environment" python3 -m venv "$scratch/venv"
@@ -88,6 +109,7 @@ lines_run_in_root() {
 by_package() {
     local file=$scratch/mercator.deb
     expect "install.sh --deb" sh -c './install.sh --program "$1" --deb "$2" && mv "$2"/mercator_*.deb "$2/mercator.deb"' sh "$program" "$scratch"
+    expect "the package's description" is_described "$file"
     if command -v lintian > /dev/null; then
         expect "lintian" lintian --allow-root --fail-on error "$file"
     fi
@@ -105,6 +127,7 @@ by_package() {
     expect "the root is as before" diff "$scratch/before" "$scratch/after"
 }
 
+texts
 by_pip
 below_a_folder
 by_package

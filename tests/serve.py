@@ -39,7 +39,7 @@ PARTS: Tuple[Callable[[Trial], None], ...] = (
     clients.interrupted_close, clients.closing_handler, clients.forked_process, clients.client_small_pipes,
     clients.log_in_use, clients.log_that_cannot_be, clients.words_like_options,
     crawls.crawls, crawls.asyncio_crawls, crawls.killed_crawls,
-    crawlers.crawler, crawlers.bash_crawler, crawlers.killed_crawler, crawlers.polite_crawler,
+    crawlers.crawler, crawlers.crawler_help, crawlers.bash_crawler, crawlers.killed_crawler, crawlers.polite_crawler,
     crawlers.polite_to_ports, crawlers.hostile_hosts, crawlers.dribbling_hosts, crawlers.saved_documentation,
 )
 

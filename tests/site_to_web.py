@@ -261,7 +261,7 @@ class TheShippedSite(Converting):
         lines = self.web(SITE, "http://site.test/")
         self.assertEqual(pages_of(lines), {"http://site.test" + path: below for path, below in SHIPPED.items()})
         links = sum(line.startswith("link ") for line in lines)
-        self.assertIn(f"{len(SHIPPED)} pages, 5 of them moved; {links} links; ", self.told)
+        self.assertIn(f"{len(SHIPPED)} pages, 5 of them redirects; {links} links; ", self.told)
 
     def test_its_stored_web_is_what_the_tool_writes(self) -> None:
         with open(os.path.join(ROOT, "examples", "site.web"), "rb") as stored:
@@ -318,7 +318,7 @@ class Folders(Converting):
         self.assertEqual(
             self.converted(), {"http://a.test/caf%E9.html": below, "http://a.test/caf%e9.html": below}
         )
-        self.assertIn("name is not UTF-8, its bytes are percent-encoded: http://a.test/caf%E9.html\n", self.told)
+        self.assertIn("name is not UTF-8, so its bytes are percent-encoded: http://a.test/caf%E9.html\n", self.told)
 
     def test_the_base_is_made_canonical(self) -> None:
         self.put("x.txt")
@@ -352,7 +352,7 @@ class Folders(Converting):
             "http://[::1]/",
         ):
             with self.subTest(base):
-                self.assertFault(3, self.folder, base, says="no http or https URL with a plain host")
+                self.assertFault(3, self.folder, base, says="BASE must be an http or https URL with a plain ASCII host")
 
     def test_a_folder_is_moved_to_its_index_with_the_query_that_it_was_asked_with(self) -> None:
         self.put("index.html", '<html><a href="dir?x=1"><a href="dir?x=1"><a href="d%69r">')
@@ -417,7 +417,7 @@ class Folders(Converting):
             self.converted("--queries"),
             {"http://a.test/list.html?page=2": []},
         )
-        told = "file left out, another has its URL: list.html?page=2, http://a.test/list.html?page=2\n"
+        told = "file skipped, another file has the same URL: list.html?page=2, http://a.test/list.html?page=2\n"
         self.assertIn(told, self.told)
 
     def test_queries_of_index_files(self) -> None:
@@ -444,7 +444,7 @@ class Folders(Converting):
                 "http://a.test/images/c.svg": [],
             },
         )
-        self.assertIn("4 pages, 1 of them moved; 0 links;", self.told)
+        self.assertIn("4 pages, 1 of them redirects; 0 links;", self.told)
 
     def test_html_is_known_by_suffix_or_first_bytes(self) -> None:
         document = '<!-- c --> <!DOCTYPE html><a href="x">'
@@ -477,8 +477,8 @@ class Folders(Converting):
                 for path in ("dir", "dir/up", "dir/x.txt", "other", "other/up", "other/x.txt")
             ],
         )
-        self.assertIn("folder not entered, it leads back up: dir/up\n", self.told)
-        self.assertIn("left out, neither a file nor a folder: gone\n", self.told)
+        self.assertIn("folder skipped, it leads back to a folder above it: dir/up\n", self.told)
+        self.assertIn("skipped, neither a file nor a folder: gone\n", self.told)
 
     def test_a_page_whose_line_is_too_long_is_left_out_and_told(self) -> None:
         deep = "/".join(["\u00fc" * 100] * 7)
@@ -487,14 +487,14 @@ class Folders(Converting):
         pages = self.converted()
         # The slash and 600 letters for each folder, six of which fit
         self.assertEqual([len(url) - len("http://a.test") for url in pages], [*range(601, 3607, 601), 6])
-        self.assertEqual(self.told.count("page left out, its URL is too long: http://a.test/%C3%BC"), 2)
-        self.assertIn("page left out, its URL is too long: 2\n", self.told)
+        self.assertEqual(self.told.count("page skipped, its URL is too long: http://a.test/%C3%BC"), 2)
+        self.assertIn("page skipped, its URL is too long: 2\n", self.told)
 
     def test_faults_write_nothing(self) -> None:
         self.assertFault(1, self.folder, "http://a.test/", says="no files in")
         os.mkdir(os.path.join(self.folder, "empty"))
         self.assertFault(1, self.folder, "http://a.test/", says="no files in")
-        self.assertFault(1, self.folder + "x", "http://a.test/", says="no folder")
+        self.assertFault(1, self.folder + "x", "http://a.test/", says=": not a folder")
         self.assertFault(3, self.folder, says="give FOLDER and BASE, or --warc FILE..")
         self.assertFault(3, says="give FOLDER and BASE, or --warc FILE..")
         self.assertFault(3, self.folder, "http://a.test/", "--warc", "x", says="give FOLDER and BASE")
@@ -505,6 +505,7 @@ class Folders(Converting):
         self.assertEqual((done.status, done.told), (0, ""))
         for words in ("usage: site_to_web.py", "exit status:", "--warc FILE", "4,096 bytes"):
             self.assertIn(words, done.out.decode())
+        self.assertEqual(done.out.count(b"FOLDER BASE > WEB"), 1)
 
 
 # ---------------------------------------------------------------- documents
@@ -589,7 +590,7 @@ class Documents(Converting):
             with self.subTest(document):
                 self.assertEqual(self.links(document), [f"link {text}" for text in expected])
         self.links('<a href="a\nb"><a href="\na\n"><a href="c\nd">')
-        self.assertIn("links over several lines, put into one: 2\n", self.told)
+        self.assertIn("links over several lines, joined: 2\n", self.told)
 
     def test_lines_are_at_most_4096_bytes(self) -> None:
         room = LINE_LIMIT - len("link ")
@@ -608,7 +609,7 @@ class Documents(Converting):
             with self.subTest(name):
                 lines = [] if expected is None else [f"link {expected}"]
                 self.assertEqual(self.links(f'<meta charset="utf-8"><a href="{text}">'), lines)
-                told = "link left out, it is too long: http://a.test/dir/page.html"
+                told = "link skipped, it is too long: http://a.test/dir/page.html"
                 self.assertEqual(told in self.told, not lines)
 
     def test_a_base_resolves_what_is_below_it(self) -> None:
@@ -674,7 +675,7 @@ class Documents(Converting):
     def test_of_an_encoding_that_is_not_known_ascii_is_read(self) -> None:
         links = b'<a href="\xe9"><a href="a#\xe9"><a href="&eacute;?&eacute;"><img srcset="\xe9 1x, b 2x"><a href="c?\xe9#d">'
         self.assertEqual(self.links(b'<meta charset="unheard">' + links), ["link a#", "link \u00e9?%E9", "link b"])
-        self.assertIn("only ASCII read, the encoding is not known: http://a.test/dir/page.html\n", self.told)
+        self.assertIn("unknown encoding, only ASCII was read: http://a.test/dir/page.html\n", self.told)
         for base, expected in {
             b"/\xe9/": ["http://a.test/c", "mailto:m"],
             b"/d/#\xe9": ["http://a.test/d/a", "http://a.test/c", "http://a.test/d/e", "mailto:m"],
@@ -753,7 +754,7 @@ class Archives(WithArchives):
                 "http://b.test/picture": [],
             },
         )
-        self.assertIn("answers that are no page, status 404: 1\n", self.told)
+        self.assertIn("responses that are not pages, status 404: 1\n", self.told)
         self.assertNotIn("status none", self.told)
         self.assertIn("records of URLs that are neither http nor https: 2\n", self.told)
 
@@ -776,7 +777,7 @@ class Archives(WithArchives):
     def test_a_redirect_without_a_target_is_no_page(self) -> None:
         pages = self.read(record("response", "http://a.test/", answer(301)))
         self.assertEqual(pages, {})
-        self.assertIn("answers that are no page, status 301: 1\n", self.told)
+        self.assertIn("responses that are not pages, status 301: 1\n", self.told)
 
     def test_targets_of_redirects(self) -> None:
         room = LINE_LIMIT - len("moved ")
@@ -792,7 +793,7 @@ class Archives(WithArchives):
             with self.subTest(name):
                 pages = self.read(record("response", "http://a.test/", answer(302, "", f"Location: {target}")))
                 self.assertEqual(pages, {"http://a.test/": expected})
-                self.assertEqual("redirect left without its target" in self.told, not expected)
+                self.assertEqual("target of the redirect skipped, it is too long" in self.told, not expected)
 
     def test_of_two_pages_with_one_url_the_first_counts(self) -> None:
         pages = self.read(
@@ -802,7 +803,7 @@ class Archives(WithArchives):
             record("response", "http://a.test/", answer(301, "", "Location: third")),
         )
         self.assertEqual(pages, {"http://a.test/": ["link first"]})
-        self.assertIn("page left out, one with its URL came before: 2\n", self.told)
+        self.assertIn("page skipped, an earlier page has the same URL: 2\n", self.told)
 
     def test_pages_that_are_visited_again(self) -> None:
         digest = "WARC-Payload-Digest: sha1:A"
@@ -819,7 +820,7 @@ class Archives(WithArchives):
         below = dict.fromkeys([f"http://a.test/{number}" for number in range(1, 5)], ["link x"])
         others = {"1b": ["link http://a.test/b/x"], "5": ["moved y"], "7": []}
         self.assertEqual(pages, {**below, **{f"http://a.test/{name}": lines for name, lines in others.items()}})
-        self.assertIn("links not read, the record that is visited again is not there: http://a.test/7\n", self.told)
+        self.assertIn("links skipped, the first record with this content is missing: http://a.test/7\n", self.told)
 
     def test_codings(self) -> None:
         body = b'<!DOCTYPE html><a href="x">'
@@ -839,7 +840,7 @@ class Archives(WithArchives):
                 self.assertEqual(pages, {"http://a.test/": ["link x"]})
         pages = self.read(record("response", "http://a.test/", answer(200, body, "Content-Encoding: br")))
         self.assertEqual(pages, {"http://a.test/": []})
-        self.assertIn("links not read, the body's coding is not known: http://a.test/\n", self.told)
+        self.assertIn("links skipped, the content coding is unknown or the body is invalid: http://a.test/\n", self.told)
 
     def test_the_servers_word_on_kind_and_encoding(self) -> None:
         document = b'<a href="\xf6?\xf6">'
@@ -862,7 +863,7 @@ class Archives(WithArchives):
             record("response", "http://xn--tda.test:8080/", answer(200)),
         )
         self.assertEqual(pages, {"http://xn--tda.test:8080/": []})
-        self.assertIn(f"page left out, its host is not plain: {len(hosts)}\n", self.told)
+        self.assertIn(f"page skipped, its host cannot be written in canonical form: {len(hosts)}\n", self.told)
 
     def test_pages_come_in_order_of_url_whatever_the_order_of_records(self) -> None:
         records = [record("response", f"http://{host}.test/", answer(200, f'<a href="{host}">')) for host in "cab"]
@@ -873,14 +874,14 @@ class Archives(WithArchives):
     def test_faults_write_nothing(self) -> None:
         good = record("response", "http://a.test/", answer(200, '<a href="x">' * 100))
         self.assertFault(1, "--warc", self.archive(good, good[:-200]), says="a WARC record is cut off")
-        self.assertFault(1, "--warc", self.archive(b"<html>"), says="no WARC record where one should begin")
+        self.assertFault(1, "--warc", self.archive(b"<html>"), says="not a WARC file: a record does not begin with WARC/")
         for length in ("", "Content-Length: x\r\n", f"Content-Length: {'9' * 5000}\r\n"):
             path = self.archive(f"WARC/1.0\r\n{length}\r\n".encode())
-            self.assertFault(1, "--warc", path, says="a WARC record without a length")
+            self.assertFault(1, "--warc", path, says="a WARC record has no valid Content-Length")
         packed = gzip.compress(good)
         self.put("cut.gz", packed[: len(packed) // 2])
         self.assertFault(1, "--warc", os.path.join(self.folder, "cut.gz"), says="cut.gz: ")
-        self.assertFault(1, "--warc", os.path.join(self.folder, "none"), says="No such file")
+        self.assertFault(1, "--warc", os.path.join(self.folder, "none"), says=f"{self.folder}/none: No such file or directory")
 
     def test_an_empty_archive_is_a_web_without_pages(self) -> None:
         self.assertEqual(self.web("--warc", self.archive(b"")), ["savedweb 2"])
@@ -914,14 +915,14 @@ class Limits(WithArchives):
         self.assertEqual(self.run_with("INPUT_LIMIT", len(whole), *words)[:2], (0, whole))
         done = self.run_with("INPUT_LIMIT", len(whole) - 1, *words)
         self.assertEqual(done[:2], (1, b""))
-        self.assertIn("which no crawl takes", done.told)
+        self.assertIn("the most that a crawl reads", done.told)
 
     def test_large_records_are_read_in_their_first_bytes(self) -> None:
         document = '<a href="x">' + " " * 1000 + '<a href="y">'
         packed = gzip.compress(document.encode())
         cases: tuple[tuple[str, Content, list[str], str], ...] = (
-            ("record", document, [], "record read in its first bytes alone"),
-            ("document", packed, ["Content-Encoding: gzip"], "links read in its first bytes alone"),
+            ("record", document, [], "only the beginning of the record was read, it"),
+            ("document", packed, ["Content-Encoding: gzip"], "only the links at the beginning were read, the page"),
         )
         for name, body, headers, told in cases:
             block = answer(200, body, *headers)
@@ -931,7 +932,7 @@ class Limits(WithArchives):
                 self.assertEqual(
                     pages_of(checked_lines(done.out)), {"http://a.test/": ["link x"], "http://b.test/": []}
                 )
-                self.assertIn(f"{told}, it is too large: http://a.test/\n", done.told)
+                self.assertIn(f"{told} is too large: http://a.test/\n", done.told)
                 self.assertNotIn("too large", run("--warc", path).told)
 
 

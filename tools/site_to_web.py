@@ -1,9 +1,12 @@
 #!/usr/bin/env python3
-"""Makes a saved web, version 2, of a folder of HTML files or of web archives, by the standard library alone.
+"""Convert a folder of HTML files, or web archives (WARC), to a saved web, version 2.
 
-A page is what a plain static server answers at a URL, and a link what a browser reads in it; RULES, which `--help`
-prints, say which these are. The web is made in a temporary file and written to standard output once it is whole, its
-pages in ascending byte order of URL: one site gives the same bytes each time, and no list of all links is kept.
+A saved web is a text file of pages and their links. A page is what a plain static server would return for a URL, and
+a link is what a browser would read in it; RULES, which `--help` prints, have the details. The saved web is collected
+in a temporary file and written to standard output when it is complete, with its pages in ascending byte order of URL.
+So the same site always gives the same bytes, and the links need not all be in memory.
+
+The script needs only the standard library.
 """
 
 from __future__ import annotations
@@ -24,82 +27,83 @@ from typing import BinaryIO, Callable, Iterable, Iterator, NoReturn, Optional
 from urllib.parse import quote, unquote_to_bytes
 
 DESCRIPTION = """\
-Makes a saved web, version 2, of a site that was saved, and writes it to standard
-output; what was left out, and why, goes to standard error.
+Convert a saved site to a saved web: a text file of pages and their links, which
+`mercator crawl` reads. The site is a folder of HTML files, as `wget -r` leaves it,
+or WARC files, gzipped or not. The saved web (version 2) is written to standard
+output. What is skipped, and why, is listed on standard error.
 
-  site_to_web.py FOLDER BASE > WEB        a folder of HTML files, as `wget -r` leaves
-                                          it; BASE is the URL of its top
-  site_to_web.py --warc FILE.. > WEB      WARC files, gzipped or not
-
-Then `mercator crawl --sources - URL < WEB` tells which of its links are broken."""
+Then `mercator crawl --sources - URL < WEB` reports the broken links."""
 
 RULES = """\
 exit status:
-  0  the web was written
-  1  a fault of the input, of reading or of writing, or a web of more than 2^30
-     bytes, which no crawl takes: nothing was written, unless a write failed
-  3  a bad command line
+  0  the saved web was written
+  1  an input cannot be read or is invalid, a write failed, or the saved web would
+     have more than 2^30 bytes, the most that a crawl reads; nothing was written,
+     unless a write failed
+  3  bad command line
 
-pages of a folder, as a plain static server answers:
-  - A file is the page BASE/its/path, its name's bytes percent-encoded by the URL
-    Standard's path set, and also `%`, `\\` and `?`. Symbolic links are followed.
-  - A folder with an index file is a page at `/dir/` with that file's links;
-    `/dir/index.html` is the same page again. A server sends `/dir` on to `/dir/`,
-    so `/dir` is moved to `/dir/`, whether that is a page or not.
-  - Where a link spells a page in another way that a server takes for the same
-    (with other percent escapes, or a query, which a file ignores), that spelling
-    is a page too. --exact leaves these out. With --queries a name has its query
-    (`index.html?x` is the pages `/index.html?x` and `/?x`), and none is ignored.
-  - A file is read as HTML by its suffix, or, where the suffix says nothing, by its
-    first bytes. All others are pages without links.
+pages of a folder, as a plain static server returns them:
+  - A file is the page BASE/its/path. The bytes of its name are percent-encoded by
+    the path percent-encode set of the URL Standard, and so are `%`, `\\` and `?`.
+    Symbolic links are followed.
+  - A folder with an index file is a page `/dir/` with the links of that file;
+    `/dir/index.html` is another page with the same links. `/dir` is a redirect to
+    `/dir/`, whether or not `/dir/` is a page.
+  - If a link spells the URL of a page differently (with other percent-escapes, or
+    with a query, which is ignored for a file), a server returns the same page, so
+    that URL is a page too. --exact skips these pages. With --queries, a `?` in a
+    file name starts the query (`index.html?x` is the pages `/index.html?x` and
+    `/?x`), and no query is ignored.
+  - Whether a file is HTML is decided by its suffix or, if the suffix is unknown, by
+    its first bytes. All other files are pages without links.
 
 pages of a WARC: the response, resource and revisit records of http and https URLs.
-  A status of 200 to 299 is a page, a redirect is moved to its target, and any other
-  status is no page, so its URL is missing. Of several pages with one URL the first
-  counts. A page that is visited again has the links of the first page with its digest.
-  Of a record, and of a packed document, the first 2^26 bytes are read.
+  A status of 200 to 299 is a page, and a redirect leads to its target. A URL with
+  any other status is missing. If several pages have the same URL, the first one
+  counts. A revisit has the links of the first page with the same digest. At most
+  2^26 bytes are read of a record, and of a compressed document.
 
-links: the URL of each element that loads or leads to another document (a, area,
-  img, script, link, iframe and others), of srcset and of a refresh, in the
-  document's order; not of `link` with rel preconnect or dns-prefetch, which name a
-  host, nor of forms and quotations, nor what scripts make. Each is written as it
-  stands, character references decoded, so that the reader resolves it, except that
-  - tabs and line breaks are taken out, and spaces at the ends, as URL parsers do;
-  - of a page in an encoding that Python does not know ASCII is read: a link with
-    other bytes is left out, or loses its fragment where that alone has them;
-  - the query of a page that is not UTF-8 is percent-encoded in the page's encoding;
-  - after `<base href>` the resolved text is written, since the format resolves
-    against the page. Where the base is neither http nor https, a relative link is
-    written behind the base's scheme, so that it is skipped and counted;
-  - a line has at most 4,096 bytes. A longer link loses its fragment; where it is
-    still longer, one of another scheme (such as data:) is cut, which the reader
-    skips all the same, and any other is left out and told of.
+links: the URLs in elements that load or lead to another document (a, area, img,
+  script, link, iframe and others), in srcset and in a meta refresh, in the order of
+  the document. Not read are `link` with rel preconnect or dns-prefetch (which name
+  only a host), forms, quotations, and what scripts create. A link is written as it
+  is in the document, with its character references decoded, except that
+  - tabs, line breaks, and spaces at both ends are removed, as URL parsers do;
+  - in a page with an encoding that Python does not know, only ASCII is read: a link
+    with other bytes is skipped, or loses its fragment if only that has them;
+  - in a page that is not UTF-8, queries are percent-encoded in the page's encoding;
+  - after `<base href>`, the resolved URL is written, since the links of a saved web
+    are resolved against the URL of the page. If the base is neither http nor https,
+    a relative link gets the scheme of the base, so that it is skipped and counted;
+  - a line has at most 4,096 bytes. A longer link loses its fragment. If it is still
+    too long, a link of another scheme (such as data:), which the reader skips, is
+    cut off; any other link is skipped and reported.
 
-A page whose own line would be longer, or whose host this script cannot write in
-canonical form (not plain ASCII, or with a user name), is left out and told of."""
+A page is skipped and reported if its own line would be too long, or if this script
+cannot write its host in canonical form (not plain ASCII, or with a user name)."""
 
 HEADER = b"savedweb 2\n"
-LINE_LIMIT = 4096  # bytes of a line, without its line break
-INPUT_LIMIT = 1 << 30  # bytes that a crawl reads
-DOCUMENT_LIMIT = 1 << 26  # bytes that are read of one record of a WARC, and of its document unpacked
-FAULT, BAD_WORDS = 1, 3  # exit statuses, as the program has them
+LINE_LIMIT = 4096  # most bytes of a line, without its line break
+INPUT_LIMIT = 1 << 30  # most bytes that a crawl reads
+DOCUMENT_LIMIT = 1 << 26  # most bytes that are read of a WARC record, and of its decompressed document
+FAULT, BAD_WORDS = 1, 3  # exit statuses, the same as those of mercator: an error, and a bad command line
 
 HTML_KINDS = ("text/html", "application/xhtml+xml")
 STYLE_KIND = "text/css"
-# Python's own table of suffixes, without the machine's, so that it is the same everywhere
+# Python's own table of suffixes without that of the machine, so that it is the same everywhere
 KINDS = mimetypes.MimeTypes()
 BYTE_ORDER_MARKS = ((b"\xef\xbb\xbf", "utf-8"), (b"\xff\xfe", "utf-16-le"), (b"\xfe\xff", "utf-16-be"))
-NOT_KNOWN = "not known"  # in place of an encoding's name
-UNKNOWN = "\x80"  # in place of a byte beyond ASCII of such a document; no character reference stands for it
-EDGE = "".join(map(chr, range(0x21)))  # what a URL parser takes off both ends of a text
+NOT_KNOWN = "not known"  # marks an unknown encoding
+UNKNOWN = "\x80"  # replaces each non-ASCII byte of a document in an unknown encoding; no character reference gives it
+EDGE = "".join(map(chr, range(0x21)))  # the characters that a URL parser removes from both ends of a text
 PORTS = {"http": 80, "https": 443}
 GREATEST_PORT = 65535
-# What the URL Standard leaves as it is, beside letters, digits and -._~
+# The characters that are not percent-encoded, in addition to letters, digits and -._~
 IN_NAME = "!$&'()*+,;=:@[]|"
 IN_PATH = IN_NAME + "%"
 IN_QUERY = "!$%&()*+,/:;=?@[\\]^`{|}"
 
-# The attributes of each element that name another document. Those of HTML's earlier days are among them.
+# The attributes of each element that name another document, including obsolete ones.
 LINKS = {
     "a": ("href", "xlink:href"),
     "area": ("href",),
@@ -122,39 +126,39 @@ LINKS = {
     "use": ("href", "xlink:href"),
     "video": ("src", "poster"),
 }
-HOST_HINTS = {"preconnect", "dns-prefetch"}  # values of rel that name a host and no document
+HOST_HINTS = {"preconnect", "dns-prefetch"}  # the values of rel with which a link names only a host
 
 
 class Fault(Exception):
-    """What ends the script with status 1; its words are told."""
+    """An error that ends the script with status 1. Its text is printed."""
 
 
 # ---------------------------------------------------------------- URLs
 
 
 def cleaned(text: str) -> str:
-    """What a URL parser reads of a text: no edges, no tabs, no line breaks."""
+    """Return a text without the characters that a URL parser removes: edges, tabs and line breaks."""
     return re.sub("[\t\n\r]", "", text.strip(EDGE))
 
 
 def encoded(text: str, safe: str) -> str:
-    """The text's UTF-8, percent-encoded but for letters, digits, -._~ and what is safe."""
+    """Percent-encode the UTF-8 of a text, except for letters, digits, -._~ and the safe characters."""
     return quote(text.encode("utf-8", "replace"), safe=safe)
 
 
 def scheme_of(text: str) -> Optional[str]:
-    """The scheme that a text begins with, in small letters, or None."""
+    """Return the scheme at the beginning of a text, in lower case, or None."""
     found = re.match("[A-Za-z][A-Za-z0-9+.-]*:", text)
     return found[0][:-1].lower() if found else None
 
 
 def is_web(scheme: Optional[str]) -> bool:
-    """Whether a link with this scheme, or with none, may lead to a page."""
+    """Return whether a link with this scheme, or without a scheme, may lead to a page."""
     return scheme is None or scheme in PORTS
 
 
 def is_known_label(label: str) -> bool:
-    """Whether a label has letters of ASCII alone, or ones that Python reads and writes again."""
+    """Return whether a label is plain ASCII, or Punycode that Python can decode and encode again."""
     try:
         return label[:4] != "xn--" or (
             len(label) < 64 and label == label.encode().decode("idna").encode("idna").decode()
@@ -164,20 +168,20 @@ def is_known_label(label: str) -> bool:
 
 
 def canonical_name(host: str) -> Optional[str]:
-    """A host name in canonical form, or None where that takes more than this script knows."""
+    """Return a host name in canonical form, or None if this script cannot compute it."""
     host = unquote_to_bytes(host).decode("latin-1").lower()
     labels = host.removesuffix(".").split(".")
     if not all(re.fullmatch("[a-z0-9_-]+", label) and is_known_label(label) for label in labels):
         return None
     if not re.fullmatch("[0-9]+|0x[0-9a-f]*", labels[-1]):
         return host
-    # A host that ends in a number is an address. Only its plain form is known here.
+    # A host that ends in a number is an IPv4 address. Only its usual form is supported here.
     plain = all(re.fullmatch("0|[1-9][0-9]{0,2}", part) and int(part) < 256 for part in labels)
     return ".".join(labels) if plain and len(labels) == 4 else None
 
 
 def canonical_host(authority: str, scheme: str) -> Optional[str]:
-    """The authority in canonical form, without the scheme's own port; None where that is not known."""
+    """Return the host and port in canonical form, without the scheme's default port; None if it is not known."""
     name, colon, port = authority.rpartition(":")
     if not colon:
         name, port = authority, ""
@@ -191,29 +195,29 @@ def canonical_host(authority: str, scheme: str) -> Optional[str]:
 
 
 class Url:
-    """An http or https URL without its fragment. Where `host` is None, only `text` may be used."""
+    """An http or https URL without its fragment. If `host` is None, only `text` may be used."""
 
     def __init__(self, scheme: str, authority: str, path: str, query: Optional[str]) -> None:
         self.scheme, self.authority, self.path, self.query = scheme, authority, path, query
         self.host = canonical_host(authority, scheme)
 
     def site(self) -> str:
-        """The text up to the path."""
+        """Return the URL up to its path."""
         return f"{self.scheme}://{self.host or self.authority}"
 
     def tail(self) -> str:
-        """The question mark and the query, where there is one."""
+        """Return the question mark and the query, if there is one."""
         return "" if self.query is None else "?" + self.query
 
     def text(self) -> str:
-        """The whole text, canonical where the host is known."""
+        """Return the whole URL. It is canonical if `host` is not None."""
         return self.site() + self.path + self.tail()
 
 
 def parse(text: str, base: Optional[Url] = None) -> Optional[Url]:
-    """The Url that a text means against a base Url; None where it is no http or https URL.
+    """Resolve a text against a base by the rules of the URL Standard; None if it is not an http or https URL.
 
-    The URL Standard's rules for these two schemes; the fragment is dropped.
+    The fragment is dropped.
     """
     text = cleaned(text).partition("#")[0]
     scheme = scheme_of(text)
@@ -231,14 +235,14 @@ def parse(text: str, base: Optional[Url] = None) -> Optional[Url]:
 
 
 def url_of(text: str) -> Url:
-    """The Url of a text that is one."""
+    """Return the Url of a text that is known to be a URL."""
     url = parse(text)
     assert url is not None
     return url
 
 
 def parse_after_slashes(scheme: str, text: str) -> Optional[Url]:
-    """The Url of what follows the scheme and its slashes."""
+    """Return the Url of the text after a scheme and its slashes."""
     authority = re.split(r"[/\\?]", text, maxsplit=1)[0]
     path, mark, query = text[len(authority) :].partition("?")
     if not authority:
@@ -247,7 +251,7 @@ def parse_after_slashes(scheme: str, text: str) -> Optional[Url]:
 
 
 def parse_path(text: str, base: Url) -> Url:
-    """The Url of a text without scheme and host: a path from the top, one from the base's folder, or none."""
+    """Return the Url of a text without scheme and host: an absolute, relative or empty path, and a query."""
     path, mark, tail = text.partition("?")
     query = None if path else base.query
     if mark:
@@ -262,7 +266,7 @@ def parse_path(text: str, base: Url) -> Url:
 
 
 def canonical_path(path: str) -> str:
-    """A path that begins with a slash or is empty: dots resolved, percent-encoded."""
+    """Return a path that begins with a slash or is empty, with dots resolved and percent-encoded."""
     parts = re.split(r"[/\\]", path)[1:] or [""]
     kept: list[str] = []
     for place, part in enumerate(parts, 1):
@@ -277,7 +281,7 @@ def canonical_path(path: str) -> str:
 
 
 def respelled(path: str) -> str:
-    """A canonical path with its escapes written as those of a file's page are."""
+    """Return a canonical path with the same percent-escapes as the URL of a file's page."""
     return "/".join(quote(unquote_to_bytes(part), safe=IN_NAME) for part in path.split("/"))
 
 
@@ -289,8 +293,8 @@ COMMENT = re.compile(r"<!--(?:-?>|.*?(?:--!?>|\Z))", re.S)
 HTML_START = re.compile(
     rb"(\xef\xbb\xbf)?\s*(<\?xml[^>]*>\s*)?(<!--.*?-->\s*)*<(!doctype\s+html|html)\b", re.I | re.S
 )
-START_LENGTH = 1024  # bytes of a document in which its kind and its encoding are looked for
-# What the prescan of a document for its encoding reads
+START_LENGTH = 1024  # the bytes of a document in which its type and its encoding are searched for
+# The patterns of the prescan of a document for its encoding
 MARK = re.compile(rb"<(?:!(?=--).*?(?:-->|\Z)|(/?[A-Za-z][^\t\n\f\r />]*)|[!/?][^>]*)", re.S)
 MARK_ATTRIBUTE = re.compile(
     rb"""[\t\n\f\r /]*([^\t\n\f\r />][^\t\n\f\r />=]*)
@@ -311,7 +315,7 @@ WINDOWS_NAMES = set(
 )
 REFERENCE = re.compile("&(#[0-9]+;?|#[xX][0-9a-fA-F]+;?|[A-Za-z][A-Za-z0-9]*(?:;|(?![A-Za-z0-9=])))")
 LONG_REFERENCE = re.compile("&#([0-9]{8,})(;?)")
-# Python's own pattern of references between tags fails at `&#` without a digit, and takes all that follows as text
+# Python's own pattern for references between tags fails on `&#` without a digit, and reads all that follows as text
 html.parser.charref = re.compile("&#.", re.S)  # type: ignore[attr-defined]
 TAG_NAME = re.compile(r"<[^\s/>]*")
 CANDIDATE = re.compile(r"[^ \t\n\f\r]*")
@@ -326,13 +330,13 @@ STYLE_URL = re.compile(
 
 
 def end_of(pattern: re.Pattern[str], text: str, place: int = 0) -> int:
-    """Where the match of a pattern ends that matches at the place."""
+    """Return the end of a pattern's match at a position; the position itself if it does not match."""
     found = pattern.match(text, place)
     return found.end() if found else place
 
 
 def decoded(value: str) -> str:
-    """An attribute's value with its character references read: `&copy=1` and `&copy1` are none there."""
+    """Decode the character references of an attribute value, where `&copy=1` and `&copy1` are none."""
 
     def one(found: re.Match[str]) -> str:
         if found[1][0] == "#":
@@ -343,7 +347,7 @@ def decoded(value: str) -> str:
 
 
 def attributes(tag: str) -> dict[str, str]:
-    """The attributes of a start tag's text, the first of each name."""
+    """Return the attributes of a start tag; of several with the same name, the first."""
     found: dict[str, str] = {}
     for name, value in ATTRIBUTE.findall(tag[end_of(TAG_NAME, tag):].removesuffix(">")):
         if value[:1] in ("'", '"'):
@@ -353,7 +357,7 @@ def attributes(tag: str) -> dict[str, str]:
 
 
 def without_long_references(text: str) -> str:
-    """The text with no reference of more than seven digits. Python may fail at long ones, which are no character."""
+    """Replace character references of more than seven digits, which give no character and on which Python may fail."""
 
     def one(found: re.Match[str]) -> str:
         digits = found[1].lstrip("0")
@@ -363,7 +367,7 @@ def without_long_references(text: str) -> str:
 
 
 def candidates(text: str) -> list[str]:
-    """The URLs of a srcset: each ends at a space, or at a comma where it ends in one."""
+    """Return the URLs of a srcset. Each ends at white space; a comma at its end is not part of it."""
     found: list[str] = []
     place = 0
     while (begin := end_of(BETWEEN_CANDIDATES, text, place)) < len(text):
@@ -376,15 +380,15 @@ def candidates(text: str) -> list[str]:
 
 
 def links_of_style(text: str) -> list[str]:
-    """The texts of url() and @import in a style sheet."""
+    """Return the texts of url() and @import in a style sheet."""
     text = re.sub(r"/\*.*?(?:\*/|\Z)", "", text, flags=re.S)
     return ["".join(found) for found in STYLE_URL.findall(text)]
 
 
 class LinkReader(html.parser.HTMLParser):
-    """Collects the link texts of a document in its order, and the text of its base."""
+    """Collects the link texts of a document in order, and the text of its base."""
 
-    # The elements whose content is text, by HTML's rules; Python's own differ between its versions
+    # The elements whose content is text, by the HTML Standard; Python's own list depends on its version
     CDATA_CONTENT_ELEMENTS = tuple("script style title textarea xmp iframe noembed noframes plaintext".split())
 
     def __init__(self, styles: bool) -> None:
@@ -394,20 +398,20 @@ class LinkReader(html.parser.HTMLParser):
         self.styles, self.in_style = styles, False
 
     def parse_comment(self, begin: int, report: int = True) -> int:
-        """Where the comment at a place ends, by HTML's rules; Python's own differ between its versions."""
+        """Return the end of a comment by the HTML Standard; Python's own rules depend on its version."""
         return end_of(COMMENT, self.rawdata, begin)
 
     def parse_marked_section(self, begin: int, report: int = True) -> int:
-        """Where `<![..` ends: HTML has no such sections, so at the next `>`. Python's own may fail here."""
+        """Return the end of `<![..`, the next `>`, since HTML has no such sections. Python's own method may fail."""
         return self.parse_bogus_comment(begin)
 
     def set_cdata_mode(self, elem: str, **_: bool) -> None:
-        """Takes what follows as text, up to the end tag of the element; nothing ends a `plaintext`."""
+        """Read what follows as text, up to the end tag of the element; nothing ends a `plaintext`."""
         self.cdata_elem = elem
         self.interesting = re.compile("(?!)" if elem == "plaintext" else rf"(?i)</{elem}(?=[\t\n\f\r />])")
 
     def parse_endtag(self, begin: int) -> int:
-        """Where the end tag at a place ends. Python's own takes one with an attribute for more of a text."""
+        """Return the end of an end tag. Python's own method reads an end tag with an attribute as text."""
         if self.cdata_elem is None:
             return super().parse_endtag(begin)
         self.handle_endtag(self.cdata_elem)
@@ -415,7 +419,7 @@ class LinkReader(html.parser.HTMLParser):
         return end_of(END_TAG, self.rawdata, begin)
 
     def handle_startendtag(self, tag: str, attrs: list[tuple[str, Optional[str]]]) -> None:
-        """A slash at its end closes no element of HTML."""
+        """Read a tag such as `<br/>` as a start tag, since the slash closes no element in HTML."""
         self.handle_starttag(tag, attrs)
         if tag in self.CDATA_CONTENT_ELEMENTS:
             self.set_cdata_mode(tag)
@@ -445,13 +449,13 @@ class LinkReader(html.parser.HTMLParser):
             self.read_links(LINKS[tag], found)
 
     def read_refresh(self, found: dict[str, str]) -> None:
-        """The target of a `meta` that sends on to another page."""
+        """Add the target of a meta refresh."""
         if found.get("http-equiv", "").lower() == "refresh":
             refresh = REFRESH.match(found.get("content", ""))
             self.links += [part for part in refresh.groups() if part] if refresh else []
 
     def read_links(self, names: tuple[str, ...], found: dict[str, str]) -> None:
-        """The texts of the attributes with these names."""
+        """Add the link texts of the attributes with these names."""
         for name in names:
             if name in found and name.endswith("srcset"):
                 self.links += candidates(found[name])
@@ -460,7 +464,7 @@ class LinkReader(html.parser.HTMLParser):
 
 
 def name_in(tag: dict[bytes, bytes]) -> bytes:
-    """The name of an encoding in the attributes of a `meta`; nothing where there is none."""
+    """Return the name of the encoding in the attributes of a `meta`, or an empty name."""
     if b"charset" in tag:
         return tag[b"charset"]
     is_kind = tag.get(b"http-equiv", b"").lower() == b"content-type"
@@ -469,7 +473,7 @@ def name_in(tag: dict[bytes, bytes]) -> bytes:
 
 
 def declared(start: bytes) -> str:
-    """The name of the encoding that the head of a document declares, by the HTML Standard's prescan; "" for none."""
+    """Return the encoding that a document declares, by the prescan of the HTML Standard, or "" if there is none."""
     at = 0
     while mark := MARK.search(start, at):
         at = mark.end()
@@ -488,7 +492,7 @@ def declared(start: bytes) -> str:
 
 
 def charset_names(body: bytes, charset: Optional[str]) -> Iterator[str]:
-    """The names of the encodings that a document may have, as its server and its head say."""
+    """Yield the encodings that a document may have: that of its server, and the one that it declares."""
     for name in (charset, declared(body[:START_LENGTH])):
         name = (name or "").lower()
         if name in WINDOWS_NAMES:
@@ -497,7 +501,11 @@ def charset_names(body: bytes, charset: Optional[str]) -> Iterator[str]:
 
 
 def text_of(body: bytes, charset: Optional[str]) -> tuple[str, str]:
-    """A document's text and encoding: by its first bytes, the server's word, its head, UTF-8, Windows' own."""
+    """Return a document's text and encoding.
+
+    The encoding is that of its byte order mark, that of the server, the declared one, UTF-8 or windows-1252, whichever
+    applies first.
+    """
     for mark, name in BYTE_ORDER_MARKS:
         if body.startswith(mark):
             return body[len(mark) :].decode(name, "replace"), "utf-8"
@@ -506,7 +514,7 @@ def text_of(body: bytes, charset: Optional[str]) -> tuple[str, str]:
         try:
             return body.decode(name, "replace"), name
         except (LookupError, ValueError):
-            # No name of an encoding, or one that takes no broken bytes
+            # Not an encoding, or one that cannot decode these bytes
             pass
     try:
         return body.decode("utf-8"), "utf-8"
@@ -517,7 +525,7 @@ def text_of(body: bytes, charset: Optional[str]) -> tuple[str, str]:
 
 
 def known_part(link: str) -> Optional[str]:
-    """As much of a link as is known: all, or up to its `#` where its fragment is not; None where less is known."""
+    """Return the link, up to its `#` if only its fragment has unknown characters; None if more of it has."""
     front, mark, fragment = link.partition("#")
     if UNKNOWN in front:
         return None
@@ -525,21 +533,21 @@ def known_part(link: str) -> Optional[str]:
 
 
 def is_absolute(link: str) -> bool:
-    """Whether a link means the same against every base."""
+    """Return whether a link resolves to the same URL against every base."""
     link = link.strip(EDGE)
     scheme = scheme_of(link)
     return scheme is not None and (not is_web(scheme) or re.match(r"[/\\]{2}", link[len(scheme) + 1 :]) is not None)
 
 
 def known_links(links: list[str], base: Optional[str]) -> tuple[list[str], Optional[str]]:
-    """What is known of the links and the base of a document in an encoding that is not known."""
+    """Return the links and the base of a document in an unknown encoding, as far as they are known."""
     if base is not None and UNKNOWN in base.partition("#")[0]:
         links, base = list(filter(is_absolute, links)), None
     return [known for known in map(known_part, links) if known is not None], base
 
 
 def with_query_in(text: str, charset: str) -> str:
-    """The link with the letters of its query percent-encoded in the page's encoding."""
+    """Return a link with the non-ASCII characters of its query percent-encoded in the page's encoding."""
     front, hash_mark, fragment = text.partition("#")
     path, mark, query = front.partition("?")
     if charset == "utf-8" or front.isascii() or not is_web(scheme_of(text)):
@@ -549,26 +557,26 @@ def with_query_in(text: str, charset: str) -> str:
 
 
 def with_base(links: list[str], given: str, url: Url) -> list[str]:
-    """The links of a page at a Url whose base is given, so that they mean the same without it."""
+    """Return the links of a page that has a `<base>` in a form that does not depend on it."""
     given = cleaned(given)
     base = parse(given, url)
     if base:
         found = ((link, parse(link, base)) for link in links)
         return [target.text() if target else link for link, target in found]
     scheme = scheme_of(given)
-    # A base that is no URL, or one of these schemes, is none
+    # A base that is not a URL, or has one of these schemes, is ignored
     if is_web(scheme) or scheme in ("data", "javascript"):
         return links
     return [link if scheme_of(link) else f"{scheme}:{link}" for link in links]
 
 
 def is_document(kind: Optional[str], body: bytes) -> bool:
-    """Whether a body of this kind, or of none, is HTML."""
+    """Return whether a body of this media type, or of unknown type, is HTML."""
     return kind in HTML_KINDS or (not kind and HTML_START.match(body[:START_LENGTH]) is not None)
 
 
 def links_of(body: bytes, url: Url, kind: Optional[str], web: Web, charset: Optional[str] = None) -> list[str]:
-    """The link texts of a document at a Url; none where it is neither HTML nor a style sheet that is asked for."""
+    """Return the link texts of a document if it is HTML, or a style sheet and --styles is given; else none."""
     base: Optional[str] = None
     if kind == STYLE_KIND and web.styles:
         text, charset = text_of(body, charset)
@@ -582,10 +590,10 @@ def links_of(body: bytes, url: Url, kind: Optional[str], web: Web, charset: Opti
     else:
         return []
     if charset == NOT_KNOWN:
-        web.tell("only ASCII read, the encoding is not known", url.text())
+        web.tell("unknown encoding, only ASCII was read", url.text())
         given, base = known_links(given, base)
         charset = "cp1252"
-    web.count("links over several lines, put into one", sum("\n" in link.strip(EDGE) for link in given))
+    web.count("links over several lines, joined", sum("\n" in link.strip(EDGE) for link in given))
     links = [with_query_in(cleaned(link), charset) for link in given]
     return links if base is None else with_base(links, base, url)
 
@@ -594,60 +602,60 @@ def links_of(body: bytes, url: Url, kind: Optional[str], web: Web, charset: Opti
 
 
 def line_of(word: str, text: str) -> Optional[bytes]:
-    """The line of a word and a text with its line break, or None where it is too long."""
+    """Return a line of a word and a text with its line break, or None if it is too long."""
     line = f"{word} {text}\n".encode("utf-8", "replace")
     return line if len(line) <= LINE_LIMIT + 1 else None
 
 
 class Web:
-    """A saved web that is made in a temporary file, page by page, and counts what was left out."""
+    """A saved web, which is collected page by page in a temporary file. It counts what is skipped."""
 
     def __init__(self, options: argparse.Namespace) -> None:
         self.once, self.styles, self.quiet = options.once, options.styles, options.quiet
         self.file = tempfile.TemporaryFile()
-        # By URL: where in the file its lines begin, where the lines below its own do, and their end
+        # By URL: the positions in the file of the page's first line, of the line after it, and of its end
         self.pages: dict[str, tuple[int, int, int]] = {}
         self.size = 0
         self.links = self.moves = 0
         self.counts: dict[str, int] = {}
 
     def count(self, what: str, number: int = 1) -> None:
-        """Counts something that the summary tells."""
+        """Count something for the summary."""
         if number:
             self.counts[what] = self.counts.get(what, 0) + number
 
     def tell(self, what: str, where: str) -> None:
-        """Names something that is not written as it was found, and counts it."""
+        """Print a note on something that was skipped or changed, and count it."""
         self.count(what)
         if not self.quiet:
-            # A text of strangers goes to a terminal, so no control character does
+            # The text is untrusted input and may go to a terminal, so control characters are escaped
             where = where[:200].encode("unicode_escape").decode()
             print(f"site_to_web: {what}: {where}", file=sys.stderr)
 
     def page(self, url: str, links: Iterable[str]) -> bool:
-        """Adds a page with its links. Whether it was added."""
+        """Add a page with its links. Return whether it was added."""
         links = dict.fromkeys(links) if self.once else links
         return self.add(url, lambda: (self.link(text, url) for text in links))
 
     def moved(self, url: str, target: str) -> bool:
-        """Adds a page that a server sends on to a target. Whether it was added."""
+        """Add a page that is a redirect to a target. Return whether it was added."""
         added = self.add(url, lambda: [self.move(target, url)])
         self.moves += added
         return added
 
     def again(self, url: str, earlier: str) -> bool:
-        """Adds a page with the lines below an earlier page's own. Whether it was added."""
+        """Add a page with the links of an earlier page. Return whether it was added."""
         _, begin, end = self.pages[earlier]
         return self.add(url, lambda: self.lines(begin, end).splitlines(True))
 
     def add(self, url: str, lines: Callable[[], Iterable[Optional[bytes]]]) -> bool:
-        """Adds a page and the lines that a call gives, those that are None left out. Whether it was added."""
+        """Add a page and the lines that the function `lines` returns, except None. Return whether it was added."""
         if url in self.pages:
-            self.tell("page left out, one with its URL came before", url)
+            self.tell("page skipped, an earlier page has the same URL", url)
             return False
         head = line_of("page", url)
         if head is None:
-            self.tell("page left out, its URL is too long", url)
+            self.tell("page skipped, its URL is too long", url)
             return False
         below = [line for line in lines() if line is not None]
         begin = self.size
@@ -657,46 +665,48 @@ class Web:
         self.pages[url] = (begin, begin + len(head), self.size)
         self.links += sum(line.startswith(b"link ") for line in below)
         if len(HEADER) + self.size > INPUT_LIMIT:
-            raise Fault(f"the web is more than {INPUT_LIMIT} bytes, which no crawl takes; --once makes it smaller")
+            raise Fault(
+                f"the saved web has more than {INPUT_LIMIT} bytes, the most that a crawl reads; --once makes it smaller"
+            )
         return True
 
     def link(self, text: str, url: str) -> Optional[bytes]:
-        """The line of a link; where that is too long, a shorter one that the reader takes for the same, or None."""
+        """Return the line of a link. If it is too long, return a shorter line with the same meaning, or None."""
         line = line_of("link", text)
         if line is None:
             line = line_of("link", text.partition("#")[0])
-            self.count("links without their fragment, which is too long", line is not None)
+            self.count("links without their fragment, they were too long", line is not None)
         if line is None and not is_web(scheme_of(text)):
-            self.count("links of other schemes, cut after 4,096 bytes")
+            self.count("links of other schemes, cut off at 4,096 bytes")
             start = text.encode("utf-8", "replace")[: LINE_LIMIT - len("link ")]
             line = line_of("link", start.decode("utf-8", "ignore"))
         if line is None:
-            self.tell("link left out, it is too long", f"{url} links to {text}")
+            self.tell("link skipped, it is too long", f"{url} links to {text}")
         return line
 
     def move(self, target: str, url: str) -> Optional[bytes]:
-        """The line of a redirect; None where it is too long, which leaves the page without a link."""
+        """Return the line of a redirect, or None if it is too long; the page then has no link."""
         line = line_of("moved", target) or line_of("moved", target.partition("#")[0])
         if line is None:
-            self.tell("redirect left without its target, which is too long", f"{url} to {target}")
+            self.tell("target of the redirect skipped, it is too long", f"{url} to {target}")
         return line
 
     def lines(self, begin: int, end: int) -> bytes:
-        """The bytes of the file between two places."""
+        """Return the bytes of the file between two positions."""
         self.file.seek(begin)
         return self.file.read(end - begin)
 
     def write(self, out: BinaryIO) -> None:
-        """Writes the whole web, its pages in ascending byte order of URL."""
+        """Write the whole saved web, its pages in ascending byte order of URL."""
         out.write(HEADER)
         for _, (begin, _, end) in sorted(self.pages.items()):
             out.write(self.lines(begin, end))
         out.flush()
 
     def summary(self) -> None:
-        """What was written, and how often what was counted came."""
+        """Print the numbers of pages, links and bytes, and everything that was counted."""
         size = len(HEADER) + self.size
-        words = [f"{len(self.pages)} pages, {self.moves} of them moved; {self.links} links; {size} bytes"]
+        words = [f"{len(self.pages)} pages, {self.moves} of them redirects; {self.links} links; {size} bytes"]
         words += [f"{what}: {count}" for what, count in sorted(self.counts.items())]
         for line in words:
             print(f"site_to_web: {line}", file=sys.stderr)
@@ -706,9 +716,9 @@ class Web:
 
 
 def entries_below(folder: bytes, web: Web) -> list[bytes]:
-    """The files below a folder and the folders (whose names end in a slash), as names below it, sorted.
+    """Return the sorted paths of the files and folders below a folder; those of folders end in a slash.
 
-    Symbolic links are followed, but not back up.
+    Symbolic links are followed, except to a folder above them.
     """
     found: list[bytes] = []
     waiting: list[tuple[bytes, tuple[bytes, ...]]] = [(b"", (os.path.realpath(folder),))]
@@ -720,19 +730,19 @@ def entries_below(folder: bytes, web: Web) -> list[bytes]:
                 found.append(place + name + b"/")
                 real = os.path.realpath(path)
                 if real in above:
-                    web.tell("folder not entered, it leads back up", os.fsdecode(place + name))
+                    web.tell("folder skipped, it leads back to a folder above it", os.fsdecode(place + name))
                 else:
                     waiting.append((place + name + b"/", (*above, real)))
             elif os.path.isfile(path):
                 found.append(place + name)
             else:
                 why = "it cannot be read" if is_hidden(path) else "neither a file nor a folder"
-                web.tell(f"left out, {why}", os.fsdecode(place + name))
+                web.tell(f"skipped, {why}", os.fsdecode(place + name))
     return sorted(found)
 
 
 def is_hidden(path: bytes) -> bool:
-    """Whether the system does not let one look at what has this path."""
+    """Return whether there is no permission to look at this path."""
     try:
         os.stat(path)
     except PermissionError:
@@ -743,24 +753,24 @@ def is_hidden(path: bytes) -> bool:
 
 
 def kind_of(name: bytes) -> tuple[Optional[str], bool]:
-    """The kind that a file's suffix says, or None; and whether the suffix says that it is packed."""
+    """Return the media type that a file's suffix means, or None; and whether the suffix means that it is compressed."""
     suffix = os.path.splitext(os.path.basename(os.fsdecode(name)))[1]
     kind, packing = KINDS.guess_type("name" + suffix)
     return kind, packing is not None
 
 
 def is_utf8(name: bytes) -> bool:
-    """Whether a file's name is UTF-8."""
+    """Return whether a file's name is UTF-8."""
     return name.decode("utf-8", "ignore").encode() == name
 
 
 def split_name(name: bytes, queries: bool) -> tuple[bytes, bytes, bytes]:
-    """The path, the question mark and the query of a file's name; all of it is path where names have no queries."""
+    """Split a file's name into path, question mark and query; without --queries, the whole name is the path."""
     return name.partition(b"?") if queries else (name, b"", b"")
 
 
 class Folder:
-    """The pages of a folder: `files` has the file of a page's URL, `moves` where a folder's URL is sent on to."""
+    """The pages of a folder: `files` has the file of each page by URL, `moves` the target of each redirect by URL."""
 
     def __init__(self, folder: str, base: Url, options: argparse.Namespace, web: Web) -> None:
         self.folder, self.base, self.web = os.fsencode(folder), base, web
@@ -771,7 +781,7 @@ class Folder:
         index = os.fsencode(options.index)
         for name in entries_below(self.folder, web):
             if not is_utf8(name):
-                web.tell("name is not UTF-8, its bytes are percent-encoded", self.url(name))
+                web.tell("name is not UTF-8, so its bytes are percent-encoded", self.url(name))
             if name.endswith(b"/"):
                 self.moves[self.url(name[:-1])] = self.url(name)
                 continue
@@ -783,20 +793,20 @@ class Folder:
             raise Fault(f"no files in {folder}")
 
     def url(self, name: bytes, queries: bool = False) -> str:
-        """The URL of a name below the folder, in which a question mark may begin the query."""
+        """Return the URL of a path below the folder. With `queries`, a question mark starts the query."""
         path, mark, query = split_name(name, queries)
         url = self.base.text() + quote(path, safe=IN_NAME + "/")
         return url + "?" + quote(unquote_to_bytes(query), safe=IN_QUERY) if mark else url
 
     def keep(self, url: str, name: bytes) -> None:
-        """Makes a file the page of a URL, unless another is."""
+        """Make a file the page of a URL, unless the URL has one."""
         if url in self.files:
-            self.web.tell("file left out, another has its URL", f"{os.fsdecode(name)}, {url}")
+            self.web.tell("file skipped, another file has the same URL", f"{os.fsdecode(name)}, {url}")
         else:
             self.files[url] = name
 
     def links(self, name: bytes, url: Url) -> list[str]:
-        """The links of a file at a Url."""
+        """Return the links of a file at a Url."""
         kind, packed = kind_of(split_name(name, self.queries)[0])
         if packed or (kind and kind != STYLE_KIND and kind not in HTML_KINDS):
             return []
@@ -807,7 +817,7 @@ class Folder:
             return links_of(body, url, kind, self.web)
 
     def spelled_otherwise(self, link: str, url: Url) -> Optional[tuple[str, str]]:
-        """The canonical URL of a link and that of the page which a server takes it for, where these differ."""
+        """Return the canonical URL of a link and that of the page that a server returns for it, if these differ."""
         target = parse(link, url)
         if target is None:
             return None
@@ -818,11 +828,11 @@ class Folder:
         return None if text in self.known or not self.is_page(plain) else (text, plain)
 
     def is_page(self, url: str) -> bool:
-        """Whether a file or a folder has this URL."""
+        """Return whether a file or a folder has this URL."""
         return url in self.files or url in self.moves
 
     def write_page(self, text: str, plain: str) -> list[str]:
-        """Adds the page of a URL that a server takes for the plain one, and answers its links."""
+        """Add the page `text`, for which a server returns the page `plain`, and return its links."""
         url = url_of(text)
         if plain in self.files:
             links = self.links(self.files[plain], url)
@@ -830,17 +840,17 @@ class Folder:
             return links
         target = self.moves[plain] + url.tail()
         short = target[len(url.site()) :]
-        # Two slashes would begin a host
+        # Two slashes would start a host
         target = target if short.startswith("//") else short
         self.web.moved(text, target)
         return [target]
 
     def other_spellings(self, links: list[str], text: str, plain: str) -> dict[str, str]:
-        """The URLs by which a page's links spell pages in another way, each with the page's own URL."""
+        """Return the URLs among a page's links that spell a page's URL differently, each with the page's own URL."""
         found: dict[str, str] = {}
         url = url_of(text)
         for link in dict.fromkeys(links):
-            # Only these links can: ones with escapes or a query, and those of a page that is such a spelling itself
+            # Only links with escapes or a query can, and all links of a page that is such a spelling itself
             if "?" in link or "%" in link or text != plain:
                 other = self.spelled_otherwise(link, url)
                 if other:
@@ -848,7 +858,7 @@ class Folder:
         return found
 
     def write(self) -> None:
-        """Adds all pages, and then those that are other spellings of them, until no page links to a new one."""
+        """Add all pages, then their other spellings that pages link to, until there are no new ones."""
         pages = {url: url for url in (*self.files, *self.moves)}
         self.known = set(pages)
         while pages:
@@ -866,7 +876,7 @@ class Folder:
 
 
 def headers_of(lines: list[bytes]) -> dict[str, str]:
-    """Names and values, the first of each name; a line that begins with a space goes on with the last one."""
+    """Return header names with the first value of each. A line that begins with a space continues the one before."""
     found: dict[str, str] = {}
     last: Optional[str] = None
     for line in (line.decode("utf-8", "replace") for line in lines):
@@ -882,25 +892,25 @@ def headers_of(lines: list[bytes]) -> dict[str, str]:
 
 
 def record_headers(file: BufferedIOBase) -> Optional[dict[str, str]]:
-    """The headers of the next record of a WARC, or None at its end."""
+    """Return the headers of the next record of a WARC, or None at its end."""
     while line := file.readline(1 << 16):
         if line.strip():
             break
     if not line:
         return None
     if not line.startswith(b"WARC/"):
-        raise Fault("no WARC record where one should begin")
+        raise Fault("not a WARC file: a record does not begin with WARC/")
     lines = []
     while line := file.readline(1 << 16).rstrip(b"\r\n"):
         lines.append(line)
     headers = headers_of(lines)
     if not re.fullmatch("[0-9]{1,18}", headers.get("content-length", "")):
-        raise Fault("a WARC record without a length")
+        raise Fault("a WARC record has no valid Content-Length")
     return headers
 
 
 def records(file: BufferedIOBase) -> Iterator[tuple[dict[str, str], bytes]]:
-    """The headers and block of each record of a WARC that may be a page; of a large block its first bytes."""
+    """Yield the headers and the block of each WARC record that may be a page; a large block is cut off."""
     while headers := record_headers(file):
         length = int(headers["content-length"])
         if headers.get("warc-type") in ("response", "resource", "revisit"):
@@ -917,7 +927,7 @@ def records(file: BufferedIOBase) -> Iterator[tuple[dict[str, str], bytes]]:
 
 
 def dechunked(body: bytes) -> bytes:
-    """The body of a chunked message; as it stands where it is not chunked."""
+    """Return the body of a chunked message; unchanged if it is not chunked."""
     out: list[bytes] = []
     place = 0
     while True:
@@ -933,14 +943,14 @@ def dechunked(body: bytes) -> bytes:
 
 
 def unpacked(body: bytes, coding: str) -> Optional[bytes]:
-    """The body without its content coding; None where that is not known or fails."""
+    """Return the body without its content coding; None if that is unknown or the body is invalid."""
     for name in reversed([part.strip().lower() for part in coding.split(",")]):
         if name in ("", "identity"):
             continue
         if name not in ("gzip", "x-gzip", "deflate"):
             return None
         try:
-            # A body that is not packed though the header says so stays as it is
+            # A body that is not compressed, although the header says so, is left unchanged
             if name == "deflate":
                 window = 15 if body[:1] == b"\x78" else -15
                 body = zlib.decompressobj(window).decompress(body, DOCUMENT_LIMIT)
@@ -952,7 +962,7 @@ def unpacked(body: bytes, coding: str) -> Optional[bytes]:
 
 
 class Answer:
-    """An HTTP answer: its status (None where it is none), headers and body."""
+    """An HTTP response: its status (None if it is not one), headers and body."""
 
     def __init__(self, block: bytes) -> None:
         head, _, self.body = block.partition(b"\r\n\r\n")
@@ -962,29 +972,29 @@ class Answer:
         self.headers = headers_of(lines)
 
     def target(self) -> Optional[str]:
-        """Where a redirect leads to; None where the answer is no redirect."""
+        """Return the target of a redirect; None if the response is not a redirect."""
         return self.headers.get("location") if self.status in (301, 302, 303, 307, 308) else None
 
     def is_page(self) -> bool:
-        """Whether the status is that of a page."""
+        """Return whether the status is that of a page."""
         return self.status is not None and 200 <= self.status < 300
 
     def content(self) -> Optional[bytes]:
-        """The body without its transfer and content coding; None where that coding is not known."""
+        """Return the body without its transfer and content coding; None if that is unknown or the body is invalid."""
         chunked = "chunked" in self.headers.get("transfer-encoding", "").lower()
         body = dechunked(self.body) if chunked else self.body
         return unpacked(body, self.headers.get("content-encoding", ""))
 
 
 class Archive:
-    """Adds the pages of WARC files to a web."""
+    """Adds the pages of WARC files to a saved web."""
 
     def __init__(self, web: Web) -> None:
         self.web = web
         self.by_digest: dict[str, str] = {}  # the URL of the first page with a digest
 
     def read(self, path: str) -> None:
-        """Adds the pages of one file."""
+        """Add the pages of one file."""
         with open(path, "rb") as plain:
             packed = plain.read(2) == b"\x1f\x8b"
         try:
@@ -995,7 +1005,7 @@ class Archive:
             raise Fault(f"{path}: {fault}") from None
 
     def record(self, headers: dict[str, str], block: bytes) -> None:
-        """Adds the page of one record, where it is one."""
+        """Add the page of one record, if it is one."""
         target = headers.get("warc-target-uri", "").strip("<>")
         url = parse(target)
         digest = headers.get("warc-payload-digest")
@@ -1003,9 +1013,9 @@ class Archive:
             self.web.count("records of URLs that are neither http nor https")
             return
         if len(block) >= DOCUMENT_LIMIT:
-            self.web.tell("record read in its first bytes alone, it is too large", url.text())
+            self.web.tell("only the beginning of the record was read, it is too large", url.text())
         if url.host is None:
-            self.web.tell("page left out, its host is not plain", target)
+            self.web.tell("page skipped, its host cannot be written in canonical form", target)
         elif headers["warc-type"] == "resource":
             self.document(block, url, headers.get("content-type", ""), digest)
         elif headers["warc-type"] == "revisit":
@@ -1014,7 +1024,7 @@ class Archive:
             self.answer(Answer(block), url, digest)
 
     def answer(self, answer: Answer, url: Url, digest: Optional[str]) -> None:
-        """Adds the page of a URL's HTTP answer, where it is one."""
+        """Add the page of an HTTP response, if it is one."""
         target = answer.target()
         if target is not None:
             self.web.moved(url.text(), cleaned(target))
@@ -1022,29 +1032,29 @@ class Archive:
             self.document(answer.content(), url, answer.headers.get("content-type", ""), digest)
         else:
             status = "none" if answer.status is None else answer.status
-            self.web.count(f"answers that are no page, status {status}")
+            self.web.count(f"responses that are not pages, status {status}")
 
     def revisit(self, answer: Answer, url: Url, digest: Optional[str]) -> None:
-        """Adds the page of a URL whose content is that of an earlier record, which may not be there."""
+        """Add a page with the same content as an earlier record, which may be missing."""
         if not answer.is_page() and answer.status not in (None, 304):
             self.answer(answer, url, digest)
         elif digest in self.by_digest:
             self.web.again(url.text(), self.by_digest[digest])
         else:
-            self.web.tell("links not read, the record that is visited again is not there", url.text())
+            self.web.tell("links skipped, the first record with this content is missing", url.text())
             self.web.page(url.text(), [])
 
     def document(self, body: Optional[bytes], url: Url, kind: str, digest: Optional[str]) -> None:
-        """Adds a page with the links of its body."""
+        """Add a page with the links of its body."""
         charset = re.search(r"(?i)charset\s*=\s*[\"']?([^\s\"';]+)", kind)
         kind = kind.partition(";")[0].strip().lower()
         if body is None:
-            self.web.tell("links not read, the body's coding is not known", url.text())
+            self.web.tell("links skipped, the content coding is unknown or the body is invalid", url.text())
             links = []
         else:
             links = links_of(body, url, kind, self.web, charset[1] if charset else None)
             if len(body) >= DOCUMENT_LIMIT and is_document(kind, body):
-                self.web.tell("links read in its first bytes alone, it is too large", url.text())
+                self.web.tell("only the links at the beginning were read, the page is too large", url.text())
         if self.web.page(url.text(), links) and digest:
             self.by_digest.setdefault(digest, url.text())
 
@@ -1053,7 +1063,7 @@ class Archive:
 
 
 class CommandLine(argparse.ArgumentParser):
-    """A reader of words that ends with the program's own status where they are bad."""
+    """A parser of the command line that exits with the same status as mercator on a bad command line."""
 
     def error(self, message: str) -> NoReturn:
         self.print_usage(sys.stderr)
@@ -1061,36 +1071,42 @@ class CommandLine(argparse.ArgumentParser):
 
 
 def command_line() -> CommandLine:
-    """The reader of this script's words."""
+    """Return the parser of this script's command line."""
     words = CommandLine(
         usage="site_to_web.py [OPTION..] FOLDER BASE > WEB\n       site_to_web.py [OPTION..] --warc FILE.. > WEB",
         description=DESCRIPTION,
         epilog=RULES,
         formatter_class=argparse.RawDescriptionHelpFormatter,
     )
-    words.add_argument("folder", nargs="?", metavar="FOLDER", help="the folder of a site's files")
-    words.add_argument("base", nargs="?", metavar="BASE", help="the URL of its top, such as http://docs.test/")
-    words.add_argument("--warc", nargs="+", metavar="FILE", help="web archives, in place of FOLDER and BASE")
-    words.add_argument("--index", default="index.html", metavar="NAME", help="the index file's name (index.html)")
-    words.add_argument("--queries", action="store_true", help="a `?` in a file's name begins the query (`wget -r`)")
-    words.add_argument("--exact", action="store_true", help="no pages for other spellings of a page's URL")
-    words.add_argument("--styles", action="store_true", help="also url() and @import of styles and style sheets")
-    words.add_argument("--once", action="store_true", help="keep the first of equal link texts of a page")
-    words.add_argument("--quiet", action="store_true", help="count what was left out, and do not name it")
+    words.add_argument("folder", nargs="?", metavar="FOLDER", help="folder to convert")
+    words.add_argument("base", nargs="?", metavar="BASE", help="URL of the folder, such as http://docs.test/")
+    words.add_argument("--warc", nargs="+", metavar="FILE", help="convert web archives instead of FOLDER and BASE")
+    words.add_argument(
+        "--index", default="index.html", metavar="NAME", help="name of the index files (default: index.html)"
+    )
+    words.add_argument(
+        "--queries", action="store_true", help="read a ? in a file name as the start of a query (for `wget -r`)"
+    )
+    words.add_argument("--exact", action="store_true", help="accept only the exact spelling of a page's URL")
+    words.add_argument(
+        "--styles", action="store_true", help="also read url() and @import in styles and style sheets"
+    )
+    words.add_argument("--once", action="store_true", help="write equal links of a page only once")
+    words.add_argument("--quiet", action="store_true", help="only count what is skipped, and do not list it")
     return words
 
 
 def base_of(text: str, words: argparse.ArgumentParser) -> Url:
-    """The Url of a folder's top; where the text is none, the command line is bad."""
+    """Return the Url of the folder; exit if the text is not a suitable URL."""
     base = parse(text)
     if base is None or base.host is None or base.query is not None:
-        words.error(f"no http or https URL with a plain host and no query: {text}")
+        words.error(f"BASE must be an http or https URL with a plain ASCII host and without a query: {text}")
     base.path = respelled(base.path.rstrip("/")) + "/"
     return base
 
 
 def run(words: argparse.ArgumentParser) -> None:
-    """Reads the site and writes its web."""
+    """Read the site and write the saved web."""
     options = words.parse_args()
     if bool(options.warc) == bool(options.folder) or bool(options.folder) != bool(options.base):
         words.error("give FOLDER and BASE, or --warc FILE..")
@@ -1102,20 +1118,27 @@ def run(words: argparse.ArgumentParser) -> None:
     else:
         base = base_of(options.base, words)
         if not os.path.isdir(options.folder):
-            raise Fault(f"no folder: {options.folder}")
+            raise Fault(f"{options.folder}: not a folder")
         Folder(options.folder, base, options, web).write()
     web.write(sys.stdout.buffer)
     web.summary()
 
 
+def text_of_fault(fault: Exception) -> str:
+    """Return the text of an error: for one of the system, the file, if there is one, and the reason."""
+    if not isinstance(fault, OSError) or fault.strerror is None:
+        return str(fault)
+    return fault.strerror if fault.filename is None else f"{os.fsdecode(fault.filename)}: {fault.strerror}"
+
+
 def main() -> None:
-    """Runs the command; a fault is told and ends it with status 1."""
+    """Run the command. An error is printed and ends it with status 1."""
     try:
         run(command_line())
     except (Fault, OSError) as fault:
-        print(f"site_to_web: {fault}", file=sys.stderr)
+        print(f"site_to_web: {text_of_fault(fault)}", file=sys.stderr)
         if isinstance(fault, BrokenPipeError):
-            # Else the interpreter tries to write once more at its end
+            # Otherwise the interpreter would try to write again at its end
             os.dup2(os.open(os.devnull, os.O_WRONLY), sys.stdout.fileno())
         sys.exit(FAULT)
 

@@ -1,18 +1,18 @@
-"""Makes the wheel of the clients, which `pip install ./clients/python` installs.
+"""Build the wheel of the Python clients, which `pip install ./clients/python` installs.
 
-It is the build backend of `pyproject.toml`, and uses the standard library alone, so that pip asks
-no network. A client is one file here. In the wheel it is a package of that file, since only a
-package can say, by `py.typed`, that it has types.
+This is the build backend of `pyproject.toml`. It needs only the standard library, so pip needs no
+network. Each client is a single file here; in the wheel it is a package with that file, because
+only a package can have `py.typed`, the mark of a package with types.
 
-Usage: make_wheel.py FOLDER, which unpacks the wheel into FOLDER.
+As a script, `make_wheel.py FOLDER` unpacks the wheel into FOLDER.
 """
 
 from __future__ import annotations
 
+import argparse
 import base64
 import hashlib
 import os
-import sys
 import zipfile
 from pathlib import Path
 from typing import Any, Dict, Optional
@@ -26,7 +26,7 @@ METADATA = f"""\
 Metadata-Version: 2.1
 Name: mercator-clients
 Version: {VERSION}
-Summary: Clients of mercator, a URL frontier for crawlers
+Summary: Python clients of mercator, a URL frontier for crawlers
 License: MIT OR Apache-2.0
 Classifier: Operating System :: POSIX :: Linux
 Classifier: Typing :: Typed
@@ -42,7 +42,7 @@ WHEEL = "Wheel-Version: 1.0\nGenerator: mercator\nRoot-Is-Purelib: true\nTag: py
 
 
 def contents() -> Dict[str, bytes]:
-    """The files of the wheel."""
+    """Return the files of the wheel, by path."""
     files = {}
     for client in CLIENTS:
         files[f"{client}/__init__.py"] = (HERE / f"{client}.py").read_bytes()
@@ -56,13 +56,14 @@ def contents() -> Dict[str, bytes]:
 
 
 def digest(data: bytes) -> str:
+    """Return the SHA-256 of the data in the form that a wheel's RECORD needs."""
     return base64.urlsafe_b64encode(hashlib.sha256(data).digest()).rstrip(b"=").decode()
 
 
 def build_wheel(
     wheel_directory: str, config_settings: Any = None, metadata_directory: Optional[str] = None
 ) -> str:
-    """What pip asks of a build backend; answers the name of the file."""
+    """Write the wheel into a folder and return its file name. pip calls this function."""
     name = f"{NAME}-{VERSION}-py3-none-any.whl"
     with zipfile.ZipFile(os.path.join(wheel_directory, name), "w") as wheel:
         for path, data in contents().items():
@@ -71,13 +72,22 @@ def build_wheel(
 
 
 def unpack(folder: Path) -> None:
+    """Write the files of the wheel into a folder."""
     for path, data in contents().items():
         file = folder / path
         file.parent.mkdir(parents=True, exist_ok=True)
         file.write_bytes(data)
 
 
+def main() -> None:
+    parser = argparse.ArgumentParser(
+        description="Unpack the wheel of the Python clients of mercator into a folder."
+    )
+    parser.add_argument(
+        "folder", type=Path, metavar="FOLDER", help="folder to write to; created if missing"
+    )
+    unpack(parser.parse_args().folder)
+
+
 if __name__ == "__main__":
-    if len(sys.argv) != 2:
-        sys.exit("usage: make_wheel.py FOLDER")
-    unpack(Path(sys.argv[1]))
+    main()

@@ -1,45 +1,58 @@
-"""K frontiers share one crawl over Redis: each is `mercator serve --part I/K` with this client.
+"""Share one crawl between several machines: K frontiers that exchange URLs over Redis.
 
-Each part has N queues, and the URLs of a host are in one queue of one part. So each URL is fetched
-by one part, and no two fetchers of any part visit one host at a time. A part is a process, on the
-machine of the others or on one of its own::
+Each of the K *parts* is a process that runs `mercator serve --part I/K` and this client, on the
+same machine as the others or on another one::
 
     crawl = Crawl(parts=2, workers=16)       # the same for all parts
-    part = lambda: Part(crawl, 0, "part0.log", seeds=["http://example.org/"])
-    run(part, fetch)                         # fetch(queue, url) answers a base and link texts
+    start = lambda: Part(crawl, 0, "part0.log", seeds=["http://example.org/"])
+    run(start, fetch)                        # fetch(queue, url) returns a base URL and link texts
 
-What Redis holds is a stream for each part, with the URLs that others found for it. What holds:
+Each part has N queues, and all URLs of a host are in one queue of one part. So each URL is fetched
+by one part, and no two fetchers visit a host at the same time, whatever their parts. If a page has
+a link that belongs to another part, the client sends the URL to that part through Redis.
 
-- A page is done only when its links to other parts stand in their streams.
-- An entry leaves its stream only when its URLs are in the part's log, and every entry before it is
-  as far. The last one stays until all that the part accepted is done.
-- So the crawl is complete when all parts are ready and all streams are empty, at one moment.
+Failures
+--------
+- If a part is killed, start it again with the same arguments. It resumes from its log, and first
+  fetches the URLs that were in progress.
+- If a part loses the connection to Redis, `run` closes it and starts it again from its log.
+- If Redis restarts, even with no data, every part has to start again: each then sends the URLs for
+  other parts again, from its log. `run` does this for a part that is running. Start a part by hand
+  if it had finished before the restart, or if it finishes without having connected to the new
+  Redis. The other parts wait until all have started again, so none takes an unfinished crawl for
+  complete.
+- A killed process loses nothing. A crash of the machine loses what was not yet on its disk, so by
+  default (`sync`) the log is synced to disk before an entry is removed from Redis.
+- A crawl cannot resume if one of its logs is lost, or with other numbers of parts or queues.
 
-No number is kept beside streams and logs, and each command says what stays true: it may come late,
-twice or never. A part that was killed goes on from its log, and fetches again what it had in hand.
-A part that is cut off from Redis forgets all but its log and starts again. A Redis that was started
-again, even with nothing, is told from the logs what they had sent; no part sees an end before. So
-then each part has to be started again: one that had ended, too, and one that ends without having
-met the new one, since it looked at the old one last. Else the others wait for it.
+Redis must have `maxmemory-policy noeviction`, because an evicted stream looks like an empty one,
+and should have `appendonly yes`.
 
-What is lost: nothing with a process. With a machine, what its disk has not: so `sync`, which is on,
-brings the log to the disk before an entry leaves. With a log, all that it has: a crawl cannot go on
-without one of its logs, nor with other numbers of parts or queues.
+Protocol
+--------
+Redis holds a stream for each part, with the URLs that other parts found for it.
 
-Redis should have `appendonly yes`. It has to have `maxmemory-policy noeviction`, since a stream
-that was evicted looks empty. The keys, for the crawl NAME, all on one node of a Redis cluster:
+- A page becomes done only after its links to other parts are in the streams of these parts.
+- An entry is removed from its stream only after its URLs are in the part's log and the same holds
+  for every entry before it. The last entry stays until every URL that the part accepted is done.
+- So the crawl is complete if, at one moment, all parts are ready and all streams are empty.
 
-    {NAME}:to:I       the stream of part I; an entry has the field `u`, with a line for each URL. A
-                      link stands as its base, a space and its text: one that part I had no room
-                      for, and one whose URL no request has room for
-    {NAME}:ready:RUN  the parts that sent their seeds to the Redis with this run_id
-    {NAME}:complete   set when the crawl is complete, for good
+There is no state but the streams, the logs and the keys below. Each command to Redis states
+something that stays true, so it does no harm if it arrives late, twice or never.
+
+The keys of the crawl NAME, which are all on one node of a Redis cluster:
+
+    {NAME}:to:I       the stream of part I. An entry has the field `u`, with one line per URL. The
+                      line is the URL; or the base, a space and the text of a link, if part I had no
+                      room for the URL or if the URL is too long for a request
+    {NAME}:ready:RUN  the parts that have sent their seeds to the Redis with the run_id RUN
+    {NAME}:complete   set when the crawl is complete; never deleted
     {NAME}:shape      the numbers of parts and queues, and the suffix
     {NAME}:logs       the identity of each part's log
 
-The frontier is proved; this protocol is not: `tests/cluster_model.py` tries all its interleavings
-on small webs, and `tests/cluster.sh` runs it with faults. It needs `redis` (python3-redis of
-Debian), Linux and Python 3.9.
+The frontier is proved, this protocol is not: `tests/cluster_model.py` tries all its interleavings
+on small webs, and `tests/cluster.sh` runs it with failures. The module needs Linux, Python 3.9 or
+later, and the package `redis` (Debian: python3-redis).
 """
 
 from __future__ import annotations
@@ -70,41 +83,44 @@ __all__ = [
 
 logger = logging.getLogger(__name__)
 
-# The most URLs of one entry. Entries of one URL cost the clients three times as much, Redis eight.
+# The maximum number of URLs in an entry. With one URL per entry, the cost would be three times as
+# high for the clients, and eight times as high for Redis.
 _ENTRY = 500
 
-# So many entries are read at a time, while fewer than so many of their URLs wait to be offered.
+# The number of entries that are read at a time. None are read while _WAITING of their URLs, or
+# more, are still to be offered.
 _READ = 100
 _WAITING = 50_000
 
-# So many URLs that were sent are remembered, twice as many at most, so as not to be sent again.
+# The client remembers at least the last _RECENT URLs that it sent, and at most twice as many, so as
+# not to send them again.
 _RECENT = 100_000
 
-# So many requests of a log are run at a time, to see what was for other parts.
+# The number of requests of a log that are run at a time, to find the URLs for other parts.
 _SLICE = 1_000
 
-# The longest request, and the longest URL that `offer` has room for.
+# The maximum length of a request in bytes, and of a URL in an `offer` request.
 _LONGEST = 4_096
 _LONGEST_URL = _LONGEST - len("offer ")
 
-# Seconds that an idle part waits for an entry before it looks again.
+# The seconds that an idle part waits for an entry before it looks again.
 _IDLE = 1.0
 
-# Seconds between two rounds in which no fetch ends.
+# The seconds between two rounds if no fetch ends in between.
 _BUSY = 0.05
 
-# Seconds that Redis may take for an answer. A part that waits longer is cut off.
+# The seconds that Redis may take for a reply. After that, the connection counts as lost.
 _PATIENCE = 60.0
 
-# Seconds before a part tries again to find Redis, or to send to one that is full; and the most that
-# it tries to find it.
+# The seconds between two attempts to connect to Redis, or to send to a Redis without free memory;
+# and the seconds after which a part stops trying to connect.
 _PAUSE = 0.2
 _GONE = 600.0
 
-# The most URLs of a part that are not done, where nothing else is said: the program's own number.
+# The default of `max_pending`, which is that of the program.
 _MOST = 1_048_576
 
-# What an offer may be answered that nobody has to do anything about.
+# The answers to an offer that need no action.
 _NO_MATTER = frozenset((
     b"seen", b"filtered", b"not a URL", b"not http or https", b"line too long", b"not UTF-8",
 ))
@@ -115,98 +131,98 @@ Fetch = Callable[[int, str], Tuple[str, List[str]]]
 
 
 class ClusterError(FrontierError):
-    """What the errors of this module are."""
+    """The base class of the exceptions of this module."""
 
 
 class Cut(ClusterError):
-    """The connection to Redis was cut. The part is to be started again, from its log."""
+    """Raised when the connection to Redis is lost. Start the part again from its log."""
 
 
 class OtherCrawl(ClusterError):
-    """Redis has a crawl of this name with other numbers, another suffix or another log."""
+    """Raised when Redis has a crawl of the same name with other numbers, suffix or logs."""
 
 
 class UnsafeRedis(ClusterError):
-    """This Redis would evict a stream, which then looks empty."""
+    """Raised when Redis may evict a stream, which would then look empty."""
 
 
 class Crawl(NamedTuple):
-    """What all parts of a crawl have in common."""
+    """The settings that all parts of a crawl have in common."""
 
-    parts: int  # K: how many frontiers share it
-    workers: int = 16  # N: how many queues each has. The parts have 512 at most together
-    within: Optional[str] = None  # keeps it to hosts that are this suffix, or end with a dot and it
-    name: str = "crawl"  # what its keys begin with
-    redis: str = "redis://127.0.0.1:6379/0"
+    parts: int  # K, the number of frontiers that share the crawl
+    workers: int = 16  # N, the number of queues of each part; all parts together have at most 512
+    within: Optional[str] = None  # accept only hosts equal to this suffix or subdomains of it
+    name: str = "crawl"  # the prefix of the keys of this crawl in Redis
+    redis: str = "redis://127.0.0.1:6379/0"  # URL of Redis: redis://, rediss:// or unix://
 
     def shape(self) -> bytes:
-        """What Redis has of it, so that no part comes with another crawl."""
+        """Return the settings that Redis keeps, so that no part joins with others."""
         return f"parts {self.parts} workers {self.workers} within {self.within or '-'}".encode()
 
 
 class Taken(NamedTuple):
-    """A URL to be fetched."""
+    """A URL to fetch, and its queue."""
 
     queue: int
     url: str
 
 
 class Fetched(NamedTuple):
-    """A page that was fetched, well or not: the texts of its links, and the base of these."""
+    """A URL that was fetched or could not be fetched, with its links."""
 
-    queue: int
-    base: str
-    texts: List[str]
+    queue: int  # the queue that the URL was taken from
+    base: str  # the URL that the links are resolved against
+    texts: List[str]  # the texts of the links; empty if the URL could not be fetched
 
 
 @dataclass
 class Counts:
     """What a part did since it was started."""
 
-    pages: int = 0  # that are done
-    sent: int = 0  # URLs to other parts
-    entries: int = 0  # that they were sent in
+    pages: int = 0  # URLs that are done
+    sent: int = 0  # URLs sent to other parts
+    entries: int = 0  # entries in which they were sent
 
 
 # ---- the frontier
 
 
 class _ServedPart:
-    """`mercator serve --part`, over pipes."""
+    """The frontier of a part: `mercator serve --part`, over pipes."""
 
     def __init__(
         self, crawl: Crawl, part: int, log: PathText, max_pending: Optional[int],
         program: Optional[PathText],
     ) -> None:
-        """Starts the program from its log, once no other has the log."""
+        """Start the program from its log, once no other program uses the log."""
         self._log = log
         self._command = [os.fspath(program or os.environ.get("MERCATOR") or "mercator"), "serve"]
-        # Each with its value as one word, since a value may begin as an option does.
+        # Each option and its value are one argument, since a value may look like an option.
         self._command += [f"--part={part}/{crawl.parts}", f"--workers={crawl.workers}"]
         self._command += [] if crawl.within is None else [f"--within={crawl.within}"]
         pending = [] if max_pending is None else [f"--max-pending={max_pending}"]
         self._channel = Channel([*self._command, *pending, f"--log={os.fsdecode(log)}"], log)
 
     def ask(self, requests: bytes, count: int) -> List[bytes]:
-        """The answers to so many lines. Each line is in the log before."""
+        """Send `count` request lines and return their answers. Each line is in the log before."""
         return self._channel.exchange(requests, count)
 
     def identity(self) -> bytes:
-        """What tells the log from every other."""
+        """Return the identity of the log, which no other log has."""
         word, _, identity = self.ask(b"identity\n", 1)[0].partition(b" ")
         if word != b"identity":
-            raise UnknownAnswer("the program does not tell its log's identity")
+            raise UnknownAnswer("the program does not know the request `identity`")
         return identity
 
     def offers_of_log(self) -> Iterator[bytes]:
-        """All offers of the log, as requests."""
+        """Yield all offers of the log, as request lines."""
         with open(self._log, "rb") as log:
             log.readline()
             yield from (line for line in log if line.startswith((b"offer ", b"link ")))
 
     @contextlib.contextmanager
     def without_room(self) -> Iterator[Channel]:
-        """A frontier without room: it answers `elsewhere` as this one does, and holds no URL."""
+        """Start a frontier that accepts no URL but answers `elsewhere` as this one does."""
         channel = Channel([*self._command, "--max-pending=1"])
         try:
             yield channel
@@ -218,47 +234,47 @@ class _ServedPart:
 
 
 class _Owner:
-    """A page or an entry, as far as it waits until URLs are sent."""
+    """A page or an entry that has to wait until some URLs are sent."""
 
     __slots__ = ("owes",)
 
     def __init__(self) -> None:
-        self.owes = 0
+        self.owes = 0  # the number of URLs that are still to be sent
 
 
 class _Page(_Owner):
-    """A URL in hand."""
+    """A URL in progress."""
 
     __slots__ = ("is_fetched",)
 
     def __init__(self) -> None:
         super().__init__()
-        self.is_fetched = False  # and its links were offered
+        self.is_fetched = False  # whether it was fetched and its links were offered
 
 
 class _Entry(_Owner):
-    """An entry of the part's stream."""
+    """An entry of the part's own stream."""
 
     __slots__ = ("number", "text")
 
     def __init__(self, number: bytes, text: bytes) -> None:
         super().__init__()
-        self.number, self.text = number, text  # the lines that are to be offered
+        self.number, self.text = number, text  # `text` has the lines that are still to be offered
 
     def size(self) -> int:
-        """How many lines are to be offered."""
+        """Return the number of lines that are still to be offered."""
         return self.text.count(b"\n") + 1 if self.text else 0
 
 
 class _Offers(NamedTuple):
-    """Requests, a line each, for one owner."""
+    """Offer requests for one owner, one per line."""
 
     owner: _Owner
     requests: bytes
-    size: int
+    size: int  # the number of lines
 
     def lines(self) -> List[bytes]:
-        """The requests as they stand in an entry: without their first words."""
+        """Return the requests as lines of an entry: without `offer` or `link`."""
         return [line.partition(b" ")[2] for line in self.requests.split(b"\n")[:-1]]
 
 
@@ -266,7 +282,7 @@ class _Offers(NamedTuple):
 
 
 class _Broker:
-    """What Redis holds of the crawl, over one connection."""
+    """The crawl's data in Redis, over one connection."""
 
     def __init__(self, crawl: Crawl, part: int) -> None:
         self._redis = _connected(crawl.redis)
@@ -275,33 +291,44 @@ class _Broker:
         self.streams = [f"{self._name}to:{to}" for to in range(crawl.parts)]
         self.mine = self.streams[part]
         self._complete = self._name + "complete"
-        # What names the life of this Redis, from one start to the next.
+        # A Redis has a new run_id after each restart.
         self._ready = f"{self._name}ready:{self._redis.info('server')['run_id']}"
 
     def pipeline(self) -> Any:
-        """Commands that are sent together, and executed one by one."""
+        """Return a pipeline: its commands are sent together, and executed one by one."""
         return self._redis.pipeline(transaction=False)
 
     def join(self, crawl: Crawl, log: bytes) -> bool:
-        """Sees that crawl and log are those that Redis knows, if any; whether the part is ready."""
+        """Return whether the part is ready.
+
+        Raise `OtherCrawl` if Redis knows this crawl with other settings, or this part with another
+        log.
+        """
         part, shape, logs = self._part, self._name + "shape", self._name + "logs"
         _, its_shape, _, its_log, is_ready = self._at_once(
             ("SETNX", shape, crawl.shape()), ("GET", shape),
             ("HSETNX", logs, part, log), ("HGET", logs, part), ("SISMEMBER", self._ready, part),
         )
         if its_shape != crawl.shape():
-            raise OtherCrawl(f"crawl {crawl.name} has {its_shape.decode()}")
+            raise OtherCrawl(
+                f"crawl {crawl.name} in Redis has {its_shape.decode()}, but this part has"
+                f" {crawl.shape().decode()}: give all parts the same arguments, or use another name"
+            )
         if its_log != log:
-            raise OtherCrawl(f"part {part} of crawl {crawl.name} has another log")
+            raise OtherCrawl(
+                f"part {part} of crawl {crawl.name} has another log:"
+                " use that log, or another name for a new crawl"
+            )
         return bool(is_ready)
 
     def make_ready(self) -> None:
+        """Record that the part is ready. The empty entry keeps its stream from looking empty."""
         self._at_once(("XADD", self.mine, "*", "u", b""), ("SADD", self._ready, self._part))
 
     def is_complete(self, removed: List[bytes]) -> bool:
-        """One look at all parts, at the moment at which these entries leave the own stream.
+        """Remove these entries from the own stream, and return whether the crawl is complete.
 
-        What it sees is told to all parts.
+        Both happen in one transaction. If the crawl is complete, this is recorded for all parts.
         """
         replies = self._at_once(
             *([("XDEL", self.mine, *removed)] if removed else []),
@@ -315,12 +342,12 @@ class _Broker:
         return bool(is_seen or is_told)
 
     def tell_complete(self) -> None:
-        """It is so for good. An empty entry wakes each part."""
+        """Record that the crawl is complete, and wake each part with an empty entry."""
         wake = (("XADD", stream, "*", "u", b"") for stream in self.streams)
         self._at_once(("SET", self._complete, "1"), *wake)
 
     def _at_once(self, *commands: Tuple[Any, ...]) -> List[Any]:
-        """A transaction, once Redis has room for it."""
+        """Execute the commands in one transaction. Try again while Redis is out of memory."""
         while True:
             pipe = self._redis.pipeline(transaction=True)
             for command in commands:
@@ -334,13 +361,13 @@ class _Broker:
 
 
 class _Outbox:
-    """Lines that are to be sent to parts, each with those who wait for it."""
+    """Lines that are to be sent to other parts, each with the owners that wait for it."""
 
     def __init__(self, mine: int) -> None:
         self._mine = mine
         self._lines: Dict[int, Dict[bytes, List[_Owner]]] = {}  # by part
-        self._sendings: List[Tuple[int, Dict[bytes, List[_Owner]]]] = []  # that have no reply yet
-        # URLs that were sent not long ago: a link that many pages have is sent once.
+        self._sendings: List[Tuple[int, Dict[bytes, List[_Owner]]]] = []  # sent, without a reply
+        # URLs that were sent recently: a link that many pages have is sent once.
         self._young: Set[bytes] = set()
         self._old: Set[bytes] = set()
 
@@ -348,12 +375,13 @@ class _Outbox:
         return bool(self._lines)
 
     def put(self, to: int, line: bytes, owner: _Owner) -> None:
+        """Add a line for the part `to`, unless it was sent recently."""
         if line not in self._young and line not in self._old:
             owner.owes += 1
             self._lines.setdefault(to, {}).setdefault(line, []).append(owner)
 
     def send(self, pipe: Any, streams: List[str]) -> None:
-        """XADD all."""
+        """Add XADD commands for all lines to the pipeline."""
         for to, lines in self._lines.items():
             for some in _slices(lines.items(), _ENTRY):
                 self._sendings.append((to, dict(some)))
@@ -362,7 +390,7 @@ class _Outbox:
         self._lines = {}
 
     def receive(self, replies: List[Any], counts: Counts) -> None:
-        """What was sent is owed no more. What a full Redis refused is sent again."""
+        """Read the replies to `send`. Lines that Redis had no memory for are to be sent again."""
         for (to, lines), reply in zip(self._sendings, replies):
             if _is_out_of_memory(reply):
                 self._lines.setdefault(to, {}).update(lines)
@@ -385,20 +413,23 @@ class _Outbox:
 
 
 class _Inbox:
-    """The entries of the part's own stream that were read, and those of them that are done with."""
+    """The entries of the part's own stream that were read and not yet removed."""
 
     def __init__(self) -> None:
-        self.waiting = 0  # so many lines are to be offered
+        self.waiting = 0  # the number of lines that are still to be offered
         self._cursor: Union[str, bytes] = "0-0"
         self._entries: Deque[_Entry] = deque()
-        self._kept: Optional[bytes] = None  # the last entry that is done with
-        self._removable: List[bytes] = []  # those before it
+        self._kept: Optional[bytes] = None  # the last finished entry
+        self._removable: List[bytes] = []  # the finished entries before it
 
     def __bool__(self) -> bool:
         return bool(self._entries)
 
     def ask(self, pipe: Any, stream: str, seconds: float) -> bool:
-        """XDEL what is done with, and XREAD what came, if there is room: then it answers so."""
+        """Add commands that remove finished entries and, if there is room, read new ones.
+
+        Return whether new entries are read.
+        """
         if self._removable:
             pipe.execute_command("XDEL", stream, *self._removable)
             self._removable = []
@@ -409,6 +440,7 @@ class _Inbox:
         return has_room
 
     def read(self, streams: Any) -> None:
+        """Add the entries of a reply to XREAD."""
         for _, entries in streams or ():
             for number, fields in entries:
                 self._cursor = number
@@ -417,7 +449,10 @@ class _Inbox:
                 self.waiting += entry.size()
 
     def first(self, room: Optional[int]) -> List[_Entry]:
-        """The first entries with lines to be offered, as far as there is room, if any."""
+        """Return the first entries with lines to offer, until they have at least `room` lines.
+
+        If `room` is None, return all of them.
+        """
         some: List[_Entry] = []
         room = self.waiting if room is None else room
         for entry in self._entries:
@@ -429,19 +464,22 @@ class _Inbox:
         return some
 
     def leave(self, entry: _Entry, lines: List[bytes]) -> None:
-        """An entry was offered, but for these lines."""
+        """Record that an entry was offered, except for these lines."""
         self.waiting -= entry.size() - len(lines)
         entry.text = b"\n".join(lines)
 
     def retire(self) -> None:
-        """Entries are done with in their order, once all their URLs were offered and sent on."""
+        """Finish entries, in their order, whose URLs were all offered, or sent to other parts."""
         while self._entries and not self._entries[0].text and not self._entries[0].owes:
             if self._kept is not None:
                 self._removable.append(self._kept)
             self._kept = self._entries.popleft().number
 
     def empty(self) -> List[bytes]:
-        """All that is done with, the last one too: for a part that has nothing else."""
+        """Return all finished entries for removal, also the last one.
+
+        It is for a part that has nothing left to do.
+        """
         removable = self._removable + ([] if self._kept is None else [self._kept])
         self._removable, self._kept = [], None
         return removable
@@ -451,10 +489,16 @@ class _Inbox:
 
 
 class Part:
-    """One part of a crawl, for one thread.
+    """One part of a crawl. Only one thread may use it.
 
-    It lives as long as its connection to Redis. After an error it is to be closed, and another one
-    made, which goes on from the log.
+    Crawlers whose `fetch` blocks need only `run`. Others call `round` in a loop::
+
+        fetched = []
+        while (taken := part.round(fetched)) is not None:
+            fetched = [Fetched(queue, *fetch(url)) for queue, url in taken]
+
+    A part is usable as long as its connection to Redis. After an exception, close it and create a
+    new one, which resumes from the log.
     """
 
     def __init__(
@@ -468,26 +512,34 @@ class Part:
         sync: bool = True,
         program: Optional[PathText] = None,
     ) -> None:
-        """Starts the frontier from its log, and makes the part ready.
+        """Start the frontier from its log, connect to Redis, and send the seeds.
 
-        part         its number, from 0
-        seeds        URLs of any parts; each time the same ones, since Redis may lose them. One that
-                     no part takes is told, by a warning of `logging`
-        max_pending  the most URLs of this part that are not done at one time; at least 2
-        sync         an entry leaves Redis only when the disk has what it brought
-        program      as for `Frontier`
+        crawl        settings that all parts have in common
+        part         number of this part, from 0
+        log          log file of this part's frontier; if it exists, the part resumes from it
+        seeds        URLs to start from, of any parts. Give the same ones each time, since Redis may
+                     lose them. Seeds that no part accepts are logged as warnings by `logging`
+        max_pending  most URLs of this part that are waiting or in progress at a time, 2 to
+                     1099511627776 (by default 1048576)
+        sync         sync the log to disk before an entry is removed from Redis
+        program      path of the program; by default the value of the environment variable MERCATOR,
+                     or else `mercator`
+
+        Raise `Cut` if there is no connection to Redis, `UnsafeRedis` if Redis may evict streams,
+        `OtherCrawl` if Redis has this crawl with other settings or another log, `ProgramMissing` if
+        the program cannot be started, and `LogInUse` if another program uses the log.
         """
         if max_pending is not None and max_pending < 2:
-            raise ValueError("max_pending is less than 2: no URL would have room beside the seeds")
+            raise ValueError("max_pending must be at least 2: the seeds count as one URL")
         self.counts = Counts()
         self._part, self._sync = part, b"sync\n" if sync else b""
         self._queues = range(part * crawl.workers, (part + 1) * crawl.workers)
         self._inbox, self._outbox = _Inbox(), _Outbox(part)
         self._pages: Dict[int, _Page] = {}  # by queue
         self._again: List[Taken] = []
-        self._some: Set[int] = set(self._queues)  # queues without a page that may have a URL
+        self._some: Set[int] = set(self._queues)  # queues with no page in progress and maybe a URL
         self._most = _MOST if max_pending is None else max_pending
-        self._room: Optional[int] = None  # for so many URLs, once one had none
+        self._room: Optional[int] = None  # for how many URLs there is room, once one was refused
         self._is_closed = False
         with _cuts_are_told():
             self._broker = _Broker(crawl, part)
@@ -499,23 +551,26 @@ class Part:
             self.close()
             raise
 
-    # ---- what a crawler asks
+    # ---- the methods that a crawler calls
 
     @property
     def workers(self) -> int:
-        """How many queues the part has, and so fetches at one time."""
+        """The number of queues of this part, and so of fetches at a time."""
         return len(self._queues)
 
     @property
     def in_hand(self) -> int:
-        """How many URLs are taken, and not done."""
+        """The number of URLs that were taken and are not done."""
         return len(self._pages)
 
     def round(self, fetched: Iterable[Fetched] = ()) -> Optional[List[Taken]]:
-        """Hands over pages that were fetched, and answers URLs that are to be fetched.
+        """Report fetched pages, and return URLs to fetch next, or None if the crawl is complete.
 
-        None: the crawl is complete. A round is one round trip to Redis. It waits, for a second at
-        most, only where this part has nothing in hand and nothing to do.
+        The list may be empty. A call is usually one round trip to Redis. If this part has no URL in
+        progress and nothing else to do, the call waits for new URLs, at most a second.
+
+        Raise `Cut` if the connection to Redis is lost, `NothingTaken` if a page's queue has no URL
+        in progress, and `FrontierEnded` if the program has ended.
         """
         with _cuts_are_told():
             taken, self._again = self._again, []
@@ -528,7 +583,7 @@ class Part:
             return taken
 
     def close(self) -> None:
-        """Ends the frontier. The log has all."""
+        """End the frontier. A new part with the same log resumes from it."""
         self._frontier.close()
 
     def __enter__(self) -> Part:
@@ -552,20 +607,20 @@ class Part:
             self._announce(seeds)
 
     def _take_again(self) -> None:
-        """What was in hand when the log ended is fetched again."""
+        """Take the URLs again that were in progress when the log ended."""
         requests = b"".join(b"again %d\n" % queue for queue in self._queues)
         for queue, answer in zip(self._queues, self._frontier.ask(requests, len(self._queues))):
             if answer.startswith(b"taken "):
                 self._again.append(self._taken(queue, answer))
 
     def _announce(self, seeds: Iterable[str]) -> None:
-        """Sends the seeds, and what the log says was for others; then the part is ready."""
+        """Send the seeds, and the URLs in the log that belong to other parts; then be ready."""
         with self._frontier.without_room() as frontier:
             for lines in _slices(self._frontier.offers_of_log(), _SLICE):
                 offers = _Offers(_Owner(), b"".join(lines), len(lines))
-                for place, answer in enumerate(frontier.exchange(offers.requests, offers.size)):
+                for index, answer in enumerate(frontier.exchange(offers.requests, offers.size)):
                     if answer.startswith(b"elsewhere "):
-                        self._put(answer, offers, place)
+                        self._put(answer, offers, index)
                 self._send_all()
             for some in _slices(seeds, _SLICE):
                 self._put_seeds(some, frontier)
@@ -573,13 +628,13 @@ class Part:
         self._broker.make_ready()
 
     def _put_seeds(self, seeds: List[str], frontier: Channel) -> None:
-        """Keeps seeds, until they are sent. Those that no part takes are told."""
+        """Put the seeds into the outbox, and log a warning for each that no part accepts."""
         nobody = _Owner()
         lines = list(map(_line_of_seed, seeds))
         requests = b"".join([b"offer " + line + b"\n" for line in lines])
         for seed, line, answer in zip(seeds, lines, frontier.exchange(requests, len(lines))):
             if answer in _NO_MATTER:
-                logger.warning("%s: %s", seed, answer.decode())
+                logger.warning("seed %s: %s", seed, answer.decode())
             else:
                 self._outbox.put(self._part, line, nobody)
 
@@ -592,13 +647,13 @@ class Part:
     # ---- the steps of a round
 
     def _offer_all(self, fetched: Iterable[Fetched]) -> None:
-        """Offers links, and what came as far as there is room. Then entries may be done with."""
+        """Offer the links of pages, and the lines of entries as far as there is room."""
         links = [offers for page in fetched for offers in self._links_of(page)]
         entries = self._inbox.first(self._room)
         came = [_Offers(entry, _offers_of(entry.text), entry.size()) for entry in entries]
         refused = self._offer(links + came, self._sync if came else b"")
         for offers, lines in zip(links, refused):
-            # The part's own stream takes what its frontier has no room for.
+            # Links that the part's frontier has no room for go to the part's own stream.
             for line in lines:
                 self._outbox.put(self._part, line, offers.owner)
         for entry, lines in zip(entries, refused[len(links):]):
@@ -608,22 +663,23 @@ class Part:
     def _links_of(self, page: Fetched) -> List[_Offers]:
         owner = self._pages.get(page.queue)
         if owner is None:
-            raise NothingTaken(f"queue {page.queue} has given no URL that is to be done")
+            raise NothingTaken(f"queue {page.queue} has no URL in progress")
         owner.is_fetched = True
         word = link_word(page.base)
-        if not page.texts or len(word) > _LONGEST:  # then each of them is "line too long"
+        # With a base of this length, each link would be answered "line too long".
+        if not page.texts or len(word) > _LONGEST:
             return []
         return [_Offers(owner, request_lines(word, page.texts), len(page.texts))]
 
     def _offer(self, todo: List[_Offers], sync: bytes) -> List[List[bytes]]:
-        """Asks, and sees to each answer; for each owner the lines that found no room."""
+        """Send the offers and handle the answers; return the lines that were refused, by owner."""
         if not todo:
             return []
         size = sum(offers.size for offers in todo)
         requests = b"".join(offers.requests for offers in todo) + sync
         answers = self._frontier.ask(requests, size + bool(sync))
         if sync and answers.pop() != b"synced":
-            raise UnknownAnswer("the program does not sync its log")
+            raise UnknownAnswer("the program does not know the request `sync`")
         begin, refused = 0, []
         for offers in todo:
             end = begin + offers.size
@@ -632,9 +688,9 @@ class Part:
         return refused
 
     def _sort(self, offers: _Offers, answers: List[bytes]) -> List[bytes]:
-        """Sees to the answers of one owner; the lines that found no room."""
+        """Handle the answers to one owner's offers; return the lines that there was no room for."""
         refused: List[int] = []
-        for place, answer in enumerate(answers):
+        for index, answer in enumerate(answers):
             if answer == b"seen":
                 continue
             if answer.startswith(b"accepted "):
@@ -642,25 +698,26 @@ class Part:
                 if queue not in self._pages:
                     self._some.add(queue)
             elif answer.startswith(b"elsewhere "):
-                self._put(answer, offers, place)
+                self._put(answer, offers, index)
             elif answer == b"refused full":
-                refused.append(place)
+                refused.append(index)
             elif answer not in _NO_MATTER and not (answer == b"refused closed" and self._is_closed):
-                raise UnknownAnswer(answer.decode("utf-8", "replace"))
+                text = answer.decode("utf-8", "replace")
+                raise UnknownAnswer(f"unknown answer from the program: {text}")
         if not refused:
             return []
         self._room = 0
         lines = offers.lines()
-        return [lines[place] for place in refused]
+        return [lines[index] for index in refused]
 
-    def _put(self, answer: bytes, offers: _Offers, place: int) -> None:
-        """Keeps a URL of another part, until it is sent."""
+    def _put(self, answer: bytes, offers: _Offers, index: int) -> None:
+        """Put a URL of another part into the outbox."""
         _, to, url = answer.split(b" ", 2)
-        line = url if len(url) <= _LONGEST_URL else offers.lines()[place]
+        line = url if len(url) <= _LONGEST_URL else offers.lines()[index]
         self._outbox.put(int(to), line, offers.owner)
 
     def _exchange(self) -> None:
-        """XADD what is to be sent, XDEL what is done with, XREAD what came: one round trip."""
+        """Send URLs (XADD), remove entries (XDEL) and read new ones (XREAD) in one round trip."""
         is_idle = not (self._pages or self._some or self._inbox or self._outbox)
         pipe = self._broker.pipeline()
         self._outbox.send(pipe, self._broker.streams)
@@ -672,7 +729,7 @@ class Part:
         self._inbox.retire()
 
     def _take(self) -> List[Taken]:
-        """Pages whose links are sent are done. Then all queues that may have a URL are asked."""
+        """Finish the pages whose links were sent; take URLs from all queues that may have one."""
         over = [queue for queue, page in self._pages.items() if page.is_fetched and not page.owes]
         for queue in over:
             del self._pages[queue]
@@ -694,7 +751,7 @@ class Part:
         self.counts.pages += len(answers)
         for answer in answers:
             if not answer.startswith(b"count "):
-                raise UnknownAnswer(f"done: {answer.decode()}")
+                raise UnknownAnswer(f"unknown answer to `done` from the program: {answer.decode()}")
         if answers and self._room is not None:
             self._room = max(1, self._most - int(answers[-1][6:]))
 
@@ -709,31 +766,41 @@ class Part:
     # ---- the end
 
     def _is_quiet(self) -> bool:
-        """Nothing is in hand, nothing waits and nothing is to be sent: the seeds alone are left."""
+        """Return whether nothing is in progress, waiting or to be sent: only the seeds are left."""
         if self._pages or self._some or self._inbox or self._outbox:
             return False
         return self._next_of_first() in (b"pending 1", b"closed")
 
     def _end(self) -> None:
-        """The crawl is complete, for all parts: the seeds end, and so the gate closes."""
+        """End the seeds, since the crawl is complete for all parts; this closes the frontier."""
         requests = b"endseeds\n" + b"".join(b"next %d\n" % queue for queue in self._queues)
         _, *answers = self._frontier.ask(requests, 1 + len(self._queues))
         if set(answers) != {b"closed"}:
-            raise UnknownAnswer(f"the crawl is complete, but the frontier is not: {answers[:3]}")
+            raise UnknownAnswer(f"the crawl is complete, but a queue is not closed: {answers[:3]}")
         self._is_closed = True
 
 
-# ---- a part to its end
+# ---- running a part until the crawl is complete
 
 
 def run(start: Callable[[], Part], fetch: Fetch) -> None:
-    """Runs a part to the end of the crawl, with a thread for each fetch.
+    """Run a part until the crawl is complete, and fetch in up to one thread per queue.
 
-    start  makes the part, and again each time that it was cut off from Redis
-    fetch  fetches the URL of a queue, and answers the base and the texts of its links
+    start  a function that creates the part; it is called again after each loss of the connection to
+           Redis
+    fetch  a function of a queue and a URL that fetches the URL; it returns the URL that its links
+           are resolved against, and a list of the links' texts
 
-    A Redis that does not answer is tried for ten minutes. That is told once, by a warning of
-    `logging`, which goes to standard error where nothing else is said.
+    For example::
+
+        def fetch(queue, url):
+            return url, texts_of(urlopen(url))
+
+        run(lambda: Part(crawl, 0, "part0.log", seeds=seeds), fetch)
+
+    If Redis does not answer, try to connect for ten minutes, and then raise `Cut`. One warning is
+    logged by `logging`, which by default prints it on standard error. Any other exception ends the
+    run and is raised.
     """
     while True:
         with _started(start) as part, contextlib.suppress(Cut):
@@ -743,7 +810,7 @@ def run(start: Callable[[], Part], fetch: Fetch) -> None:
 
 
 def _started(start: Callable[[], Part]) -> Part:
-    """The part, once Redis answers."""
+    """Return the part, once Redis answers."""
     begun = time.monotonic()
     is_told = False
     while True:
@@ -753,7 +820,7 @@ def _started(start: Callable[[], Part]) -> Part:
             if time.monotonic() - begun > _GONE:
                 raise
             if not is_told:
-                logger.warning("Redis does not answer, and is tried for %.0f s: %s", _GONE, cut)
+                logger.warning("Redis does not answer, trying for %.0f s: %s", _GONE, cut)
             is_told = True
         time.sleep(_PAUSE)
 
@@ -767,14 +834,14 @@ def _crawl(part: Part, fetch: Fetch) -> None:
                 fetchers.start(taken)
             fetched = list(fetchers.ended(_BUSY)) if part.in_hand else []
     except Exception:
-        # No fetch outlives its part: the next one fetches from the same hosts.
+        # No fetch may outlive its part, since the next part fetches from the same hosts.
         fetchers.end()
         raise
     fetchers.end()
 
 
 class _Fetchers:
-    """Threads, one for each fetch at a time. What they wait for does not hold up a Ctrl-C."""
+    """Threads that fetch, each one URL at a time. They are daemons, so Ctrl-C need not wait."""
 
     def __init__(self, fetch: Fetch, most: int) -> None:
         self._fetch, self._most = fetch, most
@@ -797,7 +864,7 @@ class _Fetchers:
                 self._ended.put(error)
 
     def ended(self, seconds: float) -> Iterator[Fetched]:
-        """The fetches that ended, at least one of them if it does so in time."""
+        """Yield the fetches that have ended; wait for the first of them at most `seconds`."""
         try:
             page = self._ended.get(timeout=seconds)
             while True:
@@ -809,7 +876,7 @@ class _Fetchers:
             return
 
     def end(self) -> None:
-        """Waits for the fetches that are under way; the others do not begin."""
+        """Wait for the fetches in progress; those that have not begun are dropped."""
         with contextlib.suppress(Empty):
             while True:
                 self._begun.get_nowait()
@@ -823,12 +890,15 @@ class _Fetchers:
 
 
 def _connected(url: str) -> Any:
-    """A connection that is made once: another one may find a Redis that has lost something."""
+    """Return a client with a single connection.
+
+    It never reconnects: after a reconnection, Redis might have restarted with less data.
+    """
     made: List[bool] = []
 
     def connect(connection: Any) -> None:
         if made:
-            raise redis.ConnectionError("the connection to Redis was cut")
+            raise redis.ConnectionError("the connection to Redis was lost")
         made.append(True)
         connection.on_connect()
 
@@ -838,7 +908,9 @@ def _connected(url: str) -> Any:
     server: Any = redis.Redis.from_url(url, **options)
     policy = server.info("memory").get("maxmemory_policy", "noeviction")
     if policy.startswith("allkeys"):
-        raise UnsafeRedis(f"maxmemory-policy is {policy}, which would evict streams")
+        raise UnsafeRedis(
+            f"Redis has maxmemory-policy {policy}, which may evict streams: set it to noeviction"
+        )
     return server
 
 
@@ -846,14 +918,17 @@ def _connected(url: str) -> Any:
 def _cuts_are_told() -> Iterator[None]:
     try:
         yield
-    except redis.AuthenticationError:  # Redis answers, and wants another password
+    except redis.AuthenticationError:  # Redis answers, but needs another password
         raise
     except (redis.ConnectionError, redis.TimeoutError) as error:
         raise Cut(str(error)) from error
 
 
 def _replies_to(pipe: Any) -> List[Any]:
-    """Replies to commands that are sent together; errors for those that a full Redis refused."""
+    """Execute a pipeline and return its replies.
+
+    A reply is an exception if Redis was out of memory; any other error is raised.
+    """
     replies: List[Any] = pipe.execute(raise_on_error=False)
     for reply in replies:
         if isinstance(reply, Exception) and not _is_out_of_memory(reply):
@@ -875,12 +950,15 @@ def _slices(things: Iterable[Thing], size: int) -> Iterator[List[Thing]]:
 
 
 def _line_of_seed(seed: str) -> bytes:
-    """A seed as it stands in an entry: a base is written without spaces, too."""
+    """Return a seed as a line of an entry. Its spaces are escaped like those of a base."""
     return link_word(seed)[5:-1].encode("utf-8", "surrogatepass")[:5_000]
 
 
 def _offers_of(text: bytes) -> bytes:
-    """The requests of an entry's lines. No canonical URL has a space: a line with one is a link."""
+    """Return the requests for an entry's lines.
+
+    A line with a space is a link, since a canonical URL has none.
+    """
     if b" " not in text:
         return b"offer " + text.replace(b"\n", b"\noffer ") + b"\n"
     lines = text.split(b"\n")

@@ -1,32 +1,37 @@
-"""The URL frontier of Mercator for crawlers in Python: a client of `mercator serve`.
+"""A URL frontier for crawlers in Python: a client of `mercator serve`.
 
-A crawl has N fetchers and as many queues, numbered from 0. Fetcher Q takes the URLs of queue Q, one
-at a time. It fetches the URL, offers the links of the page, and is done with it::
+The frontier decides which URL to fetch next, and the crawler fetches it. A crawl has N fetchers and
+N queues, numbered from 0. Fetcher Q takes a URL from queue Q, fetches it, offers the links of the
+page, and reports that the URL is done::
 
     with Frontier(workers=4, log="crawl.log") as frontier:
         frontier.offer("http://example.org/")
         frontier.end_seeds()
-        ...                                    # in a thread for each queue:
+        ...                                    # in one thread per queue:
         while (url := frontier.take(queue)) is not None:
             frontier.links(url, texts_of(fetch(url)))
             frontier.done(queue)
 
-- Each URL is given out once, whatever its spelling.
-- All URLs of a host are in one queue, so no two fetchers visit one host at a time.
-- `take` answers None when every accepted URL is done, and then for good.
-- With `log=`, a crawl that was cut off goes on: start it again with the same words.
-- While a URL is not done, `take` does not answer None: a fetcher that gives up closes the frontier.
+- Each URL is given out once, however it is spelled.
+- All URLs of a host are in one queue, so no two fetchers visit a host at the same time.
+- A URL is *unfinished* from the moment it is accepted until its `done`. When no URL is unfinished
+  and the seeds have ended, `take` returns None, and from then on always does.
+- `take` does not return None while a URL is unfinished, so a fetcher that gives up must close the
+  frontier. Otherwise the other fetchers wait forever.
+- With `log`, an interrupted crawl resumes when it is started again with the same arguments.
 
-In asyncio `take` wants a thread for each queue, since it keeps one while it waits, and asyncio has
-too few of its own. The other calls are short::
+In asyncio, call `take` in a thread pool with one thread per queue: a call blocks while it waits,
+and the default pool may have fewer threads than there are queues. The other calls are short::
 
     with ThreadPoolExecutor(4) as threads, Frontier(workers=4) as frontier:
-        ...                                    # in a task for each queue:
+        ...                                    # in one task per queue:
         while (url := await loop.run_in_executor(threads, frontier.take, queue)) is not None:
 
-The frontier itself is proved; this client, and what a fetcher does with a URL, is not. All calls
-may come from any threads, but not from a process that was forked. The client needs Linux and Python
-3.9, and nothing else. `docs/SESSION.md` has the protocol.
+A frontier may be used from any thread, but not from a forked process. The frontier itself is
+proved. This client is not, nor is what a fetcher does with a URL.
+
+The module needs Linux, Python 3.9 or later, and no other package. `docs/SESSION.md` describes the
+protocol.
 """
 
 from __future__ import annotations
@@ -45,7 +50,8 @@ import weakref
 from functools import partial
 from types import TracebackType
 from typing import (
-    Any, Dict, Iterable, Iterator, List, NamedTuple, NoReturn, Optional, Sequence, Type, Union,
+    Any, Dict, Iterable, Iterator, List, NamedTuple, NoReturn, Optional, Sequence, Tuple, Type,
+    Union,
 )
 
 __all__ = [
@@ -54,82 +60,89 @@ __all__ = [
     "UnknownAnswer", "link_word", "request_lines",
 ]
 
-# So many bytes of requests are sent at a time. The next piece goes out while the answers to the one
-# before it are still to come, so that twice as many are unanswered at most.
+# Requests are sent in pieces of at most this many bytes. A piece is sent while the answers to the
+# previous one are still outstanding, so at most twice as many bytes are unanswered.
 _PIECE = 16_384
 
-# So many URLs are offered before another thread has its turn.
+# The number of URLs that are offered before another thread may use the frontier.
 _SLICE = 4_096
 
-# A text or a base is cut here: a line of 4,097 bytes is answered "line too long" all the same.
+# Texts and bases are cut to this many characters. The answer is the same: a line of more than 4,096
+# bytes is answered "line too long".
 _LONGEST = 5_000
 
 _READ_SIZE = 65_536
 
-# So long a program may take to end once its input has ended, or once its crawler was killed.
+# The seconds that the program may take to exit after its input has ended, or after its crawler was
+# killed.
 _SECONDS_TO_END = 10
 
-# What the URL Standard leaves out at the ends of a text, and in it.
+# The characters that the URL Standard removes from both ends of a text, and those that it removes
+# within a text; a space is escaped.
 _TRIMMED = "".join(map(chr, range(33)))
 _IN_BASE = {ord("\t"): None, ord("\n"): None, ord("\r"): None, ord(" "): "%20"}
 
 
 class FrontierError(Exception):
-    """What every error of this module is."""
+    """The base class of the exceptions of this module."""
 
 
 class ProgramMissing(FrontierError):
-    """The program `mercator` could not be started."""
+    """Raised when the program `mercator` cannot be started."""
 
 
 class LogInUse(FrontierError):
-    """The program of another frontier has the log."""
+    """Raised when another program uses the log."""
 
 
 class FrontierEnded(FrontierError):
-    """The program has ended, or was closed, so that no request is answered any more."""
+    """Raised when the program has ended, or the frontier was closed."""
 
     def __init__(self, why: str, status: Optional[int] = None, told: str = "") -> None:
-        """`status` is its exit status, or less a signal's number; `told` is what it told of it."""
+        """Create the exception with its message `why`.
+
+        `status` is the exit status of the program, or minus the number of the signal that killed
+        it; None if neither is known. `told` is what the program wrote on standard error.
+        """
         super().__init__(why)
         self.status = status
         self.told = told
 
 
 class QueueBusy(FrontierError):
-    """The URL that the queue gave last is not done."""
+    """Raised by `take` and `try_take` when the last URL of the queue is not done."""
 
 
 class NothingTaken(FrontierError):
-    """The queue has given no URL that is to be done."""
+    """Raised by `done` when the queue has no URL in progress."""
 
 
 class NoSuchQueue(FrontierError):
-    """Queues are numbered from 0, and there are as many as workers."""
+    """Raised for a queue that does not exist. Queues are numbered from 0, one per worker."""
 
 
 class UnknownAnswer(FrontierError):
-    """The program answers something else than this client knows."""
+    """Raised when this client does not know the program's answer."""
 
 
 class Accepted(NamedTuple):
-    """An offered URL was accepted. It is true, where a `Refusal` is false."""
+    """The result of an offer that was accepted. It is true, while a `Refusal` is false."""
 
-    queue: int  # the queue that it waits in
-    number: int  # how many URLs that queue had accepted before
+    queue: int  # the queue that the URL was added to
+    number: int  # the number of URLs that this queue had accepted before
 
 
 class Refusal(enum.Enum):
-    """Why an offered URL was not accepted."""
+    """The reason why an offered URL was not accepted. Every member is false."""
 
-    SEEN = "seen"  # it was accepted before, in this spelling or another
-    FILTERED = "filtered"  # its host is not within the suffix
+    SEEN = "seen"  # the URL was accepted before, in this spelling or another
+    FILTERED = "filtered"  # its host is outside `within`
     NOT_URL = "not a URL"
     NOT_HTTP = "not http or https"
     TOO_LONG = "line too long"  # the request has more than 4,096 bytes
-    NOT_TEXT = "not UTF-8"  # it has half of a surrogate pair
+    NOT_TEXT = "not UTF-8"  # the text has a lone surrogate
     CLOSED = "refused closed"  # the crawl is over
-    FULL = "refused full"  # too many URLs are not done: it is lost, or is to be offered later
+    FULL = "refused full"  # `max_pending` URLs are unfinished: not stored, offer it again later
 
     def __bool__(self) -> bool:
         return False
@@ -138,22 +151,24 @@ class Refusal(enum.Enum):
 Offer = Union[Accepted, Refusal]
 _REFUSALS = {refusal.value.encode(): refusal for refusal in Refusal}
 _ACCEPTED = re.compile(rb"accepted [0-9]+ [0-9]+")
-_ERRORS: Dict[bytes, Type[FrontierError]] = {
-    b"refused busy": QueueBusy, b"refused nothing": NothingTaken, b"refused nosuch": NoSuchQueue
+_ERRORS: Dict[bytes, Tuple[Type[FrontierError], str]] = {
+    b"refused busy": (QueueBusy, "the last URL taken from this queue is not done"),
+    b"refused nothing": (NothingTaken, "this queue has no URL in progress"),
+    b"refused nosuch": (NoSuchQueue, "there is no such queue"),
 }
 
 
 class Pending(NamedTuple):
-    """No URL waits in the queue now. It is false, where a URL is true."""
+    """The result of `try_take` when the queue is empty but the crawl is not over. It is false."""
 
-    left: int  # how many URLs are not done; the seeds count as one until they end
+    left: int  # the number of unfinished URLs; the seeds count as one until they end
 
     def __bool__(self) -> bool:
         return False
 
 
 class Closed(enum.Enum):
-    """The crawl is over: every accepted URL is done. It is false, where a URL is true."""
+    """The result of `try_take` when the crawl is over: every accepted URL is done. It is false."""
 
     CLOSED = "closed"
 
@@ -162,7 +177,22 @@ class Closed(enum.Enum):
 
 
 class Frontier:
-    """A frontier, as a process of its own, with one queue for each fetcher."""
+    """A URL frontier that runs in a process of its own, with one queue per fetcher.
+
+    Use it as a context manager, which ends the program after the block. With one queue, a crawl
+    needs no threads::
+
+        web = {"http://a.test/": ["/b"], "http://a.test/b": []}
+        with Frontier(workers=1) as frontier:
+            frontier.offer("http://a.test/")
+            frontier.end_seeds()
+            while (url := frontier.take(0)) is not None:
+                frontier.links(url, web.get(url, []))
+                frontier.done(0)
+
+    A call that sends a request raises `FrontierEnded` if the program has ended or the frontier was
+    closed.
+    """
 
     def __init__(
         self,
@@ -174,26 +204,33 @@ class Frontier:
         sync: bool = False,
         program: Union[str, os.PathLike[str], None] = None,
     ) -> None:
-        """Starts `mercator serve`.
+        """Start `mercator serve`.
 
-        workers      how many fetchers, and so queues: 1 to 512
-        max_pending  the most URLs that are not done at one time
-        within       keeps the crawl to hosts that are this suffix, or end with a dot and it
-        log          a file that each request is appended to before it is answered. A frontier that
-                     is started with it goes on where it ends, by the same options
-        sync         the log outlives the machine too, and each answer waits for the disk
-        program      the program; else it is what MERCATOR of the environment names, else `mercator`
+        workers      number of fetchers, and so of queues: 1 to 512
+        max_pending  most URLs waiting or in progress at a time, 1 to 1099511627776 (by default
+                     1048576)
+        within       accept only hosts equal to this suffix or subdomains of it
+        log          append each request to this file before it is answered; if the file exists,
+                     resume from it, with the same options as before
+        sync         sync the log to disk before each answer, so that it also survives a crash of
+                     the machine
+        program      path of the program; by default the value of the environment variable MERCATOR,
+                     or else `mercator`
+
+        Raise `ProgramMissing` if the program cannot be started, and `LogInUse` if another program
+        still uses the log after ten seconds.
         """
         command = [os.fspath(program or os.environ.get("MERCATOR") or "mercator"), "serve"]
-        # Each with its value as one word, since a value may begin as an option does.
+        # Each option and its value are one argument, since a value may look like an option.
         command += [f"--workers={workers}"]
         command += [] if max_pending is None else [f"--max-pending={max_pending}"]
         command += [] if within is None else [f"--within={within}"]
         command += [] if log is None else [f"--log={os.fsdecode(log)}"]
         command += ["--sync"] if sync else []
         self.workers = workers
-        # One lock for the process. Each queue's condition stands on it, and `take` waits there. A
-        # signal may come while it is held, and its handler may close the frontier.
+        # One lock for the whole process. Each queue has a condition that uses this lock, and `take`
+        # waits on it. The lock is reentrant, since a signal handler may close the frontier while
+        # its thread holds it.
         self._lock = threading.RLock()
         self._asking: Optional[int] = None  # the thread that waits for answers
         self._changed = [threading.Condition(self._lock) for _ in range(workers)]
@@ -207,39 +244,49 @@ class Frontier:
                 self.close()
                 raise
 
-    # ---- what a crawler asks
+    # ---- the methods that a crawler calls
 
     def offer(self, url: str) -> Offer:
-        """Offers a URL."""
+        """Offer a URL, and return whether it was accepted."""
         return self._offer_slice("offer ", [url])[0]
 
     def offer_all(self, urls: Iterable[str]) -> List[Offer]:
-        """Offers URLs, in their order, and answers what came of each."""
+        """Offer URLs in their order, and return a list with the result of each."""
         return self._offer_each("offer ", urls)
 
     def link(self, base: str, text: str) -> Offer:
-        """Offers the URL that a link with this text leads to, from a page with the URL `base`."""
+        """Offer the URL that the link `text` resolves to against the URL `base`.
+
+        `text` is the value of the attribute as it is in the page, with its character references
+        decoded. `base` is the URL of the page, or of its `<base>`.
+        """
         return self._offer_slice(link_word(base), [text])[0]
 
     def links(self, base: str, texts: Iterable[str]) -> List[Offer]:
-        """Offers the URLs of all links of a page, in their order, and answers what came of each."""
+        """Offer all links of a page in their order, and return a list with the result of each.
+
+        This is faster than a call of `link` for each of them.
+        """
         return self._offer_each(link_word(base), texts)
 
     def end_seeds(self) -> Optional[int]:
-        """No more seeds come, so that the crawl may end.
+        """Declare that no more seeds will come, so that the crawl can end.
 
-        Answers how many URLs are not done; or None where the seeds had ended before, as they may
-        have after a restart.
+        Return the number of unfinished URLs, or None if the seeds had ended before, as in a crawl
+        that was resumed.
         """
         with self._lock:
             answer = self._ask(b"endseeds\n")
             return None if answer == b"refused nothing" else self._count_in(answer)
 
     def take(self, queue: int) -> Optional[str]:
-        """The URL that has waited longest in the queue, or None when the crawl is over.
+        """Return the URL that has waited longest in the queue, or None if the crawl is over.
 
-        It waits until there is one of both. A queue gives first what its fetcher had in hand when
-        the frontier ended that wrote the log.
+        Wait until there is a URL or the crawl is over. In a resumed crawl, the first call for a
+        queue returns the URL that was in progress when the crawl was interrupted, if there was one.
+
+        Raise `QueueBusy` if the last URL of the queue is not done, and `NoSuchQueue` if there is no
+        such queue.
         """
         with self._lock:
             while True:
@@ -255,14 +302,21 @@ class Frontier:
                     self._waiting -= 1
 
     def try_take(self, queue: int) -> Union[str, Pending, Closed]:
-        """As `take`, but where no URL waits it answers so at once."""
+        """Return the next URL like `take`, but never wait.
+
+        If the queue is empty, return `Pending`, or `Closed.CLOSED` if the crawl is over. Both are
+        false. Raise the same exceptions as `take`.
+        """
         with self._lock:
             return self._next(queue)
 
     def done(self, queue: int) -> int:
-        """The queue's URL was fetched, well or not, and its links were offered.
+        """Report that the URL that was last taken from the queue is done.
 
-        Answers how many URLs are not done.
+        Call it after the links of the page were offered, and also if the URL could not be fetched.
+
+        Return the number of unfinished URLs. Raise `NothingTaken` if the queue has no URL in
+        progress, and `NoSuchQueue` if there is no such queue.
         """
         with self._lock:
             self._check(queue)
@@ -271,18 +325,22 @@ class Frontier:
             return count
 
     def again(self, queue: int) -> Optional[str]:
-        """The URL that the queue gave last, if it is not done: what a fetcher that died had in hand."""
+        """Return the URL in progress of the queue, or None if there is none.
+
+        Use it to fetch the URL of a fetcher that died.
+        """
         with self._lock:
             self._check(queue)
             return _in_hand(self._ask(b"again %d\n" % queue))
 
     def close(self) -> None:
-        """Ends the program; what no log has is lost.
+        """End the program. Without a log, the state of the crawl is lost.
 
-        A call that waits, or that comes later, raises `FrontierEnded`.
+        Calls that are waiting, and all later calls, raise `FrontierEnded`.
         """
-        if self._asking == threading.get_ident():  # so this is a handler, and it ends the call
-            raise FrontierEnded("the frontier was closed in the midst of a call")
+        # This thread is in a call, so this is a signal handler: the exception ends that call.
+        if self._asking == threading.get_ident():
+            raise FrontierEnded("the frontier was closed during a call")
         with self._lock:
             self._cut_off.clear()
             try:
@@ -301,7 +359,7 @@ class Frontier:
     ) -> None:
         self.close()
 
-    # ---- under the lock
+    # ---- called with the lock held
 
     def _offer_each(self, word: str, texts: Iterable[str]) -> List[Offer]:
         rest = iter(texts)
@@ -336,7 +394,7 @@ class Frontier:
         _refuse(answer)
 
     def _ask_again(self) -> Dict[int, str]:
-        """The URL that each queue had given out when the log ended."""
+        """Return the URL of each queue that was in progress when the log ended."""
         requests = b"".join(b"again %d\n" % queue for queue in range(self.workers))
         urls = map(_in_hand, self._ask_all(requests, self.workers))
         return {queue: url for queue, url in enumerate(urls) if url is not None}
@@ -351,7 +409,7 @@ class Frontier:
 
     def _check(self, queue: int) -> None:
         if not 0 <= queue < self.workers:
-            raise NoSuchQueue(f"there is no queue {queue}")
+            raise NoSuchQueue(f"there is no queue {queue}: queues are 0 to {self.workers - 1}")
 
     def _ask(self, request: bytes) -> bytes:
         return self._ask_all(request, 1)[0]
@@ -361,7 +419,7 @@ class Frontier:
         try:
             return self._channel.exchange(requests, count)
         except BaseException:
-            self._wake(range(self.workers))  # so that those that wait find out too
+            self._wake(range(self.workers))  # so that the threads that wait fail too
             raise
         finally:
             self._asking = None
@@ -373,41 +431,51 @@ class Frontier:
 
 
 class Channel:
-    """The program as a process, and its requests and answers as lines.
+    """A process of the program, with its requests and answers as lines.
 
-    One thread at a time may use it.
+    Only one thread may use it at a time.
     """
 
     def __init__(
         self, command: Sequence[str], log: Union[str, os.PathLike[str], None] = None
     ) -> None:
-        """Starts the program, once no other has the log that it is started with."""
+        """Start the program with this command line, once no other program uses the log.
+
+        Raise `ProgramMissing` if it cannot be started, and `LogInUse` if the log stays in use.
+        """
         self._program = command[0]
         if log is not None:
             _wait_for(log)
-        # A file, since a pipe that nobody reads might fill.
+        # Standard error goes to a file, since a pipe that nobody reads could fill up.
         self._told = tempfile.TemporaryFile()
         try:
-            # In a session of its own, so that Ctrl-C reaches the crawler alone, which then ends it.
+            # In a session of its own, so that Ctrl-C reaches only the crawler, which ends it.
             self._process = subprocess.Popen(
                 command, bufsize=0, stdin=subprocess.PIPE, stdout=subprocess.PIPE,
                 stderr=self._told, start_new_session=True,
             )
         except OSError as error:
             self._told.close()
-            raise ProgramMissing(f"{self._program}: {error.strerror}") from error
+            raise ProgramMissing(
+                f"cannot start {self._program}: {error.strerror}"
+                " (the environment variable MERCATOR can name the program)"
+            ) from error
         assert self._process.stdin and self._process.stdout
         self._requests = self._process.stdin.fileno()
         self._answers = self._process.stdout.fileno()
-        # A pipe may be as small as a page: where it is full, answers are read before more is sent.
+        # A pipe may be as small as a page. When it is full, answers are read before more is sent.
         os.set_blocking(self._requests, False)
         self._received: List[bytes] = []
-        self._owed = 0  # so many answers are to be read
+        self._owed = 0  # the number of answers that are still to be read
         self._end: Optional[FrontierEnded] = None
         _channels.add(self)
 
     def exchange(self, requests: bytes, count: int) -> List[bytes]:
-        """Sends so many lines, and answers the lines that they are answered, without their ends."""
+        """Send `count` request lines, and return their answers without line ends.
+
+        Raise `FrontierEnded` if the program has ended, and `UnknownAnswer` if it did not send one
+        line for each request. If an exception interrupts the call, the program is ended.
+        """
         if self._end:
             raise FrontierEnded(str(self._end), self._end.status, self._end.told)
         self._received.clear()
@@ -416,32 +484,35 @@ class Channel:
         except OSError as error:
             raise self._ended() from error
         except BaseException:
-            # Answers would come that nobody reads.
+            # The answers to these requests would be read as answers to later ones.
             if not self._end:
                 self._process.kill()
-                self._ended("a call was interrupted, which ended the frontier")
+                self._ended("an interrupted call ended the frontier")
             raise
         answers = b"".join(self._received).split(b"\n")
         if answers.pop() or len(answers) != count:
-            self._ended("the program did not answer line by line")
-            raise UnknownAnswer(f"{count} requests had {len(answers)} answers")
+            self._ended("the program did not send one answer per request")
+            raise UnknownAnswer(f"the program sent {len(answers)} answers to {count} requests")
         return answers
 
     def close(self) -> None:
-        """Ends the process, if it has not ended."""
+        """End the process, if it has not ended."""
         if not self._end:
-            self._ended("the frontier was closed by its crawler")
+            self._ended("the frontier was closed")
 
     def leave(self) -> None:
-        """Leaves the program to the process that started it, of which this one is a fork."""
+        """Give up the program in a forked process: it belongs to the process that started it."""
         if not self._end:
-            self._end = FrontierEnded("the frontier is that of another process")
+            self._end = FrontierEnded("a frontier cannot be used in a forked process")
             for pipe in (self._process.stdin, self._process.stdout, self._told):
                 assert pipe
                 pipe.close()
 
     def _send_all(self, view: memoryview, requests: bytes) -> None:
-        """Sends piece by piece, each once every answer is read but those to the piece before it."""
+        """Send the requests in pieces.
+
+        Before a piece is sent, all answers are read except those to the previous piece.
+        """
         begin = before = 0
         while begin < len(requests):
             end = requests.rfind(b"\n", begin, begin + _PIECE) + 1
@@ -461,7 +532,7 @@ class Channel:
                 self._wait()
 
     def _wait(self) -> None:
-        """Waits until more can be sent, and reads the answers that come meanwhile."""
+        """Wait until more can be sent or answers arrive, and read these."""
         poll = select.poll()
         poll.register(self._requests, select.POLLOUT)
         poll.register(self._answers, select.POLLIN)
@@ -480,9 +551,10 @@ class Channel:
         self._owed -= answers.count(b"\n")
 
     def _ended(self, why: str = "") -> FrontierEnded:
-        """Sees the process to its end, and what it said of it."""
+        """Wait until the process has ended, and return the exception that says how."""
         assert self._process.stdin and self._process.stdout
-        # Where this is interrupted, later calls have to leave the pipes' numbers alone, too.
+        # Set first: even if this is interrupted, later calls must not use the closed descriptors,
+        # which may belong to other files by then.
         self._end = FrontierEnded(why or f"{self._program} has ended")
         self._process.stdin.close()
         self._process.stdout.close()
@@ -508,16 +580,19 @@ def _leave_all() -> None:
         channel.leave()
 
 
-# The program ends with its input, which no process that was forked may hold open.
+# The program ends when its input does, so a forked process must not keep the pipe open.
 os.register_at_fork(after_in_child=_leave_all)
 
 
 def _wait_for(log: Union[str, os.PathLike[str]]) -> None:
-    """Waits until no program has the log. That of a crawler that was killed has it a moment."""
+    """Wait until no program uses the log.
+
+    After a crawler was killed, its program keeps the log for a moment.
+    """
     try:
         file = os.open(log, os.O_RDONLY)
     except OSError:
-        return  # a new log, or one of which the program tells what is wrong
+        return  # a new log, or one that the program reports as unusable
     end = time.monotonic() + _SECONDS_TO_END
     try:
         while True:
@@ -526,7 +601,7 @@ def _wait_for(log: Union[str, os.PathLike[str]]) -> None:
                 return
             except BlockingIOError:
                 if time.monotonic() > end:
-                    raise LogInUse(f"another program has {os.fsdecode(log)}") from None
+                    raise LogInUse(f"{os.fsdecode(log)} is in use by another program") from None
                 time.sleep(0.02)
     finally:
         os.close(file)
@@ -536,18 +611,21 @@ def _wait_for(log: Union[str, os.PathLike[str]]) -> None:
 
 
 def request_lines(word: str, texts: List[str]) -> bytes:
-    """A request line for each text."""
+    """Return one request line for each text: `word` and the text."""
     lines = f"{word}{(chr(10) + word).join(texts)}\n"
     is_long = len(lines) > _LONGEST and max(map(len, texts)) > _LONGEST
     if is_long or lines.count("\n") != len(texts):
-        # The URL Standard leaves out each LF of a text.
+        # A line cannot contain an LF, which the URL Standard removes anyway.
         texts = [text.replace("\n", "")[:_LONGEST] for text in texts]
         lines = "".join(f"{word}{text}\n" for text in texts)
     return lines.encode("utf-8", "surrogatepass")
 
 
 def link_word(base: str) -> str:
-    """What stands before a link's text. A base ends at its first space, so its own are escaped."""
+    """Return the beginning of a `link` request, up to the text of the link.
+
+    In a request, the base ends at the first space, so the spaces of the base are escaped.
+    """
     return f"link {base.strip(_TRIMMED).translate(_IN_BASE)[:_LONGEST]} "
 
 
@@ -561,19 +639,19 @@ def _offers_in(answers: List[bytes]) -> List[Offer]:
 
 
 def _accepted_in(answers: List[bytes]) -> Iterator[Accepted]:
-    """All at once: a URL costs half of what it does one by one."""
+    """Return the results of `accepted` answers. All together take half the time of one by one."""
     if not answers:
         return iter(())
     words = b" ".join(answers).split(b" ")
     if len(words) != 3 * len(answers) or set(words[::3]) != {b"accepted"}:
         _refuse(next(answer for answer in answers if not _ACCEPTED.fullmatch(answer)))
-    # As `Accepted` of each pair, without a call of Python's for it.
+    # Equal to `Accepted(queue, number)` for each pair, but without a Python call for each.
     made: Any = partial(tuple.__new__, Accepted)
     return map(made, zip(map(int, words[1::3]), map(int, words[2::3])))
 
 
 def _in_hand(answer: bytes) -> Optional[str]:
-    """The URL that `again` answers, if any."""
+    """Return the URL in an answer to `again`, or None if there is none."""
     word, _, rest = answer.partition(b" ")
     if word == b"taken":
         return rest.decode()
@@ -583,4 +661,6 @@ def _in_hand(answer: bytes) -> Optional[str]:
 
 
 def _refuse(answer: bytes) -> NoReturn:
-    raise _ERRORS.get(answer, UnknownAnswer)(answer.decode("utf-8", "replace"))
+    unknown = f"unknown answer from the program: {answer.decode('utf-8', 'replace')}"
+    kind, text = _ERRORS.get(answer, (UnknownAnswer, unknown))
+    raise kind(text)

@@ -1,38 +1,46 @@
-"""A scheduler for Scrapy over the URL frontier of Mercator, in place of Scrapy's own::
+"""A scheduler for Scrapy that uses the URL frontier `mercator serve`.
+
+Enable it in the settings of a project::
 
     SCHEDULER = "mercator_scrapy.MercatorScheduler"
 
-Where pip has not installed it, the folder of this file has to be in PYTHONPATH.
+If the module was not installed by pip, add the folder of this file to PYTHONPATH.
 
-Each URL is fetched once, whatever its spelling, and each host is asked for one URL at a time. The
-program `mercator` decides both, by the canonical form of the URL Standard. This module, the client
-`mercator_frontier` and what a spider does with a response are not proved.
+Each URL is fetched once, however it is spelled, and each host has one request in progress at a
+time. The program `mercator` decides both, by the canonical form of the URL Standard. This module,
+the client `mercator_frontier` and what a spider does with a response are not proved.
 
 ====================  ==========================================================================
 Setting               Meaning
 ====================  ==========================================================================
-MERCATOR_PROGRAM      the program; else the environment variable MERCATOR, else `mercator` in PATH
-MERCATOR_WORKERS      how many queues, 1 to 512; 64 where it is not given. Hosts share queues, and a
-                      queue has one request out at a time
-MERCATOR_MAX_PENDING  the most URLs that the frontier holds, 2 at least; more wait in this scheduler
-MERCATOR_WITHIN       keeps the crawl to hosts that are this suffix, or end with a dot and it
+MERCATOR_PROGRAM      Path of the program (default: the value of the environment variable
+                      MERCATOR, or else `mercator`).
+MERCATOR_WORKERS      Number of queues, 1 to 512 (default: 64). Each host has one queue, hosts may
+                      share a queue, and a queue has one request in progress at a time.
+MERCATOR_MAX_PENDING  Most URLs waiting or in progress in the frontier, 2 to 1099511627776
+                      (default: 1048576). Further requests wait in this scheduler.
+MERCATOR_WITHIN       Accept only hosts equal to this suffix or subdomains of it (default: all).
 ====================  ==========================================================================
 
-What goes where:
+What happens to a request:
 
-- A GET of an http or https URL without a body goes to the frontier. One that it has seen is dropped
-  and counted under `dupefilter/filtered`.
-- A `dont_filter` request is offered too, so that a later link to its URL is known. Where the URL
-  was seen the request goes out all the same, from a plain queue of this scheduler.
-- A retry of a URL that is out goes out again without a new offer, before its queue goes on.
-- All other requests, and URLs that the frontier cannot read, go to the plain queue. Scrapy's own
-  `DUPEFILTER_CLASS` filters them, and their host is asked for one thing at a time too.
+- A GET of an http or https URL without a body goes to the frontier. It is dropped if its URL was
+  seen before, and then counted under `dupefilter/filtered`; or if its host is outside
+  MERCATOR_WITHIN, and then counted under `mercator/filtered`.
+- A request with `dont_filter` goes to the frontier too, so that later links to its URL are
+  recognized. If the URL was seen before or filtered, the request is sent all the same, from a plain
+  queue of this scheduler.
+- A retry is sent without a new offer, before the next URL of its queue.
+- Every other request, and one with a URL that the frontier rejects, goes to the plain queue. It is
+  filtered by Scrapy's own `DUPEFILTER_CLASS`, and its host has one request in progress at a time as
+  well.
 
-The request with the highest priority goes first among the queues. Within one queue the frontier's
-order holds, which is that of the offers. What does not pass a scheduler is not held back, as
-robots.txt, media pipelines and `engine.download`. `JOBDIR` keeps no requests.
+If several queues have a request, the one with the highest priority is sent first. Within a queue,
+requests are sent in the order in which they were offered. Requests that bypass the scheduler are
+not delayed: robots.txt, media pipelines and `engine.download`. With `JOBDIR`, no requests are kept
+for another run.
 
-It needs Python 3.9, and is tested with Scrapy 2.8.
+The module needs Python 3.9 or later, and is tested with Scrapy 2.8.
 """
 
 from __future__ import annotations
@@ -60,38 +68,49 @@ __all__ = ["MercatorScheduler"]
 
 logger = logging.getLogger(__name__)
 
-# Some times Scrapy's 16 concurrent requests, so that hosts seldom wait for one another.
+# Several times Scrapy's 16 concurrent requests, so that hosts seldom share a queue.
 DEFAULT_WORKERS = 64
 
-# What the last part of a host is where the host is an IPv4 address.
+# Matches a host that the URL Standard reads as an IPv4 address: its last label is a number.
 _NUMBER_LAST = re.compile(r"(^|\.)([0-9]+|0x[0-9a-f]*)$")
 
-# The queue of a request that the frontier does not have.
+# The queue number of requests that are not in the frontier.
 _PLAIN = -1
 
-# A request that may go out: its priority, negated; a number that rises with each entry, so that two
-# requests are never compared; its queue; and itself.
+# A request that may be sent: its negated priority; a number that grows with each entry, so that two
+# requests are never compared; its queue; and the request itself.
 _Entry = Tuple[int, int, int, Request]
 
 
 class _Queue:
-    """What the scheduler knows of a queue of the frontier."""
+    """The scheduler's data of a queue of the frontier."""
 
     __slots__ = ("waiting", "retries", "out")
 
     def __init__(self) -> None:
-        # The requests of its URLs. The frontier gives out a queue's URLs in the order in which it
-        # accepted them, so each URL that is taken is that of the first request, under its first
-        # spelling, and no canonical texts need be kept.
+        # The requests for its URLs. The frontier gives out the URLs of a queue in the order in
+        # which it accepted them. So a URL that is taken belongs to the first of these requests, and
+        # the canonical URLs need not be kept.
         self.waiting: Deque[Request] = deque()
-        # Requests to send again for the URL that is out.
+        # Retries of the URL in progress.
         self.retries: Deque[Request] = deque()
-        # The request that was sent last for the URL that is out.
+        # The last request that was sent for the URL in progress.
         self.out: Optional[Request] = None
 
 
 class MercatorScheduler(BaseScheduler):
-    """Scrapy's scheduler as a client of `mercator serve`."""
+    """A Scrapy scheduler that is a client of `mercator serve`.
+
+    Scrapy creates it if the setting SCHEDULER names it; a spider need not change::
+
+        class Site(scrapy.Spider):
+            name = "site"
+            start_urls = ["http://example.org/"]
+            custom_settings = {
+                "SCHEDULER": "mercator_scrapy.MercatorScheduler",
+                "MERCATOR_WITHIN": "example.org",
+            }
+    """
 
     def __init__(
         self,
@@ -103,10 +122,17 @@ class MercatorScheduler(BaseScheduler):
         max_pending: Optional[int] = None,
         within: Optional[str] = None,
     ) -> None:
-        """The parameters are those of the settings; `dupefilter` sees the plain requests alone."""
+        """Create a scheduler; the frontier is started by `open`.
+
+        crawler      the crawler
+        dupefilter   filter for the requests that do not go to the frontier
+        program      setting MERCATOR_PROGRAM
+        workers      setting MERCATOR_WORKERS
+        max_pending  setting MERCATOR_MAX_PENDING; raise `ValueError` if it is less than 2
+        within       setting MERCATOR_WITHIN
+        """
         if max_pending is not None and max_pending < 2:
-            # The seeds count as one until the spider is closed.
-            raise ValueError("MERCATOR_MAX_PENDING is below 2")
+            raise ValueError("MERCATOR_MAX_PENDING must be at least 2: the seeds count as one URL")
         self.crawler = crawler
         self.stats = crawler.stats
         self.df = dupefilter
@@ -117,14 +143,14 @@ class MercatorScheduler(BaseScheduler):
         self._frontier: Optional[Frontier] = None
         self._is_lost = False
         self._queues: List[_Queue] = []
-        # Those that the frontier had no room for.
+        # The requests that the frontier had no room for.
         self._overflow: Deque[Request] = deque()
-        # A heap of what may go out: each plain request, and the first one of each queue that waits.
+        # A heap of the requests that may be sent: all plain ones, and the first of each free queue.
         self._ready: List[_Entry] = []
-        # By host that is asked for something, the entries that met that; a heap for each.
+        # For each busy host, a heap of the entries that wait until it is free.
         self._blocked: Dict[str, List[_Entry]] = {}
         self._busy: Set[str] = set()
-        # The requests that are out, each with its queue, and the queues of the frontier's by URL.
+        # The requests in progress with their queues, and the queues of the frontier's URLs.
         self._out: Dict[Request, int] = {}
         self._queue_by_url: Dict[str, int] = {}
         self._length = 0
@@ -132,7 +158,7 @@ class MercatorScheduler(BaseScheduler):
 
     @classmethod
     def from_crawler(cls, crawler: Crawler) -> MercatorScheduler:
-        """A scheduler by the settings of a crawler."""
+        """Create a scheduler from the settings of a crawler."""
         settings = crawler.settings
         max_pending = settings.get("MERCATOR_MAX_PENDING")
         return cls(
@@ -144,13 +170,16 @@ class MercatorScheduler(BaseScheduler):
             within=settings.get("MERCATOR_WITHIN"),
         )
 
-    # ---- what the engine asks
+    # ---- the methods that Scrapy's engine calls
 
     def open(self, spider: Spider) -> Optional[Deferred[Any]]:
-        """Starts the frontier."""
+        """Start the frontier.
+
+        Raise `ProgramMissing` if the program cannot be started.
+        """
         self.spider = spider
         if self.crawler.settings.get("JOBDIR"):
-            logger.warning("JOBDIR: MercatorScheduler does not keep requests for another run")
+            logger.warning("JOBDIR is set, but MercatorScheduler keeps no requests for another run")
         self._queues = [_Queue() for _ in range(self._workers)]
         self._frontier = Frontier(
             self._workers,
@@ -162,10 +191,10 @@ class MercatorScheduler(BaseScheduler):
         return opened
 
     def close(self, reason: str) -> Optional[Deferred[Any]]:
-        """Ends the frontier.
+        """End the frontier, and record two statistics.
 
-        `mercator/pending` in the statistics counts the URLs that are not done. `mercator/closed`
-        tells whether the frontier closed, which it does only where none is left.
+        `mercator/pending` is the number of unfinished URLs. `mercator/closed` is whether the
+        frontier closed, which it does only if no URL is unfinished.
         """
         if self._frontier is not None:
             try:
@@ -182,15 +211,18 @@ class MercatorScheduler(BaseScheduler):
         return closed
 
     def has_pending_requests(self) -> bool:
-        """Whether requests wait here or in the frontier. A spider that has lost it is not idle."""
+        """Return whether requests are waiting, or the frontier has failed.
+
+        After a failure the spider is not idle: it is about to be closed.
+        """
         return self._is_lost or (self._frontier is not None and self._length > 0)
 
     def __len__(self) -> int:
-        """How many requests wait."""
+        """Return the number of waiting requests."""
         return self._length
 
     def enqueue_request(self, request: Request) -> bool:
-        """Stores a request, or answers False where it was seen or is kept out."""
+        """Store a request and return True, or return False if its URL was seen or is filtered."""
         if self._frontier is None:
             return False
         try:
@@ -200,7 +232,7 @@ class MercatorScheduler(BaseScheduler):
             return False
 
     def next_request(self) -> Optional[Request]:
-        """The next request whose queue and host are free, or None where there is none now."""
+        """Return the next request whose queue and host are free, or None if there is none now."""
         if self._frontier is None:
             return None
         try:
@@ -210,7 +242,7 @@ class MercatorScheduler(BaseScheduler):
             self._give_up(self._frontier, error)
             return None
 
-    # ---- requests that come in
+    # ---- incoming requests
 
     def _store(self, frontier: Frontier, request: Request) -> bool:
         if request.method != "GET" or request.body or not _is_web(request):
@@ -218,24 +250,24 @@ class MercatorScheduler(BaseScheduler):
         queue = self._queue_of_retry(request)
         if queue is None:
             return self._offer(frontier, request)
-        # Its queue lines up as soon as the first try is over.
+        # Its queue is ready as soon as the previous attempt has ended.
         self._queues[queue].retries.append(request)
         self._count_in("mercator")
         return True
 
     def _queue_of_retry(self, request: Request) -> Optional[int]:
-        """The queue whose URL is out and has to be fetched again by this request."""
+        """Return the queue in which this request retries the URL in progress, or None."""
         queue = self._queue_by_url.get(request.url) if request.dont_filter else None
         if queue is None:
             return None
         out = self._queues[queue].out
         tries = 0 if out is None else out.meta.get("retry_times", 0)
-        # Other requests for the URL take their turn, else a spider that asks for a URL for ever
-        # would keep its queue from all others.
+        # Other requests for the URL wait for their turn. Otherwise a spider that requests a URL
+        # again and again would block all others of the queue.
         return queue if request.meta.get("retry_times", 0) > tries else None
 
     def _offer(self, frontier: Frontier, request: Request) -> bool:
-        """Stores a request by what the frontier answers to its URL."""
+        """Offer the URL of a request, and store the request according to the result."""
         offer = frontier.offer(request.url)
         if isinstance(offer, Accepted):
             self._wait(offer.queue, request)
@@ -253,12 +285,12 @@ class MercatorScheduler(BaseScheduler):
             self.stats.inc_value("mercator/filtered")
             return False
         else:
-            # No URL of the frontier's; the downloader tells its errback what it makes of it.
+            # The frontier rejects the URL. If the downloader does too, it calls the errback.
             return self._store_unknown(request)
         return True
 
     def _wait(self, queue: int, request: Request) -> None:
-        """A request whose URL was accepted waits in its queue."""
+        """Add a request whose URL was accepted to its queue."""
         state = self._queues[queue]
         state.waiting.append(request)
         self._count_in("mercator")
@@ -266,7 +298,7 @@ class MercatorScheduler(BaseScheduler):
             self._line_up(queue, request)
 
     def _store_unknown(self, request: Request) -> bool:
-        """Stores a request that the frontier cannot tell from others."""
+        """Store a request outside the frontier, unless Scrapy's own filter has seen it."""
         if not request.dont_filter and self.df.request_seen(request):
             self.df.log(request, self.spider)
             return False
@@ -286,10 +318,10 @@ class MercatorScheduler(BaseScheduler):
         self.stats.inc_value(f"scheduler/enqueued/{place}")
         self.stats.inc_value("scheduler/enqueued")
 
-    # ---- requests that go out
+    # ---- outgoing requests
 
     def _send(self, frontier: Frontier) -> Optional[Request]:
-        """Gives out the first request whose host is free."""
+        """Return the first request whose host is free."""
         while self._ready:
             entry = heappop(self._ready)
             _, _, queue, request = entry
@@ -310,33 +342,35 @@ class MercatorScheduler(BaseScheduler):
         return None
 
     def _take(self, frontier: Frontier, queue: int, request: Request) -> None:
-        """The first request of a queue goes out."""
+        """Take the URL of the first request of a queue from the frontier."""
         state = self._queues[queue]
         if state.retries:
             state.retries.popleft()
         else:
             if not isinstance(frontier.try_take(queue), str):
-                raise FrontierError(f"queue {queue} has no URL for {request}")
+                raise FrontierError(f"queue {queue} of the frontier has no URL for {request}")
             state.waiting.popleft()
         state.out = request
         self._queue_by_url[request.url] = queue
 
-    # ---- requests that come to their end
+    # ---- finished requests
 
     def _finish_fetches(self, frontier: Frontier) -> None:
-        """Is done with the requests that the downloader no longer has.
+        """Finish the requests that the downloader no longer has.
 
-        No signal tells when a fetch is over. `request_left_downloader` is not sent for a request
-        that a downloader middleware answers or drops (a cache, robots.txt), `response_received` not
-        for a failure, a retry or a redirect, and `spider_idle` not while requests wait behind this
-        one. The downloader's set of active requests, by which the engine itself sees whether a
-        spider is idle, has each request from the moment that the engine takes it until its last
-        middleware is through, however that ends. The engine calls `next_request` after each such
-        end. A retry has come by then, since the engine stores what a middleware returned before.
+        No signal reports the end of every fetch. `request_left_downloader` is not sent if a
+        downloader middleware answers or drops the request (a cache, robots.txt),
+        `response_received` is not sent for a failure, a retry or a redirect, and `spider_idle` is
+        not sent while other requests are waiting. But the downloader has a set of active requests,
+        by which the engine itself decides whether a spider is idle. A request is in this set from
+        the moment that the engine takes it until its last middleware has returned, whatever the
+        result. After that, the engine calls `next_request`. If a middleware returned a retry, the
+        engine has stored it by then.
 
-        So a URL is done before its callback has run, and before its links come. The frontier closes
-        only once the seeds have ended, and those end in `close`, where Scrapy has found the spider
-        idle. Waiting for the callback would keep each host idle while its pages are parsed.
+        So a URL is done before its callback runs, and before its links are offered. That is safe,
+        because the frontier closes only after the seeds have ended, and those end in `close`, when
+        Scrapy has found the spider idle. Waiting for the callback would keep each host idle while
+        its pages are parsed.
         """
         active = self.crawler.engine.downloader.active
         over = [request for request in self._out if request not in active]
@@ -349,7 +383,7 @@ class MercatorScheduler(BaseScheduler):
             self._offer_overflow(frontier)
 
     def _finish(self, frontier: Frontier, queue: int, request: Request) -> None:
-        """The last request for the URL that is out of a queue is over."""
+        """Finish a request for the URL in progress of a queue: retry it, or report it as done."""
         state = self._queues[queue]
         del self._queue_by_url[request.url]
         if state.retries:
@@ -361,10 +395,10 @@ class MercatorScheduler(BaseScheduler):
             self._line_up(queue, state.waiting[0])
 
     def _free(self, host: str) -> None:
-        """A host is asked for nothing now.
+        """Mark a host as free, and make one of the entries that wait for it ready.
 
-        One of the entries that it blocked is ready again. The next follows when that one is over,
-        so that a host with many requests does not move all of them each time.
+        The next one follows when that request has ended, so that a host with many requests does
+        not move all of them each time.
         """
         self._busy.discard(host)
         blocked = self._blocked.get(host)
@@ -374,22 +408,22 @@ class MercatorScheduler(BaseScheduler):
                 del self._blocked[host]
 
     def _offer_overflow(self, frontier: Frontier) -> None:
-        """Offers again what the frontier had no room for, as far as it has some now."""
+        """Offer the requests again that the frontier had no room for, until it is full again."""
         for _ in range(len(self._overflow)):
             request = self._overflow.popleft()
             self._length -= 1
             self._offer(frontier, request)
             if self._overflow and self._overflow[-1] is request:
-                self._overflow.rotate(1)  # it stays the first
+                self._overflow.rotate(1)  # keep it first
                 return
 
     def _give_up(self, frontier: Frontier, error: FrontierError) -> None:
-        """Closes the spider, since without the frontier no URL can be told from another."""
-        logger.critical("The frontier ended: %s", error)
+        """Close the spider, since without the frontier no duplicate can be recognized."""
+        logger.critical("The frontier ended, so the spider is closed: %s", error)
         self._frontier = None
         self._is_lost = True
         frontier.close()
-        # Not within this call, which comes from an engine that goes on with the spider.
+        # Not during this call, after which the engine still uses the spider.
         from twisted.internet import reactor
         reactor.callLater(0, self._close_spider)  # type: ignore[attr-defined]
 
@@ -404,7 +438,7 @@ def _is_web(request: Request) -> bool:
 
 
 def _host_of(request: Request) -> str:
-    """The host of a request, or nothing where it has none."""
+    """Return the host of a request, or an empty string if it has none."""
     try:
         return _known_as(urlparse_cached(request).hostname or "")
     except ValueError:
@@ -413,10 +447,10 @@ def _host_of(request: Request) -> str:
 
 @lru_cache(maxsize=4_096)
 def _known_as(host: str) -> str:
-    """A host as the URL Standard writes it, as far as the standard library does.
+    """Return a host in the form of the URL Standard, as far as the standard library can.
 
-    The frontier's queues go by its own text. This one tells only whether a plain request has the
-    host of another request.
+    The frontier assigns queues by its own canonical hosts. This form only decides whether a plain
+    request has the same host as another request.
     """
     host = unquote(host)
     try:

@@ -105,7 +105,7 @@ def log_in_use(trial: Trial) -> None:
         frontier.offer("http://a.test/")
         expect(frontier.take(0) == "http://a.test/", "take")
         error = expect_error(LogInUse, lambda: Frontier(1, log=log, program=trial.program))
-        expect(str(error) == f"another program has {log}", f"told: {error}")
+        expect(str(error) == f"{log} is in use by another program", f"told: {error}")
     frontier = Frontier(1, log=log, program=trial.program)
     frontier.close()
     expect_error(FrontierEnded, lambda: frontier.take(0))

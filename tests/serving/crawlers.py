@@ -101,6 +101,20 @@ def crawler(trial: Trial) -> None:
         print(f"  {len(told)} URLs")
 
 
+def crawler_help(trial: Trial) -> None:
+    """The help of the crawler has one usage, its time limits as numbers, and no unknown name."""
+    done = run_crawler(crawler_words(trial, "--help"))
+    text = done.stdout.decode()
+    expect(done.returncode == 0 and text.lower().count("usage:") == 1, f"status {done.returncode}: {text}")
+    sys.path.insert(0, str(CRAWLER.parent))
+    limit = importlib.import_module(CRAWLER.stem).SECONDS
+    for seconds in (limit, 2 * limit):
+        expect(f"{seconds} seconds" in " ".join(text.split()), f"no time limit of {seconds} seconds: {text}")
+    values = set(re.findall(r"--\w+ ([A-Z]+)", text)) | {"SEED"}
+    others = set(re.findall(r"\b[A-Z]{2,}\b", text)) - values - {"HTTP", "URL", "MERCATOR"}
+    expect(not others, f"names that are no value of an option: {others}")
+
+
 def told_by_bash(trial: Trial, url: str) -> Dict[str, str]:
     words = ["env", f"MERCATOR={trial.program}", "DELAY=0", str(ROOT / "examples/crawl_http.sh"), "127.0.0.1", url]
     done = run_crawler(words)
@@ -133,7 +147,7 @@ def bash_crawler(trial: Trial) -> None:
         expect(told == {folder.url: "200", f"{folder.url}a[1-2].html": "200"}, f"{told}")
     words = ["env", f"MERCATOR={trial.program}", str(ROOT / "examples/crawl_http.sh"), "-a.test", "http://b.test/"]
     done = run_crawler(words)
-    expect(done.stderr == b"crawl_http.sh: http://b.test/: filtered\n" and done.returncode == 0, f"{done.stderr!r}")
+    expect(done.stderr == b"crawl_http.sh: seed http://b.test/: filtered\n" and done.returncode == 0, f"{done.stderr!r}")
 
 
 def killed_crawler(trial: Trial) -> None:

@@ -1,4 +1,4 @@
-//! What one subqueue accepted, once its shard is out of its lock.
+//! The list that one queue accepted, after its shard is taken out of its lock.
 ghost use Rattle.std.specs.Prelude.{◌≡◌, ℕ, map};
 ghost use Rattle.hash_order.specs.HashOrder.{hash_of};
 ghost use Rattle.hash_index.specs.Lists.{index_of};
@@ -12,7 +12,7 @@ use crawl_keys::CanonUrl;
 use hash_index::HashIndex;
 use std::marker::Model;
 
-/// The list sent, with the index of its URLs and each sender's count. To a contract it is the list.
+/// The list of the accepted URLs, with their index and each sender's count. In contracts it is the list.
 #[derive(Drop)]
 pub struct AcceptedList {
     sent: Vec<Entry>,
@@ -57,14 +57,14 @@ impl AcceptedList {
         self.sent.as_slice()
     }
 
-    /// The index of the entry that has the URL.
+    /// The index of the URL's entry, if it is there.
     pub fn index_of(&self, url: &CanonUrl) -> Option<usize>
         ensures { result ≡ index_of (map (λ e. e.url) self.now) url.now }
     {
         self.index.find(&self.sent, url)
     }
 
-    /// How many entries are of this sender.
+    /// The number of entries of this sender.
     pub fn count(&self, sender: u64) -> u64
         ensures { result ≡ count_of sender self.now }
     {

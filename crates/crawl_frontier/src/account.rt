@@ -1,4 +1,4 @@
-//! The account of a run.
+//! The account of a run: all accepted URLs.
 ghost use Rattle.std.specs.Prelude.{◌≡◌, ◌<◌, List, [], Some, slice_get, length, map};
 ghost use Rattle.hash_index.specs.Lists.{index_of};
 ghost use Rattle.crawl_frontier.specs.declared.entry.Entry.{Entry};
@@ -10,7 +10,19 @@ use crate::entry::Entry;
 use crawl_keys::CanonUrl;
 use std::marker::Model;
 
-/// What each subqueue accepted, which is what its worker took. Only [`crate::Frontier::finish`] makes one.
+/// The URLs that each queue accepted in a run, which are those that its worker took.
+///
+/// Only [`crate::Frontier::finish`] makes an account. In each queue no URL is twice, and the entries of each sender are
+/// numbered 0, 1, 2, .. in order (`laws::accepted_lists`).
+///
+/// ```rust
+/// for queue in 0..account.workers() {
+///     for entry in account.queue(queue) {
+///         let (url, hops) = (entry.url.as_str(), entry.hops);
+///         let _ = println!(rt; "{queue} {hops} {url}");
+///     }
+/// }
+/// ```
 #[derive(Drop)]
 pub struct Account {
     workers: u32,
@@ -37,14 +49,14 @@ impl Account {
         Account { workers, queues }
     }
 
-    /// How many workers and subqueues there were.
+    /// The number of workers, which is the number of queues.
     pub fn workers(&self) -> u32
         ensures { result ≡ self.now.workers }
     {
         self.workers
     }
 
-    /// What subqueue q accepted, oldest first.
+    /// The URLs that queue `q` accepted, oldest first. `q` must be less than [`Account::workers`].
     pub fn queue(&self, q: u32) -> &[Entry]
         requires { q < self.now.workers }
         ensures entries { slice_get self.now.queues q ≡ Some result.now }
@@ -53,7 +65,8 @@ impl Account {
         self.queues[q as usize].entries()
     }
 
-    /// The index of the entry that has the URL, in what subqueue q accepted.
+    /// The index of the URL's entry in [`Account::queue`] of `q`, if it is there. `q` must be less than
+    /// [`Account::workers`].
     pub fn index_of(&self, q: u32, url: &CanonUrl) -> Option<usize>
         requires { q < self.now.workers }
         ensures { (es : List Entry) → slice_get self.now.queues q ≡ Some es → result ≡ index_of (map (λ e. e.url) es) url.now }

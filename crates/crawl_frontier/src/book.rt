@@ -1,4 +1,4 @@
-//! What a part that sends keeps of its own offers.
+//! The books of a part: what it records of its own offers.
 ghost use Rattle.std.specs.Prelude.{◌≡◌, ◌<◌, ◌^◌, ℕ, List, IfOk, OnOk, Some, slice_get, length, vec_len};
 ghost use Rattle.crawl_frontier.specs.declared.entry.Entry.{Entry};
 ghost use Rattle.crawl_frontier.specs.QueueId.{QueueId};
@@ -13,16 +13,18 @@ use crate::subqueue::Subqueue;
 use crawl_keys::CanonUrl;
 use std::alloc::{AllocError, Global};
 
-/// What a line of a log says: an entry that was accepted, or a URL that was seen; with its subqueue. No value of it is made.
+/// The meaning of a log line: an entry that was accepted, or a URL that was seen, with its queue. It is only for clauses: no
+/// value of it is made.
 #[derive(Drop)]
 pub enum Logged {
     Accepted(Entry, u32),
     Seen(CanonUrl, u32),
 }
 
-/// The id, how many of its URLs each subqueue accepted, the log, oldest line first, and what is known of each subqueue's list.
+/// The part's id, the number of its URLs that each queue accepted, its log, oldest line first, and a beginning of each
+/// queue's list.
 ///
-/// It is a plain struct, so that a contract can say that the log has room. What is known takes no bytes.
+/// It is a plain struct, so that a contract can say that the log has room. The beginnings have no bytes.
 #[derive(Drop)]
 pub struct Book {
     pub id: u64,
@@ -31,7 +33,7 @@ pub struct Book {
     pub told: Vec<Beginning>,
 }
 
-// What is known of each list, known once more.
+// A copy of the beginning of each list.
 fn all_again(
     alloc: Global,
     queues: &Vec<Subqueue>,
@@ -51,7 +53,7 @@ fn all_again(
 }
 
 impl Book {
-    /// The books of a part that has sent nothing, and knows this of each list.
+    /// The books of a part that has sent nothing, and knows these beginnings of the lists.
     pub fn new<K: Name>(alloc: Global, id: u64, told: Vec<Beginning>) -> Result<Book, AllocError>
         requires len { vec_len told ≡ K.workers }
         requires lists { ListsAre K.queues told.items }
@@ -67,7 +69,7 @@ impl Book {
         })
     }
 
-    /// The books of another part that has sent nothing, which knows of each list what these do.
+    /// The books of another part that has sent nothing, and knows the same beginnings of the lists.
     pub fn another<K: Name>(
         &mut self,
         alloc: Global,
@@ -87,7 +89,7 @@ impl Book {
         Book::new::<K>(alloc, id, told)
     }
 
-    /// Makes room for one line more.
+    /// Makes room for one more line.
     pub fn ready<K: Name>(&mut self) -> Result<(), AllocError>
         requires { Knows K.queues K.workers self.old }
         ensures same { book_of self.new ≡ book_of self.old }
@@ -97,8 +99,8 @@ impl Book {
         self.lines.reserve(1)
     }
 
-    /// Enters a URL that subqueue `queue` accepted as the `number`-th from 0, and that stands at this index of its list. Nothing
-    /// grows.
+    /// Records a URL that `queue` accepted, after `number` URLs of this part, and that is at this index of its list. Nothing
+    /// is allocated.
     pub fn accept(&mut self, queue: u32, index: u32, number: u64)
         requires within { queue < vec_len self.old.counts }
         requires narrow { queue < 2 ^ 16 }
@@ -115,7 +117,7 @@ impl Book {
         });
     }
 
-    /// Enters a URL that was found at this index of subqueue `queue`'s list. Nothing grows.
+    /// Records a URL that was found at this index of the list of `queue`. Nothing is allocated.
     pub fn see(&mut self, queue: u32, index: u32)
         requires narrow { queue < 2 ^ 16 }
         requires room { HasRoom self.old }

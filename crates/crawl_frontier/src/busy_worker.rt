@@ -1,4 +1,4 @@
-//! A worker with a URL in hand.
+//! A worker that has a URL.
 ghost use Rattle.std.specs.Prelude.{◌≡◌, ◌+◌, ◌↔◌, false, IfSome};
 ghost use Rattle.crawl_keys.specs.HostFilter.{allows};
 ghost use Rattle.crawl_frontier.specs.Turns.{Done};
@@ -18,10 +18,21 @@ use crawl_keys::CanonUrl;
 use std::marker::{Model, PhantomData};
 use std::sync::Wait;
 
-/// A worker with a URL whose fetch isn't done. [`Worker::next`] makes it.
+/// A worker that has taken a URL, and is not done with it. [`Worker::next`] makes it.
 ///
-/// It holds the URL's unit, so the gate stays open until [`BusyWorker::done`]; one that is dropped keeps it open for
-/// good. To a contract it is the worker and the message.
+/// It holds the URL's unit, so the gate stays open until [`BusyWorker::done`]. A busy worker that is dropped keeps the gate
+/// open for good. Offer all links of the page before `done`.
+///
+/// In contracts it is the worker and the message.
+///
+/// ```rust
+/// for text in links_of(busy.url()) {
+///     if let Ok(link) = resolve(alloc, busy.url(), text) {
+///         let _ = busy.offer(rt, frontier, &link);
+///     }
+/// }
+/// worker = busy.done(frontier);
+/// ```
 #[derive(Drop)]
 pub struct BusyWorker<K: Name> {
     pub(crate) queue: u32,
@@ -50,7 +61,7 @@ impl<K: Name> Model for BusyWorker<K> {
         × IsSeatOf K.gate w.message.unit × Knows K.queues K.workers w.book };
 }
 
-// Lets the URL share the text of its copy, where there is one.
+// Makes the URL share the text of its copy, if there is one.
 fn share(url: &mut CanonUrl, copy: Option<CanonUrl>)
     requires { IfSome copy (λ there. there ≡ url.old) }
     ensures { url.new ≡ url.old }
@@ -61,22 +72,24 @@ fn share(url: &mut CanonUrl, copy: Option<CanonUrl>)
 }
 
 impl<K: Name> BusyWorker<K> {
-    /// The URL.
+    /// The URL that the worker took.
     pub fn url(&self) -> &CanonUrl
         ensures { result.now ≡ self.now.message.entry.url }
     {
         &self.message.entry.url
     }
 
-    /// How many links away from a URL that a sender or the seeder offered.
+    /// The number of links between this URL and one that the seeder or a sender offered.
     pub fn hops(&self) -> u32
         ensures { result ≡ self.now.message.entry.hops }
     {
         self.message.entry.hops
     }
 
-    /// Offers a link of the page, with one hop more than the page. The answer is never `Closed`, for the page's unit is
-    /// held.
+    /// Offers a link of the page, with one hop more than the page.
+    ///
+    /// The result is never `Closed`, since the page's unit is held. The other errors are those of
+    /// [`crate::Sender::offer`], and `TooFar` for a link with more than [`crate::HOPS_LIMIT`] hops.
     pub fn offer<R: Wait>(
         &mut self,
         rt: &R,
@@ -93,7 +106,7 @@ impl<K: Name> BusyWorker<K> {
         answer
     }
 
-    // Offers a link of the page. With the answer comes, of a URL that was seen, a copy that shares the frontier's text.
+    // Offers a link of the page. If the URL was seen, the result includes a copy of it that shares the frontier's text.
     fn offer_link<R: Wait>(&mut self, rt: &R, frontier: &Frontier<K>, url: &CanonUrl) -> Answer
         ensures books { OfferBooks K.workers self.old.worker.book self.new.worker.book url.now (self.old.message.entry.hops + 1) result.0 }
         ensures words { OfferWordsBeside self.old.message.unit self.new.message.unit self.old.worker.seat self.new.worker.seat result.0 }
@@ -108,8 +121,9 @@ impl<K: Name> BusyWorker<K> {
         offer_beside(rt, frontier, held, book, pass, &candidate)
     }
 
-    /// As [`BusyWorker::offer`]. Where the URL was seen, `url` shares the text that the frontier keeps from then on, so
-    /// that a page's links cost no text of their own.
+    /// Like [`BusyWorker::offer`], but a `url` that was seen shares the frontier's text from then on.
+    ///
+    /// So the links of a page that the caller keeps need no memory for their texts.
     pub fn offer_shared<R: Wait>(
         &mut self,
         rt: &R,
@@ -128,7 +142,7 @@ impl<K: Name> BusyWorker<K> {
         answer
     }
 
-    /// Gives the unit of the URL back: its fetch is done. It takes no lock and no memory.
+    /// Says that the URL is done, and gives its unit back. It takes no lock and allocates nothing.
     pub fn done(self, frontier: &Frontier<K>) -> Worker<K>
         ensures { Done self result }
     {

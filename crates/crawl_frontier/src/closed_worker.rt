@@ -1,4 +1,4 @@
-//! A worker that has met the gate closed.
+//! A worker that has found the gate closed.
 ghost use Rattle.std.specs.Prelude.{◌≡◌, ◌<◌, Some, slice_get};
 ghost use Rattle.crawl_frontier.specs.Books.{IsBook, Knows, book_of};
 ghost use Rattle.crawl_frontier.specs.Rule.{popping, home};
@@ -9,10 +9,9 @@ use crate::rights::PopRight;
 use crawl_gate::ClosedPass;
 use std::marker::{Model, PhantomData};
 
-/// A worker that was told that nothing is left and nothing will come. [`crate::Worker::next`] makes it, and
-/// [`crate::Frontier::finish`] takes it.
+/// A worker that knows that every accepted URL is done, and that no more will be accepted.
 ///
-/// To a contract it is what the worker was.
+/// [`crate::Worker::next`] makes it, and [`crate::Frontier::finish`] takes it. In contracts it is what the worker was.
 #[derive(Drop)]
 pub struct ClosedWorker<K: Name> {
     pub(crate) queue: u32,
@@ -42,7 +41,7 @@ impl<K: Name> Model for ClosedWorker<K> {
 }
 
 impl<K: Name> ClosedWorker<K> {
-    /// The subqueue that was its own.
+    /// The worker's queue.
     pub fn queue(&self) -> u32
         ensures { (result ≡ self.now.queue) × (result < K.workers) }
     {

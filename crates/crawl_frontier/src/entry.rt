@@ -1,4 +1,4 @@
-//! What lies in a subqueue.
+//! What a queue contains.
 ghost use Rattle.std.specs.Prelude.{◌≡◌, IfOk};
 ghost use Rattle.crawl_frontier.specs.Entries.{entry};
 ghost use Rattle.hash_order.specs.HashOrder.{hash_of};
@@ -10,24 +10,27 @@ use hash_index::Keyed;
 /// An accepted URL.
 #[derive(Debug, Drop)]
 pub struct Entry {
+    /// The URL.
     pub url: CanonUrl,
-    /// The id of whoever offered it: a worker's is its queue, the seeder's is the number of workers.
+    /// The id of the part that offered it. A worker's id is its queue, the seeder's the number of workers.
     pub sender: u64,
-    /// How many URLs of this sender the subqueue accepted before.
+    /// The number of URLs of this sender that the queue accepted before.
     pub number: u64,
-    /// How many links away from the first offer of a sender or the seeder: 0 for what they offered.
+    /// The number of links from a URL that the seeder or a sender offered. It is 0 for these URLs themselves.
     pub hops: u32,
 }
 
-/// An entry with the unit of the gate that it holds until its fetch is done.
+/// An entry, with the unit of the gate that it holds until its URL is done.
 #[derive(Drop)]
 pub struct Message {
+    /// The accepted URL.
     pub entry: Entry,
+    /// Its unit.
     pub unit: Unit,
 }
 
 impl Entry {
-    /// An entry for one more owner of this URL's text.
+    /// An entry with a copy of this URL, which shares its text.
     pub(crate) fn of_copy(
         url: &CanonUrl,
         sender: u64,
@@ -46,7 +49,7 @@ impl Entry {
     }
 }
 
-// A list of entries is searched for a URL.
+// A list of entries is searched by URL.
 impl Keyed for Entry {
     ghost use Rattle.hash_order.specs.HashOrder.{hash_of};
 

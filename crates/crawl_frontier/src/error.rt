@@ -1,16 +1,16 @@
-//! Why no frontier was made, why an offer was refused, and why a run has no account.
+//! Why a frontier was not made, why an offer failed, and why a run has no account.
 use std::alloc::AllocError;
 use std::error::Error;
 use std::fmt;
 
-/// Why no frontier was made. The order of the variants is the order of the checks.
+/// Why a frontier was not made. The variants are in the order of the checks.
 #[derive(Clone, Copy, Debug, PartialEq, Eq)]
 pub enum FrontierError {
     /// The number of workers is 0 or more than [`crate::WORKERS_LIMIT`].
     BadWorkers,
     /// The maximum of pending URLs is 0 or more than [`crawl_gate::MAX_PENDING_LIMIT`].
     BadLimit,
-    /// There was not memory enough.
+    /// An allocation failed.
     NoMemory,
 }
 
@@ -42,20 +42,21 @@ impl fmt::Display for FrontierError {
 
 impl Error for FrontierError {}
 
-/// Why an offer was refused. Counts, log and shard are then as before, and the unit that it entered by is given back.
+/// Why an offer failed. The part's counts and log and the queue's list are then as before, and a unit that the offer had
+/// entered with is given back.
 #[derive(Clone, Copy, Debug, PartialEq, Eq)]
 pub enum OfferError {
-    /// The frontier's filter does not allow the URL. It is asked first, before the gate is entered.
+    /// The frontier's filter does not allow the URL. This is checked first, before the gate is entered.
     Filtered,
-    /// The gate was met closed, as it is for good. Only a [`crate::Sender`] is told so.
+    /// The gate is closed, for good. Only a [`crate::Sender`] gets this error.
     Closed,
-    /// As many URLs are pending as the maximum allows, offers in progress among them. Later there may be room.
+    /// The number of pending URLs is at its maximum, offers in progress included. Later there may be room.
     Full,
-    /// The subqueue accepted another number of URLs of this id than this part was told of: another part has the same id.
+    /// The queue has accepted `found` URLs of this part's id, but only `own` of this part: another part has the same id.
     Crossed { own: u64, found: u64 },
-    /// The URL is more than [`crate::HOPS_LIMIT`] hops away.
+    /// The URL has more than [`crate::HOPS_LIMIT`] hops.
     TooFar,
-    /// There was not memory enough, or the subqueue has accepted 2^31 URLs.
+    /// An allocation failed, or the queue has accepted 2^31 URLs. It may replace any result but `Filtered`.
     NoMemory,
 }
 
@@ -79,17 +80,18 @@ impl fmt::Display for OfferError {
 
 impl Error for OfferError {}
 
-/// Why a run has no account. The order of the variants is the order of the checks.
+/// Why a run has no account. The variants are in the order of the checks.
 #[derive(Clone, Copy, Debug, PartialEq, Eq)]
 pub enum FinishError {
-    /// A subqueue's worker isn't among the parts, or no part has the id of an accepted URL's sender.
+    /// A queue's worker is missing, or no part has the id of an accepted URL's sender.
     MissingPart,
-    /// The gate's word, were it not closed with count 0. A closed worker knows that it is, so this never comes.
+    /// The gate is not closed with count 0; `word` is its word. It never occurs, since a closed worker knows that the gate is
+    /// closed.
     Unsettled { word: u64 },
-    /// The least subqueue behind whose lock stands another's shard, whose worker was not seen to have taken all that was
-    /// sent, which two workers have, or whose entries are not those of the parts' logs.
+    /// The run does not agree for `queue`, the first such queue. Two workers have this queue, its lock holds the shard of
+    /// another queue, its worker was not seen to have taken all URLs, or a part's log differs from its list.
     Disagree { queue: u32 },
-    /// There was not memory enough.
+    /// An allocation failed.
     NoMemory,
 }
 

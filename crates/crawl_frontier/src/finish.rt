@@ -1,4 +1,4 @@
-//! The end of a run: what was sent is compared with what was taken, and with the books of all parts.
+//! The end of a run: the accepted URLs are compared with those that were taken, and with the books of all parts.
 ghost use Rattle.std.specs.Prelude.{◌≡◌, MatchResult};
 ghost use Rattle.crawl_frontier.specs.Accounts.{Accounts, FinishFails};
 
@@ -19,9 +19,10 @@ use settled::{Settled, account_of, settle_run};
 use std::thread::Threads;
 
 impl<K: Name> Frontier<K> {
-    /// The account of a run, from its closed workers and its senders, in any order. It uses all parts up.
+    /// Ends a run: returns the account of all accepted URLs, from the closed workers and the senders, in any order.
     ///
-    /// An account shows that each URL that was accepted was taken by its worker, and that no log says otherwise.
+    /// An account shows that each accepted URL was taken by its worker, and that the log of each part agrees. The errors
+    /// are `MissingPart`, `Disagree` and `NoMemory` ([`FinishError`]).
     pub fn finish(
         self,
         closed: Vec<ClosedWorker<K>>,
@@ -41,7 +42,7 @@ impl<K: Name> Frontier<K> {
         account_of(workers, lists, least)
     }
 
-    /// As [`Frontier::finish`]. It needs no thread: no line of a log is left to compare.
+    /// Like [`Frontier::finish`]. It starts no thread, since no line of a log is left to compare.
     pub fn finish_in_threads<R: Threads + Sync>(
         self,
         _rt: &R,

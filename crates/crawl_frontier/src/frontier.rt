@@ -1,4 +1,4 @@
-//! A frontier: the gate, the subqueues, and a lock round each shard.
+//! A frontier: the gate, the queues, and a lock for each shard.
 ghost use Rattle.std.specs.Prelude.{◌≡◌, ◌^◌, ◌<◌, Some, IfOk, MatchResult, slice_get, vec_len, length};
 ghost use Rattle.crawl_gate.specs.Seat.{IsSeatOf};
 ghost use Rattle.crawl_frontier.specs.Limits.{IsWorkers};
@@ -21,10 +21,26 @@ use std::collections::VecDeque;
 use std::hint;
 use std::sync::{Mutex, MutexGuard, Wait};
 
-// So often a lock is tried before its thread sleeps until it is given back: for some microseconds, longer than any thread keeps it.
+// The number of times that a lock is tried before its thread sleeps until it is released: for some microseconds, longer than
+// any thread holds it.
 const TRIES: u32 = 200;
 
-/// The gate, the subqueues, and one lock round the shard of each subqueue. Threads share it by `&`.
+/// A URL frontier, which threads share by `&`.
+///
+/// It has the gate, the queues, and for each queue a shard behind a lock: the list of the URLs that the queue accepted.
+/// `K` identifies the frontier for the prover ([`Name`]).
+///
+/// ```rust
+/// let (frontier, workers, mut seeder) = Frontier::<K>::new(alloc, setup, filter)?;
+/// let _ = seeder.offer(rt, &frontier, seed);
+/// let mut senders = Vec::new(alloc);
+/// let _ = senders.push(seeder.end(&frontier));
+///
+/// // One thread for each worker, until nothing is left.
+/// let shared = &frontier;
+/// let closed = thread::map_vec(rt, workers, &|worker| crawl(rt, alloc, shared, worker))?;
+/// let account = frontier.finish(closed, senders)?;
+/// ```
 #[derive(Drop)]
 pub struct Frontier<K: Name> {
     pub(crate) gate: Gate,
@@ -41,7 +57,7 @@ pub struct Frontier<K: Name> {
     ghost shards_len: { vec_len shards ≡ workers },
 }
 
-// An empty shard behind a lock for each queue, in order.
+// An empty shard with its lock for each queue, in order.
 fn shards<K: Name>(
     alloc: Global,
     mut rights: VecDeque<PushRight>,
@@ -59,7 +75,7 @@ fn shards<K: Name>(
     Ok(made)
 }
 
-// A worker for each queue, in order, each with a pass of its own, and with books that know of each list what these do.
+// A worker for each queue, in order. Each has its own pass, and books that know the same beginnings of the lists as `book`.
 fn workers<K: Name>(
     alloc: Global,
     gate: &Gate,
@@ -92,7 +108,10 @@ fn workers<K: Name>(
 }
 
 impl<K: Name> Frontier<K> {
-    /// The frontier of a setup, the worker of each subqueue in order, and the seeder. The filter is copied.
+    /// The frontier of a setup, the worker of each queue in order, and the seeder.
+    ///
+    /// The filter is copied. The only error is `NoMemory`. The caller must be a function over `K` whose `K` has the gate,
+    /// the workers, the queues and the filter that are passed here: see [`Name`].
     pub fn new(
         alloc: Global,
         setup: Setup,
@@ -133,14 +152,14 @@ impl<K: Name> Frontier<K> {
         Ok((frontier, made, seeder))
     }
 
-    /// How many workers and subqueues it has.
+    /// The number of workers, which is the number of queues.
     pub fn workers(&self) -> u32
         ensures { (result ≡ K.workers) × IsWorkers result }
     {
         self.workers
     }
 
-    /// The filter that each offer asks first.
+    /// The filter that each offer applies first.
     pub fn filter(&self) -> &Filter
         ensures { result.now ≡ K.filter }
     {
@@ -153,7 +172,7 @@ impl<K: Name> Frontier<K> {
         &self.gate
     }
 
-    /// The subqueue of this number.
+    /// The queue with this index.
     pub(crate) fn subqueue(&self, queue: u32) -> &Subqueue
         requires { queue < K.workers }
         ensures { slice_get K.queues queue ≡ Some result.now }
@@ -161,14 +180,14 @@ impl<K: Name> Frontier<K> {
         &self.queues[queue as usize]
     }
 
-    /// Wakes each worker that rests.
+    /// Wakes all workers that rest.
     pub(crate) fn ring_all(&self) {
         for subqueue in &self.queues {
             subqueue.ring();
         }
     }
 
-    /// The lock of a subqueue, taken.
+    /// Takes the lock of a queue's shard.
     pub(crate) fn lock<R: Wait>(&self, rt: &R, queue: u32) -> MutexGuard<'_, Shard<K>>
         requires { queue < K.workers }
     {

@@ -1,4 +1,4 @@
-//! What is known of a list that only grows, whoever asks, and when.
+//! Knowledge of a list that only grows: a beginning of it, seen by any thread at any time, stays a beginning.
 ghost use Rattle.std.specs.Prelude.{◌≡◌, ◌++◌, ◌∷◌, [], IfOk};
 ghost use Rattle.crawl_frontier.specs.Growing.{Stays};
 ghost use Rattle.crawl_frontier.specs.Known.{owner_of, begins_with};
@@ -12,7 +12,7 @@ use std::alloc::{AllocError, Global};
 use std::marker::{Brand, Model};
 use std::mem;
 
-/// Stands for one list, which lies elsewhere. Threads share it by `&`; nobody ever writes to it.
+/// Identifies one list, which is stored elsewhere. Threads share it by `&`, and nothing is ever written to it.
 #[derive(Drop)]
 pub struct Growing {
     table: Table<(), ListView, (), OnlyGrows, Global>,
@@ -29,7 +29,7 @@ impl Model for Growing {
     ghost invariant = { λ g. g.table.shared.table_id.words ≡ 1 };
 }
 
-/// The right to add to the list, which knows all of it. It has no bytes.
+/// The right to add to the list. Its owner knows the whole list. It has no bytes.
 #[derive(Drop)]
 pub struct Owner {
     seat: Seat<(), ListView>,
@@ -47,7 +47,7 @@ impl Model for Owner {
     ghost invariant = { λ o. (o.seat.me.0 ≡ owning o.seat.me.0.all) × (o.seat.me.1 ≡ []) };
 }
 
-/// What the list once was, so that each of its entries stands in the list for good. It has no bytes.
+/// A beginning of the list: what the list was at some time, so each of its entries stays in the list. It has no bytes.
 #[derive(Drop)]
 pub struct Beginning {
     seat: Seat<(), ListView>,
@@ -66,7 +66,7 @@ impl Model for Beginning {
 }
 
 impl Growing {
-    /// A list with nothing in it, and the right to add to it.
+    /// An empty list, and the right to add to it.
     pub fn new(alloc: Global) -> Result<(Growing, Owner), AllocError>
         ensures { IfOk result (λ r. r.1 ≡ owner_of r.0 []) }
     {
@@ -82,7 +82,7 @@ impl Growing {
         self.table.shared.load::<Grow<B>>(&mut owner.seat, 0);
     }
 
-    /// The list has one entry more.
+    /// Adds one entry to the list.
     pub fn grow(&self, owner: &mut Owner, entry: &Entry)
         requires { owner.old.list ≡ self.now }
         ensures { owner.new ≡ owner_of self.now (owner.old.items ++ entry.now ∷ []) }
@@ -90,7 +90,7 @@ impl Growing {
         self.add::<Brand>(owner, entry);
     }
 
-    /// A token that the list begins with what it is now.
+    /// A beginning of the list: what the list is now.
     pub fn tell(&self, owner: &mut Owner) -> Beginning
         requires { owner.old.list ≡ self.now }
         ensures same { owner.new ≡ owner.old }
@@ -100,7 +100,7 @@ impl Growing {
         Beginning { seat }
     }
 
-    /// One more token that says what this one says.
+    /// One more beginning, equal to this one.
     pub fn again(&self, known: &mut Beginning) -> Beginning
         requires { known.old.list ≡ self.now }
         ensures same { known.new ≡ known.old }
@@ -110,7 +110,7 @@ impl Growing {
         Beginning { seat }
     }
 
-    // What the beginning has still stands in the list.
+    // Learns that the entries of the beginning are still in the list.
     fn compare(&self, owner: &mut Owner, known: Beginning)
         requires owner { owner.old.list ≡ self.now }
         requires known { known.list ≡ self.now }
@@ -122,7 +122,7 @@ impl Growing {
         self.table.shared.load::<Compare>(&mut owner.seat, 0);
     }
 
-    /// The beginning becomes what the list is now, in which all that it had still stands.
+    /// Extends the beginning to what the list is now, which still has all its entries.
     pub fn catch_up(&self, owner: &mut Owner, known: &mut Beginning)
         requires owner { owner.old.list ≡ self.now }
         requires known { known.old.list ≡ self.now }

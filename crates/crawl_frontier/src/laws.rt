@@ -1,5 +1,5 @@
-//! What follows from the definitions alone, for every history of steps, whichever threads make them; and the one change
-//! under a lock, [`Shard::admit`].
+//! Laws: what holds for every history of steps, whichever threads make them. They are theorems, and do nothing when called.
+//! With them, the only change that is made under a lock: [`Shard::admit`].
 ghost use Rattle.std.specs.Prelude.{ℕ, List, [], ◌∷◌};
 ghost use Rattle.crawl_frontier.specs.declared.entry.Entry.{Entry};
 ghost use Rattle.crawl_frontier.specs.Entries.{KeepsRule};
@@ -11,20 +11,20 @@ pub use crate::rule::{Home, PassView, SubqueueRule};
 pub use crate::shard::{Admit, Offered, Shard};
 pub use crate::subqueue::Subqueue;
 
-/// Of a list that keeps the rule of a subqueue, as each list of an account does: URLs differ, each belongs to the
-/// subqueue, and each sender's entries are numbered 0, 1, 2, .. in order.
+/// In a list that keeps the rule of a queue, all URLs differ, each belongs to the queue, and each sender's entries are
+/// numbered 0, 1, 2, .. in order. Each list of an account keeps this rule.
 pub fn accepted_lists()
     ensures { (workers q : ℕ) (es : List Entry) → KeepsRule workers q [] es → IsAcceptedList workers q es }
 {}
 
-/// Each kind of step of a subqueue keeps its invariant: a push adds one entry to the list sent, a pop one to the list
-/// taken, and no other kind changes any of them.
+/// Each kind of step of a queue keeps its invariant: a push adds one entry to the list of what was sent, a pop adds one to
+/// the list of what was taken, and no other kind changes these lists.
 pub fn steps_of_a_subqueue()
     ensures { (m m' : Moment) (k : SubqueueInvariant m.items m.views) (step : SubqueueStep m m')
         → (k' : SubqueueInvariant m'.items m'.views) × ListsMove step k.sent k.taken k'.sent k'.taken }
 {}
 
-/// A subqueue keeps its invariant at the moment at which it is made, and at every later moment of a history from there.
+/// A queue keeps its invariant when it is made, and at every later moment of a history from there.
 pub fn invariant_in_histories()
     ensures { (later : List Moment) → IsHistory first_moment later → AllKept (first_moment ∷ later) }
 {}

@@ -1,8 +1,45 @@
-//! The URL frontier that running threads use: a FIFO subqueue for each worker, each URL placed by its host.
+//! A URL frontier for the threads of a crawler: it accepts each URL once, and gives it to one worker.
 //!
-//! [`Setup::new`] makes a gate and the subqueues, and [`Frontier::new`] the frontier, a [`Worker`] for each subqueue and
-//! the [`Seeder`]. Whoever has URLs offers them, a worker takes those of its subqueue by [`Worker::next`], and once all
-//! are done every worker is told so. [`Frontier::finish`] then gives the account of what was accepted.
+//! The frontier has a first-in, first-out queue for each worker. The host of a URL decides its queue, so all URLs of a
+//! host are taken by the same worker, one at a time. Threads share the frontier by `&`.
+//!
+//! - [`Setup::new`] makes the queues, and a gate that counts the URLs that are not done.
+//! - [`Frontier::new`] makes the frontier, a [`Worker`] for each queue, and the [`Seeder`].
+//! - The seeder offers the first URLs, and ends. [`Seeder::another`] makes a [`Sender`], which offers URLs from outside.
+//! - [`Worker::next`] takes a URL. The worker is then a [`BusyWorker`], which offers the links of the page, until
+//!   [`BusyWorker::done`].
+//! - Once the seeding has ended and every accepted URL is done, [`Worker::next`] returns a [`ClosedWorker`].
+//! - [`Frontier::finish`] checks the run, and returns the [`Account`] of all accepted URLs.
+//!
+//! Seeder, workers and senders are the *parts* of the frontier. Each has an id, and a log of what its offers returned.
+//!
+//! A worker's thread:
+//!
+//! ```rust
+//! fn crawl<K: Name, R: Wait>(
+//!     rt: &R,
+//!     alloc: Global,
+//!     frontier: &Frontier<K>,
+//!     mut worker: Worker<K>,
+//! ) -> ClosedWorker<K> {
+//!     for _ in rt.forever() {
+//!         match worker.next(rt, frontier) {
+//!             Turn::Busy(mut busy) => {
+//!                 offer_links(rt, alloc, frontier, &mut busy);
+//!                 worker = busy.done(frontier);
+//!             }
+//!             Turn::Idle(idle, _) => {
+//!                 idle.rest(rt, frontier);
+//!                 worker = idle;
+//!             }
+//!             Turn::Closed(closed) => return closed,
+//!         }
+//!     }
+//!     unreachable!()
+//! }
+//! ```
+//!
+//! The offers, [`Worker::next`], [`Worker::rest`] and [`Worker::look_ahead`] may wait; no other call does.
 #![tactic(auto)]
 
 mod accepted;

@@ -1,8 +1,8 @@
-//! A line of the log of a part that sends.
+//! A line of a part's log.
 
-/// A URL by number, which an offer of the part put into subqueue `queue`'s list, or found there.
+/// The position of a URL in the list of `queue`: an offer of the part added it there, or found it there.
 ///
-/// It takes 8 bytes. What stood at the index when the line was written stands there for good.
+/// A line takes 8 bytes. The list only grows, so the entry at this index stays there for good.
 #[derive(Clone, Copy, Debug)]
 pub struct LogLine {
     pub index: u32,

@@ -1,11 +1,31 @@
-//! What one frontier's parts have in common.
+//! What all parts of one frontier have in common.
 use std::marker::Brand;
 
-/// Stands for one frontier: its number of workers, its gate, its subqueues and its filter.
+/// Identifies one frontier for the prover: its number of workers, its gate, its queues and its filter.
 ///
-/// What lies behind a lock is known by its type alone, so the types of a frontier's parts have a parameter of this
-/// trait. It has no calls. A caller writes its work as a function over `K: Name` that takes a [`crate::Setup`], and
-/// calls it with [`std::marker::Brand`] for `K`.
+/// The prover knows what a lock protects only by its type, so the types of a frontier's parts have a parameter of this
+/// trait. The trait has no calls. Write the work as a function over `K: Name` that takes a [`crate::Setup`], and call it
+/// with [`std::marker::Brand`] for `K`. The caller's `proofs/` then say what `Brand` means there.
+///
+/// ```rust
+/// fn crawl_by<K: Name + Send + Sync, R: Threads + Wait + Sync>(
+///     rt: &R,
+///     alloc: Global,
+///     setup: Setup,
+///     filter: &Filter,
+///     seed: &CanonUrl,
+/// ) -> Option<Result<Account, FinishError>>
+///     requires gate { setup.gate ≡ K.gate }
+///     requires workers { setup.workers ≡ K.workers }
+///     requires queues { setup.queues ≡ K.queues }
+///     requires filter { filter.now ≡ K.filter }
+/// {
+///     match Frontier::<K>::new(alloc, setup, filter) {
+///         Ok((frontier, workers, seeder)) => crawl_from(rt, alloc, frontier, workers, seeder, seed),
+///         Err(_) => None,
+///     }
+/// }
+/// ```
 pub trait Name {
     ghost use Rattle.std.specs.Prelude.{ℕ, List};
     ghost use Rattle.crawl_gate.specs.Seat.{GateId};

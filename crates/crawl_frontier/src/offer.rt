@@ -1,4 +1,4 @@
-//! What an offer answers, and its half after it has entered the gate.
+//! The results of an offer, and what an offer does after it has entered the gate.
 ghost use Rattle.std.specs.Prelude.{◌≡◌, ◌↔◌, ◌<◌, false, IfSome, Some, length, slice_get};
 ghost use Rattle.crawl_keys.specs.Assignment.{subqueue_of};
 ghost use Rattle.crawl_keys.specs.HostFilter.{allows};
@@ -21,27 +21,27 @@ use crawl_keys::CanonUrl;
 use std::mem;
 use std::sync::Wait;
 
-/// What became of a URL that an offer was not refused.
+/// The result of an offer that did not fail.
 #[derive(Clone, Copy, Debug, PartialEq, Eq)]
 pub enum Offer {
-    /// It went to the end of this subqueue. The number is how many of the same sender the subqueue accepted before.
+    /// The URL was added to the end of `queue`, which had accepted `number` URLs of the same sender before.
     Accepted { queue: u32, number: u64 },
-    /// It was accepted before.
+    /// The URL was accepted before, from any sender and in any spelling.
     Seen,
 }
 
-/// A URL that is offered, and how many links away it is.
+/// A URL that is offered, and its hops.
 #[derive(Clone, Copy)]
 pub(crate) struct Candidate<'a> {
     pub url: &'a CanonUrl,
     pub hops: u64,
 }
 
-/// What an offer answers, and of a URL that was seen a copy that shares the frontier's text.
+/// The result of an offer and, if the URL was seen, a copy of it that shares the frontier's text.
 pub(crate) type Answer = (Result<Offer, OfferError>, Option<CanonUrl>);
 
-/// Gives a unit back. The pass is what was the unit's seat. Where it was the last one the gate may close, so all that
-/// rest are woken: one closes it, and the others are told.
+/// Gives a unit back, and returns the pass that it becomes. If it was the last unit the gate may close, so all resting
+/// workers are woken: one of them closes it, and the others find it closed.
 pub(crate) fn give_back<K: Name>(frontier: &Frontier<K>, unit: Unit) -> Pass
     requires { IsSeatOf K.gate unit }
     ensures gave { GaveBack unit result }
@@ -54,9 +54,9 @@ pub(crate) fn give_back<K: Name>(frontier: &Frontier<K>, unit: Unit) -> Pass
     pass
 }
 
-// Admits the URL under the lock of its subqueue, and tells what that list is then. A type can't say of which subqueue a lock
-// is: where another shard is found, the lock is given back and taken again. What stood there is known to the call of `admit`
-// alone.
+// Admits the URL under the lock of its queue. `told` becomes what the list is then. A type cannot say to which queue a lock
+// belongs: if another shard is found there, the lock is released and taken again. Only the call of `admit` knows what was
+// there.
 fn admit_at<K: Name, R: Wait>(
     rt: &R,
     frontier: &Frontier<K>,
@@ -84,7 +84,7 @@ fn admit_at<K: Name, R: Wait>(
     unreachable!()
 }
 
-// Admits the URL by what is known of its subqueue's list, which becomes what that is then.
+// Admits the URL, with what is known of its queue's list. This becomes what the list is then.
 fn admit_in<K: Name, R: Wait>(
     rt: &R,
     frontier: &Frontier<K>,
@@ -105,7 +105,7 @@ fn admit_in<K: Name, R: Wait>(
     admit_at(rt, frontier, queue, offered, unit, told)
 }
 
-// Admits the URL by the books of its part, which say what they said.
+// Admits the URL, with the books of its part. These say the same as before.
 fn admit_by<K: Name, R: Wait>(
     rt: &R,
     frontier: &Frontier<K>,
@@ -184,7 +184,7 @@ pub(crate) fn deliver<K: Name, R: Wait>(
     }
 }
 
-/// Offers a URL beside a unit that is held, so that the gate is open: for the seeder, and for a busy worker.
+/// Offers a URL for a part that holds a unit, so the gate is open: for the seeder, and for a busy worker.
 pub(crate) fn offer_beside<K: Name, R: Wait>(
     rt: &R,
     frontier: &Frontier<K>,

@@ -1,4 +1,4 @@
-//! The right to push onto a subqueue, and the right to pop from it.
+//! The right to push onto a queue, and the right to pop from it.
 use crate::entry::Message;
 use crate::growing::{Beginning, Owner};
 use crate::rule::PassView;
@@ -7,7 +7,7 @@ use std::marker::Model;
 
 pub(crate) type Pass = SegPass<Message, PassView>;
 
-/// The right to push. A shard has it. Whoever has it owns the list of what was sent.
+/// The right to push onto a queue. The queue's shard has it. Its owner owns the list of what was sent.
 #[derive(Drop)]
 pub struct PushRight {
     pub(crate) pass: Pass,
@@ -27,7 +27,7 @@ impl Model for PushRight {
     ghost invariant = { λ p. (p.pass.me.hand ≡ None) × (p.pass.me.spare ≡ None) × (p.pass.me.view.client ≡ pushing p.pass.me.view.client.home p.pass.me.view.client.sent) × (p.owner.items ≡ p.pass.me.view.client.sent) };
 }
 
-/// The right to pop. A worker has it, with a beginning of the list of what was sent.
+/// The right to pop from a queue. The queue's worker has it, with a beginning of the list of what was sent.
 #[derive(Drop)]
 pub struct PopRight {
     pub(crate) pass: Pass,

@@ -1,4 +1,4 @@
-//! The rule that each subqueue is under, and the moves of its passes.
+//! The rule that each queue keeps, and the moves of its passes.
 ghost use Rattle.crawl_frontier.specs.Rule.{no_home};
 
 use crate::entry::{Entry, Message};
@@ -7,16 +7,16 @@ use crossbeam_queue::protocol::{Join, Lesson, Outcome, Protocol, Split};
 use std::collections::LinkedList;
 use std::marker::{Brand, PhantomData};
 
-/// Which gate a subqueue's messages hold units of, how many subqueues there are, and which one it is. No value of it
-/// is made.
+/// The gate whose units a queue's messages hold, the number of queues, and which of them it is. It is only for clauses: no
+/// value of it is made.
 pub struct Home {
     pub gate: Gate,
     pub workers: u32,
     pub queue: u32,
 }
 
-/// What a pass of a subqueue knows: what it sent, if it may push, and what it took and how many of its pops found
-/// nothing, if it may pop. No value of it is made.
+/// What a pass of a queue knows: what it sent, if it may push; and what it took and how many of its pops found nothing, if
+/// it may pop. It is only for clauses: no value of it is made.
 pub struct PassView {
     pub home: Home,
     pub sends: bool,
@@ -26,7 +26,7 @@ pub struct PassView {
     pub empty_pops: u64,
 }
 
-/// Between any two steps of any threads a subqueue keeps its invariant.
+/// Between any two steps of any threads, a queue keeps its invariant.
 pub struct SubqueueRule;
 
 impl Protocol<Message, PassView> for SubqueueRule {
@@ -37,7 +37,7 @@ impl Protocol<Message, PassView> for SubqueueRule {
     ghost first = { undivided no_home };
 }
 
-/// Gives a subqueue its home, which the call picks: the rule's first view is one constant, and can't have it.
+/// Gives a queue its home, which the call chooses: the rule's first view is one constant, and cannot have it.
 pub trait Stamp {
     ghost use Rattle.crawl_frontier.specs.declared.rule.Home.{Home};
 
@@ -72,7 +72,7 @@ impl Split<PassView> for Divide {
     ghost right = { λ v. popping v.home v.taken v.empty_pops };
 }
 
-// Both rights in one pass again, which learns that what was sent is what was taken, and then what the subqueue holds.
+// Both rights in one pass again. It learns that what was sent is what was taken, followed by what the queue contains.
 pub(crate) struct Reunite;
 
 impl Join<PassView> for Reunite {
@@ -90,7 +90,7 @@ impl Lesson<Message, PassView> for Reunite {
     ghost fact = { λ v items. v.sent ≡ v.taken ++ map plain items };
 }
 
-// A pop that finds nothing leaves the view as it was, so a split that comes after it counts it.
+// A pop that finds nothing does not change the view, so a split after it counts it.
 pub(crate) struct CountEmptyPop;
 
 impl Split<PassView> for CountEmptyPop {
@@ -111,7 +111,7 @@ impl Outcome<Message, PassView> for Push {
     ghost then = { λ v x w. w ≡ pushing v.home (v.sent ++ plain x ∷ []) };
 }
 
-// What comes out holds a unit of the gate, and may follow what was taken before.
+// A message that is taken holds a unit of the gate, and may follow what was taken before.
 pub(crate) struct Pop;
 
 impl Outcome<Message, PassView> for Pop {

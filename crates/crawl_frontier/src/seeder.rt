@@ -1,4 +1,4 @@
-//! The seeder, which holds the opening unit.
+//! The seeder, which holds the opening unit of the gate.
 ghost use Rattle.std.specs.Prelude.{◌≡◌, ◌↔◌, false, MatchResult};
 ghost use Rattle.crawl_gate.specs.Seat.{IsSeatOf};
 ghost use Rattle.crawl_gate.specs.View.{fresh_view};
@@ -19,10 +19,21 @@ use std::alloc::Global;
 use std::marker::{Model, PhantomData};
 use std::sync::Wait;
 
-/// Whoever offers the first URLs. [`Frontier::new`] makes it, and [`Seeder::end`] makes a sender of it.
+/// The part that offers the first URLs. [`Frontier::new`] makes it, and [`Seeder::end`] turns it into a sender.
 ///
-/// It holds the opening unit, so until its end the gate stays open. To a contract it is its books, that unit and a
-/// pass of the gate.
+/// It holds the opening unit of the gate, so the gate stays open until its end. Its id is the number of workers. A seeder
+/// that is dropped keeps the gate open for good.
+///
+/// In contracts it is its books, that unit, and a pass of the gate.
+///
+/// ```rust
+/// let seed = canonical(alloc, "http://a.test/")?;
+/// let first = seeder.offer(rt, &frontier, &seed)?;
+/// let again = seeder.offer(rt, &frontier, &seed)?;
+/// assert!(rt; matches!(first, Offer::Accepted { number: 0, .. }));
+/// assert!(rt; again == Offer::Seen);
+/// let sender = seeder.end(&frontier);
+/// ```
 #[derive(Drop)]
 pub struct Seeder<K: Name> {
     opening: Unit,
@@ -59,7 +70,9 @@ impl<K: Name> Seeder<K> {
         }
     }
 
-    /// Offers a URL, with hops 0. The answer is never `Closed`, for the opening unit is held.
+    /// Offers a URL, with 0 hops.
+    ///
+    /// The result is never `Closed`, since the opening unit is held. The other errors are those of [`Sender::offer`].
     pub fn offer<R: Wait>(
         &mut self,
         rt: &R,
@@ -76,8 +89,10 @@ impl<K: Name> Seeder<K> {
         answer
     }
 
-    /// A new sender with this id. An id that another part has isn't refused: offers of both show it as
-    /// [`OfferError::Crossed`].
+    /// A new sender with this id. The only error is `NoMemory`.
+    ///
+    /// The ids from 0 to the number of workers belong to the workers and the seeder. An id that another part has is not
+    /// refused here, but offers of the two parts may then fail with [`OfferError::Crossed`].
     pub fn another(
         &mut self,
         alloc: Global,
@@ -96,8 +111,9 @@ impl<K: Name> Seeder<K> {
         Ok(Sender::new(book, pass))
     }
 
-    /// Gives the opening unit back. The sender has the seeder's id, counts and log, and for a pass the seat that was
-    /// that unit's.
+    /// Ends the seeding: gives the opening unit back, and returns a sender with the seeder's id, counts and log.
+    ///
+    /// From now on the gate can close, once every accepted URL is done.
     pub fn end(self, frontier: &Frontier<K>) -> Sender<K>
         ensures gave { GaveBack self.opening result.seat }
         ensures same { result.book ≡ self.book }

@@ -1,4 +1,4 @@
-//! A sender, which offers URLs from outside.
+//! A sender: a part that offers URLs from outside.
 ghost use Rattle.std.specs.Prelude.{◌≡◌, ◌↔◌, true, false};
 ghost use Rattle.crawl_gate.specs.Seat.{IsSeatOf};
 ghost use Rattle.crawl_gate.specs.View.{knows_closed};
@@ -20,7 +20,14 @@ use std::sync::Wait;
 
 /// A part that offers URLs and takes none. [`crate::Seeder::another`] and [`crate::Seeder::end`] make one.
 ///
-/// To a contract it is its books (id, counts and log) and its pass of the gate.
+/// It holds no unit, so it does not keep the gate open. Once the gate is closed, its offers fail with `Closed`.
+///
+/// In contracts it is its books (id, counts and log), and its pass of the gate.
+///
+/// ```rust
+/// let mut sender = seeder.another(alloc, &frontier, 100)?;
+/// let result = sender.offer(rt, &frontier, &url);
+/// ```
 #[derive(Drop)]
 pub struct Sender<K: Name> {
     book: Book,
@@ -67,10 +74,12 @@ impl<K: Name> Sender<K> {
         book
     }
 
-    /// Offers a URL, with hops 0.
+    /// Offers a URL, with 0 hops.
     ///
-    /// The sender's own pass enters the gate, so that one who was told `Closed` is told so from then on; where that is
-    /// spent on an accepted URL, a spare one that was split off before takes its place.
+    /// The result is `Accepted`, `Seen`, or an error: `Filtered`, `Closed`, `Full` and `Crossed`, in the order of the
+    /// checks. `NoMemory` may replace any result but `Filtered`. After an error the sender's counts and log are as before.
+    /// After `Closed`, each later offer of this sender fails with `Closed`, `Filtered` or `NoMemory`. The call may wait
+    /// for the lock of the URL's queue.
     pub fn offer<R: Wait>(
         &mut self,
         rt: &R,
@@ -88,7 +97,8 @@ impl<K: Name> Sender<K> {
         self.send(rt, frontier, url)
     }
 
-    // Offers a URL that the filter allows.
+    // Offers a URL that the filter allows. The sender's own pass enters the gate, so a sender that found the gate closed finds
+    // it closed from then on. When the pass is spent on an accepted URL, a spare one that was split off before replaces it.
     fn send<R: Wait>(
         &mut self,
         rt: &R,

@@ -1,4 +1,4 @@
-//! A gate and its subqueues, before they have a name.
+//! A gate and its queues, before a [`crate::Name`] identifies them.
 ghost use Rattle.std.specs.Prelude.{◌≡◌, IfOk, MatchResult, vec_len};
 ghost use Rattle.crawl_gate.specs.GateError.{IsMaximum};
 ghost use Rattle.crawl_frontier.specs.Limits.{IsWorkers};
@@ -16,13 +16,18 @@ use std::alloc::{AllocError, Global};
 use std::collections::VecDeque;
 use std::marker::Model;
 
-/// The most workers: what a host key can be assigned to.
+/// The greatest number of workers, 512: a host key can be assigned to that many queues.
 pub const WORKERS_LIMIT: u32 = SUBQUEUES_LIMIT;
 
-/// A gate and the subqueues of its workers, of which [`crate::Frontier::new`] makes a frontier.
+/// A gate, and a queue for each worker. [`crate::Frontier::new`] makes a frontier of them.
 ///
-/// To a contract it is the number of workers, the gate, and the subqueues by number: what a [`crate::Name`] that stands
-/// for it has.
+/// In contracts it is the number of workers, the gate, and the queues in order. The [`crate::Name`] of the frontier must
+/// have the same.
+///
+/// ```rust
+/// // Two workers, and at most 100 URLs that are not done.
+/// let setup = Setup::new(alloc, 2, 100)?;
+/// ```
 #[derive(Drop)]
 pub struct Setup {
     pub(crate) gate: Gate,
@@ -60,7 +65,7 @@ type Made = (
     Vec<Beginning>,
 );
 
-// The subqueues with their rights, by number, and what the list of each begins with.
+// The queues with their rights, in order, and the beginning of the list of each.
 fn subqueues(alloc: Global, gate: &Gate, workers: u32) -> Result<Made, AllocError>
     ensures { IfOk result (λ r.
         Line gate.now workers r.0.items r.1.items r.2.items workers × (vec_len r.3 ≡ workers) × ListsAre r.0.items r.3.items) }
@@ -81,8 +86,11 @@ fn subqueues(alloc: Global, gate: &Gate, workers: u32) -> Result<Made, AllocErro
 }
 
 impl Setup {
-    /// A gate for at most `max_pending` URLs that are offered, waiting or fetched at once, and a subqueue for each
-    /// worker.
+    /// A gate for at most `max_pending` URLs, and a queue for each of `workers` workers.
+    ///
+    /// A URL counts from its offer until it is done, and the seeding phase counts as one. The errors are `BadWorkers`
+    /// unless there are 1 to [`WORKERS_LIMIT`] workers, then `BadLimit` unless the maximum is from 1 to 2^40
+    /// ([`crawl_gate::MAX_PENDING_LIMIT`]), and `NoMemory` if an allocation fails.
     pub fn new(alloc: Global, workers: u32, max_pending: u64) -> Result<Setup, FrontierError>
         ensures { MatchResult result
             (λ s. IsWorkers workers × IsMaximum max_pending × (s.workers ≡ workers) × (s.gate.max_pending ≡ max_pending))

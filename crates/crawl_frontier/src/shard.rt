@@ -1,4 +1,4 @@
-//! What lies behind a subqueue's lock.
+//! What the lock of a queue protects.
 ghost use Rattle.std.specs.Prelude.{◌≡◌, ◌⊎◌, ◌<◌, ◌≤◌, ◌^◌, [], ℕ, IfOk, IfSome, IsSome, Some, length, slice_get, vec_capacity, vec_len};
 ghost use Rattle.std.specs.BTreeMap.{get};
 ghost use Rattle.std.specs.Ordering.{nat_cmp};
@@ -28,9 +28,9 @@ use std::alloc::Global;
 use std::marker::{Model, PhantomData};
 use std::sync::Wait;
 
-/// What a subqueue accepted, oldest first, with the index of its URLs, each sender's count, and the right to push.
+/// The list of the URLs that a queue accepted, oldest first, with their index, each sender's count, and the right to push.
 ///
-/// To a contract it is its queue and the list sent. Whenever its lock is free, the tables say what the list says.
+/// In contracts it is its queue and the list. Whenever its lock is free, the index and the counts agree with the list.
 #[derive(Drop)]
 pub struct Shard<K: Name> {
     queue: u32,
@@ -63,54 +63,55 @@ impl<K: Name> Model for Shard<K> {
         × (length s.sent.items < 2 ^ 32) };
 }
 
-/// The most hops of a URL: what the field of an entry holds.
+/// The greatest number of hops of a URL, 2^32 - 1: the greatest value of [`crate::Entry::hops`].
 pub const HOPS_LIMIT: u64 = 4_294_967_295;
 
-// The most entries of a subqueue, so that an index fits a line of a log.
+// The greatest number of entries of a queue, so that an index fits into a log line.
 const ENTRIES_LIMIT: usize = 4_294_967_295;
 
-/// What [`Shard::admit`] answers. The unit comes back where the URL was not sent.
+/// The result of [`Shard::admit`]. It returns the unit if the URL was not added.
 #[derive(Drop)]
 pub enum Admit {
-    /// The URL went to the end of the subqueue. The number is how many of the sender came before it, the index how many of all.
+    /// The URL was added to the end of the queue, after `number` URLs of the same sender and `index` URLs in all.
     Admitted {
         number: u64,
         index: u32,
     },
-    /// The shard's count of the sender is this one, and not the sender's own.
+    /// The shard's count of the sender is `found`, which differs from the sender's own count.
     Crossed {
         found: u64,
         unit: Unit,
     },
-    /// The URL was accepted before, and stands at this index. This is the copy of it that shares the shard's text.
+    /// The URL was accepted before, and is at this index. `url` is a copy of it that shares the shard's text.
     Seen {
         url: CanonUrl,
         index: u32,
         unit: Unit,
     },
-    /// The hops are above the limit.
+    /// The hops are above [`HOPS_LIMIT`].
     TooFar {
         unit: Unit,
     },
-    /// A growth was refused.
+    /// An allocation failed, or the queue has accepted 2^31 URLs.
     NoMemory {
         unit: Unit,
     },
 }
 
-/// A URL as its shard is offered it.
+/// A URL that is offered to its shard.
 #[derive(Clone, Copy)]
 pub struct Offered<'a> {
+    /// The URL.
     pub url: &'a CanonUrl,
     /// The sender's id.
     pub id: u64,
-    /// How many of its URLs this subqueue accepted before, as the sender was told.
+    /// The number of the sender's URLs that this queue accepted before, by the sender's own count.
     pub own: u64,
-    /// How many links away the URL is.
+    /// The URL's hops.
     pub hops: u64,
 }
 
-// The answer where the entry at this index has the URL.
+// The result if the entry at this index has the URL.
 fn seen(there: &Entry, index: u32, unit: Unit) -> Admit
     ensures { (result ≡ Admit.Seen there.now.url index unit) ⊎ (result ≡ Admit.NoMemory unit) }
 {
@@ -120,7 +121,7 @@ fn seen(there: &Entry, index: u32, unit: Unit) -> Admit
     }
 }
 
-// The index of one entry more, unless there are as many as an index can tell apart.
+// The index of the next entry, unless the list has as many entries as an index can count.
 fn next_index(sent: &Vec<Entry>) -> Option<u32>
     ensures { IfSome result (λ index. (index ≡ length sent.now.items) × (index < 4294967295)) }
 {
@@ -131,7 +132,7 @@ fn next_index(sent: &Vec<Entry>) -> Option<u32>
     Some(count as u32)
 }
 
-// Makes room for one entry more, of this sender, and tells the index that it will have.
+// Makes room for one more entry, of this sender, and returns the index that it will have.
 fn make_room(sent: &mut Vec<Entry>, counts: &mut Counts, id: u64, own: u64) -> Option<u32>
     requires { count_in counts.old id ≡ own }
     ensures sent { sent.new.items ≡ sent.old.items }
@@ -150,7 +151,7 @@ fn make_room(sent: &mut Vec<Entry>, counts: &mut Counts, id: u64, own: u64) -> O
     Some(index)
 }
 
-// What a push needs: the message's entry, and the list's.
+// What a push needs: the entry of the message, and that of the list.
 fn copies(offered: &Offered<'_>) -> Result<(Entry, Entry), KeyError>
     requires { offered.now.hops ≤ hops_limit }
     ensures { IfOk result (λ r. (r.0 ≡ entry offered.now.url.now offered.now.id offered.now.own offered.now.hops) × (r.1 ≡ entry offered.now.url.now offered.now.id offered.now.own offered.now.hops)) }
@@ -177,7 +178,7 @@ impl<K: Name> Shard<K> {
         }
     }
 
-    /// The list sent, and the right to push.
+    /// The list, and the right to push.
     pub(crate) fn into_parts(self) -> (AcceptedList, PushRight)
         ensures sent { result.0 ≡ self.sent }
         ensures rule { KeepsRule K.workers self.queue [] self.sent }
@@ -194,7 +195,7 @@ impl<K: Name> Shard<K> {
         (AcceptedList::new(sent, index, counts), right)
     }
 
-    /// The hashes of the URLs sent from this index on, as many as there is room for, and how many they are.
+    /// Copies the hashes of the URLs from the index `from` on, as far as there is room, and returns how many.
     pub(crate) fn hashes(&self, from: usize, hashes: &mut [u64]) -> usize {
         let waiting = self.sent.get(from..).unwrap_or(&[]);
         for (hash, entry) in hashes.iter_mut().zip(waiting) {
@@ -203,14 +204,17 @@ impl<K: Name> Shard<K> {
         waiting.len().min(hashes.len())
     }
 
-    /// Which subqueue it is.
+    /// The queue that the shard belongs to.
     pub fn queue(&self) -> u32
         ensures { result ≡ self.now.queue }
     {
         self.queue
     }
 
-    /// Sends the URL with its unit, or says why not and gives the unit back. It may wait, for a push may.
+    /// Adds the URL to the end of the queue, with its unit, unless it is there already.
+    ///
+    /// The checks are, in this order: the sender's count (`Crossed`), the URL (`Seen`), the hops (`TooFar`). `NoMemory` can
+    /// replace any other result. Only `Admitted` changes the list and keeps the unit. The call may wait, since a push may.
     pub fn admit<R: Wait>(
         &mut self,
         rt: &R,
@@ -237,7 +241,7 @@ impl<K: Name> Shard<K> {
         Admit::TooFar { unit }
     }
 
-    /// Admits the URL. The beginning becomes the list as it is then, of which the index that is told is true.
+    /// Admits the URL. `told` becomes the list as it is then, so the index in the result is true of it.
     pub(crate) fn admit_telling<R: Wait>(
         &mut self,
         rt: &R,
@@ -260,7 +264,7 @@ impl<K: Name> Shard<K> {
         admit
     }
 
-    /// The beginning becomes the list sent, in which all that it had still stands.
+    /// Extends the beginning to the list as it is now, which still has all its entries.
     pub(crate) fn tell(&mut self, subqueue: &Subqueue, told: &mut Beginning)
         requires subqueue { slice_get K.queues self.old.queue ≡ Some subqueue.now }
         requires told { told.old.list ≡ subqueue.now.list }
@@ -271,8 +275,8 @@ impl<K: Name> Shard<K> {
         subqueue.tell(&mut self.right, told);
     }
 
-    // Sends the URL, unless it is there: one search finds it, or gives it the list's next index. All that grows comes before
-    // the push. Where something is refused after that search, no entry stands at that index.
+    // Adds the URL, unless it is there: one search finds it, or gives it the list's next index. All allocations come before the
+    // push. If one fails after the search, there is no entry at that index.
     fn send<R: Wait>(
         &mut self,
         rt: &R,

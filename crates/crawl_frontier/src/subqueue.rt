@@ -1,4 +1,4 @@
-//! A subqueue of messages under its rule.
+//! A queue of messages that keeps its rule.
 ghost use Rattle.std.specs.Prelude.{◌≡◌, ◌+◌, ◌++◌, ◌∷◌, [], IfOk, MatchOption, MatchResult, true};
 ghost use Rattle.crossbeam_queue.specs.SegTies.{IsSegPassOf};
 ghost use Rattle.crawl_gate.specs.Seat.{IsSeatOf};
@@ -25,29 +25,29 @@ use std::time::Duration;
 
 type Line = RuledSegQueue<Message, PassView, SubqueueRule>;
 
-// What a bell holds: its worker does not await it, or does, or may be asleep until it rings.
+// The states of a bell: its worker does not wait for it, waits for it, or may be asleep until it rings.
 const QUIET: u64 = 0;
 
 const AWAITED: u64 = 1;
 
 const ASLEEP: u64 = 2;
 
-// So often a worker looks at its bell before it sleeps: for some 60 microseconds, a few times as long as it takes to be
-// woken. Nobody else writes there until it rings, so these looks slow nobody down where each worker has a processor.
+// The number of times that a worker looks at its bell before it sleeps: for some 60 microseconds, a few times as long as it
+// takes to be woken. Nobody else writes there until it rings, so these looks slow nobody down if each worker has a processor.
 const LOOKS: u32 = 5_000;
 
-// Where it has none, the looks keep the processor from whoever would ring. So the more waits were in vain one after another
-// the fewer begin with looks, but at least one in so many does.
+// If a worker has no processor of its own, its looks keep the processor from the thread that would ring. So the more waits in
+// a row were in vain, the fewer begin with looks, but at least one in this many does.
 const WAITS: u64 = 64;
 
-/// The URLs that wait for one worker, first in, first out, and the bell by which that worker is woken. Contracts see
-/// which subqueue it is; no promise hangs on the bell.
+/// The URLs that wait for one worker, first in, first out, and the bell that wakes that worker. In contracts it is which
+/// queue it is; no contract depends on the bell.
 pub struct Subqueue {
     line: Line,
-    // stands for the list of what was sent, which the shard has
+    // identifies the list of what was sent, which the shard has
     list: Growing,
     bell: AtomicU64,
-    // how many waits there were since the bell last rang while its worker looked at it; nobody else asks
+    // the number of waits since the bell last rang while its worker looked at it; only the worker uses it
     waits: AtomicU64,
 }
 
@@ -59,8 +59,8 @@ impl Model for Subqueue {
     ghost view = { λ q. queue_id q.line.web q.list };
 }
 
-/// Both rights to a subqueue that was not seen to be empty. Only [`Subqueue::held`] makes one, so it shows that the
-/// subqueue was asked.
+/// Both rights to a queue that was not seen to be empty. Only [`Subqueue::held`] makes one, so it shows that the queue was
+/// looked at.
 #[derive(Drop)]
 pub struct Held {
     pass: Pass,
@@ -88,7 +88,7 @@ impl Drop for Subqueue {
     }
 }
 
-// Writes its home into the view of the pass that has both rights.
+// Writes the queue's home into the view of the pass that has both rights.
 fn settle<B: Stamp>(line: &Line, pass: &mut Pass, gate: &Gate, workers: u32, queue: u32)
     requires home { B.home ≡ record { gate = gate.now; workers = workers; queue = queue } }
     requires pass { IsSegPassOf line.now pass.old }
@@ -100,7 +100,7 @@ fn settle<B: Stamp>(line: &Line, pass: &mut Pass, gate: &Gate, workers: u32, que
 }
 
 impl Subqueue {
-    /// The empty subqueue of this number, with its two rights, and what its list begins with.
+    /// The empty queue with this index, its two rights, and a beginning of its list.
     pub(crate) fn new(
         alloc: Global,
         gate: &Gate,
@@ -131,8 +131,8 @@ impl Subqueue {
         ))
     }
 
-    /// Puts a message at the end. It comes back where memory ran out, or after nearly 2^62 pushes. The list that the right
-    /// owns has the entry that is listed, which is the message's.
+    /// Adds a message at the end. The message is returned if an allocation fails, or after nearly 2^62 pushes. The list that
+    /// the right owns gets the entry `listed`, which is the message's.
     pub(crate) fn push<R: Wait>(
         &self,
         rt: &R,
@@ -158,7 +158,7 @@ impl Subqueue {
         }
     }
 
-    /// One more token that says of the list of what was sent what this one says.
+    /// One more beginning of the list of what was sent, equal to this one.
     pub(crate) fn again(&self, known: &mut Beginning) -> Beginning
         requires { known.old.list ≡ self.now.list }
         ensures same { known.new ≡ known.old }
@@ -167,7 +167,7 @@ impl Subqueue {
         self.list.again(known)
     }
 
-    /// The beginning becomes the list of what was sent until now, in which all that it had still stands.
+    /// Extends the beginning to the list of what was sent until now, which still has all its entries.
     pub(crate) fn tell(&self, right: &mut PushRight, told: &mut Beginning)
         requires subqueue { right.old.subqueue ≡ self.now }
         requires told { told.old.list ≡ self.now.list }
@@ -178,7 +178,7 @@ impl Subqueue {
         self.list.catch_up(&mut right.owner, told);
     }
 
-    /// Takes the message at the front, or counts a pop that found nothing.
+    /// Takes the message at the front. If there is none, counts a pop that found nothing.
     pub(crate) fn pop<R: Wait>(&self, rt: &R, right: &mut PopRight) -> Option<Message>
         requires subqueue { right.old.subqueue ≡ self.now }
         ensures subqueue { right.new.subqueue ≡ self.now }
@@ -197,14 +197,14 @@ impl Subqueue {
         }
     }
 
-    /// Awaits the bell. The first call returns at once, so that the worker looks for work once more; the second may look at
-    /// the bell for a while; each call after that sleeps until the bell rings, for at most this long. It may return for no
-    /// reason.
+    /// Waits for the bell. The first call returns immediately, so that the worker looks for work once more. The second may
+    /// look at the bell for a while. Each call after that sleeps until the bell rings, for at most `limit`. A call may return
+    /// for no reason.
     ///
-    /// From the first call on the bell is not quiet until it rings. So a worker sleeps only where a look that came after it
-    /// began to await found nothing, and a push after that look finds the bell awaited, or rung since. A ring is not
-    /// overwritten: a worker that looks at the bell sees it, and one that is about to sleep does not, since the bell no longer
-    /// says that it may. Every step is `SeqCst`.
+    /// From the first call on, the bell is not quiet until it rings. So a worker sleeps only if it found nothing after it
+    /// began to wait, and a push after that finds the bell awaited, or rung since. A ring is not overwritten: a worker that
+    /// looks at the bell sees it, and one that is about to sleep does not sleep, since the bell no longer says that it may.
+    /// Every step is `SeqCst`.
     pub(crate) fn rest<R: Wait>(&self, rt: &R, limit: Duration) {
         match self.bell.load(SeqCst) {
             QUIET => self.bell.store(AWAITED, SeqCst),
@@ -213,8 +213,8 @@ impl Subqueue {
         }
     }
 
-    // Looks at the bell for a while, if that is likely to help. Where the bell does not ring meanwhile, whoever rings it from
-    // now on has to wake its worker.
+    // Looks at the bell for a while, if that is likely to help. If the bell does not ring meanwhile, the thread that rings it
+    // from now on has to wake its worker.
     fn await_ring(&self) {
         let waits = self.waits.fetch_add(1, SeqCst);
         let may_help = waits.is_power_of_two() || waits % WAITS == 0;
@@ -235,8 +235,8 @@ impl Subqueue {
         false
     }
 
-    /// Rings the bell if it is awaited: after a push, and once the gate may close. It wakes the worker only where that may be
-    /// asleep; of several at once one wakes.
+    /// Rings the bell if it is awaited: after a push, and when the gate may close. It wakes the worker only if the worker may
+    /// be asleep. If several threads ring at the same time, one of them wakes it.
     pub(crate) fn ring(&self) {
         let is_awaited = self.bell.load(SeqCst) != QUIET;
         if is_awaited && self.bell.swap(QUIET, SeqCst) == ASLEEP {
@@ -244,7 +244,7 @@ impl Subqueue {
         }
     }
 
-    /// What it is seen to hold still: nothing only if all that was sent was taken. It waits for nobody.
+    /// Whether the queue still contains messages. `None` is returned only if all that was sent was taken. It never waits.
     pub(crate) fn held(&self, push: PushRight, pop: PopRight) -> Option<Held>
         requires subqueue { (push.subqueue ≡ self.now) × (pop.subqueue ≡ self.now) }
         ensures { MatchOption result (push.view.sent ≡ pop.view.taken) (λ h. (h.subqueue ≡ self.now) × (h.view ≡ reunited push.view pop.view)) }

@@ -1,4 +1,4 @@
-//! Steps on the table of a shard that has how many entries of each sender it accepted.
+//! Steps on a shard's table of counts: how many entries of each sender it accepted.
 ghost use Rattle.std.specs.Prelude.{◌≡◌, ◌==◌, ℕ, OnOk, OnErr, IsSome, if◌then◌else◌};
 ghost use Rattle.std.specs.BTreeMap.{get};
 ghost use Rattle.std.specs.Ordering.{nat_cmp};
@@ -7,7 +7,7 @@ ghost use Rattle.crawl_frontier.specs.Tables.{count_in};
 use std::alloc::AllocError;
 use std::collections::BTreeMap;
 
-/// How many entries of each sender, by its id.
+/// The number of entries of each sender, by its id.
 pub type Counts = BTreeMap<u64, u64>;
 
 pub fn count(counts: &Counts, sender: u64) -> u64
@@ -31,7 +31,7 @@ fn set_count(counts: &mut Counts, sender: u64, count: u64) -> Result<(), AllocEr
     }
 }
 
-/// Makes sure that the sender has an entry, with the count that it has, so that raising it takes no memory.
+/// Makes sure that the sender has an entry, with its present count, so that raising the count allocates nothing.
 pub fn enter_sender(counts: &mut Counts, sender: u64, count: u64) -> Result<(), AllocError>
     requires { count_in counts.old sender ≡ count }
     ensures same { (s : ℕ) → count_in counts.new s ≡ count_in counts.old s }
@@ -46,7 +46,7 @@ pub fn enter_sender(counts: &mut Counts, sender: u64, count: u64) -> Result<(), 
     Ok(())
 }
 
-/// Writes the count of a sender that has an entry, which takes no memory.
+/// Writes the count of a sender that has an entry, which allocates nothing.
 pub fn raise(counts: &mut Counts, sender: u64, count: u64)
     requires { IsSome (get nat_cmp counts.old sender) }
     ensures { (s : ℕ) → count_in counts.new s ≡ (if sender == s then count else count_in counts.old s) }

@@ -1,4 +1,4 @@
-//! What only tests call.
+//! Calls for tests only.
 ghost use Rattle.std.specs.Prelude.{◌≡◌, IfSome};
 ghost use Rattle.crawl_gate.specs.Seat.{IsSeatOf};
 ghost use Rattle.crawl_keys.specs.Assignment.{subqueue_of};
@@ -23,7 +23,7 @@ fn pass_of<K: Name>(worker: Worker<K>) -> Pass
     pass
 }
 
-// The unit that a pass enters by, if the gate lets it in.
+// The unit that a pass takes, if the gate lets it enter.
 fn unit_of<K: Name, R: Wait>(rt: &R, frontier: &Frontier<K>, pass: Pass) -> Option<Unit>
     requires { IsSeatOf K.gate pass }
     ensures { IfSome result (λ unit. IsSeatOf K.gate unit) }
@@ -34,7 +34,7 @@ fn unit_of<K: Name, R: Wait>(rt: &R, frontier: &Frontier<K>, pass: Pass) -> Opti
     }
 }
 
-// Admits a URL of subqueue 0, by a unit.
+// Admits a URL of queue 0, with a unit.
 fn admit_by<K: Name, R: Wait>(
     rt: &R,
     frontier: &Frontier<K>,
@@ -60,10 +60,11 @@ fn admit_by<K: Name, R: Wait>(
     Some(shard.admit(rt, subqueue, &offered, unit))
 }
 
-/// Admits a URL to subqueue 0 with hops of the caller's choice, which no offer can reach: as the one with this own number
-/// of sender 9, by a unit that the worker's pass enters.
+/// Admits a URL to queue 0 with any number of hops, which no offer can reach. The sender is 9, with `own` URLs accepted
+/// before, and the worker's pass takes the unit.
 ///
-/// `None` where the URL belongs to another subqueue, the gate lets nobody enter, or a growth was refused.
+/// It returns `None` if the URL belongs to another queue, if the gate is closed or full, or if queue 0's lock holds
+/// another shard.
 pub fn admit<K: Name, R: Wait>(
     rt: &R,
     frontier: &Frontier<K>,

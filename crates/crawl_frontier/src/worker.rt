@@ -1,4 +1,4 @@
-//! An idle worker, and what it finds.
+//! An idle worker, and the results of its turns.
 ghost use Rattle.std.specs.Prelude.{◌≡◌, ◌<◌, [], Some, slice_get};
 ghost use Rattle.crawl_gate.specs.Seat.{IsSeatOf};
 ghost use Rattle.crawl_frontier.specs.Books.{IsBook, Knows, book_of};
@@ -17,16 +17,17 @@ use std::marker::{Model, PhantomData};
 use std::sync::Wait;
 use std::time::Duration;
 
-// A sleep ends by a ring wherever there is something to do: after a push, and once the gate may close. The limit is for
-// what nobody foresaw. With 512 workers that rest there are some 10,000 such ends a second, a few hundredths of one
-// processor.
+// A bell ends a sleep whenever there is something to do: after a push, and when the gate may close. The limit is only a
+// safety net. With 512 resting workers, some 10,000 sleeps a second end by it, which takes a few hundredths of one processor.
 const REST_MILLISECONDS: u64 = 50;
 
-/// The one worker of a subqueue, with no URL in hand. [`Frontier::new`] makes one for each subqueue, and
-/// [`BusyWorker::done`] gives it back.
+/// The only worker of a queue, when it has no URL. [`Frontier::new`] makes one for each queue, and [`BusyWorker::done`]
+/// returns it.
 ///
-/// To a contract it is its queue, its pass of the gate, the list that it took, how many of its pops found nothing, and
-/// its books.
+/// [`Worker::next`] takes a URL. The example in the crate's documentation is a worker's whole loop.
+///
+/// In contracts it is its queue, its pass of the gate, the list of the URLs that it took, the number of its pops that found
+/// nothing, and its books.
 #[derive(Drop)]
 pub struct Worker<K: Name> {
     pub(crate) queue: u32,
@@ -54,14 +55,14 @@ impl<K: Name> Model for Worker<K> {
         × Knows K.queues K.workers w.book };
 }
 
-/// What [`Worker::next`] found.
+/// The result of [`Worker::next`].
 #[derive(Drop)]
 pub enum Turn<K: Name> {
-    /// A URL.
+    /// The worker took a URL.
     Busy(BusyWorker<K>),
-    /// No URL, and the gate open with this many units held, at least 1: there may be more work to come.
+    /// The queue was empty, and the gate open with this many units held, at least 1. More URLs may come.
     Idle(Worker<K>, u64),
-    /// No URL, and the gate closed: nothing is left anywhere, and nothing will come.
+    /// The queue was empty, and the gate closed. Every accepted URL is done, and no more will be accepted.
     Closed(ClosedWorker<K>),
 }
 
@@ -84,15 +85,17 @@ impl<K: Name> Worker<K> {
         }
     }
 
-    /// Its subqueue, which is also its id as a sender.
+    /// The worker's queue, from 0. This is also its id as a sender.
     pub fn queue(&self) -> u32
         ensures { result ≡ self.now.queue }
     {
         self.queue
     }
 
-    /// The hashes of the URLs that its subqueue accepted behind the first so many, the oldest first, as many as there is room for, and
-    /// how many they are. A worker that took so many takes these next. It takes the subqueue's lock for it.
+    /// Copies the hashes of the URLs that its queue accepted after the first `taken`, oldest first, and returns how many.
+    ///
+    /// It copies as many as `hashes` has room for. A worker that has taken `taken` URLs takes these next, so it can prepare
+    /// for them. The call takes the queue's lock. No contract depends on it.
     pub fn look_ahead<R: Wait>(
         &self,
         rt: &R,
@@ -104,21 +107,23 @@ impl<K: Name> Worker<K> {
         shard.hashes(taken, hashes)
     }
 
-    /// Rests after a turn that found nothing, until a URL is accepted for this worker, or the last unit of the gate is given
-    /// back. The first call returns at once, so that the worker looks once more by [`Worker::next`]; where that finds nothing
-    /// either, the next call may wait for some microseconds, and each one after it sleeps, for at most 50 ms. It may return
-    /// for no reason.
+    /// Rests after an idle turn, until a URL is accepted for this worker, or the last unit of the gate is given back.
+    ///
+    /// Call it after each [`Turn::Idle`]. The first call returns immediately, so that the worker looks once more by
+    /// [`Worker::next`]. If that finds nothing either, the next call may wait for some microseconds, and each call after it
+    /// sleeps for at most 50 ms. A call may return early for no reason.
     pub fn rest<R: Wait>(&self, rt: &R, frontier: &Frontier<K>) {
         self.rest_for(rt, frontier, Duration::from_millis(REST_MILLISECONDS));
     }
 
-    /// Rests as [`Worker::rest`] does, and sleeps for at most this long.
+    /// Rests like [`Worker::rest`], but sleeps for at most `limit`.
     pub fn rest_for<R: Wait>(&self, rt: &R, frontier: &Frontier<K>, limit: Duration) {
         frontier.subqueue(self.queue).rest(rt, limit);
     }
 
-    /// Takes the oldest URL that waits in its subqueue, or tries to close the gate. It takes no lock and no memory; a
-    /// pop may wait for a push of the same subqueue that has begun.
+    /// Takes the oldest URL that waits in its queue, or else tries to close the gate.
+    ///
+    /// It takes no lock and allocates nothing. It may wait for a push into the same queue that has begun.
     pub fn next<R: Wait>(self, rt: &R, frontier: &Frontier<K>) -> Turn<K>
         ensures { Turns K.workers self result }
     {

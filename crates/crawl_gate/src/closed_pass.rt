@@ -1,11 +1,11 @@
-//! A seat that knows the gate closed.
+//! A seat that knows that the gate is closed.
 use crate::rule::View;
 use atomic_table::Seat;
 use std::marker::Model;
 
-/// A seat that has closed the gate or has met it closed: whoever has one knows that no unit is or will be held.
+/// A seat that has closed the gate, or has found it closed.
 ///
-/// [`crate::Gate::try_close`] gives it.
+/// Its owner knows that no unit is held, and that none ever will be. [`crate::Gate::try_close`] returns it.
 #[derive(Drop)]
 pub struct ClosedPass {
     pub(crate) seat: Seat<(), View>,

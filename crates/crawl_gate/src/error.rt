@@ -1,14 +1,14 @@
-//! Why no gate was made.
+//! Why a gate was not made.
 use std::alloc::AllocError;
 use std::error::Error;
 use std::fmt;
 
-/// The order of the variants is the order of the checks.
+/// Why a gate was not made. The variants are in the order of the checks.
 #[derive(Clone, Copy, Debug, PartialEq, Eq)]
 pub enum GateError {
     /// The maximum is 0 or more than [`crate::MAX_PENDING_LIMIT`].
     BadLimit,
-    /// There was no memory for the word.
+    /// The allocation of the gate's word failed.
     NoMemory,
 }
 

@@ -18,10 +18,28 @@ use crawl_limits::PENDING_LIMIT;
 use std::alloc::Global;
 use std::marker::Model;
 
-/// The greatest maximum, 2^40.
+/// The greatest maximum of a gate: 2^40 units.
 pub const MAX_PENDING_LIMIT: u64 = PENDING_LIMIT;
 
-/// A count of units, at most its maximum, and a closed bit, in one atomic word that threads share by `&`.
+/// A count of units, and a closed bit, in one atomic word that threads share by `&`.
+///
+/// The count is never above the gate's maximum. When the gate is closed the count is 0, and both stay so.
+///
+/// ```rust
+/// let (gate, mut opening) = Gate::new(alloc, 2)?;
+/// let one = gate.split_unit(&mut opening);
+/// let other = gate.split_unit(&mut opening);
+///
+/// // With the opening unit this is the second of two, so there is no room for a third.
+/// let Enter::Entered(unit) = gate.try_enter(one) else {
+///     return Err(Fail);
+/// };
+/// assert!(rt; matches!(gate.try_enter(other), Enter::Full(_)));
+///
+/// let (pass, left) = gate.leave(unit);
+/// assert!(rt; left == 1);
+/// assert!(rt; matches!(gate.try_close(pass), Close::Pending(_, 1)));
+/// ```
 #[derive(Drop)]
 pub struct Gate {
     table: Table<(), View, u64, CountsUnits, Global>,
@@ -41,7 +59,10 @@ impl Model for Gate {
 }
 
 impl Gate {
-    /// An open gate for at most this many units, with the first of them.
+    /// An open gate for at most `max_pending` units, and the first of these units.
+    ///
+    /// The maximum must be from 1 to [`MAX_PENDING_LIMIT`]; otherwise the error is `BadLimit`. If the
+    /// allocation fails, the error is `NoMemory`.
     pub fn new(alloc: Global, max_pending: u64) -> Result<(Gate, Unit), GateError>
         ensures { MatchResult result
             (λ made. IsMaximum max_pending × (made.0.max_pending ≡ max_pending) × IsSeatOf made.0 made.1 × IsFirstUnit made.0 made.1)
@@ -54,7 +75,7 @@ impl Gate {
         Ok((Gate { table, max_pending }, Unit { seat }))
     }
 
-    /// A new pass beside this one, which has met nothing.
+    /// A new pass of the gate, split off a pass, which stays as it is.
     pub fn split(&self, pass: &mut Pass) -> Pass
         requires { IsSeatOf self.now pass.old }
         ensures same { pass.new ≡ pass.old }
@@ -65,7 +86,7 @@ impl Gate {
         Pass { seat }
     }
 
-    /// A new pass beside this unit, which has met nothing.
+    /// A new pass of the gate, split off a unit, which stays as it is.
     pub fn split_unit(&self, unit: &mut Unit) -> Pass
         requires { IsSeatOf self.now unit.old }
         ensures same { unit.new ≡ unit.old }

@@ -1,4 +1,5 @@
-//! What follows for every history of a gate's steps, whichever threads make them: facts alone, with nothing to run.
+//! Laws: what holds for every history of a gate's steps, whichever threads make them. They are theorems, and do nothing
+//! when called.
 ghost use Rattle.std.specs.Prelude.{◌≡◌, ℕ, List, [], ◌∷◌, All};
 ghost use Rattle.crawl_gate.specs.Word.{Word, bits, closed_at};
 ghost use Rattle.crawl_gate.specs.GateInvariant.{Moment, GateInvariant};
@@ -14,21 +15,21 @@ pub fn invariant_in_histories()
         → All (GateInvariant max) moments }
 {}
 
-/// One step from a moment that keeps the invariant: so does the next moment; and the step's kind says how the word
-/// goes, and stands with the word that was met in the view of the seat that made it.
+/// After one step from a moment that keeps the invariant, the next moment keeps it too. The step's kind decides how the
+/// word changes. The kind and the word that the step met are added to the view of the seat that made it.
 pub fn one_step()
     ensures keeps { (max : ℕ) (gate next : Moment) → GateInvariant max gate → GateStep gate next → GateInvariant max next }
     ensures goes { (max : ℕ) (gate next : Moment) → GateInvariant max gate → (step : GateStep gate next) → (x : Word) × (y : Word) × GateGoes gate next step x y }
 {}
 
-/// From a moment that keeps the invariant, the steps of a history are the steps that the gate's table lets its
-/// plays and its split make: every one of those, whichever number it writes, and no other.
+/// From a moment that keeps the invariant, the steps of a history are exactly those that the gate's table allows its
+/// plays and its split to make, whichever number they write.
 pub fn steps_are_those_of_the_table()
     ensures every { (max : ℕ) (gate next : Moment) → GateInvariant max gate → GateInvariant max next → TableStep gate next → GateStep gate next }
     ensures no_other { (max : ℕ) (gate next : Moment) → GateInvariant max gate → GateStep gate next → TableStep gate next × GateInvariant max next }
 {}
 
-/// Once a gate is closed no step changes its word, so that its count stays 0 and nobody enters.
+/// After a gate is closed, no step changes its word. So its count stays 0, and nobody enters.
 pub fn closed_for_good()
     ensures { (gate : Moment) (moments : List Moment) → gate.words ≡ bits (closed_at 0) ∷ [] → IsHistory gate moments
         → All (λ later. later.words ≡ bits (closed_at 0) ∷ []) moments }

@@ -3,9 +3,10 @@ use crate::rule::View;
 use atomic_table::Seat;
 use std::marker::Model;
 
-/// A seat that holds nothing: with it a thread looks at the gate, enters it, or tries to close it.
+/// A seat that holds no unit. With it a thread reads the gate, enters it, or tries to close it.
 ///
-/// It is split off a unit or another pass, or is what a unit becomes when it leaves. Dropping it changes nothing.
+/// It is split off a unit or another pass, or is what a unit becomes when it leaves. It has no bytes, and
+/// dropping it changes nothing.
 #[derive(Drop)]
 pub struct Pass {
     pub(crate) seat: Seat<(), View>,

@@ -1,9 +1,9 @@
-//! The rule that the word and the views of all seats keep, and what each kind of step tells its seat.
+//! The rule that the word and the views of all seats keep, and what each kind of step adds to its seat's view.
 use crate::step_kind::StepKind;
 use atomic_table::{Play, Split, TableRule};
 use std::collections::LinkedList;
 
-/// What a seat knows. It is for clauses alone: no value of it is made.
+/// What a seat knows. It is only for clauses: no value of it is made.
 pub struct View {
     /// The gate's maximum.
     pub max_pending: u64,
@@ -11,7 +11,8 @@ pub struct View {
     pub holds_unit: bool,
     /// Whether a step of this seat closed the gate.
     pub closed_gate: bool,
-    /// Its steps, oldest first: the kind of each, and the word that it met, a count and whether the gate was closed.
+    /// Its steps, oldest first: the kind of each step, and the word that it met, which is a count and whether the gate
+    /// was closed.
     pub met: LinkedList<(StepKind, (u64, bool))>,
 }
 
@@ -58,7 +59,7 @@ impl Play<(), View> for Shut {
     ghost then = { Closes };
 }
 
-// The seat that is split keeps its view. The new one knows the maximum alone.
+// The seat that is split keeps its view. The new one knows only the maximum.
 pub(crate) struct FreshPass;
 
 impl Split<View> for FreshPass {

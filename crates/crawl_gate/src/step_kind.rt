@@ -1,17 +1,17 @@
-//! The kinds of step that a seat makes at its gate's word.
+//! The kinds of step that a seat makes on its gate's word.
 
-/// Which kind of step it was. It is for clauses alone: no value of it is made.
+/// The kind of a step. It is only for clauses: no value of it is made.
 pub enum StepKind {
     /// A load.
     Load,
-    /// An exchange for one unit more, which took it.
+    /// A compare-and-exchange that took a unit.
     EnterWon,
-    /// An exchange for one unit more, which found another word than it expected.
+    /// A compare-and-exchange for a unit that found another word than expected.
     EnterLost,
     /// A subtraction of one unit.
     Leave,
-    /// An exchange of count 0 for the closed word, which closed the gate.
+    /// A compare-and-exchange of the open word with count 0 for the closed word, which closed the gate.
     CloseWon,
-    /// An exchange of count 0 for the closed word, which found another word.
+    /// The same, which found another word.
     CloseLost,
 }

@@ -3,10 +3,10 @@ use crate::rule::View;
 use atomic_table::Seat;
 use std::marker::Model;
 
-/// One unit of work in hand: the right to leave once. While it is held the gate stays open.
+/// One unit of work that is not done: the right to leave once. While it is held, the gate stays open.
 ///
-/// A new gate comes with one, and a pass that enters becomes one. [`crate::Gate::leave`] takes it back; a unit
-/// that is dropped instead counts for good, so that its gate never closes.
+/// A new gate comes with one, and a pass that enters becomes one. [`crate::Gate::leave`] takes it back. A unit
+/// that is dropped instead stays counted, so its gate never closes. It has no bytes.
 #[derive(Drop)]
 pub struct Unit {
     pub(crate) seat: Seat<(), View>,

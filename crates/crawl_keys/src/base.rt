@@ -22,18 +22,29 @@ use std::alloc::{AllocError, Global};
 use std::marker::Model;
 use url::Url;
 
-/// The URL of a page, with the places in its text that its links are put behind.
+/// The URL of a page, prepared for resolving its links.
+///
+/// It stores where the path and the folder end in the page's text. So a link in a common form is
+/// resolved by joining two texts, and the URL Standard's parser is needed only for the others. The
+/// page's URL is parsed when the first such link needs it, and kept.
+///
+/// ```rust
+/// let base = Base::canonical(alloc, "http://a.test/d/e?q")?;
+/// assert_eq!(rt; base.resolve(alloc, "../f#g")?.as_str(), "http://a.test/f");
+/// assert_eq!(rt; base.resolve(alloc, "?z")?.as_str(), "http://a.test/d/e?z");
+/// assert!(rt; base.resolve(alloc, "mailto:x") == Err(KeyError::NotHttp));
+/// ```
 #[derive(Debug, Drop)]
 pub struct Base {
     url: CanonUrl,
-    // Where the path begins.
+    // The start of the path.
     root: usize,
-    // The place behind the last slash of the path.
+    // The position after the last slash of the path.
     folder: usize,
     parsed: Parsed,
 }
 
-// Contracts see a base as the canonical text of its page.
+// In contracts, a base is the canonical text of its page.
 impl Model for Base {
     ghost use Rattle.std.specs.Prelude.{ℕ, List};
     ghost use Rattle.crawl_keys.specs.Bases.{IsBase};
@@ -46,7 +57,8 @@ impl Model for Base {
 }
 
 impl Base {
-    /// The base for the links of the page at this URL; the only error is `NoMemory`.
+    /// The base for the links of the page at this URL. It shares the URL's text. The only error is
+    /// `NoMemory`.
     pub fn new(alloc: Global, page: &CanonUrl) -> Result<Base, KeyError>
         ensures { Gives KeyError.NoMemory (λ base. base) result (Ok page.now) }
     {
@@ -54,8 +66,8 @@ impl Base {
         Ok(Base::of_url(alloc, url))
     }
 
-    /// The base for the links of the page whose URL is spelled so, parsed once; with the errors of
-    /// `canonical`.
+    /// The base for the links of the page whose URL has this text, in any spelling. The errors are those
+    /// of [`crate::canonical`].
     pub fn canonical(alloc: Global, text: &str) -> Result<Base, KeyError>
         ensures { Gives KeyError.NoMemory (λ base. base) result (spec.canonical text.now) }
     {
@@ -85,24 +97,25 @@ impl Base {
         self.url.as_str()
     }
 
-    /// The text of the page's folder: that of its URL up to the last slash of the path, and the slash.
+    /// The text of the page's folder: the text of its URL up to and including the last slash of the
+    /// path. The folder of `http://a.test/d/e?q` is `http://a.test/d/`.
     pub fn folder(&self) -> &str
         ensures { IsFolderOf self.now result.now }
     {
         &self.url.ascii()[..self.folder]
     }
 
-    /// The page's URL, sharing the text; the only error is `NoMemory`.
+    /// The page's URL, which shares the text. The only error is `NoMemory`.
     pub fn keep(&self, _alloc: Global) -> Result<CanonUrl, KeyError>
         ensures { Gives KeyError.NoMemory (λ url. url) result (Ok self.now) }
     {
         self.url.copy()
     }
 
-    /// The canonical URL of a link on the page: what `resolve` answers with the page's URL, errors
-    /// included.
+    /// The canonical URL of a link on the page. The result is that of [`crate::resolve`] with the page's
+    /// URL, errors included.
     ///
-    /// A link whose text the parser would put behind a part of the page's text as it is, is not parsed.
+    /// The parser is skipped if it would only append the link's text to a beginning of the page's text.
     pub fn resolve(&self, alloc: Global, text: &str) -> Result<CanonUrl, KeyError>
         ensures { Gives KeyError.NoMemory (λ url. url) result (spec.resolve self.now text.now) }
     {
@@ -112,7 +125,7 @@ impl Base {
         }
     }
 
-    /// What a link that is not parsed leads to. `None` says nothing.
+    /// The result of a link that need not be parsed. `None` means unknown.
     #[inline(always)]
     fn known(&self, alloc: Global, text: &str) -> Option<Result<CanonUrl, KeyError>>
         ensures { IfSome result (λ answer. Gives KeyError.NoMemory (λ url. url) answer (spec.resolve self.now text.now)) }
@@ -128,7 +141,7 @@ impl Base {
         }
     }
 
-    /// The canonical URL of a link that is not plain: the text before its fragment may be.
+    /// The canonical URL of a link that is not plain. The text before its fragment may be.
     fn without_fragment(&self, alloc: Global, text: &str) -> Result<CanonUrl, KeyError>
         ensures { Gives KeyError.NoMemory (λ url. url) result (spec.resolve self.now text.now) }
     {
@@ -142,7 +155,7 @@ impl Base {
         }
     }
 
-    /// The canonical URL of a link that is one as it is.
+    /// The canonical URL of a link whose text is a canonical URL.
     fn absolute(&self, alloc: Global, text: &str, host: HostPlace) -> Result<CanonUrl, KeyError>
         requires { IsSpelled text.now host.start host.end }
         ensures { Gives KeyError.NoMemory (λ url. url) result (spec.resolve self.now text.now) }
@@ -152,7 +165,7 @@ impl Base {
         CanonUrl::join(alloc, text, "", host)
     }
 
-    /// The canonical URL of a link that stands behind the page's scheme, with a host that is so long.
+    /// The canonical URL of a link that is appended to the page's scheme. Its host has `len` bytes.
     fn by_host(&self, alloc: Global, text: &str, len: usize) -> Result<CanonUrl, KeyError>
         requires { IsByHost text.now len }
         ensures { Gives KeyError.NoMemory (λ url. url) result (spec.resolve self.now text.now) }
@@ -178,7 +191,7 @@ impl Base {
         }
     }
 
-    /// The canonical URL of a link that stands behind the page's root.
+    /// The canonical URL of a link that is appended to what the page's text has before its path.
     fn rooted(&self, alloc: Global, text: &str) -> Result<CanonUrl, KeyError>
         requires { is_rooted text.now ≡ true }
         ensures { Gives KeyError.NoMemory (λ url. url) result (spec.resolve self.now text.now) }
@@ -198,7 +211,7 @@ impl Base {
         CanonUrl::join(alloc, path, text, self.url.host())
     }
 
-    /// What a link to the page's folder, or to one above it, leads to. `None` says nothing.
+    /// The result of a link into the page's folder, or into one above it. `None` means unknown.
     fn beside(&self, alloc: Global, text: &str) -> Option<Result<CanonUrl, KeyError>>
         ensures { IfSome result (λ answer. Gives KeyError.NoMemory (λ url. url) answer (spec.resolve self.now text.now)) }
     {
@@ -209,19 +222,19 @@ impl Base {
         None
     }
 
-    /// What a link leads to that begins with dot segments and segments that they take back. `None` says nothing.
+    /// The result of a link that begins with dot segments, and with segments that they remove. `None` means unknown.
     fn dotted(&self, alloc: Global, text: &str) -> Option<Result<CanonUrl, KeyError>>
         ensures { IfSome result (λ answer. Gives KeyError.NoMemory (λ url. url) answer (spec.resolve self.now text.now)) }
     {
         let (ups, rest) = behind_dots(text);
-        // A text that begins with no dot segment was looked at before.
+        // A text that does not begin with a dot segment was tried before.
         if rest.len() < text.len() && is_plain(b'/', rest.as_bytes()) && has_no_scheme(text) {
             return Some(self.in_folder(alloc, text, ups, rest));
         }
         None
     }
 
-    /// What a link leads to with dot segments behind a segment. `None` says nothing.
+    /// The result of a link with dot segments after another segment. `None` means unknown.
     fn dotted_within(&self, alloc: Global, text: &str) -> Option<Result<CanonUrl, KeyError>>
         ensures { IfSome result (λ answer. Gives KeyError.NoMemory (λ url. url) answer (spec.resolve self.now text.now)) }
     {
@@ -264,7 +277,7 @@ impl Base {
         self.parsed(alloc, text)
     }
 
-    /// The canonical URL of a link to this rest behind the page's root.
+    /// The canonical URL of a link that leads to the path `rest` on the page's server.
     fn at_root(&self, alloc: Global, text: &str, rest: &str) -> Result<CanonUrl, KeyError>
         requires { IsAtRoot text.now rest.now }
         ensures { Gives KeyError.NoMemory (λ url. url) result (spec.resolve self.now text.now) }
@@ -277,7 +290,7 @@ impl Base {
     fn not_plain(&self, alloc: Global, text: &str) -> Result<CanonUrl, KeyError>
         ensures { Gives KeyError.NoMemory (λ url. url) result (spec.resolve self.now text.now) }
     {
-        // Neither a dot segment nor a scheme begins so.
+        // Neither a dot segment nor a scheme begins with a slash.
         if begins_path(text.as_bytes()) {
             return self.from_root(alloc, text);
         }
@@ -309,7 +322,7 @@ impl Base {
         }
     }
 
-    /// The canonical URL of a link to the folder so many above the page's, and from there to this rest.
+    /// The canonical URL of a link that leads `ups` folders up from the page's folder, and from there to `rest`.
     fn in_folder(
         &self,
         alloc: Global,
@@ -326,7 +339,7 @@ impl Base {
         CanonUrl::join(alloc, folder, rest, self.url.host())
     }
 
-    /// The canonical URL of a link to a place on the page.
+    /// The canonical URL of a link to the page itself, or to an anchor on it.
     fn same(&self, text: &str) -> Result<CanonUrl, KeyError>
         requires { is_same text.now ≡ true }
         ensures { Gives KeyError.NoMemory (λ url. url) result (spec.resolve self.now text.now) }
@@ -336,8 +349,16 @@ impl Base {
         self.url.copy()
     }
 
-    /// Whether both pages lie in one folder: their URLs have one text up to the last slash of their
-    /// paths. From both then leads each link that `is_of_folder` to one URL.
+    /// Whether both pages are in the same folder: their [`Base::folder`] texts are equal.
+    ///
+    /// If so, each link that [`crate::is_of_folder`] accepts leads to the same URL from both pages, or
+    /// fails with the same error.
+    ///
+    /// ```rust
+    /// let page = Base::canonical(alloc, "http://a.test/a/b")?;
+    /// assert!(rt; page.is_beside(&Base::canonical(alloc, "http://a.test/a/c?q")?));
+    /// assert!(rt; !page.is_beside(&Base::canonical(alloc, "http://a.test/b/b")?));
+    /// ```
     pub fn is_beside(&self, other: &Base) -> bool
         ensures { result ≡ true → (text : List ℕ) → is_of_folder text ≡ true → spec.resolve self.now text ≡ spec.resolve other.now text }
     {

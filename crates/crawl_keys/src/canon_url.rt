@@ -1,4 +1,4 @@
-//! A canonical URL, the parts of it that callers ask for, and its copies.
+//! A canonical URL, its text and host, and its copies.
 ghost use Rattle.std.specs.Prelude.{◌≡◌, ◌<◌, ◌≤◌, length, IsAscii, Ok};
 ghost use Rattle.hash_order.specs.HashOrder.{hash_of};
 ghost use Rattle.crawl_keys.specs.Assignment.{subqueue_of};
@@ -28,14 +28,26 @@ pub(crate) use text::joined;
 
 /// The canonical text of an `http` or `https` URL.
 ///
-/// Two are equal, ordered and hashed as the bytes of their texts. The text is kept once and
-/// shared by all copies, in any threads, so a copy is 8 bytes and copies no text.
+/// The text is the URL Standard's serialization of the URL, without its fragment. [`crate::canonical`],
+/// [`crate::resolve`] and [`crate::Base`] make canonical URLs.
+///
+/// Two canonical URLs are equal, ordered and hashed as the bytes of their texts. The text is stored
+/// once and shared by all copies, in any threads, so a copy takes 8 bytes and copies no text.
+///
+/// ```rust
+/// let url = canonical(alloc, "HTTPS://A.Test:443")?;
+/// assert_eq!(rt; url.as_str(), "https://a.test/");
+/// assert_eq!(rt; url.host_key(), "a.test");
+///
+/// let copy = url.copy()?;
+/// assert!(rt; copy == url);
+/// ```
 #[derive(Drop)]
 pub struct CanonUrl {
     shared: Arc<Laid>,
 }
 
-// Contracts see a canonical URL as its text.
+// In contracts, a canonical URL is its text.
 impl Model for CanonUrl {
     ghost use Rattle.std.specs.Prelude.{ℕ, List};
     ghost use Rattle.std.specs.Arc.{arc_value};
@@ -48,8 +60,8 @@ impl Model for CanonUrl {
     ghost invariant = { λ url. IsLaidOut (arc_value url.shared) };
 }
 
-// What the copies share: the text's hash, where the host begins and ends in the text, and the text. The hash is first, as
-// it is what a comparison looks at first.
+// What the copies share: the hash of the text, the start and the end of the host in the text, and the text. The hash is
+// first, since a comparison reads it first.
 #[derive(Drop)]
 struct Laid {
     hash: u64,
@@ -58,11 +70,11 @@ struct Laid {
     text: Text,
 }
 
-// With the count of the copies it fills a block of 112 bytes.
+// With the count of the copies it fills a memory block of 112 bytes.
 const _: () = prove!(size_of::<Laid>() == 96);
 
 impl CanonUrl {
-    /// The canonical text.
+    /// The canonical text. It is ASCII, and parses to this very URL.
     pub fn as_str(&self) -> &str
         ensures value { result.now ≡ self.now }
 
@@ -75,7 +87,7 @@ impl CanonUrl {
         self.shared.as_ref().as_str()
     }
 
-    /// The canonical text, which can be cut at any place.
+    /// The canonical text, which can be cut at any position.
     pub(crate) fn ascii(&self) -> &str
         ensures value { result.now ≡ self.now }
         ensures canonical { IsCanonical self.now }
@@ -85,7 +97,7 @@ impl CanonUrl {
         laid.as_str()
     }
 
-    /// Where the host stands in the text.
+    /// The position of the host in the text.
     pub(crate) fn host(&self) -> HostPlace
         ensures spelled { IsSpelled self.now result.start result.end }
         ensures within { result.end ≤ length self.now }
@@ -93,29 +105,34 @@ impl CanonUrl {
         self.shared.as_ref().host()
     }
 
-    /// The serialized host, without port, user name and password. An IPv6 address keeps its
-    /// brackets, and a trailing dot stays.
+    /// The serialized host, without port, user name and password.
+    ///
+    /// An IPv6 address keeps its brackets, and a trailing dot stays: `http://u:p@a.test./` has the host
+    /// key `a.test.`, and `http://[::1]:80/` has `[::1]`.
     pub fn host_key(&self) -> &str
         ensures { result.now ≡ spec_host.host_key self.now }
     {
         self.shared.as_ref().host_key()
     }
 
-    /// The hash of the text, which is computed once, when the URL is made.
+    /// The hash of the text, as `hash_order` defines it. It is computed once, when the URL is made.
     pub fn text_hash(&self) -> u64
         ensures { result ≡ hash_of self.now }
     {
         self.shared.as_ref().hash()
     }
 
-    /// The text as a key of sets and maps in the order of hashes; no byte of it is read.
+    /// The text as a key of sets and maps that are ordered by hash. The hash is the stored one, so no
+    /// byte of the text is read.
     pub fn hashed(&self) -> HashedText<'_>
         ensures { result ≡ self.now }
     {
         HashedText::with_hash(self.as_str(), self.text_hash())
     }
 
-    /// Which of n subqueues the URL belongs to: the one that its host key is assigned to.
+    /// The queue, from 0, of n queues that the URL belongs to: the one of its host key ([`assign`]).
+    ///
+    /// The caller must pass an n from 1 to [`crate::SUBQUEUES_LIMIT`].
     pub fn subqueue(&self, n: u32) -> u32
         requires some { 1 ≤ n }
         requires few { n ≤ subqueues_limit }
@@ -125,8 +142,9 @@ impl CanonUrl {
         assign(self.host_key(), n)
     }
 
-    /// The same URL once more, sharing the text: `clone`, with this crate's error. The only one is
-    /// `NoMemory`, where the count of copies is at its limit.
+    /// A copy of the URL, which shares the text: `clone`, with this crate's error.
+    ///
+    /// The only error is `NoMemory`, when the count of copies is at its limit.
     pub fn copy(&self) -> Result<CanonUrl, KeyError>
         ensures { Gives KeyError.NoMemory (λ copy. copy) result (Ok self.now) }
     {

@@ -1,5 +1,5 @@
-//! URLs of the web that the parser spells in another way: in any case of letters, with the port that is the scheme's own, or
-//! with no path.
+//! URLs with `http` or `https` that the parser spells in another way: with upper-case letters, with the scheme's default
+//! port, or without a path.
 ghost use Rattle.std.specs.Prelude.{◌≡◌, ◌≤◌, ◌++◌, ◌∷◌, length, IfErr, IfOk, IfSome, string_bytes};
 ghost use Rattle.url.specs.Ascii.{slash};
 ghost use Rattle.url.specs.Input.{lowercase};
@@ -9,7 +9,7 @@ use crate::plain::{HostPlace, is_plain, plain_host_len};
 use crate::{CanonUrl, KeyError};
 use std::alloc::{AllocError, Global};
 
-/// The canonical URL of such a text, on whatever page it stands. `None` says nothing.
+/// The canonical URL of such a text, which does not depend on the page. `None` means unknown.
 pub fn respelled(alloc: Global, text: &str) -> Result<Option<CanonUrl>, KeyError>
     ensures url { IfOk result (λ found. IfSome found (λ url. LeadsAnywhere text.now url)) }
     ensures refused { IfErr result (λ e. e ≡ KeyError.NoMemory) }
@@ -24,7 +24,7 @@ pub fn respelled(alloc: Global, text: &str) -> Result<Option<CanonUrl>, KeyError
         return Ok(None);
     };
     let (authority, path) = before_path(rest);
-    // Before memory is asked for.
+    // This is tested before memory is allocated.
     if !is_plain(b'/', path.as_bytes()) {
         return Ok(None);
     }
@@ -32,7 +32,7 @@ pub fn respelled(alloc: Global, text: &str) -> Result<Option<CanonUrl>, KeyError
     in_lower_case(alloc, front, host, path)
 }
 
-/// A scheme of the web in lower case with its slashes, and the port that is its own.
+/// The scheme `http` or `https` in lower case, with its slashes, and its default port.
 fn front_of(scheme: &str) -> Option<(&'static str, &'static str)>
     ensures front { IfSome result (λ pair. IsFrontOf scheme.now pair.0.now pair.1.now) }
     ensures short { IfSome result (λ pair. length pair.0.now ≤ 8) }
@@ -46,7 +46,7 @@ fn front_of(scheme: &str) -> Option<(&'static str, &'static str)>
     None
 }
 
-/// What stands before the first slash, and behind it.
+/// The text before the first slash, and the text after it.
 fn before_path(text: &str) -> (&str, &str)
     ensures { IsCut text.now result.0.now result.1.now }
 {
@@ -56,7 +56,7 @@ fn before_path(text: &str) -> (&str, &str)
     }
 }
 
-/// What stands before this port; all, where it is not at the end.
+/// The authority without this port, or the whole authority if it does not end with the port.
 fn without_port<'a>(authority: &'a str, port: &str) -> &'a str
     ensures { IsWithPort authority.now result.now port.now }
 {
@@ -66,7 +66,7 @@ fn without_port<'a>(authority: &'a str, port: &str) -> &'a str
     }
 }
 
-/// The canonical URL that is this front, the host in lower case, a slash and the path, where all of it is plain.
+/// The canonical URL that is `front`, the host in lower case, a slash and the path, if all of it is plain.
 fn in_lower_case(
     alloc: Global,
     front: &str,

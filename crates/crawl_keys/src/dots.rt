@@ -10,8 +10,8 @@ use crate::canon_url::joined;
 use crate::plain::{is_plain, len_before};
 use std::alloc::{AllocError, Global};
 
-/// How many folders a text climbs by the dot segments that it begins with, and what stands behind them and the segments that
-/// they take back: `b` and 1 for `../a/.././b`.
+/// The number of folders that a text climbs by its leading dot segments, and the text after them and after the segments that
+/// they remove: 1 and `b` for `../a/.././b`.
 pub fn behind_dots(text: &str) -> (usize, &str)
     ensures { IsBehind text.now result.0 result.1.now }
 {
@@ -24,7 +24,7 @@ pub fn behind_dots(text: &str) -> (usize, &str)
     (ups, rest)
 }
 
-/// The same of one dot segment, if the text begins with one, or with a segment that it takes back.
+/// The same for one dot segment, if the text begins with one, or with a segment that a dot segment removes.
 fn behind_one(text: &str) -> Option<(usize, &str)>
     ensures behind { IfSome result (λ step. IsBehind text.now step.0 step.1.now) }
     ensures shorter { IfSome result (λ step. step.0 + length step.1.now < length text.now) }
@@ -41,7 +41,7 @@ fn behind_one(text: &str) -> Option<(usize, &str)>
     }
 }
 
-/// What stands behind a segment and the `..` that takes it back.
+/// The text after a segment and the `..` that removes it.
 fn behind_pair(text: &str) -> Option<&str>
     ensures behind { IfSome result (λ rest. IsBehind text.now 0 rest.now) }
     ensures shorter { IfSome result (λ rest. length rest.now < length text.now) }
@@ -59,8 +59,8 @@ fn behind_pair(text: &str) -> Option<&str>
     }
 }
 
-/// The text without the first dot segments that stand behind a segment in it, and without the segments that they take back.
-/// `None` says nothing.
+/// The text without the first dot segments that follow another segment in it, and without the segments that they remove.
+/// `None` means unknown.
 pub fn without_dots(alloc: Global, text: &str) -> Result<Option<String>, AllocError>
     ensures { IfOk result (λ found. IfSome found (λ path. IsBehind text.now 0 (string_bytes path))) }
 {
@@ -74,7 +74,7 @@ pub fn without_dots(alloc: Global, text: &str) -> Result<Option<String>, AllocEr
     Ok(Some(path))
 }
 
-/// What stands from such dot segments on, and behind them, where they take back no segment that stands before them.
+/// The text from such dot segments on, and the text after them, if they remove no segment before them.
 fn dots_within(text: &str) -> Option<(&str, &str)>
     ensures { IfSome result (λ found. IsWithin text.now found.0.now found.1.now) }
 {
@@ -92,7 +92,7 @@ fn dots_within(text: &str) -> Option<(&str, &str)>
     None
 }
 
-/// What stands behind a segment and its slash.
+/// The text after a segment and its slash.
 fn behind_segment(text: &str) -> Option<&str>
     ensures ahead { IfSome result (λ rest. IsAhead text.now rest.now) }
     ensures shorter { IfSome result (λ rest. length rest.now < length text.now) }

@@ -4,14 +4,14 @@ use std::error::Error;
 use std::fmt;
 use url::ParseError;
 
-/// Why a text has no canonical URL, in the order in which the reasons are looked for.
+/// Why a text has no canonical URL. The variants are in the order of the checks.
 #[derive(Clone, Copy, Debug, PartialEq, Eq, Hash)]
 pub enum KeyError {
-    /// The URL Standard's parser finds no URL in the text.
+    /// The URL Standard's parser fails on the text, as it does on `http://[`.
     NotUrl,
-    /// The text is a URL whose scheme is neither `http` nor `https`.
+    /// The text is a URL whose scheme is neither `http` nor `https`, such as `mailto:x`.
     NotHttp,
-    /// The allocator had no memory, or the URL would come to 4 GB.
+    /// An allocation failed, or the URL is longer than the parser can hold (4 GB).
     NoMemory,
 }
 

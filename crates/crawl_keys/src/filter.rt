@@ -1,4 +1,4 @@
-//! Which hosts' URLs are wanted.
+//! Which hosts are to be crawled.
 ghost use Rattle.std.specs.Prelude.{◌≡◌, ◌↔◌, ℕ, List, Ok, IfOk, Contains, map, not, position};
 ghost use Rattle.std.specs.List.{list_all};
 ghost use Rattle.crawl_keys.specs.HostFilter as spec;
@@ -18,14 +18,23 @@ pub use error::FilterError;
 
 /// A filter of URLs by their hosts.
 ///
-/// With no suffix it allows every URL; else those whose host key is one of its suffixes, or ends
-/// with a dot and one. The suffixes are kept once and shared by all copies, in any threads.
+/// A filter without suffixes allows every URL. Otherwise it allows the URLs whose host key is equal
+/// to one of its suffixes, or ends with a dot and one of them. The suffixes are stored once and
+/// shared by all copies, in any threads.
+///
+/// ```rust
+/// let filter = Filter::new(alloc, &["a.test"])?;
+/// assert!(rt; filter.allows(&canonical(alloc, "http://a.test:8080/")?));
+/// assert!(rt; filter.allows(&canonical(alloc, "http://x.a.test/")?));
+/// assert!(rt; !filter.allows(&canonical(alloc, "http://xa.test/")?));
+/// assert!(rt; !filter.allows(&canonical(alloc, "http://a.test./")?));
+/// ```
 #[derive(Debug, Drop)]
 pub struct Filter {
     shared: Arc<Suffixes>,
 }
 
-// Contracts see a filter as its suffixes, each once, in the order of their bytes.
+// In contracts, a filter is its suffixes, each once, in the order of their bytes.
 impl Model for Filter {
     ghost use Rattle.std.specs.Prelude.{ℕ, List};
     ghost use Rattle.std.specs.Arc.{arc_value};
@@ -36,10 +45,10 @@ impl Model for Filter {
 }
 
 impl Filter {
-    /// The filter with these suffixes, in any order, and the same one more than once or not.
+    /// The filter with these suffixes. Their order does not matter, nor does a suffix that is repeated.
     ///
-    /// `BadSuffix` has the place, from 0, of the first suffix that is empty or has a byte other than
-    /// `a` to `z`, `0` to `9`, `-` and `.`; `NoMemory` where memory is wanting.
+    /// The error is `BadSuffix` with the index, from 0, of the first suffix that is empty or has a byte
+    /// other than `a` to `z`, `0` to `9`, `-` and `.`. It is `NoMemory` when an allocation fails.
     pub fn new(alloc: Global, suffixes: &[&str]) -> Result<Filter, FilterError>
         ensures exact { Gives FilterError.NoMemory (λ filter. filter) result (spec.filter_of (map (λ suffix. suffix.now) suffixes.now)) }
 
@@ -55,8 +64,9 @@ impl Filter {
         Ok(Filter { shared })
     }
 
-    /// The same filter once more, sharing the suffixes. The only error is `NoMemory`, where the count
-    /// of copies is at its limit.
+    /// A copy of the filter, which shares the suffixes.
+    ///
+    /// The only error is `NoMemory`, when the count of copies is at its limit.
     pub fn copy(&self) -> Result<Filter, FilterError>
         ensures { Gives FilterError.NoMemory (λ copy. copy) result (Ok self.now) }
     {
@@ -64,8 +74,10 @@ impl Filter {
         Ok(Filter { shared })
     }
 
-    /// Whether the filter allows the URL. It takes no memory, and looks up the host key and what
-    /// stands behind each of its dots, however many suffixes there are.
+    /// Whether the filter allows the URL.
+    ///
+    /// The call allocates nothing. It looks up the host key and what follows each of its dots, so its
+    /// time hardly depends on the number of suffixes.
     pub fn allows(&self, url: &CanonUrl) -> bool
         ensures { result ≡ spec.allows self.now url.now }
     {
@@ -74,14 +86,14 @@ impl Filter {
     }
 }
 
-/// The place of the first bad suffix, from 0.
+/// The index of the first bad suffix, from 0.
 fn first_bad(suffixes: &[&str]) -> Option<usize>
     ensures { result ≡ position (λ suffix. not (spec.is_good suffix.now)) suffixes.now }
 {
     suffixes.iter().position(|suffix| !is_good(suffix))
 }
 
-/// Whether a suffix has a byte, and only bytes of canonical hosts.
+/// Whether a suffix is not empty, and has only bytes that canonical hosts have.
 fn is_good(suffix: &str) -> bool
     ensures { result ≡ spec.is_good suffix.now }
 {

@@ -1,4 +1,4 @@
-//! The folder of a page, and the links that lead to one URL from all pages of it.
+//! The folder of a page, and the links that lead to the same URL from all pages of a folder.
 ghost use Rattle.std.specs.Prelude.{◌≡◌, ◌≤◌, ◌<◌, length, take};
 ghost use Rattle.std.specs.List.{list_any, prefix_len};
 ghost use Rattle.url.specs.Ascii.{question_mark};
@@ -9,9 +9,16 @@ ghost use Rattle.crawl_keys.specs.Plain.{is_other};
 
 use crate::plain::len_before;
 
-/// Whether a link with this text leads to one URL from all pages of a folder: it is more than a
-/// query or a fragment, has no scheme, since it begins with a slash or has no colon, and does not
-/// begin with a space. `Base::is_beside` says whether two pages lie in one folder.
+/// Whether a link with this text leads to the same URL from all pages of a folder.
+///
+/// This is so if the text begins with a slash, or if it has no colon (and so no scheme) and does not
+/// begin with a space, a control character, `?` or `#`. [`crate::Base::is_beside`] says whether two
+/// pages are in the same folder.
+///
+/// ```rust
+/// assert!(rt; is_of_folder("../f#g") && is_of_folder("/x"));
+/// assert!(rt; !is_of_folder("?q") && !is_of_folder("http://a.test/"));
+/// ```
 pub fn is_of_folder(text: &str) -> bool
     ensures { result ≡ spec.is_of_folder text.now }
 {
@@ -23,7 +30,7 @@ pub fn is_of_folder(text: &str) -> bool
     }
 }
 
-/// Whether a text is seen to have no scheme, and to be more than a query or a fragment.
+/// Whether a text has no scheme, and is more than a query or a fragment. `false` means unknown.
 pub fn has_no_scheme(text: &str) -> bool
     ensures { result ≡ links.has_no_scheme text.now }
 {
@@ -37,7 +44,7 @@ fn has_colon(text: &str) -> bool
     len_before(bytes, b':') < bytes.len()
 }
 
-/// How long the text of a URL is before the last slash of its path.
+/// The length of a URL's text before the last slash of its path.
 pub fn folder_len(text: &[u8]) -> usize
     ensures value { result ≡ length (without_last_segment (take (prefix_len (is_other question_mark) text.now) text.now)) }
     ensures within { result ≤ length text.now }
@@ -45,7 +52,7 @@ pub fn folder_len(text: &[u8]) -> usize
     last_slash(&text[..len_before(text, b'?')])
 }
 
-/// How long the path is before its last slash.
+/// The length of the path before its last slash.
 fn last_slash(path: &[u8]) -> usize
     ensures value { result ≡ length (without_last_segment path.now) }
     ensures within { result ≤ length path.now }
@@ -56,7 +63,8 @@ fn last_slash(path: &[u8]) -> usize
     }
 }
 
-/// Where so many folders above a folder end in the text of a page, whose path begins at the root.
+/// The end of the folder `ups` levels above a page's folder, in the page's text. The page's folder ends at `folder`, and
+/// the path begins at `root`.
 pub fn folder_above(page: &[u8], root: usize, folder: usize, ups: usize) -> usize
     requires ordered { root < folder }
     requires within { folder ≤ length page.now }

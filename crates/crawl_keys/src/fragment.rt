@@ -1,4 +1,4 @@
-//! Links that differ in their fragments alone.
+//! Links that differ only in their fragments.
 ghost use Rattle.std.specs.Prelude.{◌≡◌, ◌≤◌, ℕ, List, length, true};
 ghost use Rattle.std.specs.List.{before_first};
 ghost use Rattle.crawl_keys.specs.CanonicalText.{resolve};
@@ -7,10 +7,16 @@ ghost use Rattle.crawl_keys.specs.Fragments as spec;
 
 use crate::plain::len_before;
 
-/// The text of a link before its fragment, which leads to the same canonical URL on each page, so
-/// that links to the parts of one page are one text.
+/// The text of a link before its fragment.
 ///
-/// A text with a space or a control right before the `#`, or nothing, stays whole.
+/// It leads to the same canonical URL as the whole text, on every page. So links to the anchors of
+/// one page become one text. If nothing, a space or a control character is right before the `#`, the
+/// text stays whole.
+///
+/// ```rust
+/// assert_eq!(rt; before_fragment("use.html#run"), "use.html");
+/// assert_eq!(rt; before_fragment("#run"), "#run");
+/// ```
 pub fn before_fragment(text: &str) -> &str
     ensures value { result.now ≡ spec.before_fragment text.now }
     ensures target { (base : List ℕ) → resolve base result.now ≡ resolve base text.now }
@@ -21,7 +27,7 @@ pub fn before_fragment(text: &str) -> &str
     if ends_visibly(front) { front } else { text }
 }
 
-/// What stands before the first `#`.
+/// The text before the first `#`.
 fn before_sign(text: &str) -> &str
     ensures { result.now ≡ before_first spec.is_number_sign text.now }
 {

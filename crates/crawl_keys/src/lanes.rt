@@ -1,4 +1,4 @@
-//! Bytes of texts, looked at 16 at a time.
+//! Bytes of texts, tested 16 at a time.
 ghost use Rattle.std.specs.Prelude.{◌≡◌, ◌+◌, ◌≤◌, length, true};
 ghost use Rattle.crawl_keys.specs.Lanes.{Follow, IsRun};
 ghost use Rattle.crawl_keys.specs.Lanes as spec;
@@ -6,10 +6,10 @@ ghost use Rattle.crawl_keys.specs.Plain.{is_host_byte, is_other};
 
 use std::simd::prelude::*;
 
-/// How many bytes one vector has.
+/// The number of bytes in a vector.
 pub const LANES: usize = 16;
 
-/// Whether each of the 16 bytes behind this place may follow the one before it. `false` says nothing.
+/// Whether each of the 16 bytes after the position `at` may follow the byte before it. `false` means unknown.
 #[inline(always)]
 pub fn follow(text: &[u8], at: usize) -> bool
     requires { at + LANES + 1 ≤ length text.now }
@@ -29,7 +29,7 @@ pub fn follow(text: &[u8], at: usize) -> bool
     (outside | marks | begins).to_bitmask() == 0
 }
 
-/// How many of the 16 bytes from this place on, from the first, may stand in a host.
+/// How many of the 16 bytes from the position `at` on, counted from the first, a host may have.
 #[inline(always)]
 pub fn host_run(text: &[u8], at: usize) -> usize
     requires { at + LANES ≤ length text.now }
@@ -43,7 +43,7 @@ pub fn host_run(text: &[u8], at: usize) -> usize
     first_set(stops.to_bitmask())
 }
 
-/// How many of the 16 bytes from this place on, from the first, are another than this.
+/// How many of the 16 bytes from the position `at` on, counted from the first, are not `mark`.
 #[inline(always)]
 pub fn other_run(text: &[u8], at: usize, mark: u8) -> usize
     requires { at + LANES ≤ length text.now }
@@ -53,7 +53,7 @@ pub fn other_run(text: &[u8], at: usize, mark: u8) -> usize
     first_set(byte.simd_eq(u8x16::splat(mark)).to_bitmask())
 }
 
-/// The place of the lowest bit that is set, or 16.
+/// The position of the lowest bit that is set, or 16.
 #[inline(always)]
 fn first_set(mask: u64) -> usize
     ensures { result ≡ spec.first_set mask }

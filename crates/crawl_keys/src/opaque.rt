@@ -1,4 +1,4 @@
-//! URLs whose path is opaque, as `mailto:` has one, told without the parser.
+//! URLs with an opaque path, such as `mailto:` URLs, recognized without the parser.
 ghost use Rattle.std.specs.Prelude.{◌≡◌, ◌≤◌, length, false, true};
 ghost use Rattle.std.specs.List.{prefix_len};
 ghost use Rattle.url.specs.Scheme as spec;
@@ -7,7 +7,7 @@ ghost use Rattle.crawl_keys.specs.Plain.{is_lower};
 
 use crate::plain::{begins_path, is_plain};
 
-/// Whether the text is such a URL, whatever page it stands on. `false` says nothing.
+/// Whether the text is such a URL, which does not depend on the page. `false` means unknown.
 pub fn is_opaque(text: &str) -> bool
     ensures { result ≡ true → IsOpaque text.now }
 {
@@ -17,7 +17,7 @@ pub fn is_opaque(text: &str) -> bool
     }
 }
 
-/// The same of a text that begins with a letter.
+/// The same for a text that begins with a letter.
 fn has_opaque_path(text: &str) -> bool
     ensures { result ≡ true → IsOpaque text.now }
 {
@@ -29,7 +29,7 @@ fn has_opaque_path(text: &str) -> bool
     }
 }
 
-/// Whether the scheme is one of letters, and not special.
+/// Whether the scheme has only lower-case letters, and is not special.
 fn is_other_scheme(scheme: &str) -> bool
     ensures word { result ≡ true → IsWord scheme.now }
     ensures other { result ≡ true → spec.is_special (spec.scheme_type scheme.now) ≡ false }
@@ -37,14 +37,14 @@ fn is_other_scheme(scheme: &str) -> bool
     is_word(scheme.as_bytes()) && !is_special(scheme)
 }
 
-/// Whether there are bytes, and all are letters in lower case.
+/// Whether there are bytes, and all are lower-case letters.
 fn is_word(bytes: &[u8]) -> bool
     ensures { result ≡ true → IsWord bytes.now }
 {
     letters_len(bytes) == bytes.len() && !bytes.is_empty()
 }
 
-/// How many letters in lower case the bytes begin with.
+/// The number of lower-case letters that the bytes begin with.
 fn letters_len(bytes: &[u8]) -> usize
     ensures value { result ≡ prefix_len is_lower bytes.now }
     ensures within { result ≤ length bytes.now }

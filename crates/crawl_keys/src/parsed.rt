@@ -1,4 +1,4 @@
-//! A page's URL, parsed once a link asks for it.
+//! A page's URL, parsed when the first link needs it.
 ghost use Rattle.std.specs.Prelude.{◌≡◌, None, Ok, true, IfErr, IfOk, IfSome};
 ghost use Rattle.url.specs.Parser.{parse_url};
 
@@ -9,8 +9,7 @@ use std::alloc::Global;
 use std::fmt;
 use url::Url;
 
-/// What one of the threads that asked has parsed, if any has. It is only ever a guess: who takes it looks whether it has
-/// the page's text.
+/// The URL that one of the threads parsed, if any has. It is only a hint: its user tests that it has the page's text.
 #[derive(Drop)]
 pub struct Parsed {
     cell: OnceBox<Url>,
@@ -18,7 +17,7 @@ pub struct Parsed {
 }
 
 impl Parsed {
-    /// Nothing yet.
+    /// A cell in which nothing is parsed yet.
     pub fn new(alloc: Global) -> Parsed {
         Parsed {
             cell: OnceBox::new(alloc),
@@ -26,12 +25,12 @@ impl Parsed {
         }
     }
 
-    /// The same for another owner, of nothing yet.
+    /// An empty cell for another owner.
     pub fn anew(&self) -> Parsed {
         Parsed::new(self.alloc)
     }
 
-    /// The URL that the text of a page parses to. `None` says nothing.
+    /// The URL that the text of a page parses to. `None` means unknown.
     pub fn url(&self, alloc: Global, text: &str) -> Result<Option<&Url>, KeyError>
         ensures url { IfOk result (λ found. IfSome found (λ url. parse_url None text.now ≡ Ok url.now)) }
         ensures refused { IfErr result (λ e. e ≡ KeyError.NoMemory) }
@@ -45,7 +44,7 @@ impl Parsed {
         }
     }
 
-    /// Keeps what the text parses to.
+    /// Stores the URL that the text parses to.
     fn fill(&self, alloc: Global, text: &str) -> Result<(), KeyError>
         ensures { IfErr result (λ e. e ≡ KeyError.NoMemory) }
     {
@@ -64,7 +63,7 @@ impl fmt::Debug for Parsed {
     }
 }
 
-/// Whether the URL is of the web and has the text.
+/// Whether the URL is an `http` or `https` URL with this text.
 fn is_url_of(url: &Url, text: &str) -> bool
     ensures { result ≡ true → parse_url None text.now ≡ Ok url.now }
 {

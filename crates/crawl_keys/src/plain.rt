@@ -1,4 +1,4 @@
-//! Texts that the parser of URLs leaves as they are, told by a look at each byte.
+//! Plain texts: those that the URL parser leaves unchanged. A test of each byte recognizes them.
 ghost use Rattle.std.specs.Prelude.{◌≡◌, ◌-◌, ◌<◌, ◌≤◌, ℕ, length, true, IfSome};
 ghost use Rattle.std.specs.List.{list_all, prefix_len};
 ghost use Rattle.crawl_keys.specs.Lanes.{Follow};
@@ -9,31 +9,31 @@ ghost use Rattle.crawl_keys.specs.Spelled.{IsSpelled};
 
 use crate::lanes::{LANES, follow, host_run, other_run};
 
-/// Where the host stands in the text of a URL.
+/// The position of the host in the text of a URL.
 #[derive(Clone, Copy)]
 pub struct HostPlace {
-    /// The place of its first byte.
+    /// The position of its first byte.
     pub start: usize,
-    /// The place behind its last byte.
+    /// The position after its last byte.
     pub end: usize,
 }
 
-/// A link, by how it is resolved.
+/// How a link is resolved.
 #[derive(Clone, Copy)]
 pub enum PlainLink {
-    /// It is a canonical URL as it is.
+    /// Its text is a canonical URL.
     Absolute(HostPlace),
-    /// It stands behind the page's scheme; its host, behind two slashes, is so long.
+    /// It is appended to the page's scheme. Its host, after two slashes, has this many bytes.
     ByHost(usize),
-    /// It stands behind what the page's text has before its path.
+    /// It is appended to what the page's text has before its path.
     Rooted,
-    /// It stands behind the page's path.
+    /// It is appended to the page's text before its query.
     Query,
-    /// It leads to the page.
+    /// It leads to the page itself.
     Same,
-    /// It may lead to the page's folder, or to one above it.
+    /// It may lead into the page's folder, or into one above it.
     Relative,
-    /// It is another one.
+    /// It is none of these.
     Other,
 }
 
@@ -58,7 +58,7 @@ pub fn plain_link(text: &str) -> PlainLink
     }
 }
 
-/// How many times the text begins with `../`, and what stands behind that.
+/// How many times the text begins with `../`, and the text after that.
 pub fn behind_ups(text: &str) -> (usize, &str)
     ensures { text.now ≡ links.behind_ups result.0 result.1.now }
 {
@@ -74,7 +74,7 @@ pub fn behind_ups(text: &str) -> (usize, &str)
     (ups, rest)
 }
 
-/// Where the host stands in a text that is a canonical URL as it is. `None` says nothing: the text may be canonical too.
+/// The position of the host in a text that is seen to be a canonical URL. `None` means unknown: the text may be canonical too.
 pub fn host_place(text: &str) -> Option<HostPlace>
     ensures { IfSome result (λ place. IsSpelled text.now place.start place.end) }
 {
@@ -95,7 +95,7 @@ pub fn host_place(text: &str) -> Option<HostPlace>
     None
 }
 
-/// How long the host is at the front of what stands behind a scheme and its slashes, where all of that is plain.
+/// The length of the host that `rest` begins with, if all of `rest`, the text after a scheme and its slashes, is plain.
 pub fn plain_host_len(rest: &[u8]) -> Option<usize>
     ensures plain { IfSome result (λ len. spec.is_plain_host rest.now ≡ true) }
     ensures len { IfSome result (λ len. len ≡ spec.host_len rest.now) }
@@ -110,7 +110,7 @@ pub fn plain_host_len(rest: &[u8]) -> Option<usize>
     }
 }
 
-/// How long the host is that the bytes begin with.
+/// The length of the host that the bytes begin with.
 fn host_len(bytes: &[u8]) -> usize
     ensures value { result ≡ spec.host_len bytes.now }
     ensures within { result ≤ length bytes.now }
@@ -125,7 +125,7 @@ fn host_len(bytes: &[u8]) -> usize
     len
 }
 
-/// How many bytes stand before the first one that is this.
+/// The number of bytes before the first `mark`.
 pub fn len_before(bytes: &[u8], mark: u8) -> usize
     ensures value { result ≡ prefix_len (spec.is_other mark) bytes.now }
     ensures within { result ≤ length bytes.now }
@@ -142,11 +142,11 @@ pub fn len_before(bytes: &[u8], mark: u8) -> usize
         }
         at += LANES;
     }
-    // These may overlap those before.
+    // These 16 bytes may overlap those before.
     last + other_run(bytes, last, mark)
 }
 
-/// The same, a byte at a time.
+/// The same, one byte at a time.
 fn len_before_short(bytes: &[u8], mark: u8) -> usize
     ensures value { result ≡ prefix_len (spec.is_other mark) bytes.now }
     ensures within { result ≤ length bytes.now }
@@ -185,7 +185,7 @@ fn last_label(host: &[u8]) -> &[u8]
     }
 }
 
-/// Whether the text of a path and a query, which stands behind this byte, stays as it is. `false` says nothing.
+/// Whether the text of a path and a query, which follows the byte `last`, stays unchanged. `false` means unknown.
 pub fn is_plain(last: u8, text: &[u8]) -> bool
     ensures { result ≡ true → spec.is_plain last text.now ≡ true }
 {
@@ -193,8 +193,8 @@ pub fn is_plain(last: u8, text: &[u8]) -> bool
     run == text.len() || has_plain_query(last, text, run)
 }
 
-/// How much of the text stays by the rule for a path, whether there is a query in it or not, at least: all, or up to the
-/// place before 16 bytes of which one may not stand there.
+/// At least how many bytes of the text stay unchanged by the rule for a path, whether or not it has a query: all, or those
+/// before 16 bytes of which one is not allowed there.
 fn plain_run(last: u8, text: &[u8]) -> usize
     ensures value { result ≡ length text.now → spec.is_plain last text.now ≡ true }
     ensures within { result ≤ length text.now }
@@ -213,8 +213,8 @@ fn plain_run(last: u8, text: &[u8]) -> usize
     }
 }
 
-/// How far each byte of a text of more than 16 may follow the one before it, at least: up to the end, or to the place before
-/// 16 bytes of which one may not.
+/// At least how far each byte of a text of more than 16 bytes may follow the byte before it: to the end, or to the position
+/// before 16 bytes of which one may not.
 fn follow_run(text: &[u8]) -> usize
     requires { LANES < length text.now }
     ensures value { result ≡ length text.now → Follow text.now 0 (length text.now - 1) }
@@ -228,18 +228,18 @@ fn follow_run(text: &[u8]) -> usize
         }
         at += LANES;
     }
-    // These may overlap those before.
+    // These 16 bytes may overlap those before.
     if follow(text, last) { text.len() } else { last }
 }
 
-/// Whether it stays where the rule for a path ends at the first `?`. So much of it stays by that rule, at least. `false` says
-/// nothing.
+/// Whether the text stays unchanged if the rule for a path ends at the first `?`. At least `run` bytes of it stay unchanged
+/// by that rule. `false` means unknown.
 fn has_plain_query(last: u8, text: &[u8], run: usize) -> bool
     requires { run ≤ length text.now }
     ensures { result ≡ true → spec.is_plain last text.now ≡ true }
 {
     let end = len_before(text, b'?');
-    // The byte that may not stand there stands before the query.
+    // The byte that is not allowed is before the query.
     if end > run + LANES {
         return false;
     }
@@ -247,21 +247,21 @@ fn has_plain_query(last: u8, text: &[u8], run: usize) -> bool
     !query.is_empty() && is_plain_path(last, path) && are_kept(query)
 }
 
-/// Whether it stays by the rule for a path. `false` says nothing.
+/// Whether the text stays unchanged by the rule for a path. `false` means unknown.
 fn is_plain_path(last: u8, text: &[u8]) -> bool
     ensures { result ≡ true → spec.is_plain last text.now ≡ true }
 {
     plain_run(last, text) == text.len()
 }
 
-/// Whether a query keeps each byte as it is.
+/// Whether a query keeps each byte unchanged.
 fn are_kept(bytes: &[u8]) -> bool
     ensures { result ≡ list_all spec.is_kept bytes.now }
 {
     bytes.iter().all(|byte| is_kept(*byte))
 }
 
-/// Whether each byte may follow the one before it, a byte at a time. `false` says nothing.
+/// Whether each byte may follow the one before it, tested one byte at a time. `false` means unknown.
 fn is_plain_short(last: u8, text: &[u8]) -> bool
     ensures { result ≡ true → spec.is_plain last text.now ≡ true }
 {
@@ -285,16 +285,16 @@ fn may_follow(last: u8, byte: u8) -> bool
     }
 }
 
-/// Bytes that a path and a query keep as they are.
+/// Bytes that a path and a query keep unchanged.
 const KEPT: u8 = 1;
 
-/// Those of them that may begin a segment.
+/// Those of these bytes that may begin a segment.
 const FIRST: u8 = 2;
 
-/// Bytes that a domain keeps as they are.
+/// Bytes that a domain keeps unchanged.
 const HOST: u8 = 4;
 
-// For each byte a digit, whose low three bits are the flags above.
+// One digit for each byte. Its low three bits are the flags above.
 static CLASS: [u8; 256] = *b"\
     00000000000000000000000000000000\
     03003130333337517777777777330303\

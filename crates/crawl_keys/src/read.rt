@@ -11,8 +11,18 @@ use url::Url;
 
 /// The canonical URL of an absolute URL, however it is spelled.
 ///
-/// `NotUrl` where the URL Standard's parser finds no URL, `NotHttp` where the URL's scheme is neither
-/// `http` nor `https`, `NoMemory` where memory is wanting or the URL would come to 4 GB.
+/// The text is parsed as the URL Standard says, without a base URL; most texts in a common form need
+/// no parser. The errors are `NotUrl` if the parser fails, `NotHttp` if the scheme is neither `http`
+/// nor `https`, and `NoMemory` if an allocation fails or the URL is longer than the parser can hold
+/// (4 GB).
+///
+/// ```rust
+/// let url = canonical(alloc, "http://A.test:80/x/../y#f")?;
+/// assert_eq!(rt; url.as_str(), "http://a.test/y");
+///
+/// assert!(rt; canonical(alloc, "/x") == Err(KeyError::NotUrl));
+/// assert!(rt; canonical(alloc, "ftp://a.test/") == Err(KeyError::NotHttp));
+/// ```
 pub fn canonical(alloc: Global, text: &str) -> Result<CanonUrl, KeyError>
     ensures { Gives KeyError.NoMemory (λ url. url) result (spec.canonical text.now) }
 {
@@ -22,7 +32,9 @@ pub fn canonical(alloc: Global, text: &str) -> Result<CanonUrl, KeyError>
     }
 }
 
-/// Whether the text is a canonical URL as it is. `false` says nothing.
+/// Whether the text is seen to be its own canonical URL, without parsing.
+///
+/// `false` means unknown: a text in an uncommon form may be canonical too.
 pub fn is_canonical(text: &str) -> bool
     ensures { result ≡ true → spec.canonical text.now ≡ Ok text.now }
 {
@@ -32,7 +44,7 @@ pub fn is_canonical(text: &str) -> bool
     }
 }
 
-/// The canonical URL of a text that is none as it is: the text before its fragment may be one.
+/// The canonical URL of a text that was not seen to be canonical. The text before its fragment may be.
 fn without_fragment(alloc: Global, text: &str) -> Result<CanonUrl, KeyError>
     ensures { Gives KeyError.NoMemory (λ url. url) result (spec.canonical text.now) }
 {
@@ -46,7 +58,7 @@ fn without_fragment(alloc: Global, text: &str) -> Result<CanonUrl, KeyError>
     }
 }
 
-/// The canonical URL of a text that is none as it is, and has no fragment to be cut.
+/// The canonical URL of a text that was not seen to be canonical, and has no fragment to be cut.
 fn not_plain(alloc: Global, text: &str) -> Result<CanonUrl, KeyError>
     ensures { Gives KeyError.NoMemory (λ url. url) result (spec.canonical text.now) }
 {
@@ -65,9 +77,17 @@ fn parsed(alloc: Global, text: &str) -> Result<CanonUrl, KeyError>
     CanonUrl::keep(alloc, &url)
 }
 
-/// The canonical URL of a link on the page at `base`, with the errors of `canonical`.
+/// The canonical URL of a link on the page at `base`.
 ///
-/// For many links of one page make a `Base`, which parses the page's URL once.
+/// The text is parsed as the URL Standard says, against `base`. The errors are those of
+/// [`canonical`]. For many links of one page make a [`crate::Base`], which does not parse the page's
+/// URL again for each link.
+///
+/// ```rust
+/// let page = canonical(alloc, "http://a.test/d/e?q")?;
+/// let url = resolve(alloc, &page, "../f#g")?;
+/// assert_eq!(rt; url.as_str(), "http://a.test/f");
+/// ```
 pub fn resolve(alloc: Global, base: &CanonUrl, text: &str) -> Result<CanonUrl, KeyError>
     ensures { Gives KeyError.NoMemory (λ url. url) result (spec.resolve base.now text.now) }
 {

@@ -1,4 +1,4 @@
-//! The books of all parts, compared with the lists of all subqueues.
+//! The books of all parts, compared with the lists of all queues.
 ghost use Rattle.std.specs.Prelude.{◌≡◌, ◌<◌, ◌≤◌, ℕ, List, true, false, IfOk, length, map};
 ghost use Rattle.std.specs.BTreeSet as sets;
 ghost use Rattle.crawl_frontier.specs.declared.entry.Entry.{Entry};
@@ -63,7 +63,7 @@ pub fn all_have_parts(
     Ok(all_senders_in(lists, &ids))
 }
 
-// The least queue for which a count is another, where that is less.
+// The first queue for which a count differs, or `least` if that is less.
 fn counts_stand(lists: &[AcceptedList], book: &Book, least: u32) -> u32
     requires lists { least ≤ length lists.now }
     requires counts { least ≤ length book.now.counts.items }
@@ -79,7 +79,8 @@ fn counts_stand(lists: &[AcceptedList], book: &Book, least: u32) -> u32
     least
 }
 
-// The least queue for which the books disagree, where that is less. Each line of the log is true, so equal counts are enough.
+// The first queue for which the books disagree, or `least` if that is less. Each line of the log is true, so equal counts are
+// enough.
 fn book_agrees(lists: &[AcceptedList], book: Book, least: u32) -> u32
     requires least { least ≤ length lists.now }
     requires book { IsBook (length lists.now) (book_of book) }
@@ -92,7 +93,7 @@ fn book_agrees(lists: &[AcceptedList], book: Book, least: u32) -> u32
     counts_stand(lists, &book, least)
 }
 
-/// The least queue for which some part's books disagree with the list, where that is less. No line of a log is read.
+/// The first queue for which some part's books disagree with the list, or `least` if that is less. No line of a log is read.
 pub fn books_agree(lists: &[AcceptedList], mut books: Vec<Book>, mut least: u32) -> u32
     requires least { least ≤ length lists.now }
     requires books { AllAre (IsBook (length lists.now)) (map book_of books.items) }

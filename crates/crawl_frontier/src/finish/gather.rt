@@ -1,4 +1,4 @@
-//! The parts of a run, taken apart.
+//! The rights and the books of a run's parts.
 ghost use Rattle.std.specs.Prelude.{◌≡◌, ◌<◌, ◌≤◌, ℕ, List, [], true, None, Some, IfOk, is_some, map, if◌then◌else◌};
 ghost use Rattle.std.specs.BTreeMap.{get, is_at};
 ghost use Rattle.std.specs.Ordering.{nat_cmp};
@@ -15,7 +15,7 @@ use crate::sender::Sender;
 use std::alloc::{AllocError, Global};
 use std::collections::BTreeMap;
 
-// Puts a right to pop at its queue, and tells the least queue that two workers have, where that was `alone`.
+// Stores a right to pop at its queue. It returns the first queue that two workers have, given that this was `alone` before.
 fn place(
     rights: &mut BTreeMap<u32, PopRight>,
     queue: u32,
@@ -31,7 +31,7 @@ fn place(
     Ok(least_of(old.is_none(), queue, alone))
 }
 
-// The books of the senders beside those of the workers.
+// Adds the books of the senders to those of the workers.
 fn add_senders<K: Name>(
     books: &mut Vec<Book>,
     mut senders: Vec<Sender<K>>,
@@ -48,7 +48,7 @@ fn add_senders<K: Name>(
     Ok(())
 }
 
-// The rights to pop by queue, the books of all parts, and the least queue that two workers have, or `workers`.
+// The rights to pop by queue, the books of all parts, and the first queue that two workers have, or `workers`.
 pub fn gather<K: Name>(
     alloc: Global,
     mut closed: Vec<ClosedWorker<K>>,

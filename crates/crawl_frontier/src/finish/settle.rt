@@ -1,4 +1,4 @@
-//! Each subqueue's list, and whether its worker took all of it.
+//! Each queue's list, and whether its worker took all of it.
 ghost use Rattle.std.specs.Prelude.{◌≡◌, ◌<◌, ◌≤◌, ℕ, [], true, false, None, Some, IfOk, is_some, length, slice_get, vec_len};
 ghost use Rattle.std.specs.Ordering.{nat_cmp};
 ghost use Rattle.std.specs.BTreeMap.{get};
@@ -19,13 +19,13 @@ use std::sync::Mutex;
 /// Why a queue is in doubt.
 #[derive(Drop)]
 pub enum Doubt {
-    /// Behind its lock stands the shard of this other queue.
+    /// Its lock holds the shard of this other queue.
     Elsewhere(u32),
     /// Its worker was not seen to have taken all that was sent.
     Holds(Held),
 }
 
-/// The lesser of the two, where this queue is not good.
+/// `least`, or this queue if it is less and not good.
 pub fn least_of(is_good: bool, queue: u32, least: u32) -> u32
     ensures below { result ≤ least }
     ensures good { queue < result → is_good ≡ true }
@@ -51,7 +51,7 @@ pub fn all_there(rights: &BTreeMap<u32, PopRight>, workers: u32) -> bool
     true
 }
 
-/// The shards out of their locks, last first.
+/// The shards, taken out of their locks, last first.
 pub fn unlock<K: Name>(
     alloc: Global,
     mut locks: Vec<Mutex<Shard<K>>>,
@@ -65,7 +65,7 @@ pub fn unlock<K: Name>(
     Ok(shards)
 }
 
-// The list of a shard, and why the queue behind whose lock it stood is in doubt, if it is.
+// The list of a shard, and why the queue whose lock held it is in doubt, if it is.
 fn settle<K: Name>(
     subqueue: &Subqueue,
     shard: Shard<K>,
@@ -110,7 +110,7 @@ fn settle_last<K: Name>(
     settle(subqueue, shard, queue, right)
 }
 
-/// The lists by queue, and why a queue is in doubt, where one is. The shards come last first.
+/// The lists by queue, and for each queue why it is in doubt, if it is. The shards are passed last first.
 pub fn settle_all<K: Name>(
     alloc: Global,
     queues: &Vec<Subqueue>,
@@ -147,7 +147,7 @@ fn is_in_doubt(doubts: &[Option<Doubt>], queue: u32) -> bool
     }
 }
 
-/// The least queue that is in doubt, where that is less.
+/// The first queue that is in doubt, or `least` if that is less.
 pub fn first_doubt(doubts: &[Option<Doubt>], least: u32) -> u32
     requires { least ≤ length doubts.now }
     ensures below { result ≤ least }

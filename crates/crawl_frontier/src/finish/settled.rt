@@ -1,4 +1,4 @@
-//! A run that is taken apart and settled, before its books are compared.
+//! A run whose queues are settled, before its books are compared.
 ghost use Rattle.std.specs.Prelude.{◌≡◌, ◌<◌, ◌≤◌, MatchResult, length, vec_len};
 ghost use Rattle.crawl_frontier.specs.Accounts.{AllKeepRule, FinishFails};
 ghost use Rattle.crawl_frontier.specs.Finishing.{CanCompare};
@@ -23,11 +23,11 @@ use std::sync::Mutex;
 #[derive(Drop)]
 pub struct Settled {
     pub workers: u32,
-    /// What each queue accepted.
+    /// The list of each queue.
     pub lists: Vec<AcceptedList>,
     /// The books of all parts.
     pub books: Vec<Book>,
-    /// The least queue that is in doubt, or `workers`.
+    /// The first queue that is in doubt, or `workers`.
     pub least: u32,
 }
 
@@ -47,7 +47,7 @@ fn parts_of<K: Name>(frontier: Frontier<K>) -> (u32, Vec<Subqueue>, Vec<Mutex<Sh
     (workers, queues, shards)
 }
 
-/// A run's queues and books. An entry whose sender is no part is told before any book is looked at.
+/// A run's queues and books. An entry whose sender is not a part is reported before any book is compared.
 pub fn settle_run<K: Name>(
     frontier: Frontier<K>,
     closed: Vec<ClosedWorker<K>>,
@@ -77,7 +77,7 @@ pub fn settle_run<K: Name>(
     })
 }
 
-/// The account, where `least`, the least queue that is not settled, is none of the queues.
+/// The account, if every queue is settled: `least` is the first queue that is not, or the number of queues.
 pub fn account_of(
     workers: u32,
     lists: Vec<AcceptedList>,

@@ -1,5 +1,5 @@
-//! What each part knows of the lists becomes what these are at the end. So each line of a log is true of its list for good, and
-//! none is read.
+//! Extends what each part knows of the lists to what the lists are at the end. So each line of a log is true of the final
+//! list, and no line has to be read.
 ghost use Rattle.std.specs.Prelude.{◌≡◌, ◌<◌, ◌+◌, Some, length, map, slice_get, vec_len};
 ghost use Rattle.crawl_frontier.specs.Growing.{Stays};
 ghost use Rattle.crawl_frontier.specs.Logs.{ListsAre};
@@ -12,7 +12,7 @@ use crate::name::Name;
 use crate::shard::Shard;
 use crate::subqueue::Subqueue;
 
-// What is known of the queue's list becomes what the shard has, where that is the queue's.
+// Extends what is known of the queue's list to what the shard has, if the shard is the queue's.
 fn tell_of<K: Name>(subqueue: &Subqueue, shard: &mut Shard<K>, queue: usize, told: &mut Beginning)
     requires subqueue { slice_get K.queues queue ≡ Some subqueue.now }
     requires told { told.old.list ≡ subqueue.now.list }
@@ -26,7 +26,7 @@ fn tell_of<K: Name>(subqueue: &Subqueue, shard: &mut Shard<K>, queue: usize, tol
     }
 }
 
-// What is known of each list becomes what its shard has, where that is at home. The shards come last first.
+// Extends what is known of each list to what its shard has, if the shard is in its own lock. The shards are passed last first.
 fn tell_all<K: Name>(queues: &Vec<Subqueue>, shards: &mut Vec<Shard<K>>, told: &mut Vec<Beginning>)
     requires queues { (queues.now.items ≡ K.queues) × (vec_len queues.now ≡ K.workers) }
     requires shards { vec_len shards.old ≡ K.workers }
@@ -43,7 +43,7 @@ fn tell_all<K: Name>(queues: &Vec<Subqueue>, shards: &mut Vec<Shard<K>>, told: &
     }
 }
 
-// The same for the books of a part, which say what they said.
+// The same for the books of a part. These say the same as before.
 fn tell_book<K: Name>(queues: &Vec<Subqueue>, shards: &mut Vec<Shard<K>>, book: &mut Book)
     requires queues { (queues.now.items ≡ K.queues) × (vec_len queues.now ≡ K.workers) }
     requires shards { vec_len shards.old ≡ K.workers }
@@ -55,7 +55,7 @@ fn tell_book<K: Name>(queues: &Vec<Subqueue>, shards: &mut Vec<Shard<K>>, book: 
     tell_all(queues, shards, &mut book.told);
 }
 
-/// Each line of each log is true of its queue's shard, where that is at home. The shards come last first.
+/// Makes each line of each log true of its queue's shard, if the shard is in its own lock. The shards are passed last first.
 pub fn tell_books<K: Name>(
     queues: &Vec<Subqueue>,
     shards: &mut Vec<Shard<K>>,

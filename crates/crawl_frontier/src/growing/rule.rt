@@ -4,7 +4,8 @@ use atomic_table::{Join, Play, Split, TableRule};
 use std::collections::LinkedList;
 use std::marker::{Brand, PhantomData};
 
-/// What a seat knows of a list: all of it, if it is the one that may add to it; and a beginning. No value of it is made.
+/// What a seat knows of a list: all of it, if it is the seat that may add to it; and a beginning. It is only for clauses: no
+/// value of it is made.
 pub struct ListView {
     pub owns: bool,
     pub all: LinkedList<Entry>,
@@ -22,7 +23,7 @@ impl TableRule<(), ListView, ()> for OnlyGrows {
     ghost first = { λ _. owning [] };
 }
 
-/// The entry that a step adds, which the call picks.
+/// The entry that a step adds, which the call chooses.
 pub trait Adds {
     ghost use Rattle.crawl_frontier.specs.declared.entry.Entry.{Entry};
 
@@ -46,7 +47,7 @@ impl<B: Adds> Play<(), ListView> for Grow<B> {
     ghost then = { λ step before found after. Adding B.entry before after };
 }
 
-// The owner compares the beginning that it was handed with all of the list, and is the owner again.
+// The owner compares the beginning that it was given with the whole list, and is the owner again.
 pub(crate) struct Compare;
 
 impl Play<(), ListView> for Compare {
@@ -55,7 +56,7 @@ impl Play<(), ListView> for Compare {
     ghost then = { λ step before found after. Compares before after };
 }
 
-// The owner tells a new seat its list.
+// A new seat learns the owner's list.
 pub(crate) struct Tell;
 
 impl Split<ListView> for Tell {
@@ -66,7 +67,7 @@ impl Split<ListView> for Tell {
     ghost right = { λ v. beginning v.all };
 }
 
-// A seat that knows a beginning tells it to a new one.
+// A new seat learns the beginning that another seat knows.
 pub(crate) struct Again;
 
 impl Split<ListView> for Again {
@@ -77,7 +78,7 @@ impl Split<ListView> for Again {
     ghost right = { λ v. beginning v.begins };
 }
 
-// The owner is handed a beginning.
+// The owner is given a beginning.
 pub(crate) struct HandIn;
 
 impl Join<ListView> for HandIn {

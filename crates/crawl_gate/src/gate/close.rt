@@ -15,12 +15,14 @@ use crate::word::{CLOSED, state_of};
 pub enum Close {
     /// The gate is closed: this call closed it, or found it closed.
     Closed(ClosedPass),
-    /// This many units were held, at least 1. The pass comes back, with what it met.
+    /// The gate was open, and this many units were held: at least 1. The pass is returned.
     Pending(Pass, u64),
 }
 
 impl Gate {
-    /// Closes the gate where no unit is held, by one exchange.
+    /// Closes the gate if no unit is held, by one compare-and-exchange.
+    ///
+    /// It never waits. A pass that has found the gate closed before gets `Closed`.
     pub fn try_close(&self, pass: Pass) -> Close
         requires { IsSeatOf self.now pass }
         ensures words { TriesToClose pass result }

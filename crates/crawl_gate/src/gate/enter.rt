@@ -11,21 +11,23 @@ use crate::rule::TakeUnit;
 use crate::unit::Unit;
 use std::sync::Wait;
 
-/// How an entering call ended. Where it took no unit the pass comes back, with what it met.
+/// How an entering call ended. If it took no unit, it returns the pass.
 #[derive(Drop)]
 pub enum Enter {
     /// The pass is now a unit.
     Entered(Unit),
-    /// The gate was closed, and is for good.
+    /// The gate was closed, and stays closed.
     Closed(Pass),
-    /// The count was the maximum.
+    /// The count of units was the maximum.
     Full(Pass),
-    /// Another step came between the load and the exchange. Only the calls that try once answer it.
+    /// Another step came between the load and the exchange. Only the calls that try once return it.
     Lost(Pass),
 }
 
 impl Gate {
-    /// Tries once: a load, and where that finds the gate open with room, an exchange for one unit more.
+    /// Tries once to take a unit: a load, and if the gate is open and has room, a compare-and-exchange.
+    ///
+    /// It never waits. The result may be `Lost`, if another thread changed the word in between: try again.
     pub fn try_enter(&self, mut pass: Pass) -> Enter
         requires { IsSeatOf self.now pass }
         ensures words { TriesToEnter pass result }
@@ -45,7 +47,8 @@ impl Gate {
         }
     }
 
-    /// Tries once, with the load made by a unit: the gate is open, so the answer is never `Closed`.
+    /// Like [`Gate::try_enter`], by a caller that holds a unit. The gate is then open, so the result is never
+    /// `Closed`.
     pub fn try_enter_beside(&self, held: &mut Unit, pass: Pass) -> Enter
         requires held { IsSeatOf self.now held.old }
         requires pass { IsSeatOf self.now pass }
@@ -63,8 +66,10 @@ impl Gate {
         }
     }
 
-    /// Tries until no other step comes between, so the answer is never `Lost`. While other threads go on
-    /// changing the word it may try again and again.
+    /// Like [`Gate::try_enter`], but tries again while the result is `Lost`.
+    ///
+    /// So the result is `Entered`, `Closed` or `Full`. While other threads keep changing the word, the call
+    /// may try any number of times.
     pub fn enter<R: Wait>(&self, rt: &R, mut pass: Pass) -> Enter
         requires { IsSeatOf self.now pass }
         ensures words { EntersAtLast pass result }
@@ -81,7 +86,9 @@ impl Gate {
         unreachable!()
     }
 
-    /// As `enter`, with the loads made by a unit: the answer is `Entered` or `Full`.
+    /// Like [`Gate::enter`], by a caller that holds a unit. The result is `Entered` or `Full`.
+    ///
+    /// Work that creates more work enters this way, so it never finds the gate closed.
     pub fn enter_beside<R: Wait>(&self, rt: &R, held: &mut Unit, mut pass: Pass) -> Enter
         requires held { IsSeatOf self.now held.old }
         requires pass { IsSeatOf self.now pass }
@@ -99,7 +106,7 @@ impl Gate {
         unreachable!()
     }
 
-    // The exchange of a try whose load found the gate open with this count.
+    // The exchange of a try, after its load found the gate open with this count.
     fn take_unit(&self, pass: Pass, count: u64) -> Result<Unit, Pass>
         requires gate { IsSeatOf self.now pass }
         requires room { count < self.now.max_pending }

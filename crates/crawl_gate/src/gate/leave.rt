@@ -9,7 +9,9 @@ use crate::rule::GiveBack;
 use crate::unit::Unit;
 
 impl Gate {
-    /// Gives the unit back. With the pass that it becomes comes the count that is left.
+    /// Gives the unit back. The result is the pass that it becomes, and the number of units that are left.
+    ///
+    /// It is one subtraction, and never waits. The gate stays open: only [`Gate::try_close`] closes it.
     pub fn leave(&self, unit: Unit) -> (Pass, u64)
         requires { IsSeatOf self.now unit }
         ensures left { result.0 ≡ after_leaving unit (open_at (result.1 + 1)) }

@@ -1,4 +1,4 @@
-//! Looking at the gate.
+//! Reading the gate's word.
 ghost use Rattle.std.specs.Prelude.{◌≡◌, ◌<◌, ◌≤◌, false};
 ghost use Rattle.crawl_gate.specs.Word.{open_at};
 ghost use Rattle.crawl_gate.specs.View.{knows_closed};
@@ -12,7 +12,7 @@ use crate::unit::Unit;
 use crate::word::{GateState, state_of};
 
 impl Gate {
-    /// The count and the closed bit, as one load finds them.
+    /// The count and the closed bit, by one load.
     pub fn load(&self, pass: &mut Pass) -> GateState
         requires { IsSeatOf self.now pass.old }
         ensures met { pass.new ≡ after_looking pass.old (result.count, result.closed) }
@@ -21,7 +21,8 @@ impl Gate {
         state_of(self.table.shared.load::<Look>(&mut pass.seat, 0))
     }
 
-    /// The count, as one load finds it: at least the unit's own, and the gate is open.
+    /// The count, by one load of a caller that holds a unit. It is from 1 to the maximum, and the gate is
+    /// open.
     pub fn load_held(&self, unit: &mut Unit) -> u64
         requires { IsSeatOf self.now unit.old }
         ensures met { unit.new ≡ after_looking unit.old (open_at result) }

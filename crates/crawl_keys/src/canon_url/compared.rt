@@ -31,7 +31,7 @@ impl PartialEq for CanonUrl {
 
     ghost laws = { partial_equiv_from_equiv nat_list_eq_equiv };
 
-    // Most texts that differ have other hashes, which are nearer than the texts.
+    // Most different texts have different hashes, and the hashes are nearer in memory than the texts.
     fn eq(&self, other: &CanonUrl) -> bool {
         self.text_hash() == other.text_hash() && self.as_str() == other.as_str()
     }

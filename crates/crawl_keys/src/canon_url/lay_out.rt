@@ -1,4 +1,4 @@
-//! Laying a URL out, and reading what was laid out.
+//! Storing a URL in memory, and reading what was stored.
 ghost use Rattle.std.specs.Prelude.{◌≡◌, ◌++◌, Ok};
 ghost use Rattle.url.specs.Parts.{IsValid};
 ghost use Rattle.crawl_keys.specs.CanonicalText.{text_of};
@@ -33,7 +33,7 @@ impl CanonUrl {
         CanonUrl::join(alloc, text, "", host)
     }
 
-    /// The canonical URL whose text is made of these two, with the host at this place.
+    /// The canonical URL whose text is `front` followed by `back`, with the host at this position.
     pub(crate) fn join(
         alloc: Global,
         front: &str,
@@ -43,14 +43,14 @@ impl CanonUrl {
         requires { IsSpelled (front.now ++ back.now) host.start host.end }
         ensures { Gives KeyError.NoMemory (λ url. url) result (Ok (front.now ++ back.now)) }
     {
-        // Behind 4 GB there is no room for a place.
+        // From 4 GB on a position does not fit.
         let Ok(host_start) = u32::try_from(host.start) else {
             return Err(KeyError::NoMemory);
         };
         let Ok(host_end) = u32::try_from(host.end) else {
             return Err(KeyError::NoMemory);
         };
-        // The text is written where it stays, so that all is moved once alone, to what the copies share.
+        // The text is written into the record, so that all of it is moved only once, to what the copies share.
         let mut laid = Laid {
             hash: 0,
             host_start,
@@ -74,7 +74,7 @@ impl Laid {
         self.text.as_str()
     }
 
-    /// Where the host stands in the text.
+    /// The position of the host in the text.
     pub(super) fn host(&self) -> HostPlace
         ensures start { result.start ≡ self.now.host_start }
         ensures end { result.end ≡ self.now.host_end }

@@ -1,15 +1,15 @@
-//! A text that lies in its owner where it is short.
+//! A text that is stored inside its owner if it is short.
 ghost use Rattle.std.specs.Prelude.{◌≡◌, ◌++◌, [], IfOk, OnOk, string_bytes};
 
 use arrayvec::ArrayString;
 use std::alloc::{AllocError, Global};
 use std::marker::Model;
 
-/// The longest text that lies in its owner, in bytes.
+/// The longest text that is stored inside its owner, in bytes.
 ///
-/// URLs are mostly 40 to 80 bytes long. With 64 here the block that the copies of one share has 104 bytes, for which an
-/// allocator takes 112: steps of 16, less 8 of its own. With 80 fewer texts would want a block beside it, but each URL would
-/// take 128, and what is read of it would lie in more lines of the caches.
+/// URLs are mostly 40 to 80 bytes long. With 64 here, the block that the copies of a URL share has 104 bytes, for which an
+/// allocator takes 112: it allocates in steps of 16 and needs 8 for itself. With 80, fewer texts would need a second block,
+/// but each URL would take 128 bytes, and what is read of it would be in more cache lines.
 const SHORT: usize = 64;
 
 /// A text of any length.
@@ -24,7 +24,7 @@ enum Kept {
     Long(String),
 }
 
-// Contracts see the bytes alone.
+// In contracts, a text is its bytes.
 impl Model for Text {
     ghost use Rattle.std.specs.Prelude.{ℕ, List};
     ghost use Rattle.crawl_keys.specs.Texts.{bytes_of};
@@ -35,7 +35,7 @@ impl Model for Text {
 }
 
 impl Text {
-    /// No text.
+    /// The empty text.
     #[inline(always)]
     pub(super) fn new() -> Text
         ensures { result ≡ [] }
@@ -45,7 +45,7 @@ impl Text {
         }
     }
 
-    /// Writes these two where there is no text yet. Only a long one wants memory.
+    /// Writes `front` and `back` into an empty text. Only a long text allocates memory.
     #[inline(always)]
     pub(super) fn write(&mut self, alloc: Global, front: &str, back: &str) -> Result<(), AllocError>
         requires { self.old ≡ [] }
@@ -72,7 +72,7 @@ impl Text {
     }
 }
 
-/// A text that is made of these two, in memory that is asked for once.
+/// `front` followed by `back`, with one allocation.
 pub(crate) fn joined(alloc: Global, front: &str, back: &str) -> Result<String, AllocError>
     ensures { IfOk result (λ text. string_bytes text ≡ front.now ++ back.now) }
 {

@@ -1,4 +1,4 @@
-//! Why there is no filter.
+//! Why a filter was not made.
 ghost use Rattle.std.specs.Prelude.{◌≡◌};
 ghost use Rattle.crawl_keys.specs.declared.filter.error.FilterError.TheVariants as wrong;
 
@@ -6,10 +6,10 @@ use std::alloc::{AllocError, AllocFailed};
 use std::error::Error;
 use std::fmt;
 
-/// Why there is no filter, in the order in which the reasons are looked for.
+/// Why a filter was not made. The variants are in the order of the checks.
 #[derive(Clone, Copy, Debug, PartialEq, Eq, Hash)]
 pub enum FilterError {
-    /// The suffix at this place, from 0, is the first that is empty or has a byte other than `a` to
+    /// The suffix at this index, from 0, is the first that is empty or has a byte other than `a` to
     /// `z`, `0` to `9`, `-` and `.`.
     BadSuffix(u64),
     /// The allocator had no memory.

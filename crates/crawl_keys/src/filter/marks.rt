@@ -1,4 +1,4 @@
-//! A table that tells of most texts at once that they are not kept.
+//! A table that quickly rules out most texts that are not suffixes of the filter.
 ghost use Rattle.std.specs.Prelude.{◌≡◌, ℕ, List, true};
 ghost use Rattle.crawl_keys.specs.Marks.{is_marked};
 
@@ -6,17 +6,17 @@ use crate::assignment::hash;
 use std::alloc::{AllocError, Global};
 use std::marker::Model;
 
-/// How many places of the table there are for each text that is to be marked, so that of the texts
-/// that are not kept one in some sixteen finds a mark.
+/// The number of cells per marked text. So about one in sixteen of the other texts finds its cell
+/// marked.
 const PLACES_A_TEXT: usize = 16;
 
-/// Marks of texts, each at the remainder of the text's hash.
+/// Marks of texts, each in the cell that the text's hash selects.
 #[derive(Drop)]
 pub(super) struct Marks {
     places: Vec<bool>,
 }
 
-// Contracts see the table, which has a place.
+// In contracts, marks are the table, which has at least one cell.
 impl Model for Marks {
     ghost use Rattle.std.specs.Prelude.{Bool, List, length, ◌<◌};
 
@@ -28,16 +28,16 @@ impl Model for Marks {
 }
 
 impl Marks {
-    /// A table for so many texts, none of which is marked yet.
+    /// A table for `count` texts, with no text marked.
     pub(super) fn new(alloc: Global, count: usize) -> Result<Marks, AllocError> {
-        // An odd number: at even ones the hashes of texts that are alike gather at few places.
+        // An odd number: with an even one, the hashes of similar texts gather in few cells.
         let places = count.saturating_mul(PLACES_A_TEXT).saturating_add(1);
         Ok(Marks {
             places: vec![in alloc; false; places]?,
         })
     }
 
-    /// Marks a text. What was marked stays marked.
+    /// Marks a text. Texts that were marked stay marked.
     pub(super) fn mark(&mut self, text: &str)
         ensures own { is_marked self.new text.now ≡ true }
         ensures others { (other : List ℕ) → is_marked self.old other ≡ true → is_marked self.new other ≡ true }
@@ -46,7 +46,7 @@ impl Marks {
         self.places[place] = true;
     }
 
-    /// Whether the text's place is marked, by the text or by another one.
+    /// Whether the text's cell is marked, by this text or by another one.
     pub(super) fn has(&self, text: &str) -> bool
         ensures { result ≡ is_marked self.now text.now }
     {

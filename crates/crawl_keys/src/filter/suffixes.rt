@@ -1,4 +1,4 @@
-//! The suffixes of a filter, in an ordered set with a table of marks beside it.
+//! The suffixes of a filter: an ordered set, and a table of marks.
 ghost use Rattle.std.specs.Prelude.{◌≡◌, ◌<◌, Ok, MatchOption, length, map, bytes_eq};
 ghost use Rattle.std.specs.BTreeSet.{insert_key};
 ghost use Rattle.std.specs.Cmp.Lexicographic.{slice_cmp};
@@ -22,8 +22,8 @@ pub(super) struct Suffixes {
     marks: Marks,
 }
 
-// Contracts see the suffixes' bytes, in order. Each suffix is marked, so that a text without a mark
-// is none of them.
+// In contracts, suffixes are their bytes, in order. Each suffix is marked, so a text without a mark
+// is not a suffix.
 impl Model for Suffixes {
     ghost use Rattle.std.specs.Prelude.{ℕ, List, map, string_bytes};
     ghost use Rattle.crawl_keys.specs.Marks.{AreMarked};
@@ -42,7 +42,7 @@ impl fmt::Debug for Suffixes {
 }
 
 impl Suffixes {
-    /// These suffixes.
+    /// Stores these suffixes.
     pub(super) fn keep(alloc: Global, suffixes: &[&str]) -> Result<Suffixes, FilterError>
         ensures { Gives FilterError.NoMemory (λ kept. kept) result (Ok (in_order (map (λ suffix. suffix.now) suffixes.now))) }
     {
@@ -56,7 +56,7 @@ impl Suffixes {
         Ok(kept)
     }
 
-    /// Adds a suffix, if it is not there.
+    /// Adds a suffix, if it is not stored yet.
     fn add(&mut self, alloc: Global, suffix: &str) -> Result<(), FilterError>
         ensures { Gives FilterError.NoMemory (λ _. self.new) result (Ok (insert_key (slice_cmp nat_cmp) self.old suffix.now)) }
     {
@@ -73,7 +73,7 @@ impl Suffixes {
         self.texts.is_empty()
     }
 
-    /// Whether the host is one of the suffixes, or ends with a dot and one.
+    /// Whether the host is one of the suffixes, or ends with a dot and one of them.
     pub(super) fn have(&self, host: &str) -> bool
         ensures { result ≡ list_any (spec.is_within host.now) self.now }
     {
@@ -97,7 +97,7 @@ impl Suffixes {
     }
 }
 
-/// What stands before the first dot, and what stands behind it.
+/// The text before the first dot, and the text after it.
 fn split_dot(text: &str) -> Option<(&str, &str)>
     ensures { MatchOption result (position_or_len spec.is_dot text.now ≡ length text.now) (λ x. (position_or_len spec.is_dot text.now < length text.now) × (x.1.now ≡ after_first spec.is_dot text.now)) }
 {
