@@ -1,16 +1,16 @@
-/* A client of `mercator serve` on pipes, for bench/serve.sh.
+/* A client of `mercator serve` over pipes, for bench/serve.sh.
  *
- *     serve_client new COUNT PROGRAM WORD..     offers COUNT URLs, ahead of their answers
- *     serve_client seen COUNT PROGRAM WORD..    offers them, and measures offering them again
- *     serve_client single COUNT PROGRAM WORD..  offers COUNT URLs, each once the last is answered
- *     serve_client polled COUNT PROGRAM WORD..  the same, and asks for the answer until it is there
- *     serve_client line COUNT PROGRAM WORD..    sends a line of COUNT bytes
- *     serve_client print COUNT                  writes the requests of `new`
- *     serve_client echo                         in place of PROGRAM for `single`: it only answers
+ *     serve_client new COUNT PROGRAM ARG..     offers COUNT URLs, ahead of their answers
+ *     serve_client seen COUNT PROGRAM ARG..    offers them, and measures offering them again
+ *     serve_client single COUNT PROGRAM ARG..  offers COUNT URLs, each after the previous answer
+ *     serve_client polled COUNT PROGRAM ARG..  the same, and polls for the answer
+ *     serve_client line COUNT PROGRAM ARG..    sends a line of COUNT bytes
+ *     serve_client print COUNT                 prints the requests of `new`
+ *     serve_client echo                        only answers; for `single` instead of PROGRAM
  *
- * It writes the nanoseconds that passed, those of processor time that the program took meanwhile,
- * and the program's greatest resident memory at its end, in bytes. Every answer is read, and one
- * that is not as it has to be ends the client with status 1. URLs have 35 bytes and 997 hosts. */
+ * It prints the elapsed nanoseconds, the CPU nanoseconds of the program in this time, and the peak
+ * resident memory of the program in bytes. Every answer is read; if one is not as expected, the
+ * client exits with status 1. The URLs have 35 bytes and 997 hosts. */
 
 #define _GNU_SOURCE
 #include <errno.h>
@@ -30,8 +30,8 @@ enum { LINE = 6 + 35 + 1, HOSTS = 997, CHUNK = 65536 };
 
 struct server {
     pid_t pid;
-    int requests; /* what it reads */
-    int answers;  /* what it writes */
+    int requests; /* the pipe that it reads */
+    int answers;  /* the pipe that it writes */
 };
 
 static void fail(const char *what)
@@ -40,8 +40,8 @@ static void fail(const char *what)
     exit(1);
 }
 
-/* The program with both pipes. It starts before this client takes memory, which would count as the
- * program's own until it runs. */
+/* Starts the program with both pipes. This is done before the client allocates memory, which would
+ * count as that of the program until it runs. */
 static struct server start(char **words)
 {
     int in[2], out[2];
@@ -74,7 +74,7 @@ static void write_all(int file, const char *bytes, size_t count)
     }
 }
 
-/* One answer without its end, of at most 79 bytes. */
+/* Reads an answer of at most 79 bytes, without its line end. */
 static void read_answer(int file, char *answer)
 {
     size_t count = 0;
@@ -97,7 +97,7 @@ static void expect(struct server *server, const char *start)
         fail(answer);
 }
 
-/* The requests that offer so many URLs. */
+/* Makes the requests that offer COUNT URLs. */
 static char *offers(size_t count)
 {
     char *lines = malloc(count * LINE + 1);
@@ -109,8 +109,8 @@ static char *offers(size_t count)
     return lines;
 }
 
-/* Counts the answers in what was read; each has to begin with a letter. `begins`: whether the next
- * byte begins one. */
+/* Counts the answers in the bytes that were read; each has to begin with a letter. `begins` is
+ * whether the next byte begins an answer. */
 static size_t answers_in(const char *bytes, size_t count, char letter, int *begins)
 {
     size_t ended = 0;
@@ -123,7 +123,7 @@ static size_t answers_in(const char *bytes, size_t count, char letter, int *begi
     return ended;
 }
 
-/* Sends so many requests ahead of their answers, as far as the pipes hold, and reads those. */
+/* Sends COUNT requests ahead of their answers, as far as the pipes have room, and reads these. */
 static void pipeline(struct server *server, const char *lines, size_t count, char letter)
 {
     static char read_bytes[CHUNK];
@@ -159,8 +159,8 @@ static void one_by_one(struct server *server, const char *lines, size_t count)
     }
 }
 
-/* Answers each read at once, with no work between: what remains of `single` is the pipes' and the
- * system's. */
+/* Answers each read immediately, without any work: the time of `single` is then only that of the
+ * pipes and the system. */
 static int echo(void)
 {
     char line[LINE];
@@ -192,7 +192,7 @@ static long long nanoseconds(clockid_t clock)
     return now.tv_sec * 1000000000LL + now.tv_nsec;
 }
 
-/* Ends the program by the end of its input, and answers its greatest resident memory. */
+/* Ends the program by closing its input, and returns its peak resident memory. */
 static long long peak_at_end(struct server *server)
 {
     int status;
@@ -234,7 +234,7 @@ int main(int argc, char **argv)
     signal(SIGPIPE, SIG_IGN);
     struct server server = start(argv + 3);
     char *lines = strcmp(mode, "line") == 0 ? NULL : offers(count);
-    write_all(server.requests, "done 0\n", 7); /* once it is answered the program has started */
+    write_all(server.requests, "done 0\n", 7); /* after the answer, the program has started */
     expect(&server, "refused nothing");
     if (strcmp(mode, "seen") == 0)
         pipeline(&server, lines, count, 'a');

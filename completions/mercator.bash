@@ -1,6 +1,6 @@
-# Completions of mercator for bash. Commands and options are those that `mercator --help` tells.
+# Completions of mercator for bash. Commands and options come from `mercator --help`.
 
-# _mercator_told SECTION WORD..: the lines of this section of the help of these words.
+# _mercator_told SECTION [COMMAND]: prints the lines of this section of the help.
 _mercator_told() {
     "${COMP_WORDS[0]}" "${@:2}" --help 2> /dev/null | sed -n "/^$1:\$/,/^\$/p"
 }

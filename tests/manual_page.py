@@ -1,13 +1,21 @@
 #!/usr/bin/env python3
-"""Holds the manual page and the completions against what `mercator --help` says.
+"""Compares the manual page, the manual and the completions with `mercator --help`.
 
 Usage: manual_page.py [PROGRAM]
 
-PROGRAM is the word, else what MERCATOR of the environment names, else the built program. For each
-command: its options with their values and defaults, and its other words, are those of the page
-`docs/mercator.1`; its options are those that bash and zsh offer, and where a value is a file they
-offer files. zsh is asked over a terminal, where it is installed. The version is that of
-CHANGELOG.md everywhere. At last it prints `N passed, M failed`.
+PROGRAM is the program to ask for its help. Without it, the program is the one that the environment
+variable MERCATOR names, or else the built one.
+
+- The help lists the commands in one order; the page `docs/mercator.1` and `docs/MANUAL.md` have the
+  same order.
+- For each command, help, page and manual have the same one-line description, and the same options in
+  the same order, each with the same value, default and sentence, word for word. The page has the same
+  other arguments.
+- bash and zsh complete the commands, the options of each, and files where a value is a file. zsh runs
+  in a terminal, if it is installed.
+- The version of CHANGELOG.md is that of the program, of the page and of the Python clients.
+
+It prints each difference and, at the end, `N passed, M failed`. The exit status is 1 if anything differs.
 """
 
 from __future__ import annotations
@@ -30,17 +38,22 @@ from typing import Callable, Dict, List, NamedTuple, Optional, Set, Tuple
 ROOT = Path(__file__).resolve().parent.parent
 BUILT = ROOT / "crates/mercator_cli/out/mercator_cli"
 PAGE = ROOT / "docs/mercator.1"
+MANUAL = ROOT / "docs/MANUAL.md"
 SECONDS = float(os.environ.get("SECONDS", "30"))
 
-# What a value is that names a file.
+# The values that are names of files.
 FILES = ("FILE", "LIST", "NEW")
+HELP_COMMAND = re.compile(r"^  (\w+) +(.*)$", re.M)
 HELP_LINE = re.compile(r" +(?:-\w, | {4})--([a-z-]+)(?: <([A-Z/]+)>)? {2,}(.*)")
-HELP_DEFAULT = re.compile(r"\[default: (.*)\]")
-PAGE_OPTION = re.compile(r'\.BI? \\-\\-([a-z\\-]+)(?: " ([A-Z/]+)")?')
-PAGE_DEFAULT = re.compile(r"^The default is (.*)\.$", re.M)
+HELP_DEFAULT = re.compile(r"^(.*?) \[default: (.*)\]$")
+MACRO_PART = re.compile(r'(?:"[^"]*"|[^\s"])+')
+PAGE_OPTION = re.compile(r"--([a-z-]+)(?: ([A-Z/]+))?$")
+PAGE_DEFAULT = re.compile(r"(?<= )The default is (.*?)\.(?= |$)")
+MANUAL_HEADING = re.compile(r"^### `mercator ([a-z]+)\b(.*)`$", re.M)
+MANUAL_OPTION = re.compile(r"--([a-z-]+)(?: ([A-Z/]+))?$")
 FILE = "some_file"
 
-# What a shell offers for words, the last of which is being written.
+# What a shell offers if the last of these words is being typed.
 Offered = Callable[[Tuple[str, ...]], Set[str]]
 
 
@@ -48,21 +61,26 @@ class Option(NamedTuple):
     name: str
     value: Optional[str]
     default: Optional[str]
+    sentence: str
 
 
-class Said(NamedTuple):
-    """What is said of a command: the options but for --help, and the other words."""
+class Described(NamedTuple):
+    """What a text says of a command: its description, its options except --help, its other arguments."""
 
-    options: Set[Option]
-    words: Set[str]
+    about: str
+    options: List[Option]
+    arguments: Set[str]
+
+
+NOTHING = Described("", [], set())
 
 
 # ---------------------------------------------------------------- the program's help
 
 
-def help_of(program: str, *words: str) -> str:
+def help_of(program: str, *arguments: str) -> str:
     done = subprocess.run(
-        [program, *words, "--help"], capture_output=True, check=True, text=True, timeout=SECONDS
+        [program, *arguments, "--help"], capture_output=True, check=True, text=True, timeout=SECONDS
     )
     return done.stdout
 
@@ -72,66 +90,136 @@ def section_of(text: str, title: str) -> str:
     return found[1] if found else ""
 
 
-def commands_of(program: str) -> List[str]:
-    names: List[str] = re.findall(r"^  (\w+)", section_of(help_of(program), "Commands"), re.M)
-    return names
+def commands_of(program: str) -> Dict[str, str]:
+    """The description of each command in the list of commands, in the order of that list."""
+    return dict(HELP_COMMAND.findall(section_of(help_of(program), "Commands")))
 
 
-def said_by_help(text: str) -> Said:
-    options = set()
+def described_by_help(text: str) -> Described:
+    options = []
     for line in section_of(text, "Options").splitlines():
         found = HELP_LINE.fullmatch(line)
         if not found:
             raise ValueError(f"the help has the line {line!r}")
-        name, value, told = found.groups()
-        default = HELP_DEFAULT.search(told)
+        name, value, sentence = found.groups()
+        default = HELP_DEFAULT.match(sentence)
+        if default:
+            sentence = default[1]
         if name != "help":
-            options.add(Option(name, value, default[1] if default else None))
+            options.append(Option(name, value, default[2] if default else None, sentence))
     usage = next(line for line in text.splitlines() if line.startswith("Usage: "))
-    return Said(options, set(re.findall(r"[<[]([A-Z]+)[]>]", usage)) - {"OPTIONS", "COMMAND"})
+    arguments = set(re.findall(r"[<[]([A-Z]+)[]>]", usage)) - {"OPTIONS", "COMMAND"}
+    return Described(text.splitlines()[0], options, arguments)
+
+
+def sentence_in(text: str, sentence: str) -> str:
+    """The sentence, if the text begins with it and a full stop; else the text, so that the two differ."""
+    return sentence if re.match(re.escape(sentence) + r"\.(?: |$)", text) else text
 
 
 # ---------------------------------------------------------------- the page
 
 
-def said_by_page() -> Dict[str, Said]:
-    """What the page says of each command: the options in its section, the words in the synopsis."""
+def plain(source: str) -> str:
+    """The text of lines of the page, without macros and fonts."""
+    lines = []
+    for line in source.splitlines():
+        macro = re.match(r"\.([BI]|[BIR]{2}) (.*)", line)
+        if macro:
+            parts = [part.replace('"', "") for part in MACRO_PART.findall(macro[2])]
+            lines.append((" " if len(macro[1]) == 1 else "").join(parts))
+        elif not line.startswith("."):
+            lines.append(line)
+    text = " ".join(lines)
+    for escape, character in ((r"\\f.", ""), (r"\\\(aq", "'"), (r"\\[|&]", ""), (r"\\-", "-"), (r"\\e", r"\\")):
+        text = re.sub(escape, character, text)
+    return text
+
+
+def described_by_page(helps: Dict[str, Described]) -> Dict[str, Described]:
+    """What the page says of each command, in the page's order."""
     text = PAGE.read_text()
-    words = synopsis_of(text[text.index(".SH SYNOPSIS"):text.index(".SH DESCRIPTION")])
+    arguments = synopsis_of(text[text.index(".SH SYNOPSIS"):text.index(".SH DESCRIPTION")])
     sections = text[text.index(".SH COMMANDS"):text.index(".SH OPTIONS")].split("\n.SS ")[1:]
-    said = {}
+    described = {}
     for section in sections:
         command, _, rest = section.partition("\n")
-        options = set()
-        for paragraph in re.split(r"^\.TP\n", rest, flags=re.M)[1:]:
-            found = PAGE_OPTION.match(paragraph)
-            default = PAGE_DEFAULT.search(paragraph)
+        wanted = helps.get(command, NOTHING)
+        sentences = {option.name: option.sentence for option in wanted.options}
+        head, *paragraphs = re.split(r"^\.TP\n", rest, flags=re.M)
+        options = []
+        for paragraph in paragraphs:
+            tag, _, body = paragraph.partition("\n")
+            found = PAGE_OPTION.match(plain(tag.replace("\\-", "-")))
             if found:
-                name = found[1].replace("\\", "")
-                options.add(Option(name, found[2], default[1] if default else None))
-        said[command] = Said(options, words.get(command, set()))
-    return said
+                told = plain(body)
+                default = PAGE_DEFAULT.search(told)
+                sentence = sentence_in(told, sentences.get(found[1], ""))
+                options.append(Option(found[1], found[2], default[1] if default else None, sentence))
+        about = sentence_in(plain(head), wanted.about)
+        described[command] = Described(about, options, arguments.get(command, set()))
+    return described
 
 
 def synopsis_of(text: str) -> Dict[str, Set[str]]:
-    words = {}
+    arguments = {}
     for entry in text.split(".B mercator ")[1:]:
         command, _, rest = entry.partition("\n")
-        words[command] = set(re.findall(r"\b[A-Z]{2,}\b", rest)) - {"OPTION", "COMMAND", "RI"}
-    return words
+        arguments[command] = set(re.findall(r"\b[A-Z]{2,}\b", rest)) - {"OPTION", "COMMAND", "RI"}
+    return arguments
 
 
 def version_in(file: str, before: str) -> str:
-    """The version that a file names behind this text."""
+    """The version that follows this text at the start of a line of the file."""
     found = re.search(rf"^{before}([0-9.]+)", (ROOT / file).read_text(), re.M)
     return found[1] if found else ""
+
+
+# ---------------------------------------------------------------- the manual
+
+
+def described_by_manual(helps: Dict[str, Described]) -> Dict[str, Described]:
+    """What the manual says of each command: its first paragraph, and the rows of its table."""
+    text = MANUAL.read_text()
+    described = {}
+    for heading in MANUAL_HEADING.finditer(text):
+        rest = text[heading.end():]
+        section = re.split(r"^#", rest, maxsplit=1, flags=re.M)[0]
+        wanted = helps.get(heading[1], NOTHING)
+        about = sentence_in(without_marks(section.strip()), wanted.about)
+        rows = [cells_of(line) for line in section.splitlines() if line.startswith("|")]
+        options = [option for row in rows[2:] if (option := option_of(rows[0], row, wanted))]
+        arguments = set(re.findall(r"\b[A-Z]+\b", heading[2])) - {"OPTIONS"}
+        described[heading[1]] = Described(about, options, arguments)
+    return described
+
+
+def without_marks(text: str) -> str:
+    return text.replace("`", "").replace("*", "")
+
+
+def cells_of(row: str) -> List[str]:
+    return [without_marks(cell).strip() for cell in row.strip().strip("|").split("|")]
+
+
+def option_of(titles: List[str], cells: List[str], wanted: Described) -> Optional[Option]:
+    """The option of a row, whose cells have these titles."""
+    row = dict(zip(titles, cells))
+    found = MANUAL_OPTION.match(row.get("Option", ""))
+    if not found:
+        return None
+    cell = row.get("What it does", "")
+    for option in wanted.options:
+        if option.name == found[1]:
+            cell = sentence_in(cell, option.sentence)
+    return Option(found[1], found[2], row.get("Default") or None, cell)
 
 
 # ---------------------------------------------------------------- bash and zsh
 
 
 def offered_by_bash(words: Tuple[str, ...], folder: Path) -> Set[str]:
-    """What bash offers where the last word is being written."""
+    """What bash offers while the last word is being typed."""
     script = (
         'source "$1"; shift; COMP_WORDS=(mercator "$@"); COMP_CWORD=$#; _mercator;'
         ' printf "%s\\n" "${COMPREPLY[@]}"'
@@ -144,7 +232,7 @@ def offered_by_bash(words: Tuple[str, ...], folder: Path) -> Set[str]:
 
 
 class Zsh:
-    """A shell of zsh at a terminal, whose tabulator lists what it offers."""
+    """zsh in a terminal. Its tab key lists what it offers."""
 
     SETTINGS = (
         f"fpath=({ROOT}/completions $fpath)", "autoload -Uz compinit", "compinit -D -u",
@@ -163,20 +251,20 @@ class Zsh:
         self.ask("\n".join(self.SETTINGS) + "\n", "is-ready")
 
     def ask(self, text: str, until: str) -> str:
-        """Writes the text, and reads on until this stands there."""
+        """Types the text, and reads until the terminal shows `until`."""
         os.write(self.terminal, text.encode())
-        told, end = "", time.monotonic() + SECONDS
-        while until not in told:
+        shown, end = "", time.monotonic() + SECONDS
+        while until not in shown:
             if not select.select([self.terminal], [], [], end - time.monotonic())[0]:
-                raise TimeoutError(f"zsh does not answer {text!r}")
-            told += os.read(self.terminal, 65536).decode("utf-8", "replace")
-        return told
+                raise TimeoutError(f"zsh shows no {until!r} after {text!r}")
+            shown += os.read(self.terminal, 65536).decode("utf-8", "replace")
+        return shown
 
     def offered(self, words: Tuple[str, ...]) -> Set[str]:
-        """What is listed below the line; control-U gives the line up."""
-        told = self.ask(f"mercator {' '.join(words)}\t\x18", "is-over")
+        """What zsh lists below the line. Control-U then deletes the line."""
+        shown = self.ask(f"mercator {' '.join(words)}\t\x18", "is-over")
         os.write(self.terminal, b"\x15")
-        listed = re.sub(r"\x1b\[[0-9;?]*[A-Za-z]|\0", "", told)
+        listed = re.sub(r"\x1b\[[0-9;?]*[A-Za-z]|\0", "", shown)
         return set(re.findall(rf"^(--[a-z-]+|{FILE}|[a-z]+(?= +--))", listed, re.M))
 
     def end(self) -> None:
@@ -192,50 +280,69 @@ class Trial:
     def __init__(self) -> None:
         self.passed = self.failed = 0
 
-    def equal(self, what: str, ours: object, wanted: object) -> None:
-        self.passed += ours == wanted
-        if ours != wanted:
+    def equal(self, what: str, found: object, wanted: object) -> None:
+        self.passed += found == wanted
+        if found != wanted:
             self.failed += 1
             print(f"{what}: FAILED")
-            if isinstance(ours, set) and isinstance(wanted, set):
-                print(f"    lacks {sorted(map(str, wanted - ours))}")
-                print(f"    has alone {sorted(map(str, ours - wanted))}")
+            if isinstance(found, set) and isinstance(wanted, set):
+                print(f"    missing: {sorted(map(str, wanted - found))}")
+                print(f"    unknown: {sorted(map(str, found - wanted))}")
             else:
-                print(f"    {ours}, not {wanted}")
+                print(f"    found:    {found}\n    expected: {wanted}")
 
 
-def compare_page(trial: Trial, helps: Dict[str, Said]) -> None:
-    said = said_by_page()
-    trial.equal("the page's commands", set(said), {*helps, "help"})
+def compare_text(
+    trial: Trial, text: str, found: Dict[str, Described], helps: Dict[str, Described]
+) -> None:
+    """Compares what a text says of each command with the help."""
     for command, wanted in helps.items():
-        ours = said.get(command, Said(set(), set()))
-        trial.equal(f"the page's options of {command}", ours.options, wanted.options)
-        trial.equal(f"the page's words of {command}", ours.words, wanted.words)
+        ours = found.get(command, NOTHING)
+        trial.equal(f"{text}: description of {command}", ours.about, wanted.about)
+        names = [option.name for option in wanted.options]
+        trial.equal(f"{text}: options of {command}", [option.name for option in ours.options], names)
+        by_name = {option.name: option for option in ours.options}
+        for option in wanted.options:
+            trial.equal(f"{text}: {command} --{option.name}", by_name.get(option.name), option)
+        trial.equal(f"{text}: arguments of {command}", ours.arguments, wanted.arguments)
+
+
+def compare_page(trial: Trial, about: str, helps: Dict[str, Described]) -> None:
+    found = described_by_page(helps)
+    trial.equal("the page: commands", list(found), [*helps, "help"])
+    compare_text(trial, "the page", found, helps)
+    name = plain(PAGE.read_text().partition(".SH NAME\n")[2].partition("\n")[0]).partition(" - ")[2]
+    trial.equal("the page: the line NAME", name[:1].upper() + name[1:], about)
     version = version_in("CHANGELOG.md", "## ")
-    trial.equal("the page's version", version_in("docs/mercator.1", '.TH .* "mercator '), version)
-    clients = version_in("clients/python/make_wheel.py", 'NAME, VERSION = "mercator_clients", "')
-    trial.equal("the clients' version", clients, version)
+    trial.equal("the page: version", version_in("docs/mercator.1", '.TH .* "mercator '), version)
     if shutil.which("groff"):
-        words = ["groff", "-man", "-ww", "-z", str(PAGE)]
-        warned = subprocess.run(words, capture_output=True, text=True, timeout=SECONDS)
-        trial.equal("what groff says of the page", warned.stdout + warned.stderr, "")
+        command = ["groff", "-man", "-ww", "-z", str(PAGE)]
+        warned = subprocess.run(command, capture_output=True, text=True, timeout=SECONDS)
+        trial.equal("the page: warnings of groff", warned.stdout + warned.stderr, "")
 
 
-def compare_shell(trial: Trial, helps: Dict[str, Said], shell: str, offered: Offered) -> None:
-    trial.equal(f"{shell}'s commands", offered(("",)) - {"--help", "--version"}, {*helps, "help"})
+def compare_manual(trial: Trial, helps: Dict[str, Described]) -> None:
+    found = described_by_manual(helps)
+    trial.equal("the manual: commands", list(found), list(helps))
+    compare_text(trial, "the manual", found, helps)
+
+
+def compare_shell(trial: Trial, helps: Dict[str, Described], shell: str, offered: Offered) -> None:
+    commands = offered(("",)) - {"--help", "--version"}
+    trial.equal(f"{shell}: commands", commands, {*helps, "help"})
     for command, wanted in helps.items():
         options = {f"--{option.name}" for option in wanted.options} | {"--help"}
-        trial.equal(f"{shell}'s options of {command}", offered((command, "--")), options)
+        trial.equal(f"{shell}: options of {command}", offered((command, "--")), options)
         for option in wanted.options:
             if option.value:
                 files = {FILE} if option.value in FILES else set()
-                ours = offered((command, f"--{option.name}", FILE[:1])) & {FILE}
-                trial.equal(f"{shell}'s files for {command} --{option.name}", ours, files)
-        if "FILE" in wanted.words:
-            trial.equal(f"{shell}'s files for {command}", offered((command, FILE[:1])), {FILE})
+                found = offered((command, f"--{option.name}", FILE[:1])) & {FILE}
+                trial.equal(f"{shell}: files for {command} --{option.name}", found, files)
+        if "FILE" in wanted.arguments:
+            trial.equal(f"{shell}: files for {command}", offered((command, FILE[:1])), {FILE})
 
 
-def compare_shells(trial: Trial, helps: Dict[str, Said], folder: Path) -> None:
+def compare_shells(trial: Trial, helps: Dict[str, Described], folder: Path) -> None:
     (folder / FILE).touch()
     compare_shell(trial, helps, "bash", lambda words: offered_by_bash(words, folder))
     if shutil.which("zsh"):
@@ -243,25 +350,33 @@ def compare_shells(trial: Trial, helps: Dict[str, Said], folder: Path) -> None:
         compare_shell(trial, helps, "zsh", zsh.offered)
         zsh.end()
     else:
-        print("zsh is not installed: its completions are not tried")
+        print("zsh is not installed, so its completions are not tested")
+
+
+def compare_versions(trial: Trial, program: str) -> None:
+    version = version_in("CHANGELOG.md", "## ")
+    shown = subprocess.run([program, "--version"], capture_output=True, text=True, timeout=SECONDS)
+    trial.equal("the program's version", shown.stdout.split()[:2], ["mercator", version])
+    clients = version_in("clients/python/make_wheel.py", 'NAME, VERSION = "mercator_clients", "')
+    trial.equal("the version of the Python clients", clients, version)
 
 
 def main() -> None:
-    words = sys.argv[1:]
-    named = words[0] if words else os.environ.get("MERCATOR") or str(BUILT)
+    arguments = sys.argv[1:]
+    named = arguments[0] if arguments else os.environ.get("MERCATOR") or str(BUILT)
     found = shutil.which(named)
-    if len(words) > 1 or found is None:
-        sys.exit(f"usage: manual_page.py [PROGRAM]; {named} is no program")
+    if len(arguments) > 1 or found is None:
+        sys.exit(f"usage: manual_page.py [PROGRAM] (no program {named})")
     program = str(Path(found).resolve())
-    commands = [command for command in commands_of(program) if command != "help"]
-    helps = {command: said_by_help(help_of(program, command)) for command in commands}
+    listed = {name: about for name, about in commands_of(program).items() if name != "help"}
+    helps = {command: described_by_help(help_of(program, command)) for command in listed}
     trial = Trial()
-    compare_page(trial, helps)
-    told = subprocess.run([program, "--version"], capture_output=True, text=True, timeout=SECONDS)
-    version = version_in("CHANGELOG.md", "## ")
-    trial.equal("the program's version", told.stdout.split()[:2], ["mercator", version])
+    trial.equal("descriptions in the list of commands", {name: one.about for name, one in helps.items()}, listed)
+    compare_page(trial, help_of(program).splitlines()[0], helps)
+    compare_manual(trial, helps)
+    compare_versions(trial, program)
     with tempfile.TemporaryDirectory() as folder, tempfile.TemporaryDirectory() as programs:
-        # The completions ask the program by its name.
+        # The completions run the program by its name.
         Path(programs, "mercator").symlink_to(program)
         os.environ["PATH"] = f"{programs}:{os.environ['PATH']}"
         compare_shells(trial, helps, Path(folder))

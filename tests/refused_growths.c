@@ -1,4 +1,4 @@
-// Refuses the growth with the number in REFUSE, from 1, and then makes the file in REFUSED, so that it is known to be met.
+// Lets the allocation with the number in REFUSE, from 1, fail, and then makes the file REFUSED, which shows that it was reached.
 #define _GNU_SOURCE
 #include <errno.h>
 #include <fcntl.h>

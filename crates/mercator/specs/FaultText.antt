@@ -1,4 +1,4 @@
--- The texts of faults, and their lines.
+-- The texts of errors, and their lines.
 use Rattle.std.specs.Prelude.{ℕ, ◌+◌, List, [], ◌∷◌, ◌++◌, codes, Option, Some, None}
 use Rattle.std.specs.Fmt.{decimal}
 use Rattle.crawl_certificate.specs.declared.error.CertError.{CertError}
@@ -26,12 +26,12 @@ use Rattle.crawl_replay.specs.declared.script.error.ScriptError.TheVariants as s
 abbrev pub line_text : ℕ → List ℕ → List ℕ
 line_text number words = codes "line " ++ decimal number ++ codes ": " ++ words
 
--- words about the line with this number, where there is one
+-- what is wrong, with the number of the line if there is one
 abbrev pub words_text : Option ℕ → List ℕ → List ℕ
 words_text None words = words
 words_text (Some number) words = line_text number words
 
--- why bytes are no saved web
+-- why bytes are not a saved web
 abbrev pub web_text : WebError → List ℕ
 web_text (web.LineTooLong number) = line_text number (codes "line too long")
 web_text (web.NotText number) = line_text number (codes "not UTF-8")
@@ -43,7 +43,7 @@ web_text (web.BadPageUrl number) = line_text number (codes "bad page URL")
 web_text (web.PageTwice number) = line_text number (codes "page twice")
 web_text web.NoMemory = codes "out of memory"
 
--- why bytes are no seeds
+-- why bytes are not a file of seeds
 abbrev pub seeds_text : SeedsFault → List ℕ
 seeds_text (seeds.LineTooLong number) = line_text number (codes "line too long")
 seeds_text (seeds.NotText number) = line_text number (codes "not UTF-8")
@@ -51,7 +51,7 @@ seeds_text (seeds.NotUrl number) = line_text number (codes "not a URL")
 seeds_text (seeds.NotHttp number) = line_text number (codes "not http or https")
 seeds_text seeds.NoMemory = codes "out of memory"
 
--- why bytes are no script
+-- why bytes are not a script
 abbrev pub script_text : ScriptError → List ℕ
 script_text (script.LineTooLong number) = line_text number (codes "line too long")
 script_text (script.NotText number) = line_text number (codes "not UTF-8")
@@ -76,7 +76,7 @@ cert_text cert.Unfounded = codes "unfounded URL"
 cert_text cert.Twice = codes "fetched twice"
 cert_text cert.NoMemory = codes "out of memory"
 
--- why a crawl has no pages: no frontier has its numbers, in the frontier's own words, and nothing was crawled; or it is incomplete
+-- why a crawl has no pages: its numbers are out of range, in the frontier's own words, and nothing was crawled; or it is incomplete
 abbrev pub crawl_text : CrawlError → List ℕ
 crawl_text (crawl.Frontier error) = frontier_error_text error
 crawl_text (crawl.Run error) = codes "incomplete: " ++ run_error_text error
@@ -84,17 +84,17 @@ crawl_text (crawl.Finish error) = codes "incomplete: " ++ finish_text error
 crawl_text (crawl.Cert error) = codes "incomplete: " ++ cert_text error
 crawl_text crawl.NoMemory = codes "out of memory"
 
--- why there is no session with a log, or no more of it
+-- why a session with a log cannot start or continue
 abbrev pub log_text : LogFault → List ℕ
 log_text unlogged.CannotOpen = codes "cannot open"
-log_text unlogged.InUse = codes "in use"
+log_text unlogged.InUse = codes "in use by another program"
 log_text unlogged.CannotRead = codes "cannot read"
-log_text unlogged.OtherSettings = codes "other settings"
+log_text unlogged.OtherSettings = codes "made with other options"
 log_text unlogged.CannotWrite = codes "cannot write"
-log_text unlogged.CannotMakeNew = codes "cannot make the new log"
+log_text unlogged.CannotMakeNew = codes "cannot create the new log, which must not exist"
 log_text unlogged.CannotWriteNew = codes "cannot write the new log"
 
--- the text of a fault that speaks of this file
+-- the text of an error about this file
 abbrev pub fault_text : List ℕ → Fault → List ℕ
 fault_text file wrong.CannotRead = codes "cannot read " ++ file
 fault_text file wrong.CannotReadSeeds = codes "cannot read " ++ file
@@ -104,31 +104,31 @@ fault_text file wrong.BadSuffix = codes "bad suffix"
 fault_text file (wrong.Url refusal) = codes "URL: " ++ message refusal
 fault_text file (wrong.Seed number refusal) = codes "seed " ++ decimal number ++ codes ": " ++ message refusal
 fault_text file (wrong.Seeds fault) = codes "seeds: " ++ seeds_text fault
-fault_text file wrong.NoSeed = codes "seeds: no seed"
+fault_text file wrong.NoSeed = codes "seeds: no seed in the list or on the command line"
 fault_text file (wrong.Web fault) = codes "saved web: " ++ web_text fault
 fault_text file (wrong.Script fault) = codes "script: " ++ script_text fault
 fault_text file (wrong.Crawl error) = crawl_text error
 fault_text file (wrong.Log fault) = codes "log " ++ file ++ codes ": " ++ log_text fault
 
--- the line that tells it
+-- the line that reports it
 abbrev pub fault_line : List ℕ → Fault → List ℕ
 fault_line file fault = codes "mercator: " ++ fault_text file fault ++ 10 ∷ []
 
--- the line that tells a fault at this URL
+-- the line that reports an error at this URL
 abbrev pub culprit_line : List ℕ → Fault → List ℕ → List ℕ
 culprit_line file fault url = codes "mercator: " ++ fault_text file fault ++ codes ": " ++ url ++ 10 ∷ []
 
--- the line that tells how much was lost, by why
+-- the line that reports the losses by cause
 abbrev pub losses_line : Losses → List ℕ
 losses_line losses =
-    codes "mercator: lost: full " ++ (decimal losses.full ++ (codes ", too far " ++ (decimal losses.too_far ++ (codes ", crossed " ++ (decimal losses.crossed
-    ++ (codes ", failed " ++ (decimal losses.failed ++ (codes ", out of memory " ++ (decimal (losses.no_memory + losses.unkept) ++ 10 ∷ [])))))))))
+    codes "mercator: lost: " ++ (decimal losses.full ++ (codes " above --max-pending, " ++ (decimal losses.too_far ++ (codes " too far from a seed, " ++ (decimal losses.crossed
+    ++ (codes " from a duplicate sender, " ++ (decimal losses.failed ++ (codes " not fetched, " ++ (decimal (losses.no_memory + losses.unkept) ++ (codes " out of memory" ++ 10 ∷ []))))))))))
 
--- the lines that tell a fault at this URL, and what was lost
+-- the lines that report an error at this URL, and the losses
 abbrev pub culprit_lines : List ℕ → Fault → Option (List ℕ) → Losses → List ℕ
 culprit_lines file fault None losses = []
 culprit_lines file fault (Some url) losses = culprit_line file fault url ++ losses_line losses
 
--- the line that tells that the last line of this log had no end, and is cut off
+-- the line that reports that the last line of this log had no end, and was removed
 abbrev pub torn_line : List ℕ → List ℕ
-torn_line file = (codes "mercator: log " ++ file ++ codes ": torn line cut off") ++ 10 ∷ []
+torn_line file = (codes "mercator: log " ++ file ++ codes ": incomplete last line removed") ++ 10 ∷ []

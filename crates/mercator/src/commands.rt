@@ -1,4 +1,4 @@
-//! The program over its words, an input and two writers.
+//! The program, as a function of its arguments, an input and two writers.
 ghost use Rattle.std.specs.Prelude.{◌≡◌, ◌≤◌, ◌<◌, ◌⊎◌, List, ℕ, [], None, false, string_bytes, IfOk, IfErr, IsErr};
 ghost use Rattle.std.specs.Io.KnownBytes.{Appends};
 ghost use Rattle.mercator.specs.Ending.{Begins};
@@ -58,10 +58,23 @@ pub use words::{BAD_COMMAND_LINE, PlanError, plan, whole_command};
 pub use writing::fault_line;
 use writing::{begin, end, end_by_parts, tell_ended, tell_fault};
 
-/// Runs the program and answers its status: 0 done, 1 a fault, 2 an incomplete crawl, 3 a bad command line. The words are those
-/// after the program's name, and [`plan`] reads them; [`run_plan`] runs what they ask for. Help that is asked for is written to
-/// `out`, and what is wrong with the words to `err`. It is for a process that ends then, as [`run_plan`] is. It can lock no file,
-/// and so opens no log.
+/// Runs the program on the arguments after its name, and returns its exit status: 0 success, 1 an error, 2 an incomplete crawl,
+/// 3 a bad command line.
+///
+/// [`plan`] parses the arguments, and [`run_plan`] runs what they ask for. Help is written to `out`, and an error in the
+/// arguments to `err`. Like [`run_plan`], this call is meant for a process that ends afterwards. It cannot lock files, so it
+/// fails to open a log.
+///
+/// # Example
+///
+/// The exit status of a program without arguments, which is that of a bad command line:
+///
+/// ```rust
+/// fn without_arguments<R: Files + Threads + Wait + Sync>(rt: &R, alloc: Global) -> u8 {
+///     let (mut out, mut err) = (Vec::new(alloc), Vec::new(alloc));
+///     run_words(rt, alloc, &[], &mut io::empty(), &mut out, &mut err)
+/// }
+/// ```
 pub fn run_words<R: Files + Threads + Wait + Sync, I: Read, O: Write, E: Write>(
     rt: &R,
     alloc: Global,
@@ -72,29 +85,43 @@ pub fn run_words<R: Files + Threads + Wait + Sync, I: Read, O: Write, E: Write>(
 ) -> u8
     ensures statuses { result ≤ 3 }
 
-    // Done: help is written, or all that the plan within the limits tells which the words are.
+    // Success: help is written, or the whole output of a plan within the limits, which is that of the arguments.
     ensures done { result ≡ 0 → ((input.new ≡ input.old) × ((text : List ℕ) × Appends (O.contents out.old) (O.contents out.new) text))
         ⊎ ((plan : Plan) × IsWithinLimits plan × Gains plan (I.remaining input.old) (O.contents out.old) (O.contents out.new)) }
 
-    // A session with a log may tell that its last line was torn; what else is done tells nothing to `err`.
+    // A session with a log may report that its last line was incomplete; no other success writes to `err`.
     ensures silent { result ≡ 0 → (err.new ≡ err.old)
         ⊎ ((plan : Plan) × IsWithinLimits plan × IsDoneWithNote plan (I.remaining input.old) (O.contents out.old) (O.contents out.new) (E.contents err.old) (E.contents err.new)) }
 
-    // A fault: help cannot be written, or there is no memory for the plan, or the plan's command ends by it.
+    // An error: help cannot be written, there is no memory for the plan, or the plan's command ends with this error.
     ensures fault { result ≡ 1 → ((input.new ≡ input.old) × FailsWithoutPlan (E.contents err.old) (E.contents err.new) (out.new ≡ out.old))
         ⊎ ((plan : Plan) × IsWithinLimits plan × EndsByFault plan result (I.remaining input.old) (E.contents err.old) (E.contents err.new) (out.new ≡ out.old)) }
 
-    // Only a crawl is incomplete, and nothing is written then.
+    // Only a crawl can be incomplete, and then nothing is written to `out`.
     ensures incomplete { result ≡ 2 → (plan : Plan) × IsWithinLimits plan × EndsByFault plan result (I.remaining input.old) (E.contents err.old) (E.contents err.new) (out.new ≡ out.old) }
 
-    // A bad command line: what is wrong with it is told, and nothing else happens.
+    // A bad command line: the error is reported, and nothing else happens.
     ensures bad_command { result ≡ 3 → (input.new ≡ input.old) × (out.new ≡ out.old) }
     ensures bad_words { result ≡ 3 → (error : PlanError) × TellsWords error (E.contents err.old) (E.contents err.new) }
 {
     run_words_with(&alone(rt), alloc, words, input, out, err)
 }
 
-/// The same on a platform, which may lock the files of logs, and have an observer of crawls.
+/// Like [`run_words`], on a platform that can lock the files of logs and may have an observer of crawls.
+///
+/// The program `mercator` runs all commands except `check` and `site` by this call, on the platform of the process:
+///
+/// ```rust
+/// let progress = Progress::new(&rt);
+/// ExitCode::from(run_words_with(
+///     &watched(&rt, &progress),
+///     rt.alloc(),
+///     &words,
+///     &mut rt.reader(),
+///     &mut io::writer(&rt),
+///     &mut rt.stderr(),
+/// ))
+/// ```
 pub fn run_words_with<
     R: Files + Threads + Wait + Sync,
     L: LockFile<R::File>,
@@ -112,22 +139,22 @@ pub fn run_words_with<
 ) -> u8
     ensures statuses { result ≤ 3 }
 
-    // Done: help is written, or all that the plan within the limits tells which the words are.
+    // Success: help is written, or the whole output of a plan within the limits, which is that of the arguments.
     ensures done { result ≡ 0 → ((input.new ≡ input.old) × ((text : List ℕ) × Appends (O.contents out.old) (O.contents out.new) text))
         ⊎ ((plan : Plan) × IsWithinLimits plan × Gains plan (I.remaining input.old) (O.contents out.old) (O.contents out.new)) }
 
-    // A session with a log may tell that its last line was torn; what else is done tells nothing to `err`.
+    // A session with a log may report that its last line was incomplete; no other success writes to `err`.
     ensures silent { result ≡ 0 → (err.new ≡ err.old)
         ⊎ ((plan : Plan) × IsWithinLimits plan × IsDoneWithNote plan (I.remaining input.old) (O.contents out.old) (O.contents out.new) (E.contents err.old) (E.contents err.new)) }
 
-    // A fault: help cannot be written, or there is no memory for the plan, or the plan's command ends by it.
+    // An error: help cannot be written, there is no memory for the plan, or the plan's command ends with this error.
     ensures fault { result ≡ 1 → ((input.new ≡ input.old) × FailsWithoutPlan (E.contents err.old) (E.contents err.new) (out.new ≡ out.old))
         ⊎ ((plan : Plan) × IsWithinLimits plan × EndsByFault plan result (I.remaining input.old) (E.contents err.old) (E.contents err.new) (out.new ≡ out.old)) }
 
-    // Only a crawl is incomplete, and nothing is written then.
+    // Only a crawl can be incomplete, and then nothing is written to `out`.
     ensures incomplete { result ≡ 2 → (plan : Plan) × IsWithinLimits plan × EndsByFault plan result (I.remaining input.old) (E.contents err.old) (E.contents err.new) (out.new ≡ out.old) }
 
-    // A bad command line: what is wrong with it is told, and nothing else happens.
+    // A bad command line: the error is reported, and nothing else happens.
     ensures bad_command { result ≡ 3 → (input.new ≡ input.old) × (out.new ≡ out.old) }
     ensures bad_words { result ≡ 3 → (error : PlanError) × TellsWords error (E.contents err.old) (E.contents err.new) }
 {
@@ -137,14 +164,14 @@ pub fn run_words_with<
     }
 }
 
-/// Runs a plan and answers the status. What the command tells is whole before any of it is written to `out`; a fault is told to
-/// `err` in a line of its own, and then nothing is written to `out`, unless a write to it failed. A session answers as it reads,
-/// and a fault leaves the answers before it.
+/// Runs a plan and returns the exit status: 0 success, 1 an error, 2 an incomplete crawl.
 ///
-/// It is for a process that ends then: a crawl's web and pages are not dropped but left to its end, which gives their memory back
-/// at once. What crawls again and again in one process calls [`crawl_saved_web`], which leaves nothing.
+/// The whole output of a command is computed before any of it is written to `out`. An error is reported on `err` in a line of
+/// its own; then nothing is written to `out`, unless a write to it failed. A session answers while it reads, and an error
+/// leaves the answers before it.
 ///
-/// Its platform may lock the files of logs, and have an observer of crawls.
+/// This call is meant for a process that ends afterwards: the pages of a crawl are not freed, since the end of the process
+/// frees them faster. A process that crawls repeatedly calls [`crawl_saved_web`], which frees everything.
 pub fn run_plan<
     R: Files + Threads + Wait + Sync,
     L: LockFile<R::File>,
@@ -163,20 +190,20 @@ pub fn run_plan<
     requires { IsWithinLimits plan.now }
     ensures statuses { result ≤ 2 }
 
-    // What is written when a command is done, by the bytes of its FILE.
+    // What is written when a command succeeds, for the bytes of its FILE.
     ensures done { result ≡ 0 → Gains plan.now (I.remaining input.old) (O.contents out.old) (O.contents out.new) }
     ensures silent { has_log plan.now ≡ false → result ≡ 0 → err.new ≡ err.old }
 
-    // The last line of a log may be torn.
+    // The last line of a log may be incomplete.
     ensures noted { result ≡ 0 → MayNote plan.now (E.contents err.old) (E.contents err.new) }
 
-    // Else it ends by a fault, which is told in its line; the fault that comes first, and one by which this plan fails.
+    // Otherwise it ends with an error, which is reported in its line: the first one, and one by which this plan fails.
     ensures fault { 0 < result → EndsByFault plan.now result (I.remaining input.old) (E.contents err.old) (E.contents err.new) (out.new ≡ out.old) }
 
-    // A command that has nothing to tell ends by a fault, and nothing is written.
+    // A command that cannot have an output ends with an error, and nothing is written.
     ensures refused { CannotTell plan.now (I.remaining input.old) → (result ≡ 1) × (out.new ≡ out.old) }
 
-    // Only a crawl of a saved web is incomplete, and nothing is written then.
+    // Only a crawl of a saved web can be incomplete, and then nothing is written.
     ensures incomplete { result ≡ 2 → MayLose plan.now (I.remaining input.old) }
     ensures unreported { result ≡ 2 → out.new ≡ out.old }
     ensures unread { reads_input plan.now ≡ false → input.new ≡ input.old }
@@ -196,7 +223,7 @@ pub fn run_plan<
     }
 }
 
-/// How a plan's command ended; of a crawl that is not certified, at which URL, and what was lost.
+/// How a plan's command ended; for a crawl that is not certified, also at which URL, and what was lost.
 #[derive(Drop)]
 struct Ended {
     how: Result<(), Fault>,
@@ -205,7 +232,7 @@ struct Ended {
 }
 
 impl Ended {
-    /// At none.
+    /// Ended without a URL or losses.
     fn at_none(how: Result<(), Fault>) -> Ended
         ensures { result ≡ record { how = how; culprit = None; losses = no_losses } }
     {
@@ -217,7 +244,7 @@ impl Ended {
     }
 }
 
-/// What locks nothing and has no observer.
+/// Returns a platform that cannot lock files and has no observer.
 fn alone<R>(rt: &R) -> Platform<'_, R, NoLocks, Unobserved> {
     Platform {
         rt,
@@ -226,7 +253,7 @@ fn alone<R>(rt: &R) -> Platform<'_, R, NoLocks, Unobserved> {
     }
 }
 
-/// Runs a plan, but for what is told of its fault.
+/// Runs a plan, without reporting its error.
 fn run<
     R: Files + Threads + Wait + Sync,
     L: LockFile<R::File>,
@@ -271,7 +298,7 @@ fn run<
     }
 }
 
-/// Shows why words are no plan: help in the output, and what is wrong with them in the writer for faults.
+/// Shows why there is no plan: help on `out`, or an error in the arguments on `err`.
 fn show<O: Write, E: Write>(alloc: Global, error: PlanError, out: &mut O, err: &mut E) -> u8
     requires { IsShown error }
     ensures statuses { (result ≤ 1) ⊎ (result ≡ 3) }
@@ -303,7 +330,7 @@ fn show_help<O: Write, E: Write>(alloc: Global, text: String, out: &mut O, err: 
     }
 }
 
-/// Ends without a plan.
+/// Reports an error without a plan.
 fn fail<E: Write>(alloc: Global, fault: Fault, err: &mut E) -> u8
     ensures status { result ≡ status_of_fault fault }
     ensures told { Begins (E.contents err.old) (E.contents err.new) (fault_line [] fault) }

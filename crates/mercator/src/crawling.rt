@@ -1,4 +1,4 @@
-//! A whole crawl: from its seeds to its pages, certified.
+//! A whole crawl, from its seeds to its certified pages.
 ghost use Rattle.std.specs.Prelude.{IfOk, IfErr, MatchResult};
 ghost use Rattle.crawl_certificate.specs.Certificate.{IsCrawl, result_urls};
 ghost use Rattle.crawl_frontier.specs.Limits.{IsWorkers};
@@ -32,37 +32,55 @@ use std::sync::Wait;
 use std::thread::Threads;
 pub use watched::{Observe, Unobserved, Watched, WatchedSession};
 
-/// How the workers of a crawl run. What a crawl finds does not depend on it.
+/// How the workers of a crawl run. What a crawl finds does not depend on the mode.
 #[derive(Clone, Copy, Debug, PartialEq, Eq)]
 pub enum Mode {
-    /// All on the calling thread, one URL of each worker in turn.
+    /// All workers run on the calling thread and take turns, one URL each.
     Turns,
-    /// Each in a thread of its own, one alone on the calling thread.
+    /// Each worker runs in its own thread. A single worker runs on the calling thread.
     Threads,
 }
 
-/// What a crawl found.
+/// What a crawl found, certified.
 #[derive(Drop)]
 pub struct Crawled {
-    /// The pages of all URLs that can be reached, in ascending order of the bytes of their URLs, each URL once.
+    /// The pages of all reachable URLs, sorted by the bytes of their URLs, each URL once.
     pub result: CrawlResult,
-    /// How many of these URLs belong to each subqueue, by its number.
+    /// How many of these URLs belong to each queue, by the number of the queue.
     pub counts: Vec<u64>,
-    // So that who lets go of the whole at a process's end need not wait until it is freed.
+    // Kept so that a caller that forgets the whole value at the end of a process does not wait until it is freed.
     account: Account,
 }
 
-/// Crawls from the seeds: all that can be reached from them over the links of the fetcher's pages, by URLs that the filter
-/// allows.
+/// Crawls from the seeds: fetches every URL that the filter allows and that is reachable from them over links between such
+/// URLs.
 ///
-/// The frontier has so many workers, at most 512, each with its subqueue, and takes a URL only while fewer than
-/// `max_pending` (at most 2^40) are offered, waiting or fetched. The seeds are offered in order, then the workers run until
-/// nothing is left, and what they leave is certified. A seed that is refused may still come in by a link.
+/// The frontier has `workers` workers, 1 to 512, each with its own queue. It accepts a URL only while fewer than
+/// `max_pending` URLs (1 to 2^40) are being offered, waiting or in progress. The seeds are offered in order, then the workers
+/// run until nothing is left, and what they leave is certified. A seed that was refused may still be found by a link.
 ///
-/// Nothing bounds the fetcher's web, so the call may not end.
+/// Nothing bounds the number of pages that a fetcher has, so the call may never return.
 ///
 /// # Errors
-/// Those of [`CrawlError`], in its order. Want of memory while workers run is a loss, which the certificate judges.
+/// Those of [`CrawlError`], in its order. If memory runs out while workers run, a URL is lost, and the certificate decides
+/// whether the crawl is incomplete.
+///
+/// # Example
+///
+/// One worker on the calling thread crawls every host, with room for 1,000 pending URLs:
+///
+/// ```rust
+/// fn page_count<F: Fetch + Sync, R: Threads + Wait + Sync>(
+///     rt: &R,
+///     alloc: Global,
+///     source: &F,
+///     seeds: &[CanonUrl],
+/// ) -> Option<usize> {
+///     let every = Filter::new(alloc, &[]).ok()?;
+///     let found = crawl(rt, alloc, source, &every, seeds, 1, 1_000, Mode::Turns).ok()?;
+///     Some(found.result.pages().len())
+/// }
+/// ```
 pub fn crawl<F: Fetch + Sync, R: Threads + Wait + Sync>(
     rt: &R,
     alloc: Global,
@@ -73,15 +91,15 @@ pub fn crawl<F: Fetch + Sync, R: Threads + Wait + Sync>(
     max_pending: u64,
     mode: Mode,
 ) -> Result<Crawled, CrawlError>
-    // The pages are those of exactly the URLs that can be reached, and each is the one that the fetcher means.
+    // The pages are those of exactly the reachable URLs, and each is the page that the fetcher has for its URL.
     ensures pages { IfOk result (λ crawled. IsCrawl (F.meaning fetcher.now) (allows filter.now) seeds.now crawled.result) }
-    // A count for each subqueue, of those URLs that belong to it.
+    // For each queue, the number of URLs that belong to it.
     ensures counts { IfOk result (λ crawled. AreCounts workers (result_urls crawled.result) crawled.counts.items) }
-    // Numbers that no frontier takes are refused, each by its own error; other errors come only where both are taken.
+    // Numbers out of range are refused, each by its own error; other errors occur only if both are within range.
     ensures numbers { MatchResult result (λ _. IsWorkers workers × IsMaximum max_pending) (λ error. CrawlFails workers max_pending error) }
-    // That a thread cannot be started is told of workers in threads alone.
+    // Only workers in threads can fail because a thread cannot be started.
     ensures mode { IfErr result (ComesIn mode) }
-    // A fault of the certificate is the first one of some entries and of results that have the fetcher's pages.
+    // An error of the certificate is the first one of some entries and of results that have the fetcher's pages.
     ensures judged { IfErr result (IsJudged (F.meaning fetcher.now) (allows filter.now) seeds.now) }
 {
     let source = WithoutSession { fetcher };
@@ -94,7 +112,7 @@ pub fn crawl<F: Fetch + Sync, R: Threads + Wait + Sync>(
     crawl_with(rt, alloc, &source, &settings, seeds)
 }
 
-/// As [`crawl`], where each worker owns a session of the source.
+/// Like [`crawl`], for a source of pages that keeps a session for each worker.
 ///
 /// # Errors
 /// Those of [`crawl`].
@@ -117,11 +135,22 @@ pub fn crawl_with<F: SessionFetch + Sync, R: Threads + Wait + Sync>(
     }
 }
 
-/// As [`crawl_with`], and where a fault of the certificate is told, the least URL, byte by byte, that has it, and how much was
-/// lost.
+/// Like [`crawl_with`]. If the certificate fails, the error also has the first URL in byte order at which it fails, and what
+/// was lost.
 ///
 /// # Errors
-/// Those of [`crawl`], of which those of the certificate name a URL.
+/// Those of [`crawl`]; those of the certificate name a URL.
+///
+/// # Example
+///
+/// What an incomplete crawl from one seed lost; `None` if it succeeded:
+///
+/// ```rust
+/// match crawl_explained(rt, alloc, &source, &settings, &[seed]) {
+///     Ok(_) => None,
+///     Err(failure) => Some(failure.losses),
+/// }
+/// ```
 pub fn crawl_explained<F: SessionFetch + Sync, R: Threads + Wait + Sync>(
     rt: &R,
     alloc: Global,
@@ -133,11 +162,11 @@ pub fn crawl_explained<F: SessionFetch + Sync, R: Threads + Wait + Sync>(
     ensures counts { IfOk result (λ crawled. AreCounts settings.now.workers (result_urls crawled.result) crawled.counts.items) }
     ensures numbers { MatchResult result (λ _. IsWorkers settings.now.workers × IsMaximum settings.now.max_pending) (λ failure. CrawlFails settings.now.workers settings.now.max_pending failure.error) }
     ensures mode { IfErr result (λ failure. ComesIn settings.now.mode failure.error) }
-    // A fault of the certificate is the first one of some entries and of results that have the fetcher's pages, and no lesser URL has it.
+    // An error of the certificate is the first one of some entries and of results that have the fetcher's pages, and no lesser URL has it.
     ensures judged { IfErr result (λ failure. IsJudgedAt (F.meaning fetcher.now) (allows settings.now.filter.now) seeds.now failure.error failure.culprit) }
     // A seed, a page or a link that is missing was lost.
     ensures lost { IfErr result (λ failure. IsLost failure.error failure.losses) }
-    // Of each kind as much as seeds and workers lost together in a run that has this fault at this URL; with no URL, nothing.
+    // For each cause, the sum of what seeds and workers lost in a run that has this error at this URL; without a URL, nothing.
     ensures counted { IfErr result (λ failure. CountsLosses settings.now.workers (allows settings.now.filter.now) (F.meaning fetcher.now) seeds.now failure.error failure.culprit failure.losses) }
 {
     match Setup::new(alloc, settings.workers, settings.max_pending) {
@@ -146,7 +175,7 @@ pub fn crawl_explained<F: SessionFetch + Sync, R: Threads + Wait + Sync>(
     }
 }
 
-/// As [`crawl_explained`], and the observer, where there is one, is told how many pages were fetched.
+/// Like [`crawl_explained`], and also tells the observer, if there is one, how many pages were fetched.
 ///
 /// # Errors
 /// Those of [`crawl_explained`].
@@ -162,7 +191,7 @@ pub fn crawl_watched<F: SessionFetch + Sync, V: Observe + Sync, R: Threads + Wai
     ensures counts { IfOk result (λ crawled. AreCounts settings.now.workers (result_urls crawled.result) crawled.counts.items) }
     ensures numbers { MatchResult result (λ _. IsWorkers settings.now.workers × IsMaximum settings.now.max_pending) (λ failure. CrawlFails settings.now.workers settings.now.max_pending failure.error) }
     ensures mode { IfErr result (λ failure. ComesIn settings.now.mode failure.error) }
-    // A fault of the certificate is the first one of some entries and of results that have the fetcher's pages, and no lesser URL has it.
+    // An error of the certificate is the first one of some entries and of results that have the fetcher's pages, and no lesser URL has it.
     ensures judged { IfErr result (λ failure. IsJudgedAt (F.meaning fetcher.now) (allows settings.now.filter.now) seeds.now failure.error failure.culprit) }
     ensures lost { IfErr result (λ failure. IsLost failure.error failure.losses) }
     ensures counted { IfErr result (λ failure. CountsLosses settings.now.workers (allows settings.now.filter.now) (F.meaning fetcher.now) seeds.now failure.error failure.culprit failure.losses) }

@@ -1,4 +1,4 @@
-//! The line of a URL's key.
+//! The line that `mercator key` prints.
 ghost use Rattle.std.specs.Prelude.{◌≡◌, ◌≤◌, IfOk, IfErr, string_bytes};
 ghost use Rattle.crawl_keys.specs.CanonicalText.{canonical};
 ghost use Rattle.crawl_keys.specs.Outcome.{IsRefusal};
@@ -8,10 +8,13 @@ ghost use Rattle.mercator.specs.KeyLine.{IsKeyLine, key_line, parts_line};
 use crawl_keys::{CanonUrl, KeyError, canonical};
 use std::alloc::{AllocError, Global};
 
-/// The canonical URL of a text, its host key and its subqueue among `subqueues`, a space apart and ended by LF.
+/// Returns the line that `mercator key` prints: the canonical URL of `text`, its host key and the number of its queue among
+/// `subqueues` queues, separated by single spaces and ended by LF.
+///
+/// For `http://A.test:80/x/../y#f` and 2 queues the line is `http://a.test/y a.test 1`.
 ///
 /// # Errors
-/// Those of [`canonical`]; `NoMemory` also where the line found no room.
+/// Those of [`canonical`]. `NoMemory` also if there is no memory for the line.
 pub fn key_line(alloc: Global, text: &str, subqueues: u32) -> Result<Vec<u8>, KeyError>
     requires some_subqueue { 1 ≤ subqueues }
     requires few_subqueues { subqueues ≤ subqueues_limit }

@@ -1,11 +1,38 @@
-//! The program over the frontier: keys, crawls of saved webs, and its command line. Scripts and their replay are
-//! `crawl_replay`'s, whose names stand here too.
+//! The library of the program `mercator`: certified crawls, keys of URLs, and the command line.
+//!
+//! - [`run_words`] runs the program on a command line. [`plan`] only parses one, and [`run_plan`] runs what was parsed.
+//! - [`crawl`] and [`crawl_with`] crawl any source of pages, and certify what they return.
+//! - [`report_of_saved_web`] and [`crawl_saved_web`] crawl a saved web, which is a text file of pages and their links.
+//! - [`key_line`], [`fault_line`] and [`read_input`] are parts of the commands.
+//!
+//! Scripts and their replay come from `crawl_replay`, certificates from `crawl_certificate`, and runs of workers from
+//! `crawl_workers`. This crate exports the names of these crates that its own calls use.
+//!
+//! # Example
+//!
+//! The report of a saved web, from its bytes and one seed, without a limit on hosts:
+//!
+//! ```rust
+//! fn report_of<R: Threads + Wait + Sync>(rt: &R, alloc: Global, web: &[u8]) -> Option<Vec<u8>> {
+//!     let seed = String::from_str(alloc, "http://a.test/0").ok()?;
+//!     let seeds = vec![in alloc; seed].ok()?;
+//!     let every = Filter::new(alloc, &[]).ok()?;
+//!     let settings = CrawlSettings {
+//!         workers: 1,
+//!         max_pending: MAX_PENDING,
+//!         mode: Mode::Threads,
+//!         filter: &every,
+//!     };
+//!     let report = report_of_saved_web(rt, alloc, web, &seeds, &settings).ok()?;
+//!     Some(report.text)
+//! }
+//! ```
 #![tactic(auto)]
 
 mod commands;
 mod crawling;
 mod key;
-/// What holds of the definitions together.
+/// Theorems that connect the definitions of this crate and of the crates below it.
 pub mod laws;
 
 pub use commands::{

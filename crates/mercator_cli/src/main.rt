@@ -41,13 +41,14 @@ fn main(rt: HostRuntime) -> ExitCode {
     ))
 }
 
-/// A descriptor in place of a standard one that was closed at the start, else one more. Without it a log that is opened later could
-/// be standard output. It is a folder's, so that reads and writes there fail; `None` where it cannot be opened.
+/// Opens a descriptor that takes the place of a standard one that was closed when the program started. Without it, a log that is
+/// opened later could become standard output. It is that of a folder, so that reads and writes there fail; `None` if it cannot
+/// be opened.
 fn held<R: Files>(rt: &R) -> Option<R::File> {
     fs::open(rt, "/").ok()
 }
 
-/// The platform that a runtime is, with this observer.
+/// Returns the platform of a runtime, with this observer.
 fn watched<'p, R, V>(rt: &'p R, observer: &'p V) -> Platform<'p, R, R, V> {
     Platform {
         rt,
@@ -56,7 +57,7 @@ fn watched<'p, R, V>(rt: &'p R, observer: &'p V) -> Platform<'p, R, R, V> {
     }
 }
 
-/// Whether texts may have colour: on a terminal, where `NO_COLOR` is not in the environment or is empty.
+/// Returns whether reports may have colour: on a terminal, if `NO_COLOR` is not set or empty.
 fn has_colour(rt: &(impl Env + AllocGlobal), is_terminal: bool) -> bool {
     is_terminal
         && match env::var(rt, "NO_COLOR") {
@@ -66,12 +67,12 @@ fn has_colour(rt: &(impl Env + AllocGlobal), is_terminal: bool) -> bool {
         }
 }
 
-/// The words after the program's name.
+/// Returns the arguments after the program's name.
 fn words(rt: &(impl Env + AllocGlobal)) -> io::Result<Vec<String>> {
     Ok(env::args(rt)?.skip(1).collect(rt.alloc())?)
 }
 
-/// Tells why the words cannot be had, for want of memory or since one is no text, and answers the status.
+/// Reports that the arguments cannot be read, because memory ran out or one is not UTF-8, and returns the exit status.
 fn without_words<E: Write>(err: &mut E, error: &io::Error) -> u8 {
     let (line, status) = if error.kind() == ErrorKind::OutOfMemory {
         ("mercator: out of memory\n", Fault::NoMemory.status())

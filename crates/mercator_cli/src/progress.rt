@@ -1,21 +1,21 @@
-//! How far a crawl is, on standard error.
+//! The progress of a crawl, on standard error.
 use mercator::Observe;
 use std::io::Eprint;
 use std::sync::atomic::{AtomicU64, Ordering};
 use std::time::{Clock, Instant};
 
-/// Tells how many pages of a crawl were fetched, and in how many seconds: at its first call, and from then on at most once a
-/// second. Where the clock cannot be read it tells nothing.
+/// Prints how many pages of a crawl were fetched, and in how many seconds: at its first call, and then at most once a second. If
+/// the clock cannot be read, it prints nothing.
 #[derive(Drop)]
 pub struct Progress<'r, R: Clock + Eprint> {
     rt: &'r R,
     begun: Option<Instant>,
-    /// The second in which the next line may be told.
+    /// The second in which the next line may be printed.
     next: AtomicU64,
 }
 
 impl<'r, R: Clock + Eprint> Progress<'r, R> {
-    /// It begins now.
+    /// Starts now.
     pub fn new(rt: &'r R) -> Progress<'r, R> {
         Progress {
             rt,
@@ -24,13 +24,13 @@ impl<'r, R: Clock + Eprint> Progress<'r, R> {
         }
     }
 
-    /// How many whole seconds ago it began.
+    /// Returns the number of whole seconds since the start.
     fn second(&self) -> Option<u64> {
         let elapsed = self.begun?.elapsed(self.rt).ok()?;
         Some(elapsed.as_secs())
     }
 
-    /// Whether a line may be told in this second. Of the threads that ask, one may tell it.
+    /// Returns whether a line may be printed in this second. If several threads ask, only one may print it.
     fn takes(&self, second: u64) -> bool {
         let next = self.next.load(Ordering::SeqCst);
         let after = second.saturating_add(1);

@@ -1,16 +1,16 @@
-//! Kinds of arguments, as `clap` knows them.
+//! Kinds of arguments, as `clap` parses them.
 use clap::builder::ValueParser;
 use clap::{Arg, ArgAction, Command};
 use crawl_limits::WORKER_LIMIT;
 use std::alloc::{AllocError, Global};
 
-/// An option that stands alone, as a row of a table.
+/// An option without a value, as a row of a table.
 pub struct Flag {
     pub name: &'static str,
     pub help: &'static str,
 }
 
-/// A command with these arguments.
+/// A command with these arguments, and with this text after its help.
 pub fn command_with<'a>(
     alloc: Global,
     name: &'a str,
@@ -24,7 +24,7 @@ pub fn command_with<'a>(
         .args(args)
 }
 
-/// Puts an argument behind the others.
+/// Appends an argument.
 pub fn push<'a>(args: &mut Vec<Arg<'a>>, arg: Arg<'a>) -> Result<(), AllocError> {
     args.push(arg)?;
     Ok(())
@@ -37,7 +37,7 @@ pub struct Valued {
     pub help: &'static str,
 }
 
-/// Puts the options of the table behind the arguments.
+/// Appends the options of the table.
 pub fn push_options<'a>(
     alloc: Global,
     args: &mut Vec<Arg<'a>>,
@@ -49,7 +49,7 @@ pub fn push_options<'a>(
     Ok(())
 }
 
-/// The same of options that stand alone.
+/// Appends the options of the table, which have no value.
 pub fn push_flags<'a>(
     alloc: Global,
     args: &mut Vec<Arg<'a>>,
@@ -61,7 +61,7 @@ pub fn push_flags<'a>(
     Ok(())
 }
 
-/// An option that stands alone.
+/// An option without a value.
 pub fn flag_of<'a>(alloc: Global, name: &'a str, help: &'a str) -> Arg<'a> {
     Arg::new(alloc, name)
         .long(name)
@@ -77,12 +77,12 @@ pub fn option<'a>(alloc: Global, name: &'a str, value: &'a str, help: &'a str) -
         .help(help)
 }
 
-/// A word by its position, which may be left out.
+/// A positional argument, which may be omitted.
 pub fn word<'a>(alloc: Global, name: &'a str, value: &'a str, help: &'a str) -> Arg<'a> {
     Arg::new(alloc, name).value_name(value).help(help)
 }
 
-/// The number of workers.
+/// The option `--workers`.
 pub fn workers<'a>(alloc: Global, default: &'a str, help: &'a str) -> Arg<'a> {
     option(alloc, "workers", "N", help)
         .value_parser(ValueParser::unsigned(1, WORKER_LIMIT as u64))

@@ -1,4 +1,4 @@
-//! The shortest log of a session, in a new file.
+//! The compacted log of a session, in a new file.
 ghost use Rattle.std.specs.Prelude.{◌≡◌, ◌≤◌, ℕ, List, [], true, length, Option, IfOk, IfErr, IsErr, IsOk, OnOk, string_bytes};
 ghost use Rattle.std.specs.Io.KnownBytes.{Appends};
 ghost use Rattle.mercator.specs.Compaction.{Compacted, IsCompacted};
@@ -19,10 +19,10 @@ use std::alloc::Global;
 use std::fs::{self, File, Files, OpenFile};
 use std::io::{self, Read, Seek, SeekFrom, Write};
 
-/// Writes the requests of the log that are needed to a new file of this name. The log stays as it is.
+/// Writes a compacted copy of the log, with only the requests that are needed, to a new file. The log does not change.
 ///
 /// # Errors
-/// `BadSuffix`; `Log`, where the log is at fault, or the new file is there or cannot be written; `NoMemory`.
+/// `BadSuffix`. `Log` if the log cannot be used, or if the new file exists or cannot be written. `NoMemory`.
 pub fn compact_log<R: Files, L: LockFile<R::File>, V>(
     platform: &Platform<'_, R, L, V>,
     alloc: Global,
@@ -39,7 +39,7 @@ pub fn compact_log<R: Files, L: LockFile<R::File>, V>(
     compact_as(platform.rt, alloc, &mut session, &mut log, new.as_str())
 }
 
-/// Writes them to a new file of this name, which stays where all was written.
+/// Writes the compacted log to a new file of this name, which is removed if a write fails.
 fn compact_as<R: Files, F: Read + Seek>(
     rt: &R,
     alloc: Global,
@@ -60,7 +60,7 @@ fn compact_as<R: Files, F: Read + Seek>(
     finish(written, synced)
 }
 
-/// How a compaction ends that was written so, and then synced.
+/// Returns how a compaction ends, from how it was written and how it was then synced.
 fn finish(written: Result<(), Fault>, synced: io::Result<()>) -> Result<(), Fault>
     requires { IfErr written IsLogFault }
     ensures done { IfOk result (λ _. IsOk written × IsOk synced) }
@@ -73,7 +73,7 @@ fn finish(written: Result<(), Fault>, synced: io::Result<()>) -> Result<(), Faul
     }
 }
 
-/// Writes the first line of the log, and its requests that are needed.
+/// Writes the first line of the log, and the requests that are needed.
 fn compact_to<F: Read + Seek, O: Write>(
     alloc: Global,
     session: &mut Session,
@@ -88,7 +88,7 @@ fn compact_to<F: Read + Seek, O: Write>(
     compact_lines(alloc, session, &mut log.file, ends, out)
 }
 
-/// Gives the session the lines between these positions of the file, and writes those that are needed.
+/// Runs the lines between these positions of the file, and writes those that are needed.
 fn compact_lines<F: Read + Seek, O: Write>(
     alloc: Global,
     session: &mut Session,
@@ -127,7 +127,7 @@ fn compact_by<F: Read + Seek, O: Write>(
     Err(Fault::Log(LogFault::CannotRead))
 }
 
-/// Reads whole lines from this position of the file, and answers how many bytes they have.
+/// Reads whole lines from this position of the file, and returns their number of bytes.
 fn read_lines<F: Read + Seek>(
     file: &mut F,
     buffer: &mut [u8],
@@ -146,7 +146,7 @@ fn read_lines<F: Read + Seek>(
     }
 }
 
-/// Gives the session the lines of these bytes, and writes those that are needed.
+/// Runs the lines of these bytes, and writes those that are needed.
 fn compact_bytes<O: Write>(
     alloc: Global,
     compactor: &mut Compactor,

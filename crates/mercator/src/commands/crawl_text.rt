@@ -1,4 +1,4 @@
-//! The text of what a crawl found, in parts that stand one behind the other.
+//! The report of a crawl as text, in consecutive chunks.
 ghost use Rattle.std.specs.Prelude.{◌≡◌, [], IfOk, if◌then◌else◌};
 ghost use Rattle.crawl_report.specs.Printing.{joined};
 ghost use Rattle.crawl_report.specs.Rows.{printed};
@@ -10,11 +10,11 @@ use crawl_report::{NoMemory, Report, asked_pages, print, print_in_parts, unreach
 use std::alloc::{AllocError, Global};
 use std::thread::Threads;
 
-/// The text of what a crawl of a saved web found: its report, with the parts that are asked for, made by threads where the crawl
-/// had several workers.
+/// Returns the report of a crawl of a saved web, with the sections that the options ask for, in consecutive chunks. Threads
+/// print it if the crawl had several workers.
 ///
 /// # Errors
-/// Out of memory alone.
+/// Only if there is not enough memory.
 pub fn crawl_text<R: Threads + Sync>(
     rt: &R,
     alloc: Global,
@@ -37,7 +37,7 @@ pub fn crawl_text<R: Threads + Sync>(
     printed(rt, alloc, &report, options.json, crawled.counts.len())
 }
 
-/// The report's bytes, as so many workers found it: one starts no thread.
+/// Prints the report. Threads do it if the crawl had more than one worker.
 fn printed<R: Threads + Sync>(
     rt: &R,
     alloc: Global,
@@ -54,7 +54,7 @@ fn printed<R: Threads + Sync>(
     }
 }
 
-/// The text as its only part.
+/// Returns the text as its only chunk.
 pub fn alone(alloc: Global, text: Vec<u8>) -> Result<Vec<Vec<u8>>, AllocError>
     ensures { IfOk result (λ parts. joined parts.items ≡ text.items) }
 {
@@ -63,7 +63,7 @@ pub fn alone(alloc: Global, text: Vec<u8>) -> Result<Vec<Vec<u8>>, AllocError>
     Ok(parts)
 }
 
-/// The counts of subqueues, where they are asked for.
+/// Returns the counts of the queues if they are asked for.
 fn asked_counts(asked: bool, counts: &[u64]) -> &[u64]
     ensures { result.now ≡ (if asked then counts.now else []) }
 {

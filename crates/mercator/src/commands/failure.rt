@@ -1,4 +1,4 @@
-//! Why a command ends before it is done, and at which URL.
+//! Why a command failed, and at which URL.
 ghost use Rattle.std.specs.Prelude.{◌≡◌};
 ghost use Rattle.mercator.specs.Faults.{of_crawl, without_url};
 
@@ -7,14 +7,14 @@ use crate::crawling::{CrawlFailure, no_losses};
 use crawl_keys::CanonUrl;
 use crawl_workers::Losses;
 
-/// Why a command ends before it is done, and at which URL.
+/// Why a command failed, and at which URL.
 #[derive(Drop)]
 pub struct Failure {
-    /// Why.
+    /// The error.
     pub fault: Fault,
-    /// Of a crawl that is not certified, the least URL, byte by byte, that has its fault; else none.
+    /// For a crawl that is not certified, the first URL in byte order at which its certificate fails; else none.
     pub culprit: Option<CanonUrl>,
-    /// How much such a crawl lost, by why.
+    /// What such a crawl lost, by cause.
     pub losses: Losses,
 }
 

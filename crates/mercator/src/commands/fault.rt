@@ -1,4 +1,4 @@
-//! Why a command ends before it is done.
+//! Why a command failed.
 ghost use Rattle.std.specs.Prelude.{◌≡◌};
 ghost use Rattle.mercator.specs.Faults.{of_script, of_seeds, of_web, of_url, of_crawl, of_filter};
 ghost use Rattle.mercator.specs.declared.commands.fault.Fault.TheVariants as wrong;
@@ -12,41 +12,49 @@ use crawl_sources::SeedsFault;
 use crawl_web::WebError;
 use std::alloc::{AllocError, AllocFailed};
 
-/// Why a command ends before it is done.
+/// Why a command failed. [`fault_line`](crate::fault_line) returns the line that the program prints about it.
+///
+/// # Example
+///
+/// `mercator` ends with the status of its error:
+///
+/// ```rust
+/// let status = Fault::NoMemory.status();
+/// ```
 #[derive(Clone, Copy, Debug, PartialEq, Eq)]
 pub enum Fault {
-    /// A read failed, or the input is beyond a limit.
+    /// FILE, or the input, cannot be read or exceeds a limit.
     CannotRead,
-    /// The same of the file of seeds.
+    /// The file of seeds cannot be read or exceeds a limit.
     CannotReadSeeds,
-    /// The input is no script.
+    /// The input is not a script.
     Script(ScriptError),
-    /// The input is no saved web.
+    /// The input is not a saved web.
     Web(WebError),
-    /// The file of seeds is none, or one of its lines is no seed.
+    /// A line of the file of seeds is not a seed.
     Seeds(SeedsFault),
-    /// The file of seeds has none, and the command line gives none.
+    /// There is no seed, neither in the file of seeds nor on the command line.
     NoSeed,
-    /// A seed of the command line has no canonical URL: the first such seed, counted from 1, and why.
+    /// A seed on the command line has no canonical URL: the number of the first such seed, from 1, and why.
     Seed(usize, KeyError),
-    /// The URL whose key is asked for has no canonical URL.
+    /// The URL of `mercator key` has no canonical URL.
     Url(KeyError),
-    /// A crawl came to no certified result. The reason is never want of memory.
+    /// A crawl has no certified result. The reason is never that memory ran out.
     Crawl(CrawlError),
-    /// No host has the suffix that a crawl is kept within.
+    /// The suffix of `--within` cannot be the end of a host.
     BadSuffix,
     /// A write or a flush failed.
     CannotWrite,
-    /// The log is at fault.
+    /// The log cannot be used.
     Log(LogFault),
-    /// A growth was refused. The other variants never hold this reason.
+    /// Out of memory. The other variants never hold this reason.
     NoMemory,
 }
 
 impl Fault {
     ghost use Rattle.mercator.specs.Faults as spec;
 
-    /// The status that tells this fault: 2 where a crawl was made but not certified or had no thread, else 1.
+    /// Returns the exit status: 2 if a crawl was made but not certified, or could not start a thread, else 1.
     pub fn status(self) -> u8
         ensures { result ≡ spec.status_of_fault self }
     {
@@ -56,7 +64,7 @@ impl Fault {
         }
     }
 
-    /// The fault of the seed with this number that was refused so.
+    /// Returns the error about the seed with this number, which was refused for this reason.
     pub fn of_seed(number: usize, refusal: KeyError) -> Fault
         ensures { result ≡ spec.of_seed number refusal }
     {
@@ -66,7 +74,7 @@ impl Fault {
         }
     }
 
-    /// The fault of a file of seeds that was not read to its end.
+    /// Returns the error about a file of seeds that was not read to its end.
     pub fn of_unread_seeds(why: Unread) -> Fault
         ensures { result ≡ spec.of_unread_seeds why }
     {

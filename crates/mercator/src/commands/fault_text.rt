@@ -1,4 +1,4 @@
-//! The texts of faults.
+//! The texts of errors.
 ghost use Rattle.std.specs.Prelude.{◌≡◌, ◌++◌, Some, codes};
 ghost use Rattle.mercator.specs.FaultText.{fault_text, line_text, words_text, log_text, web_text, seeds_text, script_text, crawl_text, finish_text, cert_text};
 
@@ -13,12 +13,12 @@ use crawl_web::WebError;
 use std::fmt;
 use std::fmt::Display;
 
-/// A fault as a person reads it, with the file that it speaks of.
+/// The text of an error, with the file that it is about.
 #[derive(Clone, Copy)]
 pub struct FaultText<'a> {
-    /// The file's name, as it was given.
+    /// The name of the file, as it was given.
     pub file: &'a str,
-    /// The fault.
+    /// The error.
     pub fault: Fault,
 }
 
@@ -41,7 +41,7 @@ impl fmt::Display for FaultText<'_> {
                 words: seeds_words(fault),
             }
             .fmt(f),
-            Fault::NoSeed => f.write_str("seeds: no seed"),
+            Fault::NoSeed => f.write_str("seeds: no seed in the list or on the command line"),
             Fault::Web(fault) => About {
                 what: "saved web",
                 words: web_words(fault),
@@ -61,7 +61,7 @@ impl fmt::Display for FaultText<'_> {
     }
 }
 
-/// Words, with the number of the line that they are about, where they are about one.
+/// What is wrong, with the number of the line if it is wrong with one line.
 #[derive(Clone, Copy)]
 struct Words {
     line: Option<u64>,
@@ -80,7 +80,7 @@ impl fmt::Display for Words {
     }
 }
 
-/// Words, behind what they are about.
+/// What is wrong, after the name of what it is wrong with.
 #[derive(Clone, Copy)]
 struct About {
     what: &'static str,
@@ -96,7 +96,7 @@ impl fmt::Display for About {
     }
 }
 
-/// Words about the line with this number.
+/// What is wrong with the line of this number.
 fn at(number: u64, words: &'static str) -> Words
     ensures { words_text result.line result.words.now ≡ line_text number words.now }
 {
@@ -106,7 +106,7 @@ fn at(number: u64, words: &'static str) -> Words
     }
 }
 
-/// Words about no line.
+/// What is wrong with no line in particular.
 fn alone(words: &'static str) -> Words
     ensures { words_text result.line result.words.now ≡ words.now }
 {
@@ -172,11 +172,11 @@ fn log_words(fault: LogFault) -> Words
 {
     match fault {
         LogFault::CannotOpen => alone("cannot open"),
-        LogFault::InUse => alone("in use"),
+        LogFault::InUse => alone("in use by another program"),
         LogFault::CannotRead => alone("cannot read"),
-        LogFault::OtherSettings => alone("other settings"),
+        LogFault::OtherSettings => alone("made with other options"),
         LogFault::CannotWrite => alone("cannot write"),
-        LogFault::CannotMakeNew => alone("cannot make the new log"),
+        LogFault::CannotMakeNew => alone("cannot create the new log, which must not exist"),
         LogFault::CannotWriteNew => alone("cannot write the new log"),
     }
 }

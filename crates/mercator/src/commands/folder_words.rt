@@ -1,4 +1,4 @@
-//! The commands over a folder as `clap` knows them. The crate `mercator_site` runs them.
+//! The commands `check` and `site`, as `clap` parses them. The crate `mercator_site` runs them.
 use crate::commands::arguments::{
     Flag, Valued, command_with, option, push, push_flags, push_options, word, workers,
 };
@@ -6,40 +6,41 @@ use clap::{Arg, ArgAction, ArgGroup, Command};
 use std::alloc::{AllocError, Global};
 
 const SITE_HELP: &str = "\
-A page is what a plain static server answers, a link what a browser reads. What is left out
-is told on standard error.
+A saved web is a text file of pages and their links, which 'mercator crawl' reads. A page is
+what a plain static server returns. What is skipped is listed on standard error.
 Example: mercator site examples/site http://site.test/ > site.web";
 
 const CHECK_HELP: &str = "\
-Tells the pages and the parts of pages that links lead to and that are not there, with the
-file, line and column of each link. Status 4 where there are any.
+Reports links to pages or anchors that do not exist, with the file, line and column of each.
+The exit status is 4 if anything is broken.
 Example: mercator check examples/site";
 
-/// `site`: a folder's saved web.
+/// `site`: prints a folder as a saved web.
 pub fn site_command<'a>(alloc: Global) -> Result<Command<'a>, AllocError> {
     let mut args = Vec::new(alloc);
     push_site_args(alloc, &mut args)?;
-    let about = "Writes the saved web of a folder of HTML pages";
+    let about = "Print a folder of HTML pages as a saved web";
     command_with(alloc, "site", about, SITE_HELP, args)
 }
 
 fn push_site_args<'a>(alloc: Global, args: &mut Vec<Arg<'a>>) -> Result<(), AllocError> {
     push_flags(alloc, args, SPELLING_FLAGS)?;
-    push(args, folder(alloc))?;
-    push(args, base(alloc).required(true))
+    push(args, folder(alloc, "Folder to read"))?;
+    let base = base(alloc, "URL of the folder, http or https");
+    push(args, base.required(true))
 }
 
-/// `check`: which links of a folder are broken.
+/// `check`: finds the broken links of a folder.
 pub fn check_command<'a>(alloc: Global) -> Result<Command<'a>, AllocError> {
     let mut args = Vec::new(alloc);
     push_check_args(alloc, &mut args)?;
-    let about = "Tells which links of a folder of HTML pages are broken, and where they stand";
+    let about = "Find broken links in a folder of HTML pages";
     let command = command_with(alloc, "check", about, CHECK_HELP, args)?;
     let forms = forms(alloc)?;
     command.group(forms)
 }
 
-/// What a check is told as in place of a text for people: one of these.
+/// The formats other than text, of which at most one may be given.
 fn forms<'a>(alloc: Global) -> Result<ArgGroup<'a>, AllocError> {
     ArgGroup::new(alloc, "form")
         .arg("json")?
@@ -48,64 +49,65 @@ fn forms<'a>(alloc: Global) -> Result<ArgGroup<'a>, AllocError> {
 }
 
 fn push_check_args<'a>(alloc: Global, args: &mut Vec<Arg<'a>>) -> Result<(), AllocError> {
-    let help = "Workers that crawl the site's web: 1 to 512";
+    let help = "Number of workers, 1 to 512";
     push(args, workers(alloc, "1", help))?;
     push_flags(alloc, args, CHECK_FLAGS)?;
     push_options(alloc, args, KNOWN_OPTIONS)?;
     push(args, seed(alloc))?;
     push_flags(alloc, args, SPELLING_FLAGS)?;
-    push(args, folder(alloc))?;
-    push(args, base(alloc))
+    push(args, folder(alloc, "Folder to check"))?;
+    let help = "URL of the folder, http or https; without it the report shows paths";
+    push(args, base(alloc, help))
 }
 
-/// How a check is told, and what is told.
+/// The format of a report, and what it lists.
 const CHECK_FLAGS: &[Flag] = &[
     Flag {
         name: "json",
-        help: "Writes a JSON object a line",
+        help: "Print one JSON object per line",
     },
     Flag {
         name: "annotations",
-        help: "Writes lines that GitHub's jobs show beside the file",
+        help: "Print GitHub annotations",
     },
     Flag {
         name: "html",
-        help: "Writes a page of HTML",
+        help: "Print an HTML page",
     },
     Flag {
         name: "all-sources",
-        help: "Tells all places of a link, not the first three",
+        help: "List every location of a broken link, not only the first three",
     },
     Flag {
         name: "unreached",
-        help: "Tells the files that no link leads to",
+        help: "Also list the files that cannot be reached by following links",
     },
     Flag {
         name: "external",
-        help: "Tells where links out of the site lead, which are not looked at",
+        help: "Also list links to other sites, which are not checked",
     },
     Flag {
         name: "no-anchors",
-        help: "Leaves out parts of pages, such as page.html#use",
+        help: "Do not check anchors, such as page.html#use",
     },
 ];
 
-/// What is known before.
+/// The list of targets to ignore.
 const KNOWN_OPTIONS: &[Valued] = &[Valued {
     name: "ignore",
     value: "LIST",
-    help: "A file of targets that are known to be broken, or of what they begin with, one a line",
+    help: "Ignore every target that equals or begins with a line of the file LIST",
 }];
 
-/// Which spellings of a URL are a page's.
+/// How file names and URLs correspond.
 const SPELLING_FLAGS: &[Flag] = &[
     Flag {
         name: "exact",
-        help: "Other spellings of a page's URL are no pages",
+        help: "Accept only the exact spelling of a page's URL",
     },
     Flag {
         name: "queries",
-        help: "A ? in a file's name begins the query",
+        help: "Read a ? in a file name as the start of a query",
     },
 ];
 
@@ -114,20 +116,15 @@ fn seed<'a>(alloc: Global) -> Arg<'a> {
         alloc,
         "seed",
         "LINK",
-        "Begins at this link of the top, and not at the top itself; may be given again",
+        "Start at LINK instead of the top of the folder; repeatable",
     )
     .action(ArgAction::Append)
 }
 
-fn folder<'a>(alloc: Global) -> Arg<'a> {
-    word(alloc, "folder", "FOLDER", "The folder").required(true)
+fn folder<'a>(alloc: Global, help: &'a str) -> Arg<'a> {
+    word(alloc, "folder", "FOLDER", help).required(true)
 }
 
-fn base<'a>(alloc: Global) -> Arg<'a> {
-    word(
-        alloc,
-        "base",
-        "BASE",
-        "The URL of its top, with http or https",
-    )
+fn base<'a>(alloc: Global, help: &'a str) -> Arg<'a> {
+    word(alloc, "base", "BASE", help)
 }

@@ -1,4 +1,4 @@
-//! An input, read to its end.
+//! Reads an input to its end.
 ghost use Rattle.std.specs.Prelude.{◌≡◌, ◌<◌, ◌≤◌, length, vec_len, Err, IfOk, IfSome};
 ghost use Rattle.mercator.specs.Input.{input_limits, IsBeyond};
 ghost use Rattle.mercator.specs.declared.commands.input.Unread.TheVariants as unread;
@@ -6,21 +6,21 @@ ghost use Rattle.mercator.specs.declared.commands.input.Unread.TheVariants as un
 use std::alloc::{AllocError, AllocFailed, Global};
 use std::io::Read;
 
-/// The most bytes of an input, 2^30.
+/// The most bytes of an input: 2^30.
 pub const INPUT_LIMIT: usize = 1_073_741_824;
 
-/// The most reads of an input, 2^30, with the one that finds its end.
+/// The most reads of an input: 2^30, including the one that finds its end.
 pub const READ_LIMIT: u32 = 1_073_741_824;
 
-/// How many bytes a read asks for.
+/// How many bytes one read asks for.
 const READ_SIZE: usize = 65_536;
 
-/// How much of an input is read.
+/// The limits of an input.
 #[derive(Clone, Copy)]
 pub struct InputLimits {
     /// The most bytes.
     pub bytes: usize,
-    /// The most reads, with the one that finds the end.
+    /// The most reads, including the one that finds the end.
     pub reads: u32,
 }
 
@@ -29,9 +29,9 @@ pub struct InputLimits {
 pub enum Unread {
     /// A read failed.
     Failed,
-    /// There are more bytes than the limit, or the reads are used up.
+    /// The input has more bytes than the limit, or takes more reads.
     Beyond,
-    /// A growth was refused.
+    /// Out of memory.
     NoMemory,
 }
 
@@ -51,7 +51,7 @@ impl<T: Drop> From<AllocFailed<T>> for Unread {
     }
 }
 
-/// The limits of the program's inputs.
+/// Returns the limits of the program's inputs.
 pub fn input_limits() -> InputLimits
     ensures { result ≡ input_limits }
 {
@@ -61,11 +61,25 @@ pub fn input_limits() -> InputLimits
     }
 }
 
-/// All bytes of the input, from where it stands to its end.
+/// Reads the input from its current position to its end.
 ///
 /// # Errors
-/// `Failed` where a read fails, whatever the reason; `Beyond` where there are more bytes than the limit, or none of the
-/// reads that are allowed found the end; `NoMemory`.
+/// `Failed` if a read fails for any reason. `Beyond` if there are more bytes than the limit, or if none of the allowed reads
+/// finds the end. `NoMemory`.
+///
+/// # Example
+///
+/// At most 1,000 bytes, in at most 10 reads:
+///
+/// ```rust
+/// fn short_input<I: Read>(alloc: Global, input: &mut I) -> Option<Vec<u8>> {
+///     let limits = InputLimits {
+///         bytes: 1_000,
+///         reads: 10,
+///     };
+///     read_input(alloc, input, limits).ok()
+/// }
+/// ```
 pub fn read_input<I: Read>(
     alloc: Global,
     input: &mut I,

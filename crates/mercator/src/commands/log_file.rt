@@ -1,4 +1,4 @@
-//! The file of a log: it gains each byte that is read, before it is handed on.
+//! The file of a log, to which each byte of the input is appended before the session reads it.
 ghost use Rattle.std.specs.Prelude.{◌≡◌, ◌<◌, ◌≤◌, ◌⊎◌, [], ◌++◌, true, length, take, drop, vec_len, IfOk, OnOk};
 ghost use Rattle.std.specs.Str.Lines.{lines};
 ghost use Rattle.std.specs.Io.{ReadsAtMost};
@@ -18,12 +18,28 @@ use std::fs::{File, OpenFile, TryLockError};
 use std::io::{self, ErrorKind, Read, Write};
 use std::rt::LibcRuntime;
 
-/// The most bytes of a line that a log needs: they tell that it is too long, whether or not a CR stands before its end.
+/// The most bytes of a line that a log needs. They show that the line is too long, whether or not it ends in CR LF.
 const HELD_LIMIT: usize = LINE_LIMIT + 2;
 
-/// What locks files, so that one process at a time has a log.
+/// Locks files, so that only one process at a time uses a log.
+///
+/// # Example
+///
+/// The runtime of a process locks a file with `flock`:
+///
+/// ```rust
+/// impl LockFile<File> for LibcRuntime {
+///     fn try_lock(&self, file: &File) -> io::Result<bool> {
+///         match file.try_lock() {
+///             Ok(()) => Ok(true),
+///             Err(TryLockError::WouldBlock) => Ok(false),
+///             Err(TryLockError::Error(why)) => Err(why),
+///         }
+///     }
+/// }
+/// ```
 pub trait LockFile<F> {
-    /// Whether the file is this process' now, until it is dropped; `false` where another process has it.
+    /// Locks the file until it is dropped. Returns `false` if another process holds the lock.
     fn try_lock(&self, file: &F) -> io::Result<bool>;
 }
 
@@ -37,7 +53,7 @@ impl LockFile<File> for LibcRuntime {
     }
 }
 
-/// What can lock no file. Without locks no log is opened.
+/// A [`LockFile`] that cannot lock, so that no log can be opened.
 pub struct NoLocks;
 
 impl<F> LockFile<F> for NoLocks {
@@ -46,22 +62,22 @@ impl<F> LockFile<F> for NoLocks {
     }
 }
 
-/// Why there is no session with a log, or no more of it.
+/// Why a session with a log cannot start or continue.
 #[derive(Clone, Copy, Debug, PartialEq, Eq)]
 pub enum LogFault {
-    /// There is no such file and none can be made, or it cannot be opened or locked.
+    /// The file cannot be created, opened or locked.
     CannotOpen,
-    /// Another process has it.
+    /// Another process uses the file.
     InUse,
     /// A read failed.
     CannotRead,
-    /// It begins otherwise than a log of these settings.
+    /// The file does not begin like a log that was made with these options.
     OtherSettings,
     /// A write failed.
     CannotWrite,
-    /// The file that is to have the compacted log is there, or cannot be made.
+    /// The file for the compacted log exists already, or cannot be created.
     CannotMakeNew,
-    /// A write to it failed.
+    /// A write to the file for the compacted log failed.
     CannotWriteNew,
 }
 
@@ -73,7 +89,7 @@ impl From<LogFault> for Fault {
     }
 }
 
-// A log is read and positioned by calls that fail so.
+// An error of this type comes from a call that reads a log or seeks in it.
 impl From<io::Error> for Fault {
     ghost from_gives = { λ _ fault. fault ≡ wrong.Log unlogged.CannotRead };
 
@@ -82,27 +98,27 @@ impl From<io::Error> for Fault {
     }
 }
 
-/// A log, which grows at its end alone.
+/// A log, which only grows at its end.
 #[derive(Drop)]
 pub struct Log<F> {
     /// The file.
     file: F,
-    /// How many bytes it has.
+    /// The length of the file.
     len: u64,
-    /// How many of them are those of an unfinished line.
+    /// How many of these bytes belong to an unfinished line.
     unfinished: usize,
-    /// The last of these; LF where there is none.
+    /// The last byte; LF if there is none.
     last: u8,
-    /// Whether each append waits for the disk.
+    /// Whether each append is synced to disk.
     sync: bool,
-    /// Whether the disk has all that was appended.
+    /// Whether everything that was appended is synced to disk.
     synced: bool,
     /// Whether an append failed.
     failed: bool,
 }
 
 impl<F: Write + OpenFile> Log<F> {
-    /// A log that has whole lines alone, so many bytes of them.
+    /// A log of `len` bytes, all of them in whole lines.
     pub fn new(file: F, len: u64, sync: bool) -> Log<F> {
         Log {
             file,
@@ -115,7 +131,7 @@ impl<F: Write + OpenFile> Log<F> {
         }
     }
 
-    /// Appends what was read, but for the bytes of a line past those that tell that it is too long.
+    /// Appends what was read. Of a line that is too long, it appends only enough to show that.
     ///
     /// # Errors
     /// As for [`append`](Log::append).
@@ -131,7 +147,7 @@ impl<F: Write + OpenFile> Log<F> {
         }
     }
 
-    /// The same, and where a line that ends in it may be `sync`, waits until the disk has all.
+    /// Like [`note`](Log::note); if a line that ends in these bytes may be `sync`, also syncs the log to disk.
     ///
     /// # Errors
     /// As for [`append`](Log::append).
@@ -148,7 +164,7 @@ impl<F: Write + OpenFile> Log<F> {
         Ok(())
     }
 
-    /// Waits until the disk has all; or sets the file back to this length.
+    /// Syncs the log to disk. If that fails, truncates the file to this length.
     fn sync_from(&mut self, before: u64) -> io::Result<()>
         ensures kept { OnOk result (self.new.file ≡ self.old.file) }
         ensures synced { OnOk result (self.new.synced ≡ true) }
@@ -162,7 +178,7 @@ impl<F: Write + OpenFile> Log<F> {
         Ok(())
     }
 
-    /// Ends the line that is unfinished, if there is one.
+    /// Ends the unfinished line, if there is one.
     ///
     /// # Errors
     /// As for [`append`](Log::append).
@@ -176,10 +192,10 @@ impl<F: Write + OpenFile> Log<F> {
         }
     }
 
-    /// Appends both.
+    /// Appends both slices.
     ///
     /// # Errors
-    /// The file did not take all of it. It is set back to its old length.
+    /// If a write fails. The file is then truncated to its old length.
     pub fn append(&mut self, front: &[u8], rest: &[u8]) -> io::Result<()>
         ensures gained { OnOk result (Appends (F.contents self.old.file) (F.contents self.new.file) (front.now ++ rest.now)) }
     {
@@ -220,7 +236,7 @@ impl<F: Write + OpenFile> Log<F> {
     }
 }
 
-/// The log gains the bytes; and where it syncs, the disk has what stands before a `sync`.
+/// Appends the bytes to the log. If `syncs`, the log is synced to disk before a `sync` is answered.
 fn gain<F: Write + OpenFile>(log: &mut Log<F>, bytes: &[u8], syncs: bool) -> io::Result<()>
     ensures gained { OnOk result (Appends (F.contents log.old.file) (F.contents log.new.file) (noted log.old.unfinished bytes.now)) }
     ensures synced { OnOk result (syncs ≡ true → may_sync log.old.unfinished bytes.now ≡ true → log.new.synced ≡ true) }
@@ -232,7 +248,7 @@ fn gain<F: Write + OpenFile>(log: &mut Log<F>, bytes: &[u8], syncs: bool) -> io:
     }
 }
 
-/// How many bytes stand before the first LF, or the end.
+/// Returns the number of bytes before the first LF, or before the end.
 fn line_len(bytes: &[u8]) -> usize
     ensures value { result ≡ line_len bytes.now }
     ensures within { result ≤ length bytes.now }
@@ -243,21 +259,21 @@ fn line_len(bytes: &[u8]) -> usize
     }
 }
 
-/// Whether a line that ends in these bytes may be `sync`, where so many bytes of an unfinished line stand before them.
+/// Returns whether a line that ends in these bytes may be `sync`, if they follow `unfinished` bytes of an unfinished line.
 fn may_sync(unfinished: usize, bytes: &[u8]) -> bool
     ensures { result ≡ may_sync unfinished bytes.now }
 {
     may_be_sync(unfinished) | has_sync(bytes)
 }
 
-/// Whether so many bytes may be the beginning of `sync` and its end.
+/// Returns whether a line may be `sync` and its end, if this many of its bytes came before.
 fn may_be_sync(unfinished: usize) -> bool
     ensures { result ≡ may_be_sync unfinished }
 {
     0 < unfinished && unfinished < 6
 }
 
-/// Whether a line of the bytes is `sync`.
+/// Returns whether a line of the bytes is `sync`.
 fn has_sync(bytes: &[u8]) -> bool
     ensures { result ≡ has_sync (lines bytes.now) }
 {
@@ -271,18 +287,18 @@ fn has_sync(bytes: &[u8]) -> bool
     false
 }
 
-/// An input, each byte of which the log gains before it is handed on.
+/// An input whose bytes are appended to the log before they are handed on.
 #[derive(Drop)]
 pub struct LoggedInput<'a, I, F> {
     input: &'a mut I,
     log: Log<F>,
-    /// Whether the disk has what stands before a `sync` when that is handed on.
+    /// Whether the log is synced to disk before a `sync` is handed on.
     syncs: bool,
     window: Window,
 }
 
 impl<'a, I: Read, F: Write + OpenFile> LoggedInput<'a, I, F> {
-    /// The input, from where it stands.
+    /// The input, from its current position.
     pub fn new(
         alloc: Global,
         input: &'a mut I,
@@ -302,7 +318,7 @@ impl<'a, I: Read, F: Write + OpenFile> LoggedInput<'a, I, F> {
         })
     }
 
-    /// The fault of a session that broke off so.
+    /// Returns the error of a session that ended for this reason.
     pub fn fault_of(&self, why: ServeError) -> Fault
         ensures { (result ≡ of_session why) ⊎ (result ≡ wrong.Log unlogged.CannotWrite) }
     {
@@ -320,9 +336,9 @@ impl<'a, I: Read, F: Write + OpenFile> Read for LoggedInput<'a, I, F> {
     fn read(&mut self, buf: &mut [u8]) -> io::Result<usize>
         ensures bound { ReadsAtMost result buf.new }
         ensures bytes { ReadConsumes (prepend_known (items self.old.window) (I.remaining self.old.input.now)) (prepend_known (items self.new.window) (I.remaining self.new.input.now)) result buf.new }
-        // What is handed on stands in the log.
+        // What is handed on is in the log.
         ensures logged { IfOk result (λ n. 0 < n → Appends (F.contents self.old.log.file) (F.contents self.new.log.file) (noted self.old.log.unfinished (take n buf.new))) }
-        // A `sync` is handed on when the disk has it.
+        // A `sync` is handed on only after it is synced to disk.
         ensures synced { IfOk result (λ n. 0 < n → self.old.syncs ≡ true → may_sync self.old.log.unfinished (take n buf.new) ≡ true → self.new.log.synced ≡ true) }
     {
         if buf.is_empty() {

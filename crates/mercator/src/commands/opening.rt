@@ -1,4 +1,4 @@
-//! The file of a log, as it is opened.
+//! Opens the file of a log.
 ghost use Rattle.std.specs.Prelude.{◌≡◌, ℕ, List, false, IfErr, IfOk};
 ghost use Rattle.crawl_core.specs.Shows.{Shows};
 ghost use Rattle.crawl_core.specs.State.{start};
@@ -19,25 +19,26 @@ use std::alloc::{AllocError, Global};
 use std::fs::{self, Files, OpenOptions};
 use std::io::{self, Read, Seek, SeekFrom};
 
-/// How many digits an identity has.
+/// The number of digits of an identity.
 const DIGITS: usize = 32;
 
-/// A log's file, which this process has.
+/// The file of a log, locked by this process.
 #[derive(Drop)]
 pub struct OpenedLog<F> {
     /// The file.
     pub file: F,
-    /// Its first line, with its end. The file may have none of it, or a beginning.
+    /// The first line of the log, with its LF. The file may have only a beginning of it, or nothing.
     pub first: String,
-    /// The identity there, where the log is a part's.
+    /// The identity in the first line, if the log is that of a part.
     pub identity: String,
-    /// Where its whole lines end; 0 where it ends before its first line does.
+    /// Where the whole lines of the file end; 0 if the first line is not whole.
     pub whole: u64,
-    /// Where its bytes end.
+    /// Where the file ends.
     pub len: u64,
 }
 
-/// Opens the log, which is made where there is none and it is to be made, and makes its plan's session. A bad suffix opens no log.
+/// Opens the log and creates the session of its plan. If `makes`, a file that does not exist is created. A bad suffix opens no
+/// log.
 ///
 /// # Errors
 /// `BadSuffix`; those of [`open_log`].
@@ -59,10 +60,10 @@ pub fn open_session<R: Files, L: LockFile<R::File>, V>(
     Ok((opened, session))
 }
 
-/// The log's file, whose beginning is the plan's.
+/// Opens the file of the log, which must begin as the plan says.
 ///
 /// # Errors
-/// `CannotOpen`, `InUse`; `OtherSettings` where it begins otherwise; `CannotRead`; `NoMemory`.
+/// `CannotOpen`, `InUse`, `OtherSettings` if it begins otherwise, `CannotRead`, `NoMemory`.
 fn open_log<R: Files, L: LockFile<R::File>, V>(
     platform: &Platform<'_, R, L, V>,
     alloc: Global,
@@ -87,7 +88,7 @@ fn open_log<R: Files, L: LockFile<R::File>, V>(
     })
 }
 
-/// The file, locked.
+/// Opens and locks the file.
 fn open_file<R: Files, L: LockFile<R::File>, V>(
     platform: &Platform<'_, R, L, V>,
     name: &str,
@@ -108,7 +109,7 @@ fn open_file<R: Files, L: LockFile<R::File>, V>(
     }
 }
 
-/// The identity of a part's log: the digits that stand in its first line, and drawn ones behind them.
+/// Returns the identity of the log of a part: the digits in its first line, completed by random ones.
 fn identity_of<R: Files, F: Read + Seek>(
     rt: &R,
     alloc: Global,
@@ -126,14 +127,14 @@ fn identity_of<R: Files, F: Read + Seek>(
     text_of_digits(alloc, &digits)
 }
 
-/// What stands before the identity.
+/// Returns the text before the identity.
 fn identity_start(alloc: Global, part: (u32, u32)) -> Result<String, AllocError> {
     let mut text = start_text(alloc, Some(part), None)?;
     text.push_str("identity ")?;
     Ok(text)
 }
 
-/// Digits that the system draws.
+/// Returns random digits from the system.
 fn drawn_digits<R: Files>(rt: &R) -> Result<[u8; DIGITS], LogFault> {
     let mut drawn = [0u8; DIGITS];
     let Ok(mut source) = fs::open(rt, "/dev/urandom") else {
@@ -148,7 +149,7 @@ fn drawn_digits<R: Files>(rt: &R) -> Result<[u8; DIGITS], LogFault> {
     Ok(drawn)
 }
 
-/// The digit of the low four bits.
+/// Returns the hexadecimal digit of the low four bits.
 fn digit(byte: u8) -> u8 {
     match byte & 15 {
         low @ 0..=9 => b'0' + low,
@@ -169,7 +170,7 @@ fn text_of_digits(alloc: Global, digits: &[u8]) -> Result<String, Fault>
     Ok(text)
 }
 
-/// The first line of the log, with its end.
+/// Returns the first line of the log, with its LF.
 fn first_line_of(alloc: Global, asked: &LogPlan, identity: &str) -> Result<String, AllocError> {
     let session = &asked.session;
     let header = Header {
@@ -189,10 +190,11 @@ fn first_line_of(alloc: Global, asked: &LogPlan, identity: &str) -> Result<Strin
     Ok(line)
 }
 
-/// Where the whole lines of the log end, and where its bytes do. It has no whole line where it ends before its first line does.
+/// Returns where the whole lines of the log end, and where the file ends. If the first line is not whole, the log has no whole
+/// line.
 ///
 /// # Errors
-/// `OtherSettings` where it begins otherwise; `CannotRead`; `NoMemory`.
+/// `OtherSettings` if the log begins otherwise, `CannotRead`, `NoMemory`.
 fn measure<F: Read + Seek>(alloc: Global, file: &mut F, first: &[u8]) -> Result<(u64, u64), Fault>
     ensures { IfErr result IsLogFault }
 {
@@ -211,7 +213,7 @@ fn measure<F: Read + Seek>(alloc: Global, file: &mut F, first: &[u8]) -> Result<
     Ok((whole_end(file, known as u64, len, &mut buffer)?, len))
 }
 
-/// Where the last line with an end has its end, which is behind `from`; `from` where there is none.
+/// Returns the end of the last whole line after `from`; `from` if there is none.
 fn whole_end<F: Read + Seek>(
     file: &mut F,
     from: u64,

@@ -5,93 +5,108 @@ ghost use Rattle.mercator.specs.Plans.{explains, file_of, listed_or, told_file};
 use crate::commands::fault::Fault;
 use crawl_report::Parts;
 
-/// What the words of a command line ask for. [`plan`](crate::plan) answers one whose numbers are within the limits, and
-/// a crawl with at least one seed or a file of seeds, and not both of its files the input.
+/// What the arguments of a command line ask for.
+///
+/// [`plan`](crate::plan) returns only plans whose numbers are within the limits. Its crawls have at least one seed or a file of
+/// seeds, and read at most one of their two files from the input.
+///
+/// # Example
+///
+/// Whether arguments ask for a key:
+///
+/// ```rust
+/// fn asks_for_a_key(alloc: Global, arguments: &[String]) -> bool {
+///     match plan(alloc, arguments) {
+///         Ok(Plan::Key { .. }) => true,
+///         _ => false,
+///     }
+/// }
+/// ```
 #[derive(Drop)]
 pub enum Plan {
-    /// `crawl`: the report of a crawl of a saved web.
+    /// `crawl`: print the report of a crawl of a saved web.
     Crawl {
-        /// How many workers, and so subqueues, the frontier has: 1 to 512.
+        /// The number of workers, each with its own queue: 1 to 512.
         workers: u32,
-        /// The frontier's maximum of pending URLs: 1 to 2^40.
+        /// The most URLs that are waiting or in progress at a time: 1 to 2^40.
         max: u64,
-        /// Whether the counts of the subqueues follow the report.
+        /// Whether the number of URLs of each queue follows the report.
         queues: bool,
-        /// The saved web's name, or `-` for the input.
+        /// The file of the saved web; `-` is the input.
         file: String,
-        /// Where the crawl begins, behind the seeds of a file of seeds.
+        /// The seeds on the command line, which come after those of a file of seeds.
         seeds: Vec<String>,
-        /// The suffix of the hosts that are wanted, where not all are.
+        /// The suffix of the hosts to crawl; without one, all hosts.
         within: Option<String>,
-        /// What else it is asked for.
+        /// The other options.
         options: CrawlOptions,
     },
-    /// `key`: the URL's key line.
+    /// `key`: print the key line of a URL.
     Key {
-        /// The URL's text.
+        /// The URL, as it was given.
         url: String,
-        /// Among how many subqueues: 1 to 512.
+        /// The number of queues: 1 to 512.
         workers: u32,
     },
-    /// `replay`: the replies to a script.
+    /// `replay`: print the replies to a script.
     Replay {
-        /// The script's name, or `-` for the input.
+        /// The file of the script; `-` is the input.
         file: String,
     },
-    /// `serve`: the answers to requests of the input.
+    /// `serve`: answer the requests of the input.
     Serve(SessionPlan),
-    /// `serve --log`: the same, from where a log stands, which gains the requests.
+    /// `serve --log`: resume from a log, append the requests of the input to it, and answer them.
     ServeLog(LogPlan),
-    /// `serve --log --compact`: nothing. A new file gains the requests of the log that are needed.
+    /// `serve --log --compact`: write a compacted copy of the log to a new file, and answer nothing.
     Compact {
-        /// The session that the log is of.
+        /// The log, and the session that it belongs to.
         log: LogPlan,
-        /// The new file's name.
+        /// The name of the new file.
         new: String,
     },
 }
 
-/// What else a crawl is asked for.
+/// The other options of a crawl.
 #[derive(Drop)]
 pub struct CrawlOptions {
-    /// The name of a file of seeds, or `-` for the input, where there is one.
+    /// The file of seeds, if there is one; `-` is the input.
     pub listed: Option<String>,
-    /// Which parts its report has. Pages that it did not reach are told of hosts that are wanted.
+    /// Which sections the report has. Unreached pages are listed only for the hosts to crawl.
     pub parts: Parts,
-    /// Whether its report is in JSON, an object a line.
+    /// Whether the report is JSON, one object per line.
     pub json: bool,
-    /// Whether it tells at which URL it is incomplete.
+    /// Whether an incomplete crawl reports the first affected URL and the losses.
     pub explain: bool,
-    /// Whether it tells how far it is while it runs.
+    /// Whether the number of fetched pages is reported while the crawl runs.
     pub progress: bool,
 }
 
-/// A session.
+/// The options of a session.
 #[derive(Drop)]
 pub struct SessionPlan {
-    /// How many workers, and so subqueues, the frontier has; those of all parts together are 1 to 512.
+    /// The number of workers, each with its own queue; all parts together have 1 to 512.
     pub workers: u32,
-    /// The frontier's maximum of pending URLs: 1 to 2^40.
+    /// The most URLs that are waiting or in progress at a time: 1 to 2^40.
     pub max: u64,
-    /// The suffix of the hosts that are wanted, where not all are.
+    /// The suffix of the hosts to accept; without one, all hosts.
     pub within: Option<String>,
-    /// Which part of a crawl it is, counted from 0, and how many parts there are.
+    /// The number of this part of a crawl, from 0, and the number of parts.
     pub part: Option<(u32, u32)>,
 }
 
-/// A session that has a log.
+/// A session with a log.
 #[derive(Drop)]
 pub struct LogPlan {
-    /// The session.
+    /// The options of the session.
     pub session: SessionPlan,
-    /// The log's name.
+    /// The name of the log.
     pub file: String,
-    /// Whether the disk has each request before it is answered.
+    /// Whether the log is synced to disk before each answer.
     pub sync: bool,
 }
 
 impl Plan {
-    /// The FILE that it names; a key and a compaction name none, and have the empty text.
+    /// Returns the FILE of the plan; the empty text for a key and a compaction, which have none.
     pub fn file(&self) -> &str
         ensures { result.now ≡ file_of self.now }
     {
@@ -103,7 +118,7 @@ impl Plan {
         }
     }
 
-    /// Whether it tells at which URL it is incomplete.
+    /// Whether an incomplete crawl reports the first affected URL and the losses.
     pub fn explains(&self) -> bool
         ensures { result ≡ explains self.now }
     {
@@ -113,8 +128,8 @@ impl Plan {
         }
     }
 
-    /// The file that this fault speaks of: that of the seeds where this one cannot be read, the log where this one is at fault,
-    /// else FILE.
+    /// Returns the file that this error is about: the file of seeds if that cannot be read, the log if that cannot be used, else
+    /// FILE.
     pub fn told_file(&self, fault: Fault) -> &str
         ensures { result.now ≡ told_file self.now fault }
     {
@@ -128,7 +143,7 @@ impl Plan {
     }
 }
 
-/// The name of a file of seeds, where there is one, else FILE.
+/// Returns the name of the file of seeds if there is one, else FILE.
 fn listed_or<'a>(listed: &'a Option<String>, file: &'a str) -> &'a str
     ensures { result.now ≡ listed_or listed.now file.now }
 {

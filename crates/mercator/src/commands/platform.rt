@@ -1,18 +1,32 @@
 //! What the program runs on.
 
-/// What the program runs on. No clause speaks of it.
+/// What the program runs on: files, threads, locks, and an observer of crawls. No contract speaks of it.
+///
+/// # Example
+///
+/// The platform of a process that locks logs and observes crawls:
+///
+/// ```rust
+/// fn watched<'p, R, V>(rt: &'p R, observer: &'p V) -> Platform<'p, R, R, V> {
+///     Platform {
+///         rt,
+///         locks: rt,
+///         observer: Some(observer),
+///     }
+/// }
+/// ```
 #[derive(Drop)]
 pub struct Platform<'p, R, L, V> {
     /// Files, threads and waiting.
     pub rt: &'p R,
-    /// What locks the files of logs.
+    /// Locks the files of logs.
     pub locks: &'p L,
-    /// What is told how far a crawl is, where one asks for that; none tells nobody.
+    /// The observer of crawls that ask for one, if there is one.
     pub observer: Option<&'p V>,
 }
 
 impl<'p, R, L, V> Platform<'p, R, L, V> {
-    /// The same, whose observer is told only where that is asked for.
+    /// Returns the same platform, without its observer unless it is asked for.
     pub(in crate::commands) fn watching(&self, asked: bool) -> Platform<'p, R, L, V> {
         Platform {
             rt: self.rt,

@@ -1,29 +1,29 @@
-//! The words for the parts of a report: options, and the parts that they ask for.
+//! The options for the sections of a report, and the sections that they ask for.
 use crate::commands::arguments::Flag;
 use clap::ArgMatches;
 use crawl_report::{Parts, Sources};
 
-/// The options.
+/// The options for the sections of a report.
 pub const PART_FLAGS: &[Flag] = &[
     Flag {
         name: "sources",
-        help: "Also writes, for each missing URL, how many pages link to it, and the first of them",
+        help: "Also print how many pages link to each missing URL, and the first of them",
     },
     Flag {
         name: "all-sources",
-        help: "As --sources, and each of these pages",
+        help: "Like --sources, and also print every page that links to a missing URL",
     },
     Flag {
         name: "moved",
-        help: "Also writes where pages moved to; with --sources, also which pages link to these",
+        help: "Also print where redirects lead; with --sources, also which pages link to them",
     },
     Flag {
         name: "unreached",
-        help: "Also writes the pages of FILE that were not reached, of hosts that are crawled",
+        help: "Also print the pages of FILE that cannot be reached from the seeds",
     },
 ];
 
-/// The parts that are asked for.
+/// The sections that the command line asks for.
 pub fn parts_of(found: &ArgMatches<'_>) -> Parts {
     Parts {
         sources: sources_of(found),
@@ -32,7 +32,7 @@ pub fn parts_of(found: &ArgMatches<'_>) -> Parts {
     }
 }
 
-/// Which sources are told. All of them are told behind the first.
+/// Which sources are printed. If all are, they follow the first one.
 fn sources_of(found: &ArgMatches<'_>) -> Sources {
     if found.get_flag("all-sources") {
         Sources::All

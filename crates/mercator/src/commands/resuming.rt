@@ -1,4 +1,4 @@
-//! A session that goes on from its log.
+//! A session that resumes from its log.
 ghost use Rattle.std.specs.Prelude.{◌≡◌, ℕ, List, true, string_bytes, IfOk, IfErr, IsErr, OnOk};
 ghost use Rattle.std.specs.Str.Lines.{lines};
 ghost use Rattle.crawl_session.specs.Input.{ServesInput};
@@ -22,11 +22,12 @@ use std::alloc::{AllocError, Global};
 use std::fs::{Files, OpenFile};
 use std::io::{self, Read, Seek, SeekFrom, Write};
 
-/// Answers the requests of the input to its end, from where the log stands. The log gains each line before it is answered.
+/// Resumes from the log, and answers the requests of the input to its end. Each line is appended to the log before it is
+/// answered.
 ///
 /// # Errors
-/// `BadSuffix`; `Log`, which leaves the log as it was; `CannotRead` and `CannotWrite`, which leave what was answered before
-/// written; `NoMemory`.
+/// `BadSuffix`. `Log`, which leaves the log as it was. `CannotRead` and `CannotWrite`; the answers before them stay written.
+/// `NoMemory`.
 pub fn serve_log<R: Files, L: LockFile<R::File>, V, I: Read, O: Write, E: Write>(
     platform: &Platform<'_, R, L, V>,
     alloc: Global,
@@ -49,7 +50,8 @@ pub fn serve_log<R: Files, L: LockFile<R::File>, V, I: Read, O: Write, E: Write>
     serve_logged(alloc, &mut session, log, syncs, input, out)
 }
 
-/// Answers the requests of the input to its end. The log, which may wait for the disk at a `sync`, gains each line before.
+/// Answers the requests of the input to its end. Each line is appended to the log before, which may be synced to disk for a
+/// `sync`.
 fn serve_logged<F: Write + OpenFile + Drop, I: Read, O: Write>(
     alloc: Global,
     session: &mut Session,
@@ -68,7 +70,7 @@ fn serve_logged<F: Write + OpenFile + Drop, I: Read, O: Write>(
     }
 }
 
-/// Gives the session the requests of the log, and answers the log at its end.
+/// Runs the requests of the log, and returns the log, ready to be appended to.
 fn resume<F: Read + Seek + Write + OpenFile + Drop, E: Write>(
     alloc: Global,
     asked: &LogPlan,
@@ -97,7 +99,7 @@ fn resume<F: Read + Seek + Write + OpenFile + Drop, E: Write>(
     Ok(log)
 }
 
-/// Cuts the log's last line off, where it has no end, and tells so.
+/// Removes the last line of the log if it has no end, and reports that.
 fn cut<F: OpenFile, E: Write>(
     alloc: Global,
     file: &F,
@@ -124,11 +126,11 @@ fn torn_line(alloc: Global, name: &str) -> Result<String, AllocError>
     ensures { IfOk result (λ line. string_bytes line ≡ torn_line name.now) }
 {
     let mut line = String::new(alloc);
-    writeln!(line, "mercator: log {name}: torn line cut off")?;
+    writeln!(line, "mercator: log {name}: incomplete last line removed")?;
     Ok(line)
 }
 
-/// Gives the session the lines behind the first one, and drops their answers; none where there is no whole line.
+/// Runs the lines after the first one, and drops their answers. There are none if the log has no whole line.
 fn rerun_file<F: Read + Seek>(
     alloc: Global,
     session: &mut Session,

@@ -18,7 +18,7 @@ use crawl_session::{Part, ServeError, Session, serve};
 use std::alloc::Global;
 use std::io::{Read, Write};
 
-/// The identity that a part without a log tells.
+/// The identity of a part without a log.
 const NO_IDENTITY: &str = "none";
 
 impl From<ServeError> for Fault {
@@ -36,7 +36,7 @@ impl From<ServeError> for Fault {
 /// Answers the requests of the input to its end.
 ///
 /// # Errors
-/// `BadSuffix`; `CannotRead` and `CannotWrite`, which leave what was answered before written; `NoMemory`.
+/// `BadSuffix`. `CannotRead` and `CannotWrite`; the answers before them stay written. `NoMemory`.
 pub fn serve_plan<I: Read, O: Write>(
     alloc: Global,
     asked: &SessionPlan,
@@ -56,7 +56,7 @@ pub fn serve_plan<I: Read, O: Write>(
     Ok(())
 }
 
-/// The session of a plan. A part has a log of this identity.
+/// Creates the session of a plan. The log of a part has this identity.
 pub fn session_of(
     alloc: Global,
     asked: &SessionPlan,

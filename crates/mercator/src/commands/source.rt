@@ -1,4 +1,4 @@
-//! The bytes of the FILE that a command names.
+//! Reads the FILE of a command.
 ghost use Rattle.std.specs.Prelude.{◌≡◌, ◌≤◌, vec_len, false, IfOk, IfSome};
 ghost use Rattle.mercator.specs.Limits.{most_input_bytes};
 ghost use Rattle.mercator.specs.Plans.{is_input, known_bytes};
@@ -8,10 +8,10 @@ use std::alloc::Global;
 use std::fs::{self, Files};
 use std::io::Read;
 
-/// All bytes of the FILE: of the input where it is `-`, else of the file with this name.
+/// Reads the whole FILE: the input if it is `-`, else the file with this name.
 ///
 /// # Errors
-/// `Failed` also where there is no such file, or it cannot be opened; else those of [`read_input`].
+/// Those of [`read_input`]; `Failed` also if the file does not exist or cannot be opened.
 pub fn read_file<R: Files, I: Read>(
     rt: &R,
     alloc: Global,

@@ -1,4 +1,4 @@
-//! What each command tells.
+//! The output of each command.
 ghost use Rattle.std.specs.Prelude.{◌≡◌, ◌≤◌, ◌⊎◌, ◌&&◌, ◌||◌, map, string_bytes, vec_len, true, false, IfOk, IfErr, IfSome, IsSome};
 ghost use Rattle.crawl_limits.specs.Limits.{worker_limit};
 ghost use Rattle.crawl_keys.specs.HostFilter.{filter_of};
@@ -30,11 +30,11 @@ use std::mem::forget;
 use std::sync::Wait;
 use std::thread::Threads;
 
-/// What the plan's command tells, in parts that stand one behind the other. A replay and a crawl read their whole FILE first; a
-/// crawl looks at its suffix before that, and reads its file of seeds after it.
+/// Returns the output of the plan's command, in consecutive chunks. A replay and a crawl first read their whole FILE. A crawl
+/// checks its suffix before that, and reads its file of seeds after it.
 ///
 /// # Errors
-/// `BadSuffix`; `CannotRead`; `CannotReadSeeds`; the faults of the script, of the saved web, of the file of seeds, of the first bad
+/// `BadSuffix`, `CannotRead` and `CannotReadSeeds`; those of the script, the saved web, the file of seeds and the first bad
 /// seed; `NoSeed`; those of an incomplete crawl, or of the URL; `NoMemory`.
 pub fn tell<R: Files + Threads + Wait + Sync, L, V: Observe + Sync, I: Read>(
     platform: &Platform<'_, R, L, V>,
@@ -73,13 +73,13 @@ pub fn tell<R: Files + Threads + Wait + Sync, L, V: Observe + Sync, I: Read>(
             let watching = platform.watching(options.progress);
             let found = crawl_files(&watching, alloc, &asked, input)?;
             let parts = text_of(platform.rt, alloc, &found, *queues, options)?;
-            // The process ends soon, and gives it back at once.
+            // The process ends soon, which frees it faster.
             forget(found);
             Ok(parts)
         }
         Plan::Key { url, workers } => Ok(tell_key(alloc, url, *workers)?),
         Plan::Serve(_) | Plan::ServeLog(_) | Plan::Compact { .. } => {
-            unreachable!("a session tells as it reads, and a compaction nothing")
+            unreachable!("a session answers while it reads, and a compaction has no output")
         }
     }
 }
@@ -99,7 +99,7 @@ fn tell_replay<R: Files, I: Read>(
     Ok(alone(alloc, text)?)
 }
 
-/// A crawl that is asked for, but for what is told of it.
+/// A crawl that a plan asks for, without the options of its report.
 #[derive(Clone, Copy)]
 struct AskedCrawl<'p> {
     workers: u32,
@@ -110,7 +110,7 @@ struct AskedCrawl<'p> {
     within: &'p Option<String>,
 }
 
-/// What a crawl reads before it begins.
+/// What a crawl reads before it starts.
 #[derive(Drop)]
 struct Inputs {
     filter: Filter,
@@ -118,7 +118,7 @@ struct Inputs {
     list: Vec<u8>,
 }
 
-/// What a crawl of its files found, the web's bytes and the filter.
+/// What a crawl of its files found, with the bytes of the saved web and the filter.
 #[derive(Drop)]
 pub struct WebFound {
     pub filter: Filter,
@@ -126,7 +126,7 @@ pub struct WebFound {
     pub crawled: Crawled,
 }
 
-/// What a crawl of its files finds.
+/// Reads the files of a crawl and crawls.
 fn crawl_files<R: Files + Threads + Wait + Sync, L, V: Observe + Sync, I: Read>(
     platform: &Platform<'_, R, L, V>,
     alloc: Global,
@@ -147,7 +147,7 @@ fn crawl_files<R: Files + Threads + Wait + Sync, L, V: Observe + Sync, I: Read>(
     crawl_inputs(platform, alloc, asked, inputs)
 }
 
-/// Reads the suffix of a crawl, then its web, then its file of seeds.
+/// Checks the suffix of a crawl, then reads its saved web, then its file of seeds.
 fn read_inputs<R: Files, I: Read>(
     rt: &R,
     alloc: Global,
@@ -172,7 +172,7 @@ fn read_inputs<R: Files, I: Read>(
     })
 }
 
-/// What a crawl of these inputs finds.
+/// Crawls these inputs.
 fn crawl_inputs<R: Threads + Wait + Sync, L, V: Observe + Sync>(
     platform: &Platform<'_, R, L, V>,
     alloc: Global,
@@ -199,7 +199,7 @@ fn crawl_inputs<R: Threads + Wait + Sync, L, V: Observe + Sync>(
         filter: &filter,
     };
     let (web, crawled) = crawl_with_web(platform, alloc, &bytes, &list, asked.seeds, &settings)?;
-    // Its list and its index are two blocks, and the text that is told takes their memory.
+    // Its list and its index are two blocks, whose memory the report can use.
     drop(web);
     Ok(WebFound {
         filter,
@@ -208,7 +208,7 @@ fn crawl_inputs<R: Threads + Wait + Sync, L, V: Observe + Sync>(
     })
 }
 
-/// All bytes of the file of seeds; none where there is no such file.
+/// Reads the file of seeds. Without one, returns no bytes.
 fn read_list<R: Files, I: Read>(
     rt: &R,
     alloc: Global,
@@ -229,7 +229,7 @@ fn read_list<R: Files, I: Read>(
     }
 }
 
-/// The filter of a crawl.
+/// Returns the filter of a crawl.
 pub fn filter_of(alloc: Global, within: &Option<String>) -> Result<Filter, FilterError>
     ensures { Gives FilterError.NoMemory (λ filter. filter) result (filter_of (suffixes_of within.now)) }
 {
@@ -239,7 +239,7 @@ pub fn filter_of(alloc: Global, within: &Option<String>) -> Result<Filter, Filte
     }
 }
 
-/// The text of what was found, in parts.
+/// Prints what was found, in chunks.
 fn text_of<R: Threads + Sync>(
     rt: &R,
     alloc: Global,

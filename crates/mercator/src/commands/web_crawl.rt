@@ -22,24 +22,44 @@ use std::alloc::Global;
 use std::sync::Wait;
 use std::thread::Threads;
 
-/// What a crawl of a saved web tells.
+/// The report of a crawl of a saved web.
 #[derive(Drop)]
 pub struct Report {
-    /// The report, by the format of [`report_text`].
+    /// The report, in the format of [`report_text`].
     pub text: Vec<u8>,
-    /// How many of its URLs belong to each subqueue, by its number.
+    /// How many of its URLs belong to each queue, by the number of the queue.
     pub counts: Vec<u64>,
 }
 
-/// The report of a crawl of the saved web that the bytes are: of every URL that can be reached from the seeds by URLs that
-/// the filter allows, and of no other. Neither the number of workers, nor their mode, nor what the threads did shows in it.
+/// Crawls the saved web with these bytes, and returns the report. It has exactly the URLs that are reachable from the seeds by
+/// URLs that the filter allows. It does not depend on the number of workers, their mode, or the order of events in threads.
 ///
-/// The web is read before the seeds are, and both before anything is fetched. The settings are those of
+/// The saved web is read before the seeds, and both before anything is fetched. The settings are those of
 /// [`crawl`](crate::crawl).
 ///
 /// # Errors
-/// `Web`; `Seed` with the first seed that has no canonical URL; `Crawl`, where a number is past its limit, or the crawl is
-/// incomplete; `NoMemory`.
+/// `Web`. `Seed` for the first seed that has no canonical URL. `Crawl` if a number is out of range, or if the crawl is
+/// incomplete. `NoMemory`.
+///
+/// # Example
+///
+/// The text of the report, from one seed and without a limit on hosts:
+///
+/// ```rust
+/// fn report_of<R: Threads + Wait + Sync>(rt: &R, alloc: Global, web: &[u8]) -> Option<Vec<u8>> {
+///     let seed = String::from_str(alloc, "http://a.test/0").ok()?;
+///     let seeds = vec![in alloc; seed].ok()?;
+///     let every = Filter::new(alloc, &[]).ok()?;
+///     let settings = CrawlSettings {
+///         workers: 1,
+///         max_pending: MAX_PENDING,
+///         mode: Mode::Threads,
+///         filter: &every,
+///     };
+///     let report = report_of_saved_web(rt, alloc, web, &seeds, &settings).ok()?;
+///     Some(report.text)
+/// }
+/// ```
 pub fn report_of_saved_web<R: Threads + Wait + Sync>(
     rt: &R,
     alloc: Global,
@@ -50,7 +70,7 @@ pub fn report_of_saved_web<R: Threads + Wait + Sync>(
     ensures report { IfOk result (λ r. IsCrawlReport bytes.now (map string_bytes seeds.now) settings.now.filter.now r.text.items) }
     ensures counts { IfOk result (λ r. (pages : List PageResult) → IsSiteCrawl bytes.now [] (map string_bytes seeds.now) settings.now.filter.now pages → AreCounts settings.now.workers (result_urls pages) r.counts.items) }
     ensures refused { IfErr result (λ fault. IsRefused settings.now.workers settings.now.max_pending bytes.now [] (map string_bytes seeds.now) fault) }
-    // No report comes of numbers that no frontier takes, and no want of a thread of workers in turn.
+    // There is no report for numbers out of range, and workers that take turns never lack a thread.
     ensures numbers { IfOk result (λ _. IsWorkers settings.now.workers × IsMaximum settings.now.max_pending) }
     ensures mode { IfErr result (ComesOf settings.now.mode) }
 {
@@ -62,11 +82,10 @@ pub fn report_of_saved_web<R: Threads + Wait + Sync>(
     })
 }
 
-/// What a crawl of the saved web that the bytes are finds, from the seeds of the file with the bytes `listed`, and then from
-/// those given.
+/// Crawls the saved web with these bytes, from the seeds of the file with the bytes `listed`, followed by `seeds`.
 ///
 /// # Errors
-/// `Web`; `Seeds`; and then those of [`report_of_saved_web`].
+/// `Web`, `Seeds`, then those of [`report_of_saved_web`].
 pub fn crawl_saved_web<R: Threads + Wait + Sync>(
     rt: &R,
     alloc: Global,
@@ -87,7 +106,7 @@ pub fn crawl_saved_web<R: Threads + Wait + Sync>(
     Ok(found)
 }
 
-/// As [`crawl_saved_web`], but threads read the web and find its links even where one worker crawls it.
+/// Like [`crawl_saved_web`], but threads read the saved web and find its links even if only one worker crawls it.
 ///
 /// # Errors
 /// Those of [`crawl_saved_web`].
@@ -110,10 +129,10 @@ pub fn crawl_saved_web_in_threads<R: Threads + Wait + Sync>(
     Ok(found)
 }
 
-/// As [`crawl_saved_web`], and the web that was crawled, from one seed at least. The platform's observer is told of it.
+/// Like [`crawl_saved_web`], from at least one seed. It also returns the saved web, and reports to the observer of the platform.
 ///
 /// # Errors
-/// `NoSeed` behind those of web and seeds; else those of [`crawl_saved_web`].
+/// Those of [`crawl_saved_web`]; `NoSeed` after those of the saved web and the seeds.
 pub(in crate::commands) fn crawl_with_web<'a, R: Threads + Wait + Sync, L, V: Observe + Sync>(
     platform: &Platform<'_, R, L, V>,
     alloc: Global,
@@ -141,7 +160,7 @@ pub(in crate::commands) fn crawl_with_web<'a, R: Threads + Wait + Sync, L, V: Ob
     Ok((web, found))
 }
 
-/// The saved web that the bytes are, and the seeds of the file with the bytes `listed` and then those given.
+/// Reads the saved web, and the seeds: those of the file with the bytes `listed`, followed by `seeds`.
 fn read_site<'a, R: Threads + Sync>(
     rt: &R,
     alloc: Global,
@@ -162,7 +181,7 @@ fn read_site<'a, R: Threads + Sync>(
     Ok((web, urls))
 }
 
-/// The saved web that the bytes are, read by threads where that is asked for.
+/// Reads the saved web, by threads if `in_threads`.
 fn web_of<'a, R: Threads + Sync>(
     rt: &R,
     alloc: Global,
@@ -180,12 +199,12 @@ fn web_of<'a, R: Threads + Sync>(
     }
 }
 
-/// Whether several workers crawl by threads: then threads read the web too, and find its links.
+/// Returns whether several workers crawl in threads. If so, threads also read the saved web and find its links.
 fn has_threads(settings: &CrawlSettings<'_>) -> bool {
     settings.workers > 1 && matches!(settings.mode, Mode::Threads)
 }
 
-/// The seeds' canonical URLs.
+/// Returns the canonical URLs of the seeds.
 fn seed_urls(alloc: Global, texts: &[String]) -> Result<Vec<CanonUrl>, Fault>
     ensures named { IfOk result (λ urls. AreSeeds (map string_bytes texts.now) urls.items) }
     ensures refused { IfErr result (λ fault. IsSeedFault (map string_bytes texts.now) fault) }

@@ -1,14 +1,14 @@
-//! What was read and not handed on.
+//! A buffer of bytes that were read and not handed on yet.
 ghost use Rattle.std.specs.Prelude.{◌≡◌, ◌<◌, ◌≤◌, [], drop, length, vec_len, IfOk, OnOk};
 ghost use Rattle.std.specs.Io.KnownBytes.{IsAtEnd, Keeps, prepend_known};
 
 use std::alloc::{AllocError, Global};
 use std::io::{self, Read};
 
-/// The most bytes that a read asks for.
+/// The most bytes that one read asks for.
 pub const READ_SIZE: usize = 65_536;
 
-/// The bytes that were read and not handed on.
+/// A buffer of bytes that were read and not handed on yet.
 #[derive(Drop)]
 pub struct Window {
     bytes: Vec<u8>,
@@ -22,7 +22,7 @@ pub struct Window {
 impl Window {
     ghost use Rattle.mercator.specs.LogFile.{items};
 
-    /// None, and room for a read.
+    /// An empty buffer, with room for one read.
     pub fn new(alloc: Global) -> Result<Window, AllocError>
         ensures { IfOk result (λ window. items window ≡ []) }
     {
@@ -34,14 +34,14 @@ impl Window {
         })
     }
 
-    /// These bytes.
+    /// Returns these bytes.
     pub fn as_slice(&self) -> &[u8]
         ensures { result.now ≡ items self.now }
     {
         &self.bytes[self.from..self.to]
     }
 
-    /// Reads, where nothing is left.
+    /// Reads if no bytes are left.
     pub fn fill<I: Read>(&mut self, input: &mut I) -> io::Result<()>
         ensures kept { Keeps (prepend_known (items self.old) (I.remaining input.old)) (prepend_known (items self.new) (I.remaining input.new)) }
         ensures end { OnOk result (items self.new ≡ [] → IsAtEnd (I.remaining input.new)) }
@@ -54,7 +54,7 @@ impl Window {
         Ok(())
     }
 
-    /// Hands so many on.
+    /// Hands on `count` bytes.
     pub fn consume(&mut self, count: usize)
         requires { count ≤ length (items self.old) }
         ensures { items self.new ≡ drop count (items self.old) }

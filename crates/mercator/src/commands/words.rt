@@ -1,4 +1,4 @@
-//! The words of a command line, read by `clap`.
+//! Parses the arguments of a command line with `clap`.
 ghost use Rattle.std.specs.Prelude.{◌≡◌, ◌*◌, ◌<◌, ◌≤◌, IfOk, IfErr, IfSome};
 ghost use Rattle.crawl_limits.specs.Limits.{worker_limit, pending_limit};
 ghost use Rattle.mercator.specs.Plans.{IsPartOf, IsSessionPlan, IsShown, IsWithinLimits, all_queues, lists_input};
@@ -13,18 +13,17 @@ use crawl_limits::{PENDING_LIMIT, WORKER_LIMIT};
 use crawl_replay::number32;
 use std::alloc::{AllocError, AllocFailed, Global};
 
-/// Why words are no plan.
+/// Why arguments are not a plan.
 #[derive(Drop)]
 pub enum PlanError {
-    /// What is to be shown in place of a command: help that was asked for, with status 0, or what is wrong with the words, with
-    /// status 3.
+    /// A text to show instead of running a command: help, with status 0, or an error in the arguments, with status 3.
     Shown {
-        /// The text, its last line ended by LF. It is empty where the words were read otherwise than they were checked.
+        /// The text, whose last line ends in LF. It is empty if the arguments were parsed otherwise than they were checked.
         text: String,
-        /// The program's status.
+        /// The exit status of the program.
         status: u8,
     },
-    /// A growth was refused. One of `clap`'s may also be shown.
+    /// Out of memory. If `clap` runs out of memory, that may also be `Shown`.
     NoMemory,
 }
 
@@ -44,10 +43,21 @@ impl<T: Drop> From<AllocFailed<T>> for PlanError {
     }
 }
 
-/// What the words after the program's name ask for.
+/// Parses the arguments after the program's name.
 ///
 /// # Errors
-/// `Shown` where they ask for help or are no command line; `NoMemory`.
+/// `Shown` if they ask for help or are not a command line. `NoMemory`.
+///
+/// # Example
+///
+/// The program parses its arguments and runs the plan:
+///
+/// ```rust
+/// match plan(alloc, words) {
+///     Ok(plan) => run_plan(platform, alloc, &plan, input, out, err),
+///     Err(error) => show(alloc, error, out, err),
+/// }
+/// ```
 pub fn plan(alloc: Global, words: &[String]) -> Result<Plan, PlanError>
     ensures limits { IfOk result IsWithinLimits }
     ensures shown { IfErr result IsShown }
@@ -59,15 +69,16 @@ pub fn plan(alloc: Global, words: &[String]) -> Result<Plan, PlanError>
     }
 }
 
-/// The whole command line as `clap` knows it, with the commands that `mercator_site` runs; of their words no plan comes here.
+/// Returns the whole command line as `clap` parses it. It includes `check` and `site`, which `mercator_site` runs: [`plan`]
+/// returns no plan for them.
 ///
 /// # Errors
-/// Where a growth was refused.
+/// If there is not enough memory.
 pub fn whole_command<'a>(alloc: Global) -> Result<Command<'a>, AllocError> {
     command_line(alloc)
 }
 
-/// The words behind the program's name, which stands in usage lines.
+/// Puts the program's name, which appears in usage lines, before the arguments.
 fn after_the_name<'a>(alloc: Global, words: &'a [String]) -> Result<Vec<&'a str>, AllocError> {
     let mut named = Vec::new(alloc);
     named.push(command_line::NAME)?;
@@ -77,7 +88,7 @@ fn after_the_name<'a>(alloc: Global, words: &'a [String]) -> Result<Vec<&'a str>
     Ok(named)
 }
 
-/// What is shown for this answer of `clap`.
+/// Returns what to show for this error of `clap`.
 fn shown(alloc: Global, error: &clap::Error) -> PlanError
     ensures { IsShown result }
 {
@@ -95,7 +106,7 @@ fn shown(alloc: Global, error: &clap::Error) -> PlanError
     }
 }
 
-/// The status of a bad command line.
+/// The exit status of a bad command line.
 pub const BAD_COMMAND_LINE: u8 = 3;
 
 const TWO_INPUTS: &str = "\
@@ -105,12 +116,12 @@ For more information, try '--help'.
 ";
 
 const BAD_PART: &str = "\
-error: '--part <I/K>' wants a part I below K, and at most 512 workers in all parts
+error: '--part <I/K>' requires that I is less than K, and at most 512 workers in all parts together
 
 For more information, try '--help'.
 ";
 
-/// Where the words were read otherwise than `clap` checked them.
+/// The error for arguments that were parsed otherwise than `clap` checked them.
 fn misread(alloc: Global) -> PlanError
     ensures { IsShown result }
 {
@@ -163,7 +174,7 @@ fn crawl_of(alloc: Global, found: &ArgMatches<'_>) -> Result<Plan, PlanError>
     })
 }
 
-/// What else a crawl is asked for, with this file of seeds.
+/// Returns the other options of a crawl, with this file of seeds.
 fn options_of(found: &ArgMatches<'_>, listed: Option<String>) -> CrawlOptions
     ensures { result.listed ≡ listed }
 {
@@ -236,7 +247,7 @@ fn session_of(alloc: Global, found: &ArgMatches<'_>) -> Result<SessionPlan, Plan
     })
 }
 
-/// Which part of a crawl is asked for, and of how many, where each has so many queues.
+/// Returns the number of the part of a crawl, and the number of parts, if each part has `workers` queues.
 fn part_of(
     alloc: Global,
     found: &ArgMatches<'_>,
@@ -258,7 +269,7 @@ fn part_of(
     }
 }
 
-/// `I/K`.
+/// Parses `I/K`.
 fn part_in(text: &str, workers: u32) -> Option<(u32, u32)>
     ensures there { IfSome result (λ part. part.0 < part.1) }
     ensures some_queue { IfSome result (λ part. 1 ≤ workers * part.1) }
@@ -275,7 +286,7 @@ fn part_in(text: &str, workers: u32) -> Option<(u32, u32)>
     }
 }
 
-/// The number of workers, tested once more.
+/// Returns the number of workers, checked once more.
 fn workers_of(found: &ArgMatches<'_>) -> Option<u32>
     ensures some { IfSome result (λ workers. 1 ≤ workers) }
     ensures few { IfSome result (λ workers. workers ≤ worker_limit) }
@@ -288,7 +299,7 @@ fn workers_of(found: &ArgMatches<'_>) -> Option<u32>
     }
 }
 
-/// The maximum of pending URLs, tested once more.
+/// Returns the limit of pending URLs, checked once more.
 fn max_of(found: &ArgMatches<'_>) -> Option<u64>
     ensures some { IfSome result (λ max. 1 ≤ max) }
     ensures few { IfSome result (λ max. max ≤ pending_limit) }
@@ -301,7 +312,7 @@ fn max_of(found: &ArgMatches<'_>) -> Option<u64>
     }
 }
 
-/// The value of an option that may be left out.
+/// Returns the value of an option, if it was given.
 fn option_of(
     alloc: Global,
     found: &ArgMatches<'_>,
@@ -313,7 +324,7 @@ fn option_of(
     }
 }
 
-/// Whether a file of seeds is named, and is the input.
+/// Returns whether the file of seeds is the input.
 fn is_input(listed: &Option<String>) -> bool
     ensures { result ≡ lists_input listed.now }
 {
@@ -323,7 +334,7 @@ fn is_input(listed: &Option<String>) -> bool
     }
 }
 
-/// What is shown where both files of a crawl would be read from the input.
+/// The error for a crawl that would read both of its files from the input.
 fn two_inputs(alloc: Global) -> Result<PlanError, AllocError>
     ensures { IfOk result IsShown }
 {
@@ -333,7 +344,7 @@ fn two_inputs(alloc: Global) -> Result<PlanError, AllocError>
     })
 }
 
-/// What is shown of a part that is none.
+/// The error for a part that does not exist, or for too many workers in all parts.
 fn bad_part(alloc: Global) -> Result<PlanError, AllocError>
     ensures { IfOk result IsShown }
 {

@@ -1,4 +1,4 @@
-//! What a command writes: its text to the output, or a fault's line to the writer for faults.
+//! Writes the output of a command, or the line of its error.
 ghost use Rattle.std.specs.Prelude.{◌≡◌, ◌++◌, [], IfOk, string_bytes};
 ghost use Rattle.crawl_report.specs.Printing.{joined};
 ghost use Rattle.mercator.specs.Ending.{Begins, EndsByText};
@@ -14,7 +14,7 @@ use crawl_workers::Losses;
 use std::alloc::{AllocError, Global};
 use std::io::Write;
 
-/// Ends a command that tells this text, which is written whole and flushed.
+/// Writes the whole output of a command, and flushes it.
 pub fn end<O: Write>(out: &mut O, text: &[u8]) -> Result<(), Fault>
     ensures { EndsByText text.now (O.contents out.old) (O.contents out.new) result }
 {
@@ -24,7 +24,7 @@ pub fn end<O: Write>(out: &mut O, text: &[u8]) -> Result<(), Fault>
     Ok(())
 }
 
-/// As [`end`], for a text in parts that stand one behind the other.
+/// Like [`end`], for an output in consecutive chunks.
 pub fn end_by_parts<O: Write>(out: &mut O, parts: &[Vec<u8>]) -> Result<(), Fault>
     ensures { EndsByText (joined parts.now) (O.contents out.old) (O.contents out.new) result }
 {
@@ -36,7 +36,8 @@ pub fn end_by_parts<O: Write>(out: &mut O, parts: &[Vec<u8>]) -> Result<(), Faul
     end(out, &[])
 }
 
-/// Tells a fault of no plan by its line. What `err` refuses of the line is dropped, and so is a line that finds no room.
+/// Reports an error that belongs to no plan. What `err` does not accept of the line is dropped; so is the line if there is no
+/// memory for it.
 pub fn tell_fault<E: Write>(alloc: Global, err: &mut E, fault: Fault)
     ensures { Begins (E.contents err.old) (E.contents err.new) (fault_line [] fault) }
 {
@@ -45,8 +46,8 @@ pub fn tell_fault<E: Write>(alloc: Global, err: &mut E, fault: Fault)
     }
 }
 
-/// Tells the failure by which a plan's command ended as [`tell_fault`] does; its URL and what was lost in further lines, where the
-/// plan asks for them.
+/// Reports the failure of a plan's command, as [`tell_fault`] does. If the plan asks for it, further lines have its URL and what
+/// was lost.
 pub fn tell_ended<E: Write>(alloc: Global, err: &mut E, plan: &Plan, failure: &Failure)
     ensures { Begins (E.contents err.old) (E.contents err.new) (told_lines plan.now failure.now.fault failure.now.culprit failure.now.losses) }
 {
@@ -66,7 +67,7 @@ fn told_lines(alloc: Global, plan: &Plan, failure: &Failure) -> Result<String, A
     }
 }
 
-/// The line of a fault, and behind it those that tell it at its URL and what was lost.
+/// Returns the line of an error, followed by the lines about its URL and the losses.
 fn lines_at(alloc: Global, file: &str, failure: &Failure) -> Result<String, AllocError>
     ensures { IfOk result (λ lines. string_bytes lines ≡ fault_line file.now failure.now.fault ++ culprit_lines file.now failure.now.fault failure.now.culprit failure.now.losses) }
 {
@@ -103,12 +104,20 @@ fn push_losses(lines: &mut String, losses: Losses) -> Result<(), AllocError>
     let memory = u128::from(losses.no_memory) + u128::from(losses.unkept);
     writeln!(
         lines,
-        "mercator: lost: full {full}, too far {too_far}, crossed {crossed}, failed {failed}, out of memory {memory}"
+        "mercator: lost: {full} above --max-pending, {too_far} too far from a seed, {crossed} from a duplicate sender, {failed} not fetched, {memory} out of memory"
     )?;
     Ok(())
 }
 
-/// The line of a fault, whose command named this FILE.
+/// Returns the line that reports an error, which ends in LF. `file` is the FILE of the command.
+///
+/// # Example
+///
+/// `mercator_site` reports a folder that cannot be read as `mercator: cannot read NAME`:
+///
+/// ```rust
+/// fault_line(alloc, name, Fault::CannotRead)
+/// ```
 pub fn fault_line(alloc: Global, file: &str, fault: Fault) -> Result<String, AllocError>
     ensures { IfOk result (λ line. string_bytes line ≡ fault_line file.now fault) }
 {
@@ -118,7 +127,7 @@ pub fn fault_line(alloc: Global, file: &str, fault: Fault) -> Result<String, All
     Ok(line)
 }
 
-/// Writes the bytes, up to where the writer refuses one.
+/// Writes the bytes until the writer fails.
 pub fn begin<W: Write>(writer: &mut W, bytes: &[u8])
     ensures { Begins (W.contents writer.old) (W.contents writer.new) bytes.now }
 {

@@ -1,4 +1,4 @@
-//! The certificate of a run, by threads where its workers had some.
+//! The certificate of a run, computed by threads if its workers ran in threads.
 ghost use Rattle.std.specs.Prelude.{◌≡◌, true, ℕ, List, IfErr, IfOk};
 ghost use Rattle.std.specs.List.Sorted.{IsPermutation};
 ghost use Rattle.crawl_certificate.specs.AccountEntries.{entries_of};
@@ -25,7 +25,7 @@ use crawl_web::PageResult;
 use std::alloc::Global;
 use std::thread::Threads;
 
-/// What a run found, once it is certified. What was asked for is accepted and fetched, where seeder and workers lost nothing.
+/// Certifies what a run found. If seeder and workers lost nothing, every seed and link is accepted and fetched.
 pub fn crawled_of<R: Threads + Sync>(
     rt: &R,
     alloc: Global,
@@ -61,7 +61,7 @@ pub fn crawled_of<R: Threads + Sync>(
     }
 }
 
-/// Certifies the results. Where no worker had a thread, none is started here.
+/// Certifies the results. If no worker had a thread, no thread is started here.
 fn certified<R: Threads + Sync>(
     rt: &R,
     settings: &CrawlSettings<'_>,

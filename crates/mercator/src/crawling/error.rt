@@ -1,4 +1,4 @@
-//! Why a crawl came to no certified result.
+//! Why a crawl has no certified result.
 ghost use Rattle.std.specs.Prelude.{◌≡◌};
 ghost use Rattle.mercator.specs.Crawls.{of_frontier, of_run, of_finish, of_cert};
 ghost use Rattle.mercator.specs.declared.crawling.error.CrawlError.TheVariants as wrong;
@@ -8,10 +8,10 @@ use crawl_frontier::{FinishError, FrontierError};
 use crawl_workers::RunError;
 use std::alloc::{AllocError, AllocFailed};
 
-/// Why a crawl came to no certified result. Want of memory is `NoMemory`, and no other variant holds that reason.
+/// Why a crawl has no certified result. Running out of memory is always `NoMemory`, and no other variant holds that reason.
 #[derive(Clone, Copy, Debug, PartialEq, Eq)]
 pub enum CrawlError {
-    /// No frontier has these numbers.
+    /// The number of workers or the limit of pending URLs is out of range.
     Frontier(FrontierError),
     /// A thread could not be started, and no URL was fetched.
     Run(RunError),
@@ -19,7 +19,7 @@ pub enum CrawlError {
     Finish(FinishError),
     /// Something is missing, or should not be there.
     Cert(CertError),
-    /// A growth was refused.
+    /// Out of memory.
     NoMemory,
 }
 

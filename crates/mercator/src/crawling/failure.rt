@@ -1,4 +1,4 @@
-//! Why a crawl came to no certified result, and at which URL.
+//! Why a crawl has no certified result, and at which URL.
 ghost use Rattle.std.specs.Prelude.{◌≡◌, None};
 ghost use Rattle.mercator.specs.Crawls.{losses_at, of_cert, without_url};
 ghost use Rattle.mercator.specs.declared.crawling.error.CrawlError.TheVariants as wrong;
@@ -10,14 +10,14 @@ use crawl_keys::CanonUrl;
 use crawl_workers::Losses;
 use std::alloc::AllocError;
 
-/// Why a crawl came to no certified result, and at which URL.
+/// Why a crawl has no certified result, and at which URL.
 #[derive(Drop)]
 pub struct CrawlFailure {
     /// Why.
     pub error: CrawlError,
-    /// Of a fault of the certificate, the least URL, byte by byte, that has it; else none.
+    /// If the certificate failed, the first URL in byte order at which it fails; else none.
     pub culprit: Option<CanonUrl>,
-    /// How much seeder and workers lost, by why, of a fault of the certificate; else nothing.
+    /// If the certificate failed, what seeder and workers lost, by cause; else nothing.
     pub losses: Losses,
 }
 
@@ -34,7 +34,7 @@ impl From<CrawlError> for CrawlFailure {
 }
 
 impl CrawlFailure {
-    /// That of a run that lost so many, where its certificate names this culprit.
+    /// The failure of a run with these losses, whose certificate names this culprit.
     pub(in crate::crawling) fn of_culprit(culprit: Culprit, losses: Losses) -> CrawlFailure
         ensures { result ≡ record { error = of_cert culprit.cause; culprit = culprit.url; losses = losses_at culprit.url losses } }
     {

@@ -1,4 +1,4 @@
-//! What a run left, put together.
+//! What a run left, collected.
 ghost use Rattle.std.specs.Prelude.{◌≡◌, ◌∷◌, ◌++◌, [], ℕ, List, IfErr, IfOk};
 ghost use Rattle.crawl_certificate.specs.Certificate.{ArePages};
 ghost use Rattle.crawl_frontier.specs.Accounts.{Accounts};
@@ -31,7 +31,7 @@ pub struct EndedRun<K: Name> {
     pub losses: Losses,
 }
 
-/// What is left of a run of this frontier whose workers left this, and whose seeds this sender offered.
+/// Collects what is left of a run of this frontier, from what its workers left and the sender of its seeds.
 pub fn ran_of<K: Name>(
     alloc: Global,
     frontier: Frontier<K>,
@@ -60,8 +60,8 @@ pub fn ran_of<K: Name>(
     })
 }
 
-/// The closed workers, the results of all of them, and their losses beside those before. All come in the order of the ends: so
-/// the results come in the order of an account's entries, where the certificate looks for each first.
+/// Collects the closed workers, their results, and their losses in addition to those before. All are in the order of `ends`.
+/// So the results are in the order of an account's entries, which is where the certificate looks for each first.
 pub fn gathered<K: Name>(
     alloc: Global,
     ends: Vec<WorkerEnd<K>>,
@@ -93,7 +93,7 @@ pub fn gathered<K: Name>(
     })
 }
 
-/// The results so far, and behind them a worker's. The first worker's list stays as it is, and nothing of it is copied.
+/// Appends a worker's results to those so far. The first worker's list is kept as it is, without a copy.
 fn with_found(
     mut results: Vec<PageResult>,
     mut found: Vec<PageResult>,
@@ -107,7 +107,7 @@ fn with_found(
     Ok(results)
 }
 
-/// How many entries each subqueue has.
+/// Returns the number of entries of each queue.
 pub fn counts_of(alloc: Global, account: &Account) -> Result<Vec<u64>, AllocError>
     ensures { IfOk result (λ counts. CountedBelow account.now.workers account.now counts.items) }
 {

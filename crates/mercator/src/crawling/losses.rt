@@ -1,4 +1,4 @@
-//! What a crawl lost, put together.
+//! What a crawl lost, added up.
 ghost use Rattle.std.specs.Prelude.{◌≡◌, true};
 ghost use Rattle.crawl_workers.specs.Losses.{all_losses, no_losses};
 ghost use Rattle.mercator.specs.Losses.{both_losses, with_refusal};
@@ -6,7 +6,7 @@ ghost use Rattle.mercator.specs.Losses.{both_losses, with_refusal};
 use crawl_frontier::OfferError;
 use crawl_workers::Losses;
 
-/// Nothing was lost.
+/// Returns no losses.
 pub fn no_losses() -> Losses
     ensures { result ≡ no_losses }
 {
@@ -20,7 +20,7 @@ pub fn no_losses() -> Losses
     }
 }
 
-/// Whether nothing was lost.
+/// Returns whether nothing was lost.
 pub fn are_none(losses: &Losses) -> bool
     ensures none { result ≡ true → all_losses losses.now ≡ 0 }
     ensures some { all_losses losses.now ≡ 0 → result ≡ true }
@@ -33,8 +33,8 @@ pub fn are_none(losses: &Losses) -> bool
         && losses.no_memory == 0
 }
 
-/// A seed more whose offer was refused for this reason. One that the filter does not allow is not lost, and no seed meets the
-/// gate closed.
+/// Counts one more seed, whose offer was refused for this reason. A seed that the filter does not allow is not lost, and no
+/// seed finds the gate closed.
 pub fn with_refusal(before: Losses, refused: OfferError) -> Losses
     ensures { result ≡ with_refusal refused before }
 {
@@ -49,7 +49,7 @@ pub fn with_refusal(before: Losses, refused: OfferError) -> Losses
     losses
 }
 
-/// The losses of both. Each count stays at the greatest u64 once there.
+/// Adds up the losses of both. Each count saturates at the greatest `u64`.
 pub fn both_losses(a: Losses, b: Losses) -> Losses
     ensures { result ≡ both_losses a b }
 {

@@ -1,4 +1,4 @@
-//! A crawl on a frontier that has a name.
+//! A crawl on a frontier that has a name (a brand in its type).
 ghost use Rattle.std.specs.Prelude.{◌≡◌, ◌⊎◌, ◌≤◌, true, false, ℕ, List, [], ◌∷◌, ◌++◌, IfOk, IfErr, vec_len};
 ghost use Rattle.crawl_certificate.specs.AccountEntries.{entries_of};
 ghost use Rattle.crawl_certificate.specs.Certificate.{ArePages, IsCrawl, NothingLost, result_urls};
@@ -65,14 +65,14 @@ fn run_from<K: Name + Send + Sync, F: SessionFetch + Sync, R: Threads + Wait + S
     requires filter { settings.now.filter.now ≡ K.filter }
     ensures pages { IfOk result (λ ran. ArePages (F.meaning fetcher.now) ran.results.items) }
     ensures workers { IfOk result (λ ran. ran.account.workers ≡ setup.workers) }
-    // What was asked for is accepted and fetched, where seeder and workers lost nothing.
+    // If seeder and workers lost nothing, every seed and link is accepted and fetched.
     ensures lost { IfOk result (λ ran. all_losses ran.losses ≡ 0 → NothingLost (allows settings.now.filter.now) seeds.now (entries_of ran.account) ran.results.items) }
     ensures counted { IfOk result (λ ran. IsRun K.workers (allows K.filter) (F.meaning fetcher.now) seeds.now (entries_of ran.account) ran.results.items ran.losses) }
     ensures errors { IfErr result IsUncertified }
     ensures mode { IfErr result (ComesIn settings.now.mode) }
 {
     let (frontier, workers, mut seeder) = Frontier::<K>::new(alloc, setup, settings.filter)?;
-    // A seed that was refused may still come in by a link, and the certificate asks for it.
+    // A seed that was refused may still be found by a link, and the certificate looks for it.
     let refused = offer_seeds(rt, &frontier, &mut seeder, seeds);
     let sender = seeder.end(&frontier);
     let ends = run(rt, alloc, &frontier, workers, fetcher, settings.mode)?;
@@ -80,7 +80,7 @@ fn run_from<K: Name + Send + Sync, F: SessionFetch + Sync, R: Threads + Wait + S
     ran_of(alloc, frontier, left, sender)
 }
 
-/// Offers the seeds in order, and answers how many are lost, by why.
+/// Offers the seeds in order, and returns the losses by cause.
 fn offer_seeds<K: Name, R: Wait>(
     rt: &R,
     frontier: &Frontier<K>,
@@ -97,7 +97,7 @@ fn offer_seeds<K: Name, R: Wait>(
     lost
 }
 
-/// Offers a seed, and answers what is lost with it. One that the filter does not allow is not lost.
+/// Offers a seed, and returns the losses so far with it. A seed that the filter does not allow is not lost.
 fn offer_seed<K: Name, R: Wait>(
     rt: &R,
     frontier: &Frontier<K>,
@@ -117,7 +117,7 @@ fn offer_seed<K: Name, R: Wait>(
     }
 }
 
-/// Runs all workers to their ends. One alone runs on the calling thread in either mode.
+/// Runs all workers to their ends. A single worker runs on the calling thread in either mode.
 fn run<K: Name + Send + Sync, F: SessionFetch + Sync, R: Threads + Wait + Sync>(
     rt: &R,
     alloc: Global,

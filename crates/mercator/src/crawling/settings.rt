@@ -3,14 +3,28 @@
 use crate::crawling::Mode;
 use crawl_keys::Filter;
 
-/// How a crawl runs. What it finds depends on the filter alone.
+/// How a crawl runs. What it finds depends only on the filter.
+///
+/// # Example
+///
+/// As `mercator crawl` runs a crawl:
+///
+/// ```rust
+/// let settings = CrawlSettings {
+///     workers: asked.workers,
+///     max_pending: asked.max,
+///     mode: Mode::Threads,
+///     filter: &filter,
+/// };
+/// ```
 #[derive(Clone, Copy)]
 pub struct CrawlSettings<'f> {
-    /// How many workers, and so subqueues, the frontier has.
+    /// The number of workers, each with its own queue: 1 to 512.
     pub workers: u32,
-    /// The frontier's maximum of pending URLs.
+    /// The most URLs that are waiting or in progress at a time: 1 to 2^40. The seeding phase counts as one.
     pub max_pending: u64,
+    /// Whether workers run in threads. A single worker runs on the calling thread.
     pub mode: Mode,
-    /// Which URLs are wanted.
+    /// Which hosts are crawled.
     pub filter: &'f Filter,
 }

@@ -1,4 +1,4 @@
-//! A source that tells how many pages were fetched of it.
+//! A source of pages that reports how many were fetched.
 ghost use Rattle.std.specs.Prelude.{◌≡◌, ◌<◌, ◌+◌};
 ghost use Rattle.mercator.specs.Limits.{most_untold};
 
@@ -7,10 +7,27 @@ use crawl_web::{FetchError, Page, SessionFetch};
 use std::alloc::Global;
 use std::sync::atomic::{AtomicU64, Ordering};
 
-/// What is told how far a crawl is.
+/// An observer of a crawl's progress.
+///
+/// # Example
+///
+/// `mercator --progress` prints the number of pages, and the time since the start:
+///
+/// ```rust
+/// impl<R: Clock + Eprint> Observe for Progress<'_, R> {
+///     fn fetched(&self, pages: u64) {
+///         let Some(second) = self.second() else {
+///             return;
+///         };
+///         if self.takes(second) {
+///             let _ = eprintln!(self.rt; "mercator: {pages} pages, {second} s");
+///         }
+///     }
+/// }
+/// ```
 pub trait Observe {
-    /// So many fetches have ended. Each worker tells its fetches some at a time, so that the last few of each may not be among
-    /// them; and workers in threads tell side by side, so that a lower number may follow a higher one.
+    /// Reports that `pages` fetches have ended since the crawl began. Each worker reports its fetches in batches, so the last few
+    /// of each worker may be missing. Workers in threads report at the same time, so a lower number may follow a higher one.
     fn fetched(&self, pages: u64);
 }
 
@@ -22,28 +39,29 @@ impl Observe for Unobserved {
     fn fetched(&self, _pages: u64) {}
 }
 
-/// A worker tells so many fetches at a time.
+/// How many fetches a worker reports at a time.
 const TOLD_AT_ONCE: u32 = 64;
 
-/// A source of the same pages as another, whose observer is told how many were fetched. Each fetch is one of the other source.
+/// A source of the same pages as another, which reports to an observer how many were fetched. Each fetch is a fetch from the
+/// other source.
 #[derive(Drop)]
 pub struct Watched<'f, 'o, F: SessionFetch, V: Observe> {
     source: &'f F,
     observer: Option<&'o V>,
-    /// How many fetches were told.
+    /// How many fetches were reported.
     told: AtomicU64,
 }
 
-/// A session of a source that is watched.
+/// A session of a [`Watched`] source.
 #[derive(Drop)]
 pub struct WatchedSession<S> {
     inner: S,
-    /// How many of its fetches were not told.
+    /// How many of its fetches are not reported yet.
     untold: u32,
 }
 
 impl<'f, 'o, F: SessionFetch, V: Observe> Watched<'f, 'o, F, V> {
-    /// The source as this observer watches it, where there is one.
+    /// Returns a source of the same pages, which reports to the observer if there is one.
     pub fn new(source: &'f F, observer: Option<&'o V>) -> Watched<'f, 'o, F, V>
         ensures source { result.source.now ≡ source.now }
         ensures observer { result.observer ≡ observer.entry }
@@ -65,7 +83,7 @@ impl<'f, 'o, F: SessionFetch, V: Observe> SessionFetch for Watched<'f, 'o, F, V>
 
     fn open_session(&self, alloc: Global, among: u32) -> WatchedSession<F::Session>
         ensures right { F.is_of self.now.source.now result.inner × (result.untold < most_untold) }
-        // Nothing of it is untold.
+        // All of its fetches are reported.
         ensures fresh { result.untold ≡ 0 }
     {
         WatchedSession {
@@ -94,7 +112,7 @@ impl<'f, 'o, F: SessionFetch, V: Observe> SessionFetch for Watched<'f, 'o, F, V>
     }
 }
 
-/// Tells the observer of so many more fetches.
+/// Reports more fetches to the observer.
 fn tell<V: Observe>(told: &AtomicU64, observer: Option<&V>, fetches: u32) {
     let more = u64::from(fetches);
     let before = told.fetch_add(more, Ordering::SeqCst);
@@ -103,10 +121,10 @@ fn tell<V: Observe>(told: &AtomicU64, observer: Option<&V>, fetches: u32) {
     }
 }
 
-/// Counts a fetch: how many are untold then, and how many are to be told.
+/// Counts a fetch. Returns how many are not reported then, and how many to report now.
 fn counted(untold: u32) -> (u32, u32)
     requires { untold < most_untold }
-    // Each fetch is untold or told, and none is told twice.
+    // Each fetch is reported or not, and none is reported twice.
     ensures each { result.0 + result.1 ≡ untold + 1 }
     ensures few { result.0 < most_untold }
 {

@@ -4,5 +4,5 @@ use Rattle.mercator.proofs.commands.resuming.torn_line.Goals as goal
 pub returns : goal.returns
 returns c =
     let name = c.args.name.now in
-    let rest : name ++ (codes ": torn line cut off" ++ 10 ∷ []) ≡ (name ++ codes ": torn line cut off") ++ 10 ∷ [] = sym (append_assoc name (codes ": torn line cut off") (10 ∷ [])) in
-    c.in_ok-writeln.ensures.bytes ∙ ap (λ t. t ++ (codes "mercator: log " ++ (name ++ (codes ": torn line cut off" ++ 10 ∷ [])))) c.new-line.ensures.bytes ∙ ap (λ r. codes "mercator: log " ++ r) rest
+    let rest : name ++ (codes ": incomplete last line removed" ++ 10 ∷ []) ≡ (name ++ codes ": incomplete last line removed") ++ 10 ∷ [] = sym (append_assoc name (codes ": incomplete last line removed") (10 ∷ [])) in
+    c.in_ok-writeln.ensures.bytes ∙ ap (λ t. t ++ (codes "mercator: log " ++ (name ++ (codes ": incomplete last line removed" ++ 10 ∷ [])))) c.new-line.ensures.bytes ∙ ap (λ r. codes "mercator: log " ++ r) rest
