@@ -322,7 +322,7 @@ class _Broker:
         return bool(is_ready)
 
     def make_ready(self) -> None:
-        """Record that the part is ready. The empty entry keeps its stream from looking empty."""
+        """Record that the part is ready; its stream is not empty until it has read this entry."""
         self._at_once(("XADD", self.mine, "*", "u", b""), ("SADD", self._ready, self._part))
 
     def is_complete(self, removed: List[bytes]) -> bool:
@@ -512,7 +512,7 @@ class Part:
         sync: bool = True,
         program: Optional[PathText] = None,
     ) -> None:
-        """Start the frontier from its log, connect to Redis, and send the seeds.
+        """Connect to Redis, start the frontier from its log, and send the seeds.
 
         crawl        settings that all parts have in common
         part         number of this part, from 0
@@ -614,7 +614,7 @@ class Part:
                 self._again.append(self._taken(queue, answer))
 
     def _announce(self, seeds: Iterable[str]) -> None:
-        """Send the seeds, and the URLs in the log that belong to other parts; then be ready."""
+        """Send the seeds and the URLs in the log for other parts; then the part is ready."""
         with self._frontier.without_room() as frontier:
             for lines in _slices(self._frontier.offers_of_log(), _SLICE):
                 offers = _Offers(_Owner(), b"".join(lines), len(lines))
