@@ -4,7 +4,7 @@
 Usage: kill_test.py [--kills N] [--pages N] [--seed N] COMMAND [WORD..]
 
 COMMAND is a crawler as conformance.py runs it, here over the real program, which MERCATOR in the
-environment names. It crawls a generated web on 127.0.0.1 and the following addresses, with a log.
+environment names. It crawls generated webs on 127.0.0.1 and the following addresses, with a log.
 It is killed (`kill -9`) after a random number of pages; each fourth time the program is killed
 instead, and the crawler has to end by itself. In the end:
 
@@ -48,7 +48,8 @@ class Site:
             kinds = ["page"] * 6 + ["redirect", "drop", "missing"] if number else ["page"]
             kind = draw.choice(kinds)
             mine = [draw.randrange(count) for _ in range(draw.randrange(1, 6))]
-            page = Page([self.spelled(number, target) for target in mine], None, False, draw.random() / 100)
+            delay = 0.005 + draw.random() / 100
+            page = Page([self.spelled(number, target) for target in mine], None, False, delay)
             if kind == "redirect":
                 mine = mine[:1]
                 page = Page([], self.url(mine[0]))
@@ -74,63 +75,70 @@ class Site:
 
 
 class Killer:
-    """Runs the crawler until it ends by itself."""
+    """Runs and kills the crawler."""
 
     def __init__(self, words: argparse.Namespace, program: str, folder: Path) -> None:
         self.words, self.program, self.folder = words, program, folder
         self.draw = Random(words.seed)
         self.web = Web()
-        self.site = Site(self.draw, words.pages, self.web.port)
+        self.kills = self.again = self.urls = 0
 
     def run(self) -> str:
+        while self.kills < self.words.kills:
+            self.log = self.folder / f"crawl-{self.urls}.log"
+            self.site = Site(self.draw, self.words.pages, self.web.port)
+            self.crawl_site()
+        return f"{self.kills} kills, {self.urls} URLs, {self.again} of them requested again"
+
+    def crawl_site(self) -> None:
+        """Crawls a web until a run ends by itself."""
         seen: Set[str] = set()
-        kills = again = 0
+        before = self.kills
         while True:
             self.web.serve(self.site.pages)
-            status = self.crawl(kills)
+            status = self.crawl()
             self.web.settle()
             counts = Counter(url for _, url in self.web.requests)
             twice = [url for url, count in counts.items() if count > 1]
             repeated = set(counts) & seen
             if twice:
                 raise Fault(f"{twice[0]} was requested twice in one run")
-            if len(repeated) > (WORKERS if kills else 0):
+            if len(repeated) > (WORKERS if self.kills > before else 0):
                 raise Fault(f"{len(repeated)} URLs were requested again after a kill")
-            again += len(repeated)
+            self.again += len(repeated)
             seen |= set(counts)
             if status is not None:
                 break
-            kills += 1
+            self.kills += 1
         if status != 0:
-            raise Fault(f"status {status}: {self.told()}")
+            stderr = (self.folder / "stderr").read_text("utf-8", "replace").strip()
+            raise Fault(f"status {status}: {stderr[-500:]}")
         lost, more = self.site.reached - seen, seen - self.site.reached
         if lost or more:
             raise Fault(f"{len(lost)} URLs were never requested, {len(more)} others were: {(lost or more).pop()}")
-        if kills < self.words.kills:
-            raise Fault(f"only {kills} kills: more --pages are needed")
-        return f"{kills} kills, {len(seen)} URLs, {again} of them requested again"
+        self.urls += len(seen)
 
-    def crawl(self, kills: int) -> Optional[int]:
+    def crawl(self) -> Optional[int]:
         """One run: its exit status, or None if something was killed."""
-        words = [*self.words.command, str(WORKERS), str(self.folder / "crawl.log"), self.site.url(0)]
+        words = [*self.words.command, str(WORKERS), str(self.log), self.site.url(0)]
         with open(self.folder / "stderr", "wb") as errors:
             process = subprocess.Popen(
                 words, stdin=subprocess.DEVNULL, stdout=subprocess.DEVNULL, stderr=errors,
                 start_new_session=True, env={**os.environ, "MERCATOR": self.program},
             )
         try:
-            if kills == self.words.kills:
+            if self.kills == self.words.kills:
                 return self.ended(process)
-            goal = self.draw.randrange(1, max(2, 2 * len(self.site.reached) // (self.words.kills + 1)))
+            goal = self.draw.randrange(1, 15)
             end = time.monotonic() + 5 * SECONDS
             while process.poll() is None and len(self.web.requests) < goal:
                 time.sleep(0.001)
                 if time.monotonic() > end:
                     raise Fault(f"{len(self.web.requests)} requests in {5 * SECONDS:g} seconds")
-            time.sleep(self.draw.random() / 50)
+            time.sleep(self.draw.random() / 100)
             if process.poll() is not None:
                 return process.returncode
-            if kills % 4 == 3 and self.kill_program(process.pid):
+            if self.kills % 4 == 3 and self.kill_program(process.pid):
                 if self.ended(process) == 0:
                     raise Fault("the program was killed, and the crawler ended with status 0")
             return None
@@ -162,9 +170,6 @@ class Killer:
                 return True
         return False
 
-    def told(self) -> str:
-        return (self.folder / "stderr").read_text("utf-8", "replace").strip()[-500:]
-
 
 def main() -> int:
     parser = argparse.ArgumentParser(
@@ -172,8 +177,8 @@ def main() -> int:
     )
     option = parser.add_argument
     option("--kills", type=int, default=25, metavar="N", help="how many kills; 25")
-    option("--pages", type=int, default=300, metavar="N", help="size of the generated web; 300")
-    option("--seed", type=int, default=1, metavar="N", help="generate another web and other kills")
+    option("--pages", type=int, default=300, metavar="N", help="size of a generated web; 300")
+    option("--seed", type=int, default=1, metavar="N", help="generate other webs and kills")
     option("command", nargs=argparse.REMAINDER, metavar="COMMAND")
     words = parser.parse_args()
     program = shutil.which(os.environ.get("MERCATOR") or "mercator")

@@ -93,44 +93,50 @@ function generatedWeb(random, hosts, count, port) {
 test(`killed ${KILLS} times`, options, async (context) => {
   const [hosts, workers, random] = [5, 4, randomOf(7)];
   let web;
-  let fetched = new Map(); // of the run that is under way
+  // How many times each run requested each URL. A run has its number as agent, since the requests
+  // of a crawler that was killed may arrive while the next run is under way.
+  const runs = [];
   const { port, close } = await serve(hosts, (request, response, host) => {
     const page = web.pages[Number(/^\/d\/(\d+)$/.exec(request.url)?.[1])];
     if (!page) return response.writeHead(404).end();
     const url = `http://127.0.0.${host}:${port}${request.url}`;
-    fetched.set(url, (fetched.get(url) ?? 0) + 1);
+    const run = runs[Number(request.headers['user-agent'])];
+    run.set(url, (run.get(url) ?? 0) + 1);
     if (page.kind === 'missing') return response.writeHead(404).end();
     if (page.kind === 'redirect') return response.writeHead(302, { location: page.texts[0].trim() }).end();
     const body = page.texts.map((text) => `<a href="${text}">`).join('\n');
-    return setTimeout(() => response.writeHead(200, { 'content-type': 'text/html' }).end(body), random(10));
+    return setTimeout(() => response.writeHead(200, { 'content-type': 'text/html' }).end(body), 5 + random(10));
   });
-  web = generatedWeb(random, hosts, 250, port);
+  web = generatedWeb(random, hosts, 600, port);
   const folder = fs.mkdtempSync(path.join(os.tmpdir(), 'node-crawl-'));
   try {
-    const words = ['--delay', '0', '--workers', workers, '--log', path.join(folder, 'log'), web.first];
-    const all = new Map();
-    let [kills, again, last] = [0, 0, { status: null }];
+    const words = ['--delay', '0', '--workers', workers, '--log', path.join(folder, 'log')];
+    let last = { status: null };
     while (last.status === null) {
-      fetched = new Map();
+      const run = new Map();
       const goal = 1 + random(12);
-      last = await crawl(words, async (child, ended) => {
-        let hasEnded = false;
+      const isKilled = runs.push(run) <= KILLS;
+      last = await crawl([...words, '--agent', runs.length - 1, web.first], async (child, ended) => {
+        let hasEnded = !isKilled;
         ended.then(() => { hasEnded = true; });
-        while (kills < KILLS && !hasEnded && fetched.size < goal) await sleep(1);
-        await sleep(random(20));
-        if (kills < KILLS && !hasEnded) child.kill('SIGKILL');
+        while (!hasEnded && run.size < goal) await sleep(1);
+        await sleep(random(10));
+        if (!hasEnded) child.kill('SIGKILL');
       });
-      if (last.status === null) kills += 1;
-      assert.ok([...fetched.values()].every((times) => times === 1), 'a URL was fetched twice in one run');
-      const repeated = [...fetched.keys()].filter((url) => all.has(url)).length;
-      assert.ok(repeated <= workers, `${repeated} URLs were fetched again after a kill`);
-      again += repeated;
-      for (const url of fetched.keys()) all.set(url, true);
     }
     assert.deepEqual([last.status, last.errors], [0, '']);
-    assert.equal(kills, KILLS, 'the web is too small for so many kills');
-    assert.deepEqual(new Set(all.keys()), web.reached);
-    context.diagnostic(`${kills} kills, ${all.size} URLs, ${again} of them fetched again`);
+    assert.equal(runs.length, KILLS + 1, 'the web is too small for so many kills');
+    const all = new Set();
+    let again = 0;
+    for (const run of runs) {
+      assert.ok([...run.values()].every((times) => times === 1), 'a URL was fetched twice in one run');
+      const repeated = [...run.keys()].filter((url) => all.has(url)).length;
+      assert.ok(repeated <= workers, `${repeated} URLs were fetched again after a kill`);
+      again += repeated;
+      for (const url of run.keys()) all.add(url);
+    }
+    assert.deepEqual(all, web.reached);
+    context.diagnostic(`${KILLS} kills, ${all.size} URLs, ${again} of them fetched again`);
   } finally {
     close();
     fs.rmSync(folder, { recursive: true });
@@ -194,9 +200,11 @@ test('command lines and Ctrl-C', options, async () => {
     const { status, errors } = await crawl(words);
     assert.deepEqual([status, errors.startsWith('crawl_http: ')], [3, true]);
   }
-  const { port, close } = await serve(1, () => {}); // it never answers
+  let asked;
+  const isAsked = new Promise((resolve) => { asked = resolve; });
+  const { port, close } = await serve(1, () => asked()); // it never responds
   const { status, errors } = await crawl([`http://127.0.0.1:${port}/`], async (child) => {
-    await sleep(1000);
+    await isAsked;
     child.kill('SIGINT');
   });
   close();
