@@ -42,6 +42,11 @@ programs() {
     esac
 }
 
+# The files of the work tree that git does not ignore.
+tracked() {
+    git -c core.quotePath=off ls-files -co --exclude-standard
+}
+
 # reads PART: the files that it reads; nothing, if it is run each time.
 reads() {
     local crates
@@ -53,8 +58,8 @@ reads() {
         echo tests/quick.sh
         ;;
     # These may read any file, except those that only a build or a check reads.
-    cases | manual_page) git ls-files -co --exclude-standard | grep -Ev '^bench/|^crates/\w+/(src|specs|proofs|must-fail|mutants)/' ;;
-    *) git ls-files -co --exclude-standard | grep -E '^(tests/[^/]+|tests/serving/.*|tools/.*|clients/.*|examples/.*)$' ;;
+    cases | manual_page) tracked | grep -Ev '^bench/|^crates/\w+/(src|specs|proofs|must-fail|mutants)/' ;;
+    *) tracked | grep -E '^(tests/[^/]+|tests/serving/.*|tools/.*|clients/.*|examples/.*)$' ;;
     esac
     [ ${#crates[@]} -eq 0 ] || tools/unproved.sh --sources "${crates[@]}"
 }
