@@ -5,7 +5,7 @@
 #
 # mercator and html-proofer read the folder. The others fetch it over HTTP from a Python server on this machine, which sends the
 # header `LinkChecker`: without it LinkChecker makes at most ten requests per second. html-proofer runs without HTML validation and
-# without its check of alt attributes. LinkChecker and wget ignore robots.txt, and Scrapy runs a spider of 12 lines that follows
+# without its check of alt attributes. LinkChecker and wget ignore robots.txt, and Scrapy runs a short spider that follows
 # links of `a` elements. A tool that is not installed is skipped; bench/README.md lists the packages.
 #
 # A run of more than 20 s is not repeated. A run is stopped after LIMIT seconds.
