@@ -1,5 +1,5 @@
 #!/bin/bash
-# Tests the clients of `mercator serve` in Python and Node: the conformance kit of clients/conformance over both, with its own
+# Tests the clients of `mercator serve` in Python and Node: the conformance suite of clients/conformance over both, with its own
 # test, the kill test over the program, the tests of the Node client, and the example in its README. Without Node 18 or later, its
 # parts are skipped. It prints a line per part, with the output of one that fails, and at last `N passed, M failed`.
 #
@@ -10,7 +10,7 @@ cd "$(dirname "$0")/.." || exit 1
 MERCATOR=$(realpath "${PROGRAM:-crates/mercator_cli/out/mercator_cli}")
 KILLS=${KILLS:-25}
 export MERCATOR KILLS
-kit=clients/conformance
+suite=clients/conformance
 scratch=$(mktemp -d)
 trap 'rm -rf "$scratch"' EXIT
 passed=0
@@ -32,7 +32,7 @@ part() {
 
 # notices MISTAKE TEXT: the kill test fails with this text.
 notices() {
-    $kit/kill_test.py --kills 4 $kit/crawlers/crawl_mistakes.py "$1" | tee "$scratch/told"
+    $suite/kill_test.py --kills 4 $suite/crawlers/crawl_mistakes.py "$1" | tee "$scratch/told"
     grep -q "^FAILED: .*$2" "$scratch/told"
 }
 
@@ -43,22 +43,30 @@ readme_runs() {
     (cd "$scratch" && node lines.mjs | diff urls - && node lines.mjs | diff /dev/null -)
 }
 
+# The tests that fail are printed at last.
+node_tests() {
+    local status=0
+    node --test clients/node/test/frontier.test.mjs clients/node/test/crawl_http.test.mjs > "$scratch/node" || status=$?
+    grep -E -A 20 '^ *(not ok|✖)|^# [0-9]+ kills' "$scratch/node"
+    return "$status"
+}
+
 is_node_here() {
     command -v node > /dev/null && [ "$(node -p 'process.versions.node.split(".")[0]')" -ge 18 ]
 }
 
 [ -x "$MERCATOR" ] || { echo "$MERCATOR is not there: \`rt run -- --help\` in crates/mercator_cli builds it"; exit 1; }
-part "the conformance kit's own test" $kit/conformance.py --self-test
-part "the kill test of a crawler without mistakes" $kit/kill_test.py --kills 4 $kit/crawlers/crawl_mistakes.py none
+part "the conformance suite's own test" $suite/conformance.py --self-test
+part "the kill test of a crawler without mistakes" $suite/kill_test.py --kills 4 $suite/crawlers/crawl_mistakes.py none
 part "the kill test of one that finishes what was in progress" notices again_is_done "never requested"
 part "the kill test of one that does not ask what was in progress" notices no_again "refused busy"
-part "conformance of the Python client" $kit/conformance.py $kit/crawlers/crawl_python.py
-part "the kill test of the Python client" $kit/kill_test.py --kills "$KILLS" $kit/crawlers/crawl_python.py
+part "conformance of the Python client" $suite/conformance.py $suite/crawlers/crawl_python.py
+part "the kill test of the Python client" $suite/kill_test.py --kills "$KILLS" $suite/crawlers/crawl_python.py
 if is_node_here; then
-    part "conformance of the Node client" $kit/conformance.py $kit/crawlers/crawl_node.mjs
-    part "the kill test of the Node client" $kit/kill_test.py --kills "$KILLS" $kit/crawlers/crawl_node.mjs
+    part "conformance of the Node client" $suite/conformance.py $suite/crawlers/crawl_node.mjs
+    part "the kill test of the Node client" $suite/kill_test.py --kills "$KILLS" $suite/crawlers/crawl_node.mjs
     part "the example of the Node client" readme_runs
-    part "the tests of the Node client" node --test clients/node/test/frontier.test.mjs clients/node/test/crawl_http.test.mjs
+    part "the tests of the Node client" node_tests
 else
     echo "the Node client: skipped, since there is no Node 18 or later"
 fi

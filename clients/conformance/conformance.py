@@ -8,7 +8,7 @@ Usage: conformance.py [--trap NAME].. COMMAND [WORD..]
 COMMAND is a small crawler that uses the client; README.md says what it has to do. For each trap, a
 file in traps/, it is started with MERCATOR naming a fake program, which plays the trap and judges
 the requests. The pages are served on 127.0.0.1 and the following addresses. --self-test runs a
-crawler of this kit with one mistake at a time, and checks that the traps notice it.
+crawler of this suite with one mistake at a time, and checks that the traps notice it.
 
 SECONDS in the environment is the time limit of a crawl; 20 by default. The last line is `N passed,
 M failed`, and the exit status is 1 if a trap fails.
@@ -261,7 +261,7 @@ class Run:
 
     def __init__(self, web: Web, trap: Trap, command: Sequence[str]) -> None:
         self.web, self.trap, self.command = web, trap, command
-        self.faults: List[str] = []
+        self.violations: List[str] = []
 
     def run(self) -> List[str]:
         """What the crawler did wrong."""
@@ -284,7 +284,7 @@ class Run:
             status, stderr = self.crawl(program, log)
             facts = [json.loads(line) for line in (folder / "facts").read_text().splitlines()]
         self.judge(status, stderr, facts)
-        return self.faults
+        return self.violations
 
     def crawl(self, program: Path, log: str) -> Tuple[Optional[int], str]:
         """The exit status, if it ends in time, and what it prints on standard error."""
@@ -323,22 +323,22 @@ class Run:
             while is_running(pid) and time.monotonic() < end:
                 time.sleep(0.01)
             if is_running(pid):
-                self.faults.append("the program's input is still open after the crawler's end")
+                self.violations.append("the program's input is still open after the crawler's end")
                 os.kill(pid, signal.SIGKILL)
 
     def judge(self, status: Optional[int], stderr: str, facts: List[Dict[str, object]]) -> None:
         trap = self.trap
-        self.faults += [str(fact["fault"]) for fact in facts if "fault" in fact]
+        self.violations += [str(fact["violation"]) for fact in facts if "violation" in fact]
         if status is None:
-            self.faults.append(f"the crawler runs on for {trap.limit:g} seconds")
+            self.violations.append(f"the crawler runs on for {trap.limit:g} seconds")
         elif trap.expected == "failure":
             if status == 0:
-                self.faults.append("the crawler ended with status 0, as if the crawl were over")
+                self.violations.append("the crawler ended with status 0, as if the crawl were over")
             if not stderr:
-                self.faults.append("the crawler did not say on standard error what failed")
+                self.violations.append("the crawler did not say on standard error what failed")
         elif status != 0:
             last = stderr.splitlines()[-1] if stderr else ""
-            self.faults.append(f"the crawler ended with status {status}: {last[:200]}")
+            self.violations.append(f"the crawler ended with status {status}: {last[:200]}")
         self.judge_fetches(facts)
 
     def judge_fetches(self, facts: List[Dict[str, object]]) -> None:
@@ -356,15 +356,15 @@ class Run:
             if mine:
                 left.remove(mine[0])
             elif any(one[2] == url and one[0] <= when <= one[1] for one in given):
-                self.faults.append(f"{url} was requested twice")
+                self.violations.append(f"{url} was requested twice")
             else:
-                self.faults.append(f"{url} was requested while it was not given out")
+                self.violations.append(f"{url} was requested while it was not given out")
         if self.trap.expected == "closed":
-            self.faults += [f"{url} was given out, but not requested" for _, _, url in left]
+            self.violations += [f"{url} was given out, but not requested" for _, _, url in left]
             fetched = {url for _, url in self.web.requests}
             done = {str(fact["was_done"]) for fact in facts if "was_done" in fact}
             lost = sorted(self.trap.reached() - fetched - done)
-            self.faults += [f"{url} was never requested" for url in lost]
+            self.violations += [f"{url} was never requested" for url in lost]
 
 
 def is_running(pid: int) -> bool:
@@ -382,18 +382,18 @@ def check(web: Web, names: Sequence[str], command: Sequence[str]) -> int:
     failed = 0
     for name in names:
         begun = time.monotonic()
-        faults = Run(web, read_trap(name, web.port), command).run()
+        violations = Run(web, read_trap(name, web.port), command).run()
         took = time.monotonic() - begun
-        print(f"{name}: {'FAILED' if faults else 'passed'}, {took:.1f} s", flush=True)
-        for fault in list(dict.fromkeys(faults))[:5]:
-            print(f"  {fault}", flush=True)
-        failed += bool(faults)
+        print(f"{name}: {'FAILED' if violations else 'passed'}, {took:.1f} s", flush=True)
+        for violation in list(dict.fromkeys(violations))[:5]:
+            print(f"  {violation}", flush=True)
+        failed += bool(violations)
     print(f"{len(names) - failed} passed, {failed} failed")
     return failed
 
 
 def self_test(web: Web, names: Sequence[str]) -> int:
-    """Runs the kit's own crawler, right and with each mistake; returns how many results are wrong."""
+    """Runs the suite's own crawler, right and with each mistake; returns how many results are wrong."""
     passed = failed = 0
     for name in names:
         for mistake in ["none", *read_trap(name, web.port).mistakes]:
@@ -401,13 +401,13 @@ def self_test(web: Web, names: Sequence[str]) -> int:
             crawler = HERE / "crawlers/crawl_mistakes.py"
             # A mistake that hangs is noticed in a few seconds.
             trap.limit = trap.limit if mistake == "none" else min(trap.limit, 5.0)
-            faults = Run(web, trap, [sys.executable, "-S", str(crawler), mistake]).run()
-            if bool(faults) == (mistake != "none"):
+            violations = Run(web, trap, [sys.executable, "-S", str(crawler), mistake]).run()
+            if bool(violations) == (mistake != "none"):
                 passed += 1
-                print(f"{name}, {mistake}: {faults[0] if faults else 'passed'}", flush=True)
+                print(f"{name}, {mistake}: {violations[0] if violations else 'passed'}", flush=True)
             else:
                 failed += 1
-                print(f"{name}, {mistake}: FAILED: {faults[:3] or 'not noticed'}", flush=True)
+                print(f"{name}, {mistake}: FAILED: {violations[:3] or 'not noticed'}", flush=True)
     print(f"{passed} passed, {failed} failed")
     return failed
 

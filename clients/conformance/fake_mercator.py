@@ -4,7 +4,7 @@
 conformance.py starts it through the environment variable MERCATOR. It answers as `mercator serve`
 does, as far as traps need it: URLs are those of traps, and host 127.0.0.K belongs to queue K - 1
 modulo the number of workers. In FOLDER, `trap` names the trap, and `facts` gets what happens: which
-URL was given out and done at which time, and each fault of the client.
+URL was given out and done at which time, and what the client does wrong.
 """
 
 from __future__ import annotations
@@ -50,9 +50,9 @@ class Frontier:
         with open(self.facts, "a", encoding="utf-8") as file:
             file.write(json.dumps({"at": time.monotonic(), **fact}) + "\n")
 
-    def fault(self, text: str) -> None:
+    def violation(self, text: str) -> None:
         if not self.is_replaying:
-            self.note(fault=text)
+            self.note(violation=text)
 
     def answer(self, line: bytes) -> str:
         if len(line) > 4096:
@@ -60,7 +60,7 @@ class Frontier:
         try:
             text = line.decode()
         except UnicodeDecodeError:
-            self.fault(f"the request {line!r} is not UTF-8")
+            self.violation(f"the request {line!r} is not UTF-8")
             return "not UTF-8"
         word, space, rest = text.partition(" ")
         if word == "offer" and space:
@@ -77,7 +77,7 @@ class Frontier:
             answer = "refused nosuch"
         else:
             answer = "bad line"
-        self.fault(f"the request `{text[:100]}` is answered `{answer}`")
+        self.violation(f"the request `{text[:100]}` is answered `{answer}`")
         return answer
 
     def offer(self, text: str, base: Optional[str]) -> str:
@@ -115,7 +115,7 @@ class Frontier:
 
     def next(self, queue: int) -> str:
         if queue in self.in_progress:
-            self.fault(f"`next {queue}` was sent before `done {queue}`")
+            self.violation(f"`next {queue}` was sent before `done {queue}`")
             return "refused busy"
         if self.waiting[queue]:
             url = self.in_progress[queue] = self.waiting[queue].popleft()
@@ -128,12 +128,12 @@ class Frontier:
             return "closed"
         self.polls[queue] += 1
         if self.polls[queue] == POLLS:
-            self.fault(f"`next {queue}` was sent {POLLS} times although nothing had changed")
+            self.violation(f"`next {queue}` was sent {POLLS} times although nothing had changed")
         return f"pending {self.count}"
 
     def done(self, queue: int) -> str:
         if queue not in self.in_progress:
-            self.fault(f"`done {queue}` was sent, but no URL is in progress")
+            self.violation(f"`done {queue}` was sent, but no URL is in progress")
             return "refused nothing"
         url = self.in_progress.pop(queue)
         if self.is_replaying:
@@ -141,7 +141,7 @@ class Frontier:
         else:
             self.note(done=url)
             for target in sorted(set(self.trap.targets(url)) - self.offered):
-                self.fault(f"{url} was done before {target} was offered")
+                self.violation(f"{url} was done before {target} was offered")
         return self.lower()
 
     def again(self, queue: int) -> str:
@@ -289,9 +289,9 @@ def main() -> None:
     frontier.note(pid=os.getpid())
     words = parser.parse_args(sys.argv[2:])
     if words.workers != trap.workers:
-        frontier.fault(f"--workers is {words.workers}, and not {trap.workers}")
+        frontier.violation(f"--workers is {words.workers}, and not {trap.workers}")
     if (words.log is not None) != (trap.log is not None):
-        frontier.fault(f"--log is {words.log}")
+        frontier.violation(f"--log is {words.log}")
     for event in trap.events:
         if event.word == "start":
             print(f"error: {event.text}", file=sys.stderr)

@@ -33,7 +33,7 @@ from conformance import HOSTS, SECONDS, Page, Web
 WORKERS = 3
 
 
-class Fault(Exception):
+class Violation(Exception):
     """What the crawler did wrong."""
 
 
@@ -102,9 +102,9 @@ class Killer:
             twice = [url for url, count in counts.items() if count > 1]
             repeated = set(counts) & seen
             if twice:
-                raise Fault(f"{twice[0]} was requested twice in one run")
+                raise Violation(f"{twice[0]} was requested twice in one run")
             if len(repeated) > (WORKERS if self.kills > before else 0):
-                raise Fault(f"{len(repeated)} URLs were requested again after a kill")
+                raise Violation(f"{len(repeated)} URLs were requested again after a kill")
             self.again += len(repeated)
             seen |= set(counts)
             if status is not None:
@@ -112,10 +112,10 @@ class Killer:
             self.kills += 1
         if status != 0:
             stderr = (self.folder / "stderr").read_text("utf-8", "replace").strip()
-            raise Fault(f"status {status}: {stderr[-500:]}")
+            raise Violation(f"status {status}: {stderr[-500:]}")
         lost, more = self.site.reached - seen, seen - self.site.reached
         if lost or more:
-            raise Fault(f"{len(lost)} URLs were never requested, {len(more)} others were: {(lost or more).pop()}")
+            raise Violation(f"{len(lost)} URLs were never requested, {len(more)} others were: {(lost or more).pop()}")
         self.urls += len(seen)
 
     def crawl(self) -> Optional[int]:
@@ -134,13 +134,13 @@ class Killer:
             while process.poll() is None and len(self.web.requests) < goal:
                 time.sleep(0.001)
                 if time.monotonic() > end:
-                    raise Fault(f"{len(self.web.requests)} requests in {5 * SECONDS:g} seconds")
+                    raise Violation(f"{len(self.web.requests)} requests in {5 * SECONDS:g} seconds")
             time.sleep(self.draw.random() / 100)
             if process.poll() is not None:
                 return process.returncode
             if self.kills % 4 == 3 and self.kill_program(process.pid):
                 if self.ended(process) == 0:
-                    raise Fault("the program was killed, and the crawler ended with status 0")
+                    raise Violation("the program was killed, and the crawler ended with status 0")
             return None
         finally:
             if process.poll() is None:
@@ -151,7 +151,7 @@ class Killer:
         try:
             return process.wait(5 * SECONDS)
         except subprocess.TimeoutExpired:
-            raise Fault(f"the crawler runs on for {5 * SECONDS:g} seconds") from None
+            raise Violation(f"the crawler runs on for {5 * SECONDS:g} seconds") from None
 
     def kill_program(self, crawler: int) -> bool:
         """Kills the program that the crawler started."""
@@ -187,8 +187,8 @@ def main() -> int:
     with tempfile.TemporaryDirectory(prefix="kill-test-") as folder:
         try:
             print(f"passed: {Killer(words, os.path.realpath(program), Path(folder)).run()}")
-        except Fault as fault:
-            print(f"FAILED: {fault}")
+        except Violation as violation:
+            print(f"FAILED: {violation}")
             return 1
     return 0
 

@@ -1,5 +1,5 @@
 #!/usr/bin/env python3
-"""A crawler that speaks the protocol itself, with one mistake: for the self-test of the kit.
+"""A crawler that speaks the protocol itself, with one mistake: for the self-test of the suite.
 
 Usage: crawl_mistakes.py MISTAKE WORKERS LOG SEED..
 
@@ -20,7 +20,7 @@ MISTAKE, WORKERS, LOG, SEEDS = sys.argv[1], int(sys.argv[2]), sys.argv[3], sys.a
 
 
 class Failure(Exception):
-    """The frontier does not go on."""
+    """The frontier has ended, or gives an unknown answer."""
 
 
 class Client:

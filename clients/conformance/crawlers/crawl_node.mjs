@@ -1,5 +1,5 @@
 #!/usr/bin/env node
-/** The crawler of the conformance kit over the Node client: crawl_node.mjs WORKERS LOG SEED.. */
+/** The crawler of the conformance suite over the Node client: crawl_node.mjs WORKERS LOG SEED.. */
 
 import http from 'node:http';
 

@@ -1,5 +1,5 @@
 #!/usr/bin/env python3
-"""The crawler of the conformance kit over the Python client: crawl_python.py WORKERS LOG SEED.."""
+"""The crawler of the conformance suite over the Python client: crawl_python.py WORKERS LOG SEED.."""
 
 from __future__ import annotations
 
