@@ -10,7 +10,7 @@ file in traps/, it is started with MERCATOR naming a fake program, which plays t
 the requests. The pages are served on 127.0.0.1 and the following addresses. --self-test runs a
 crawler of this suite with one mistake at a time, and checks that the traps notice it.
 
-SECONDS in the environment is the time limit of a crawl; 20 by default. The last line is `N passed,
+SECONDS in the environment is the time limit of a crawl; 60 by default. The last line is `N passed,
 M failed`, and the exit status is 1 if a trap fails.
 """
 
@@ -36,7 +36,7 @@ from urllib.parse import quote, urljoin, urlsplit
 
 HERE = Path(__file__).resolve().parent
 HOSTS = 4
-SECONDS = float(os.environ.get("SECONDS", "20"))
+SECONDS = float(os.environ.get("SECONDS", "60"))
 # How many times a queue may be asked in vain when nothing has changed.
 POLLS = 20
 MARKER = "/marker"

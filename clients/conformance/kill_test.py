@@ -177,7 +177,7 @@ def main() -> int:
     )
     option = parser.add_argument
     option("--kills", type=int, default=25, metavar="N", help="how many kills; 25")
-    option("--pages", type=int, default=300, metavar="N", help="size of a generated web; 300")
+    option("--pages", type=int, default=100, metavar="N", help="size of a generated web; 100")
     option("--seed", type=int, default=1, metavar="N", help="generate other webs and kills")
     option("command", nargs=argparse.REMAINDER, metavar="COMMAND")
     words = parser.parse_args()
