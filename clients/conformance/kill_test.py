@@ -113,9 +113,11 @@ class Killer:
         if status != 0:
             stderr = (self.folder / "stderr").read_text("utf-8", "replace").strip()
             raise Violation(f"status {status}: {stderr[-500:]}")
-        lost, more = self.site.reached - seen, seen - self.site.reached
-        if lost or more:
-            raise Violation(f"{len(lost)} URLs were never requested, {len(more)} others were: {(lost or more).pop()}")
+        lost, more = sorted(self.site.reached - seen), sorted(seen - self.site.reached)
+        if lost:
+            raise Violation(f"{len(lost)} URLs were never requested, such as {lost[0]}")
+        if more:
+            raise Violation(f"{len(more)} URLs should not be requested, such as {more[0]}")
         self.urls += len(seen)
 
     def crawl(self) -> Optional[int]:
