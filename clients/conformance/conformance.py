@@ -10,7 +10,7 @@ file in traps/, it is started with MERCATOR naming a fake program, which plays t
 the requests. The pages are served on 127.0.0.1 and the following addresses. --self-test runs a
 crawler of this suite with one mistake at a time, and checks that the traps notice it.
 
-SECONDS in the environment is the time limit of a crawl; 20 by default. The last line is `N passed,
+SECONDS in the environment is the time limit of a crawl; 60 by default. The last line is `N passed,
 M failed`, and the exit status is 1 if a trap fails.
 """
 
@@ -31,12 +31,12 @@ import threading
 import time
 from contextlib import suppress
 from pathlib import Path
-from typing import Dict, Iterator, List, NamedTuple, Optional, Sequence, Set, Tuple
+from typing import Any, Dict, Iterator, List, NamedTuple, Optional, Sequence, Set, Tuple
 from urllib.parse import quote, urljoin, urlsplit
 
 HERE = Path(__file__).resolve().parent
 HOSTS = 4
-SECONDS = float(os.environ.get("SECONDS", "20"))
+SECONDS = float(os.environ.get("SECONDS", "60"))
 # How many times a queue may be asked in vain when nothing has changed.
 POLLS = 20
 MARKER = "/marker"
@@ -93,9 +93,9 @@ class Page(NamedTuple):
 
 
 class Event(NamedTuple):
-    """What the fake program does at the COUNT-th request, or answer, that begins with WORD."""
+    """What the fake program does at the N-th request, or answer, that begins with WORD."""
 
-    count: int
+    number: int
     word: str
     action: str  # exit, kill, half, answer
     text: str
@@ -191,7 +191,7 @@ class Web:
 
         class Handler(http.server.BaseHTTPRequestHandler):
             def do_GET(self) -> None:
-                url = f"http://{self.server.server_address[0]}:{web.port}{self.path}"
+                url = f"http://{self.connection.getsockname()[0]}:{web.port}{self.path}"
                 if self.path != MARKER:
                     web.requests.append((time.monotonic(), url))
                 page = web.pages.get(url)
@@ -218,12 +218,12 @@ class Web:
             daemon_threads = True
             request_queue_size = 128
 
-            def process_request(self, request: object, client_address: object) -> None:
+            def process_request(self, request: Any, client_address: Any) -> None:
                 with web.lock:
                     web.open += 1
                 super().process_request(request, client_address)
 
-            def process_request_thread(self, request: object, client_address: object) -> None:
+            def process_request_thread(self, request: Any, client_address: Any) -> None:
                 super().process_request_thread(request, client_address)
                 with web.lock:
                     web.open -= 1
@@ -270,9 +270,8 @@ class Run:
         with tempfile.TemporaryDirectory(prefix="conformance-") as name:
             folder = Path(name)
             program = folder / "mercator"
-            program.write_text(
-                f"#!/bin/sh\nexec '{sys.executable}' -S '{HERE}/fake_mercator.py' '{folder}' \"$@\"\n"
-            )
+            fake = f"'{sys.executable}' -S '{HERE}/fake_mercator.py' '{folder}'"
+            program.write_text(f'#!/bin/sh\nexec {fake} "$@"\n')
             program.chmod(0o755)
             (folder / "trap").write_text(f"{trap.name} {self.web.port}")
             (folder / "facts").touch()
@@ -393,7 +392,7 @@ def check(web: Web, names: Sequence[str], command: Sequence[str]) -> int:
 
 
 def self_test(web: Web, names: Sequence[str]) -> int:
-    """Runs the suite's own crawler, right and with each mistake; returns how many results are wrong."""
+    """Runs the suite's own crawler, right and with each mistake; how many results are wrong."""
     passed = failed = 0
     for name in names:
         for mistake in ["none", *read_trap(name, web.port).mistakes]:
@@ -417,7 +416,7 @@ def main() -> int:
         description=__doc__, formatter_class=argparse.RawDescriptionHelpFormatter
     )
     option = parser.add_argument
-    option("--trap", action="append", choices=trap_names(), metavar="NAME", help="run this trap only")
+    option("--trap", action="append", choices=trap_names(), metavar="NAME", help="only this trap")
     option("--list", action="store_true", help="list the traps")
     option("--self-test", action="store_true", help="check that the traps notice mistakes")
     option("command", nargs=argparse.REMAINDER, metavar="COMMAND")

@@ -192,7 +192,7 @@ class Session:
     def __init__(self, trap: Trap, frontier: Frontier, log: Optional[Log]) -> None:
         self.trap, self.frontier, self.log = trap, frontier, log
         self.words: Counter[str] = Counter()
-        self.events = {(event.count, event.word): event for event in trap.events}
+        self.events = {(event.number, event.word): event for event in trap.events}
         # Answers that are not written yet, and the queues whose answer `pending` is held back.
         self.out: List[bytes] = []
         self.held: Dict[int, int] = {}
@@ -282,12 +282,14 @@ def main() -> None:
     serve.add_argument("--within")
     serve.add_argument("--log")
     serve.add_argument("--sync", action="store_true")
-    serve.exit_on_error = False
     name, port = (folder / "trap").read_text().split(" ")
     trap = read_trap(name, int(port))
     frontier = Frontier(trap, folder / "facts")
     frontier.note(pid=os.getpid())
-    words = parser.parse_args(sys.argv[2:])
+    try:
+        words = parser.parse_args(sys.argv[2:])
+    except SystemExit:
+        sys.exit(3)
     if words.workers != trap.workers:
         frontier.violation(f"--workers is {words.workers}, and not {trap.workers}")
     if (words.log is not None) != (trap.log is not None):

@@ -113,9 +113,11 @@ class Killer:
         if status != 0:
             stderr = (self.folder / "stderr").read_text("utf-8", "replace").strip()
             raise Violation(f"status {status}: {stderr[-500:]}")
-        lost, more = self.site.reached - seen, seen - self.site.reached
-        if lost or more:
-            raise Violation(f"{len(lost)} URLs were never requested, {len(more)} others were: {(lost or more).pop()}")
+        lost, more = sorted(self.site.reached - seen), sorted(seen - self.site.reached)
+        if lost:
+            raise Violation(f"{len(lost)} URLs were never requested, such as {lost[0]}")
+        if more:
+            raise Violation(f"{len(more)} URLs should not be requested, such as {more[0]}")
         self.urls += len(seen)
 
     def crawl(self) -> Optional[int]:
@@ -177,7 +179,7 @@ def main() -> int:
     )
     option = parser.add_argument
     option("--kills", type=int, default=25, metavar="N", help="how many kills; 25")
-    option("--pages", type=int, default=300, metavar="N", help="size of a generated web; 300")
+    option("--pages", type=int, default=100, metavar="N", help="size of a generated web; 100")
     option("--seed", type=int, default=1, metavar="N", help="generate other webs and kills")
     option("command", nargs=argparse.REMAINDER, metavar="COMMAND")
     words = parser.parse_args()

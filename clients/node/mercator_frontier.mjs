@@ -348,7 +348,7 @@ export class Frontier {
   }
 
   #wake(/** @type {number} */ queue) {
-    for (const { ask } of this.#waiting[queue].splice(0)) ask();
+    for (const { ask } of this.#waiting[queue]?.splice(0) ?? []) ask();
   }
 
   #check(/** @type {number} */ queue) {
@@ -357,8 +357,8 @@ export class Frontier {
 
   /** @param {string} answer @returns {Offer} */
   #offerOf(answer) {
-    const [word, queue, number] = answer.split(' ');
-    if (word === 'accepted') return { accepted: true, queue: +queue, number: +number };
+    const [, queue, number] = /^accepted (\d+) (\d+)$/.exec(answer) ?? [];
+    if (number) return { accepted: true, queue: Number(queue), number: Number(number) };
     if (!REFUSALS.has(answer)) throw this.#errorOf(answer);
     return { accepted: false, reason: /** @type {Refusal} */ (answer) };
   }

@@ -103,7 +103,7 @@ class Client:
             self.waiting.pop(queue, None)
 
     async def done(self, queue: int) -> None:
-        """What was refused is offered before any other request. The seeds end when nothing is left."""
+        """Offers what was refused before any other request. The seeds end when nothing is left."""
         answer = self.ask(f"done {queue}")
         kept, self.kept = self.kept, []
         offers = [self.ask(request) for request in kept]

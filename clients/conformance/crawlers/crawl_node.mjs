@@ -1,5 +1,5 @@
 #!/usr/bin/env node
-/** The crawler of the conformance suite over the Node client: crawl_node.mjs WORKERS LOG SEED.. */
+/** A crawler over the Node client, for the suite: crawl_node.mjs WORKERS LOG SEED.. */
 
 import http from 'node:http';
 
@@ -36,7 +36,8 @@ async function visit(frontier, url) {
 
 const [workers, log, ...seeds] = process.argv.slice(2);
 try {
-  const frontier = await Frontier.open({ workers: Number(workers), log: log === '-' ? undefined : log });
+  const options = { workers: Number(workers), log: log === '-' ? undefined : log };
+  const frontier = await Frontier.open(options);
   try {
     await frontier.offerAll(seeds);
     await frontier.endSeeds();

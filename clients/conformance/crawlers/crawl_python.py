@@ -1,5 +1,5 @@
 #!/usr/bin/env python3
-"""The crawler of the conformance suite over the Python client: crawl_python.py WORKERS LOG SEED.."""
+"""A crawler over the Python client, for the suite: crawl_python.py WORKERS LOG SEED.."""
 
 from __future__ import annotations
 
@@ -45,14 +45,14 @@ class Crawl:
 
     def work(self, queue: int) -> None:
         try:
-            url = self.frontier.try_take(queue)
-            if isinstance(url, Pending):
+            first = self.frontier.try_take(queue)
+            if isinstance(first, str):
+                self.visit(queue, first)
+            elif isinstance(first, Pending):
                 with self.lock:
-                    self.end_seeds_if_over(url.left)
-                url = self.frontier.take(queue)
-            while isinstance(url, str):
+                    self.end_seeds_if_over(first.left)
+            while (url := self.frontier.take(queue)) is not None:
                 self.visit(queue, url)
-                url = self.frontier.take(queue)
         except FrontierError as error:
             self.error = error
 
@@ -87,7 +87,7 @@ def main() -> int:
     try:
         with Frontier(workers, log=None if log == "-" else log) as frontier:
             crawl = Crawl(frontier, seeds)
-            threads = [threading.Thread(target=crawl.work, args=(queue,)) for queue in range(workers)]
+            threads = [threading.Thread(target=crawl.work, args=(q,)) for q in range(workers)]
             for thread in threads:
                 thread.start()
             for thread in threads:

@@ -143,6 +143,7 @@ inFolder('programs that answer wrongly', async (folder) => {
   const wrong = [
     'while read -r line; do echo perhaps; done',
     'while read -r line; do echo refused nothing; echo seen; done',
+    'read -r line; echo refused nothing; while read -r line; do echo accepted 7; done',
   ];
   for (const text of wrong) {
     const frontier = await Frontier.open({ workers: 1, program: script(folder, text) })
