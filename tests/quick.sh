@@ -12,7 +12,7 @@ cd "$(dirname "$0")/.." || exit 1
 # shellcheck source=tests/parts.sh
 . tests/parts.sh
 
-parts=(format documents mercator_tests crawl_run_tests crawl_text_tests frontier cases command_line manual_page drawn serve bell_model site_to_web)
+parts=(format documents definitions mercator_tests crawl_run_tests crawl_text_tests frontier cases command_line manual_page drawn serve bell_model site_to_web)
 kept=tests/out/quick
 # A test of crawl_text_tests that no time limit fits. tests/run.sh runs it.
 too_long=tests::indices::finds_what_a_plain_search_finds
@@ -22,6 +22,7 @@ command_of() {
     case $1 in
     format) words=(format) ;;
     documents) words=(docs/check.py) ;;
+    definitions) words=(docs/definitions.py --check) ;;
     *_tests) words=(tests_of "$1") ;;
     frontier) words=(tests/frontier.py --count 1) ;;
     cases) words=(tests/cases.py --quick --seconds 300) ;;
@@ -52,7 +53,7 @@ reads() {
     local crates
     read -ra crates < <(programs "$1")
     case $1 in
-    format | documents) return ;;
+    format | documents | definitions) return ;;
     *_tests)
         crates+=("$1")
         echo tests/quick.sh
