@@ -51,8 +51,6 @@ set -m
 run_mutants "$outputs/mutants" "${mutants[@]}" &
 mutants_job=$!
 set +m
-part docs/check.py
-part docs/definitions.py --check
 part tests/stress_crawl.py
 part tests/stress_threads.sh
 part tests/waiting.sh
@@ -66,7 +64,6 @@ part tests/serve.py
 part tests/check.py --drawn 200 --changed 50 --large 20000
 part tests/cluster_model.py
 part tests/cluster.sh
-part tests/manual_page.py
 part tests/install.sh
 wait "$mutants_job"
 mutants_job=

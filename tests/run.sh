@@ -28,5 +28,8 @@ part tests/frontier.py
 part tests/serve.py --program crates/mercator_cli/out/mercator_cli --lines 2000 --part drawn_sessions --part drawn_parts --part all_at_once --part byte_by_byte --part compacted_logs
 part tests/bell_model.py
 part tests/command-line.sh
+part tests/manual_page.py
 part tests/site_to_web.py
+part docs/check.py
+part docs/definitions.py --check
 total
