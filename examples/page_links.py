@@ -127,6 +127,7 @@ def found_in(url: str, body: bytes, charset: Optional[str]) -> Links:
 
 def main() -> None:
     """Read pages from standard input, one per line, and print the links of each as a line."""
+    signal.signal(signal.SIGPIPE, signal.SIG_DFL)  # if the crawler was killed, end without a message
     for line in sys.stdin:
         url, text, charset = json.loads(line)
         limit = SECONDS + len(text) * SECONDS_PER_MILLION_BYTES / 1e6

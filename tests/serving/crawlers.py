@@ -112,7 +112,7 @@ def crawler_help(trial: Trial) -> None:
     for seconds in (limit, 2 * limit):
         expect(f"{seconds} seconds" in " ".join(text.split()), f"no time limit of {seconds} seconds: {text}")
     values = set(re.findall(r"--\w+ ([A-Z]+)", text)) | {"SEED"}
-    others = set(re.findall(r"\b[A-Z]{2,}\b", text)) - values - {"HTTP", "URL", "MERCATOR"}
+    others = set(re.findall(r"\b[A-Z]{2,}\b", text)) - values - {"CPU", "HTTP", "URL", "MERCATOR"}
     expect(not others, f"names that are no value of an option: {others}")
 
 
@@ -413,7 +413,7 @@ def dribbling_hosts(trial: Trial) -> None:
             begun = time.monotonic()
             reply = crawl_http.fetch(f"http://127.0.0.1:{server.getsockname()[1]}/", "bell", 1000)
             took = time.monotonic() - begun
-        expect(not reply.text and took < 5, f"{reply} after {took} s")
+        expect(not reply.body and took < 5, f"{reply} after {took} s")
 
 
 def dribble(server: socket.socket, head: bytes) -> None:
