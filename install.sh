@@ -162,6 +162,8 @@ while [[ ${1:-} == -* ]]; do
     esac
 done
 [ $# -le 1 ] || usage "unexpected argument $2"
+# An empty argument is probably a variable that is not set.
+if [ $# -eq 1 ] && [ -z "$1" ]; then usage "the folder is an empty string"; fi
 scratch=$(mktemp -d)
 trap 'rm -rf "$scratch"' EXIT
 program=${program:-$(built)}

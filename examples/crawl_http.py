@@ -3,13 +3,14 @@
 
 N fetchers run in threads, and each host is fetched by one of them. For each URL, the crawler prints
 a line with the status, the number of new links, and the URL. The status is `robots` if robots.txt
-forbids the URL, and `failed` if there was no response.
+forbids the URL, and `failed` if there was no response or it cannot be read.
 
 - The crawler obeys robots.txt. Between two requests to a host it waits --delay seconds, or the
   Crawl-delay of robots.txt if that is longer. It skips a host if its robots.txt cannot be read, or
   asks for a delay of more than a day.
 - It reads at most --largest bytes of a page, for at most 30 seconds, and cuts a request off after
-  60 seconds.
+  60 seconds. If a page takes too much CPU time (more than 1 second, and 5 for each million bytes),
+  its links are lost. An error in a page is printed, and the crawl continues.
 - It does not follow a redirect, but offers its target to the frontier.
 - With --log, the crawl can be ended by Ctrl-C, `kill -9` or a crash: run the same command again to
   resume it.
@@ -21,16 +22,19 @@ from __future__ import annotations
 
 import argparse
 import http.client
+import logging
+import re
 import socket
 import sys
 import threading
 import time
 from contextlib import closing, contextmanager, suppress
-from html.parser import HTMLParser
 from pathlib import Path
 from typing import Dict, Iterator, List, NamedTuple, Optional, Tuple
 from urllib.parse import SplitResult, urljoin, urlsplit
 from urllib.robotparser import RobotFileParser
+
+from page_links import links_of
 
 sys.path.insert(0, str(Path(__file__).resolve().parent.parent / "clients" / "python"))
 from mercator_frontier import Frontier, FrontierError, Refusal
@@ -40,10 +44,7 @@ DAY = 86_400
 PORTS = {"http": 80, "https": 443}
 REDIRECTS = (301, 302, 303, 307, 308)
 PAGES = ("text/html", "application/xhtml+xml")
-LINKS = {
-    ("a", "href"), ("area", "href"), ("frame", "src"), ("iframe", "src"), ("img", "src"),
-    ("link", "href"), ("script", "src"),
-}
+CHARSET = re.compile(r"""charset\s*=\s*["']?([^\s"';]+)""", re.I)
 
 
 class Reply(NamedTuple):
@@ -52,44 +53,14 @@ class Reply(NamedTuple):
     status: str  # the HTTP status, or `failed` if there was no response
     leads_to: Optional[str] = None  # the target of a redirect
     kind: str = ""  # the media type
-    text: str = ""
-
-
-class Links(HTMLParser):
-    """The texts of a page's links, and the base URL that they are resolved against."""
-
-    def __init__(self, url: str, text: str) -> None:
-        super().__init__()
-        self.base = url
-        self.has_base = False
-        self.texts: List[str] = []
-        try:
-            self.feed(text)
-            self.close()
-        except (AssertionError, ValueError):
-            pass  # the parser gives up on some markup: keep the links before it
-
-    def handle_starttag(self, tag: str, attrs: List[Tuple[str, Optional[str]]]) -> None:
-        for name, value in attrs:
-            if value is not None and (tag, name) in LINKS:
-                self.texts.append(value)
-            elif value is not None and (tag, name) == ("base", "href") and not self.has_base:
-                self.base, self.has_base = joined(self.base, value), True
-
-
-def joined(base: str, text: str) -> str:
-    """Resolve the URL of a `<base>`, or of a redirect of robots.txt.
-
-    The frontier resolves all other links.
-    """
-    try:
-        return urljoin(base, text)
-    except ValueError:
-        return base
+    charset: Optional[str] = None
+    body: bytes = b""
 
 
 def connected(parts: SplitResult) -> http.client.HTTPConnection:
     """Return a connection to the host of a URL; it is not opened yet."""
+    if parts.scheme not in PORTS:
+        raise ValueError(f"neither http nor https: {parts.scheme}")
     # Without a port, `http.client` would take the end of an IPv6 address for one.
     port = PORTS[parts.scheme] if parts.port is None else parts.port
     if parts.scheme == "https":
@@ -105,7 +76,7 @@ def fetch(url: str, agent: str, largest: int, is_robots: bool = False) -> Reply:
             target = parts.path + ("?" + parts.query if parts.query else "")
             connection.request("GET", target, headers={"User-Agent": agent})
             return reply_of(connection.getresponse(), largest, is_robots)
-    except (OSError, ValueError, LookupError, http.client.HTTPException):
+    except (OSError, http.client.HTTPException):
         return Reply("failed")
 
 
@@ -138,7 +109,9 @@ def reply_of(answer: http.client.HTTPResponse, largest: int, is_robots: bool) ->
     # A robots.txt is obeyed whatever its media type.
     if answer.status != 200 or not (is_robots or kind in PAGES):
         return Reply(str(answer.status))
-    return Reply("200", None, kind, text_of(answer, largest))
+    # Python's own reader of charsets fails on some headers, and takes hours for others.
+    found = CHARSET.search(answer.headers["Content-Type"] or "")
+    return Reply("200", None, kind, found[1] if found else None, body_of(answer, largest))
 
 
 def location_of(answer: http.client.HTTPResponse) -> Optional[str]:
@@ -150,28 +123,16 @@ def location_of(answer: http.client.HTTPResponse) -> Optional[str]:
         return text
 
 
-def text_of(answer: http.client.HTTPResponse, largest: int) -> str:
-    """Return the text of a page.
-
-    If Python does not know its charset, or there is none, the page is decoded as UTF-8.
-    """
-    body = body_of(answer, largest)
-    try:
-        return body.decode(answer.headers.get_content_charset() or "utf-8", "replace")
-    except (LookupError, ValueError):
-        return body.decode("utf-8", "replace")
-
-
 def body_of(answer: http.client.HTTPResponse, largest: int) -> bytes:
     """Return at most `largest` bytes of a page, received in at most SECONDS."""
-    body = b""
+    body = bytearray()
     end = time.monotonic() + SECONDS
     while len(body) < largest and time.monotonic() < end:
         some = answer.read1(min(65_536, largest - len(body)))
         if not some:
             break
         body += some
-    return body
+    return bytes(body)
 
 
 class Site:
@@ -184,20 +145,25 @@ class Site:
         self.host, self.asked = urlsplit(site).hostname, asked
         self.agent, self.delay = agent, delay
         self.robots = RobotFileParser()
-        reply = Reply("301", site + "/robots.txt")
+        # If robots.txt cannot be read, it might forbid everything.
+        self.is_shut = True
+        url = site + "/robots.txt"
+        try:
+            self.is_shut = self.forbids_all(url)
+        except Exception as error:
+            report(url, error)
+
+    def forbids_all(self, url: str) -> bool:
+        """Fetch robots.txt, and return whether the host is to be skipped."""
         for _ in range(6):
+            reply = self.fetch(url, 500_000, is_robots=True)
             if reply.leads_to is None:
                 break
-            reply = self.fetch(joined(site, reply.leads_to), 500_000, is_robots=True)
-        # If the host does not answer or is broken, its robots.txt might forbid everything.
-        self.is_shut = reply.status == "failed" or reply.status.startswith("5")
-        try:
-            self.robots.parse(reply.text.splitlines())
-            wanted = int(self.robots.crawl_delay(agent) or 0)
-            self.delay = max(delay, wanted)
-            self.is_shut = self.is_shut or wanted > DAY
-        except ValueError:
-            self.is_shut = True
+            url = urljoin(url, reply.leads_to)
+        self.robots.parse(reply.body.decode("utf-8", "replace").splitlines())
+        wanted = int(self.robots.crawl_delay(self.agent) or 0)
+        self.delay = max(self.delay, wanted)
+        return reply.status == "failed" or reply.status.startswith("5") or wanted > DAY
 
     def allows(self, url: str) -> bool:
         """Return whether robots.txt allows the URL."""
@@ -233,7 +199,24 @@ class Visit(NamedTuple):
 
 
 def visited(url: str, known: Known, options: argparse.Namespace) -> Visit:
-    """Fetch a URL, if robots.txt allows it."""
+    """Fetch a URL, if robots.txt allows it.
+
+    What a host sends can raise any exception in Python's library. It must not end the crawl.
+    """
+    try:
+        return visited_or_raised(url, known, options)
+    except Exception as error:
+        report(url, error)
+        return Visit("failed", url, [])
+
+
+def report(url: str, error: object) -> None:
+    """Print a line on an error. Its text may be that of a host, so it is escaped and cut off."""
+    text = f"{type(error).__name__}: {error}" if isinstance(error, Exception) else str(error)
+    logging.warning("%s: %s", url, text.encode("unicode_escape").decode()[:200])
+
+
+def visited_or_raised(url: str, known: Known, options: argparse.Namespace) -> Visit:
     name = "{0.scheme}://{0.netloc}".format(urlsplit(url))
     if name not in known.sites:
         known.sites[name] = Site(name, known.asked, options.agent, options.delay)
@@ -241,9 +224,12 @@ def visited(url: str, known: Known, options: argparse.Namespace) -> Visit:
     reply = Reply("robots")
     if site.allows(url):
         reply = site.fetch(url, options.largest)
-    links = Links(url, reply.text if reply.kind in PAGES else "")
-    texts = links.texts if reply.leads_to is None else [reply.leads_to]
-    return Visit(reply.status, links.base, texts)
+    if reply.kind not in PAGES:
+        return Visit(reply.status, url, [] if reply.leads_to is None else [reply.leads_to])
+    links = links_of(url, reply.body, reply.charset)
+    if links.error:
+        report(url, links.error)
+    return Visit(reply.status, links.base, links.texts)
 
 
 class Crawl:
@@ -324,6 +310,7 @@ def options_of_command_line() -> argparse.Namespace:
 
 def main() -> int:
     options = options_of_command_line()
+    logging.basicConfig(format="crawl_http: %(message)s")
     settings = {"within": options.within, "log": options.log, "program": options.program}
     try:
         with Frontier(options.workers, **settings) as frontier:

@@ -35,6 +35,24 @@ expect() {
     fi
 }
 
+# refused NAME MESSAGE ARGUMENT..: install.sh prints its usage and the message, exits with status 3, and installs nothing.
+refused() {
+    local name=$1 message=$2
+    shift 2
+    rm -rf "$scratch/home"
+    mkdir "$scratch/home"
+    expect "install.sh: $name" is_refused "$message" "$@"
+}
+
+is_refused() {
+    local message=$1 tool=$PWD/install.sh status=0
+    shift
+    (cd "$scratch/home" && HOME=$scratch/home "$tool" --program "$program" "$@") > "$scratch/refused" 2>&1 || status=$?
+    cat "$scratch/refused"
+    [ "$status" -eq 3 ] && grep -q '^usage: install.sh' "$scratch/refused" && grep -qxF "install.sh: $message" "$scratch/refused" \
+        && [ -z "$(find "$scratch/home" -mindepth 1)" ]
+}
+
 # The Python example in the README of the clients, and its output.
 sed -n '/^```python$/,/^```$/{//!p}' clients/python/README.md > "$scratch/lines.py"
 printf '%s\n' http://a.test/ http://a.test/b http://c.test/ > "$scratch/urls"
@@ -61,21 +79,16 @@ has_one_build_time() {
     [ "$(wc -l <<< "$times")" -eq 1 ]
 }
 
-# install.sh, try.sh and README state the same CPU time to prove and build the program.
-has_one_build_time() {
-    local times
-    times=$(cat install.sh try.sh <(grep prove README.md) | grep -oE '[0-9]+ CPU minutes|an hour and a (quarter|half)' \
-        | sed 's/an hour and a quarter/75 CPU minutes/; s/an hour and a half/90 CPU minutes/' | sort -u)
-    echo "$times"
-    [ "$(wc -l <<< "$times")" -eq 1 ]
-}
-
 # Tests the help of install.sh and make_wheel.py, a bad command line, and that the time to build is the same in all texts.
 texts() {
     expect "install.sh --help" sh -c './install.sh --help | grep -q "^Usage: install.sh"'
     expect "install.sh -h is not a folder" sh -c './install.sh -h > /dev/null && [ ! -e ./-h ]'
     expect "install.sh with a program that is not there" sh -c \
         './install.sh --program /no/such/program 2>&1 | grep -qxF "install.sh: /no/such/program is not an executable file"'
+    refused "PREFIX that is empty" "the folder is an empty string" ''
+    refused "FOLDER that is empty" "the folder is an empty string" --deb ''
+    refused "PREFIX that looks like an option" "unknown option -x" -x
+    refused "two prefixes" "unexpected argument b" a b
     expect "make_wheel.py --help" sh -c 'cd "$1" && python3 "$2" --help | grep -q "^usage: " && [ ! -e ./--help ]' \
         sh "$scratch" "$PWD/clients/python/make_wheel.py"
     expect "one time to prove and build" has_one_build_time

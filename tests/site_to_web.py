@@ -19,9 +19,10 @@ import subprocess
 import sys
 import tempfile
 import threading
+import time
 import unittest
 import zlib
-from typing import Callable, Iterator, NamedTuple, Optional, Sequence, Union
+from typing import Any, Callable, Iterator, NamedTuple, Optional, Sequence, Union
 from unittest import mock
 from urllib.parse import urljoin, urlsplit
 
@@ -29,6 +30,7 @@ ROOT = os.path.dirname(os.path.dirname(os.path.abspath(__file__)))
 TOOL = os.path.join(ROOT, "tools", "site_to_web.py")
 SITE = os.path.join(ROOT, "examples", "site")
 LINE_LIMIT = 4096
+LONGEST = 120
 
 Content = Union[str, bytes]
 
@@ -109,8 +111,8 @@ class TheCheckItself(unittest.TestCase):
 
 
 def run(*words: str) -> Done:
-    """Run the tool."""
-    done = subprocess.run([sys.executable, TOOL, *words], capture_output=True, check=False)
+    """Run the tool. It fails if it does not end within LONGEST seconds."""
+    done = subprocess.run([sys.executable, TOOL, *words], capture_output=True, check=False, timeout=LONGEST)
     return Done(done.returncode, done.stdout, done.stderr.decode())
 
 
@@ -889,15 +891,74 @@ class Archives(WithArchives):
         self.assertEqual(self.web("--warc", self.archive(b"")), ["savedweb 2"])
 
 
+def loaded() -> Any:
+    """Return the tool as a module."""
+    spec = importlib.util.spec_from_file_location("site_to_web_tool", TOOL)
+    assert spec is not None and spec.loader is not None
+    tool = importlib.util.module_from_spec(spec)
+    spec.loader.exec_module(tool)
+    return tool
+
+
+class HostileInputs(WithArchives):
+    """Inputs that would take the tool hours if its time were not limited."""
+
+    def test_many_comments_are_skipped_fast_to_find_the_type_of_a_file(self) -> None:
+        comments = "<!---->" * 140
+        self.put("data", comments)
+        self.put("page", comments + "\n<!doctype html><a href=x>")
+        self.put("odd", "<?xml version=1?> <!-- a --> b --> <html><a href=y>")
+        self.assertEqual(
+            self.converted(), {"http://a.test/data": [], "http://a.test/odd": ["link y"], "http://a.test/page": ["link x"]}
+        )
+        block = answer(200, comments, kind="").replace(b"Content-Type: \r\n", b"")
+        self.assertEqual(self.read(record("response", "http://a.test/", block)), {"http://a.test/": []})
+
+    def test_a_document_that_takes_too_long_loses_its_links_and_is_reported(self) -> None:
+        slow = {
+            "tags": "<a href=x>" + "<a " * 20_000,
+            "quotes": "<a href=x>" + '<a b="' * 10_000,
+            "punycode": "<meta charset=punycode><a href=x>-" + "a" * 400_000,
+        }
+        for name, document in {**slow, "plain": "<a href=x>"}.items():
+            self.put(f"{name}.html", document)
+        pages = self.converted()
+        self.assertEqual(pages["http://a.test/plain.html"], ["link x"])
+        for name in slow:
+            note = f"site_to_web: links skipped, finding them takes too much CPU time: http://a.test/{name}.html\n"
+            # Some versions of Python need little time for some of them
+            self.assertEqual(pages[f"http://a.test/{name}.html"], [] if note in self.notes else ["link x"])
+
+    def test_continuation_lines_are_joined_in_linear_time(self) -> None:
+        headers_of = loaded().headers_of
+        self.assertEqual(
+            headers_of([b" x", b"A: 1", b"\t2 ", b"b:", b" c", b"a: 3", b" 4", b"C: d"]), {"a": "1 2", "b": " c", "c": "d"}
+        )
+        begun = time.process_time()
+        self.assertEqual(headers_of([b"x: a", *[b" b"] * 1_000_000]), {"x": "a" + " b" * 1_000_000})
+        self.assertLess(time.process_time() - begun, 15)
+
+    def test_headers_are_limited(self) -> None:
+        long = "".join(f"X: {'a' * 60_000}\r\n" for _ in range(20)).rstrip()
+        for headers, links in ((long, None), (long[:1_000_000], ["link x"])):
+            block = answer(200, "<a href=x>", headers)
+            pages = self.read(record("response", "http://a.test/", block), record("resource", "http://b.test/", b""))
+            with self.subTest(len(headers)):
+                self.assertEqual(pages.get("http://a.test/"), links)
+                self.assertEqual("responses that are not pages, status none: 1" in self.notes, links is None)
+        good = record("response", "http://a.test/", answer(200, "<a href=x>"), long[:1_000_000])
+        self.assertEqual(self.read(good), {"http://a.test/": ["link x"]})
+        for packed in (False, True):
+            path = self.archive(record("response", "http://a.test/", answer(200), long), packed=packed)
+            self.assert_error(1, "--warc", path, says="the headers of a WARC record have more than 1048576 bytes")
+
+
 class Limits(WithArchives):
     """Tests with lower limits than the real ones, which would need much memory."""
 
     def run_with(self, limit: str, number: int, *words: str) -> Done:
         """Run the tool with another number for a limit."""
-        spec = importlib.util.spec_from_file_location("site_to_web_tool", TOOL)
-        assert spec is not None and spec.loader is not None
-        tool = importlib.util.module_from_spec(spec)
-        spec.loader.exec_module(tool)
+        tool = loaded()
         written, notes, status = io.BytesIO(), io.StringIO(), 0
         out = io.TextIOWrapper(written)
         with contextlib.ExitStack() as patches:

@@ -12,6 +12,7 @@ The script needs only the standard library.
 from __future__ import annotations
 
 import argparse
+import contextlib
 import gzip
 import html
 import html.entities
@@ -19,6 +20,7 @@ import html.parser
 import mimetypes
 import os
 import re
+import signal
 import sys
 import tempfile
 import zlib
@@ -61,7 +63,8 @@ pages of a WARC: the response, resource and revisit records of http and https UR
   A status of 200 to 299 is a page, and a redirect leads to its target. A URL with
   any other status is missing. If several pages have the same URL, the first one
   counts. A revisit has the links of the first page with the same digest. At most
-  2^26 bytes are read of a record, and of a compressed document.
+  2^26 bytes are read of a record, and of a compressed document. A record with more
+  than 2^20 bytes of headers is an error; a response with so many is not a page.
 
 links: the URLs in elements that load or lead to another document (a, area, img,
   script, link, iframe and others), in srcset and in a meta refresh, in the order of
@@ -80,12 +83,17 @@ links: the URLs in elements that load or lead to another document (a, area, img,
     cut off; any other link is skipped and reported.
 
 A page is skipped and reported if its own line would be too long, or if this script
-cannot write its host in canonical form (not plain ASCII, or with a user name)."""
+cannot write its host in canonical form (not plain ASCII, or with a user name). The
+links of a document are skipped and reported if finding them takes more than
+1 second of CPU time, and 5 for each million bytes."""
 
 HEADER = b"savedweb 2\n"
 LINE_LIMIT = 4096  # most bytes of a line, without its line break
 INPUT_LIMIT = 1 << 30  # most bytes that a crawl reads
+HEADER_LIMIT = 1 << 20  # most bytes of the headers of a WARC record, and of an HTTP response
 DOCUMENT_LIMIT = 1 << 26  # most bytes that are read of a WARC record, and of its decompressed document
+# The CPU time in which the links of a document must be found. The densest documents need 2 seconds per million bytes.
+SECONDS, SECONDS_PER_MILLION_BYTES = 1.0, 5.0
 FAULT, BAD_WORDS = 1, 3  # exit statuses, the same as those of mercator: an error, and a bad command line
 
 HTML_KINDS = ("text/html", "application/xhtml+xml")
@@ -131,6 +139,27 @@ HOST_HINTS = {"preconnect", "dns-prefetch"}  # the values of rel with which a li
 
 class Fault(Exception):
     """An error that ends the script with status 1. Its text is printed."""
+
+
+class TooSlow(Exception):
+    """Raised when the CPU time for a document is over."""
+
+
+@contextlib.contextmanager
+def limited_time(size: int) -> Iterator[None]:
+    """Raise TooSlow in this block after the CPU time for a document of this size. Only the main thread can use it."""
+
+    def stop(*_: object) -> NoReturn:
+        raise TooSlow
+
+    before = signal.signal(signal.SIGPROF, stop)
+    # The signal is repeated, since Python ignores an exception in some places
+    signal.setitimer(signal.ITIMER_PROF, SECONDS + size * SECONDS_PER_MILLION_BYTES / 1e6, 1)
+    try:
+        yield
+    finally:
+        signal.setitimer(signal.ITIMER_PROF, 0)
+        signal.signal(signal.SIGPROF, before)
 
 
 # ---------------------------------------------------------------- URLs
@@ -290,8 +319,9 @@ def respelled(path: str) -> str:
 ATTRIBUTE = re.compile(r"""[\s/]*([^\s/>][^\s/>=]*)(?:\s*=\s*("[^"]*"|'[^']*'|(?!['"])[^\s>]*))?""", re.A)
 END_TAG = re.compile("</[^>]*>?")
 COMMENT = re.compile(r"<!--(?:-?>|.*?(?:--!?>|\Z))", re.S)
+# One group matches several comments, since `.*?` also matches `-->`. A repeated group would take exponential time.
 HTML_START = re.compile(
-    rb"(\xef\xbb\xbf)?\s*(<\?xml[^>]*>\s*)?(<!--.*?-->\s*)*<(!doctype\s+html|html)\b", re.I | re.S
+    rb"(\xef\xbb\xbf)?\s*(<\?xml[^>]*>\s*)?(<!--.*?-->\s*)?<(!doctype\s+html|html)\b", re.I | re.S
 )
 START_LENGTH = 1024  # the bytes of a document in which its type and its encoding are searched for
 # The patterns of the prescan of a document for its encoding
@@ -576,7 +606,20 @@ def is_document(kind: Optional[str], body: bytes) -> bool:
 
 
 def links_of(body: bytes, url: Url, kind: Optional[str], web: Web, charset: Optional[str] = None) -> list[str]:
-    """Return the link texts of a document if it is HTML, or a style sheet and --styles is given; else none."""
+    """Return the link texts of a document if it is HTML, or a style sheet and --styles is given; else none.
+
+    If that takes too long, it is reported, and there are none.
+    """
+    try:
+        with limited_time(len(body)):
+            return links_in_any_time(body, url, kind, web, charset)
+    except TooSlow:
+        web.tell("links skipped, finding them takes too much CPU time", url.text())
+        return []
+
+
+def links_in_any_time(body: bytes, url: Url, kind: Optional[str], web: Web, charset: Optional[str]) -> list[str]:
+    """Return the link texts of a document, as links_of does, however long it takes."""
     base: Optional[str] = None
     if kind == STYLE_KIND and web.styles:
         text, charset = text_of(body, charset)
@@ -877,18 +920,16 @@ class Folder:
 
 def headers_of(lines: list[bytes]) -> dict[str, str]:
     """Return header names with the first value of each. A line that begins with a space continues the one before."""
-    found: dict[str, str] = {}
-    last: Optional[str] = None
+    found: dict[str, list[str]] = {}
+    last: list[str] = []  # the value of the last header, line by line; it is not used if the header is not the first
     for line in (line.decode("utf-8", "replace") for line in lines):
         if line[:1] in (" ", "\t"):
-            if last:
-                found[last] += " " + line.strip()
+            last.append(line.strip())
             continue
         name, _, value = line.partition(":")
-        name = name.strip().lower()
-        last = None if name in found else name
-        found.setdefault(name, value.strip())
-    return found
+        last = [value.strip()]
+        found.setdefault(name.strip().lower(), last)
+    return {name: " ".join(values) for name, values in found.items()}
 
 
 def record_headers(file: BufferedIOBase) -> Optional[dict[str, str]]:
@@ -901,8 +942,12 @@ def record_headers(file: BufferedIOBase) -> Optional[dict[str, str]]:
     if not line.startswith(b"WARC/"):
         raise Fault("not a WARC file: a record does not begin with WARC/")
     lines = []
+    size = len(line)
     while line := file.readline(1 << 16).rstrip(b"\r\n"):
         lines.append(line)
+        size += len(line)
+        if size > HEADER_LIMIT:
+            raise Fault(f"the headers of a WARC record have more than {HEADER_LIMIT} bytes")
     headers = headers_of(lines)
     if not re.fullmatch("[0-9]{1,18}", headers.get("content-length", "")):
         raise Fault("a WARC record has no valid Content-Length")
@@ -966,6 +1011,8 @@ class Answer:
 
     def __init__(self, block: bytes) -> None:
         head, _, self.body = block.partition(b"\r\n\r\n")
+        if len(head) > HEADER_LIMIT:
+            head = b""
         first, *lines = head.split(b"\r\n")
         status = re.match(rb"HTTP/[0-9.]+ ([0-9]{3})", first)
         self.status = int(status[1]) if status else None

@@ -5,6 +5,7 @@ from __future__ import annotations
 import http.client
 import http.server
 import importlib
+import logging
 import re
 import shutil
 import socket
@@ -111,7 +112,7 @@ def crawler_help(trial: Trial) -> None:
     for seconds in (limit, 2 * limit):
         expect(f"{seconds} seconds" in " ".join(text.split()), f"no time limit of {seconds} seconds: {text}")
     values = set(re.findall(r"--\w+ ([A-Z]+)", text)) | {"SEED"}
-    others = set(re.findall(r"\b[A-Z]{2,}\b", text)) - values - {"HTTP", "URL", "MERCATOR"}
+    others = set(re.findall(r"\b[A-Z]{2,}\b", text)) - values - {"CPU", "HTTP", "URL", "MERCATOR"}
     expect(not others, f"names that are no value of an option: {others}")
 
 
@@ -278,7 +279,7 @@ class HostileAnswer(http.server.BaseHTTPRequestHandler):
 
 
 def hostile_hosts(trial: Trial) -> None:
-    """Something in a robots.txt, a page or a URL that Python cannot read does not end the crawl, nor hide the links before it.
+    """Nothing in a robots.txt, a header, a page or a URL ends the crawl, holds it up, or hides the links before it.
 
     An unknown charset, and one that is not for text, do not hide any link.
     """
@@ -303,6 +304,102 @@ def hostile_hosts(trial: Trial) -> None:
     for url, end in ends.items():
         one = connected(urlsplit(url))
         expect((one.host, one.port) == end, f"{url}: {one.host}, {one.port}")
+    hostile_pages(trial)
+    odd_errors()
+    moved_robots()
+
+
+class HostilePages(http.server.BaseHTTPRequestHandler):
+    """A host whose first page links to pages that Python reads slowly or not at all."""
+
+    # What follows the media type, and the page. Each page links to a page with its name and a 1.
+    pages = {
+        "/tags": ("", "<a href=/tags1>" + "<a " * 20_000),
+        "/quotes": ("", "<a href=/quotes1>" + '<a b="' * 10_000),
+        "/comments": ("", "<a href=/comments1>" + "<!--" * 50_000),
+        "/punycode": ("; charset=punycode", "<a href=/punycode1>-" + "a" * 400_000),
+        "/section": ("", "<a href=/section1><![foo<a href=/behind>"),
+        "/field": ('; x="' + "\r\n ".join(80 * [";" * 60_000]), "<a href=/field1>"),
+        "/parameters": ("; charset*=a; charset*0=b", "<a href=/parameters1>"),
+        "/surrogate": ("; charset=unicode_escape", '<a href="/\\ud800"><a href=/surrogate1>'),
+        "/base": ("", '<base href="http://["><a href=/base1>'),
+    }
+    slow = {"/tags", "/quotes", "/comments", "/punycode"}
+
+    def do_GET(self) -> None:
+        first = "".join(f"<a href={path}>" for path in self.pages)
+        suffix, page = self.pages.get(self.path, ("", first if self.path == "/" else ""))
+        self.send_response(200)
+        self.send_header("Content-Type", f"text/html{suffix}")
+        self.end_headers()
+        with suppress(OSError):
+            self.wfile.write(page.encode())
+
+    def log_message(self, format: str, *words: object) -> None:
+        return
+
+
+def hostile_pages(trial: Trial) -> None:
+    """The links of each page are found, unless Python is slow for it; then one line reports the page."""
+    server = http.server.ThreadingHTTPServer(("127.0.0.1", 0), HostilePages)
+    threading.Thread(target=server.serve_forever, daemon=True).start()
+    site = f"http://127.0.0.1:{server.server_port}"
+    done = run_crawler(crawler_words(trial, "--delay", "0", f"{site}/"))
+    server.shutdown()
+    found = {url[len(site):]: status for url, status in found_by_crawler(done.stdout)}
+    lines = done.stderr.decode().splitlines()
+    expect(done.returncode == 0 and set(found.values()) == {"200"}, f"status {done.returncode}, {found}: {lines}")
+    for path in HostilePages.pages:
+        told = [line for line in lines if line.startswith(f"crawl_http: {site}{path}: links ")]
+        is_slow = path in HostilePages.slow and len(told) == 1
+        expect(f"{path}1" in found or is_slow, f"{path}: its links are lost: {told}")
+        expect(len(told) <= (path in HostilePages.slow or path == "/section"), f"{path}: {told}")
+        lines = [line for line in lines if line not in told]
+    expect(not lines, f"{lines}")
+
+
+def odd_errors() -> None:
+    """Any exception fails only its URL, and is one line without control characters."""
+    crawl_http = importlib.import_module(CRAWLER.stem)
+    options = mock.Mock(agent="bell", delay=0, largest=1000)
+    for error in (NotImplementedError("a\nb"), TypeError("\x1b[31m"), AssertionError("\u202e"), RecursionError("a" * 5_000)):
+        known = crawl_http.Known()
+        with mock.patch.object(crawl_http, "fetch", side_effect=error), mock.patch.object(logging, "warning") as told:
+            visits = [crawl_http.visited(f"http://a.test/{path}", known, options) for path in "xy"]
+        expect([visit.status for visit in visits] == ["robots", "robots"], f"{visits}")
+        check_line(told, f"http://a.test/robots.txt: {type(error).__name__}: ")
+        known.sites["http://a.test"].allows = lambda url: True
+        with mock.patch.object(crawl_http, "fetch", side_effect=error), mock.patch.object(logging, "warning") as told:
+            visit = crawl_http.visited("http://a.test/x", known, options)
+        expect(visit == ("failed", "http://a.test/x", []), f"{visit}")
+        check_line(told, f"http://a.test/x: {type(error).__name__}: ")
+
+
+def check_line(told: mock.Mock, start: str) -> None:
+    """Expect one printable line that was logged."""
+    expect(told.call_count == 1, f"{told.mock_calls}")
+    form, *words = told.call_args.args
+    line = form % tuple(words)
+    expect(line.startswith(start) and len(line) < 300 and line.isascii() and line.isprintable(), f"{line!r}")
+
+
+def moved_robots() -> None:
+    """A redirect of robots.txt is resolved against its own URL, and is not followed to another scheme."""
+    crawl_http = importlib.import_module(CRAWLER.stem)
+    asked = []
+
+    def fetch(url: str, *_: object, **__: object) -> object:
+        asked.append(url)
+        moves = {"http://a.test/robots.txt": "http://b.test/x/y", "http://b.test/x/y": "z"}
+        return crawl_http.Reply("301", moves[url]) if url in moves else crawl_http.Reply("200", body=b"User-agent: *\nDisallow: /")
+
+    with mock.patch.object(crawl_http, "fetch", fetch):
+        site = crawl_http.Site("http://a.test", {}, "bell", 0)
+    expect(asked == ["http://a.test/robots.txt", "http://b.test/x/y", "http://b.test/x/z"], f"{asked}")
+    expect(not site.allows("http://a.test/"), "the rule is not obeyed")
+    with suppress(ValueError):
+        crawl_http.connected(urlsplit("ftp://127.0.0.1:80/"))
+        raise Differs("ftp: is fetched by HTTP")
 
 
 def dribbling_hosts(trial: Trial) -> None:
@@ -316,7 +413,7 @@ def dribbling_hosts(trial: Trial) -> None:
             begun = time.monotonic()
             reply = crawl_http.fetch(f"http://127.0.0.1:{server.getsockname()[1]}/", "bell", 1000)
             took = time.monotonic() - begun
-        expect(not reply.text and took < 5, f"{reply} after {took} s")
+        expect(not reply.body and took < 5, f"{reply} after {took} s")
 
 
 def dribble(server: socket.socket, head: bytes) -> None:
