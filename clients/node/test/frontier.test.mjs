@@ -157,6 +157,17 @@ inFolder('programs that answer wrongly', async (folder) => {
   }
 });
 
+inFolder('EPIPE: a program that closes its input before it exits', async (folder) => {
+  const text = 'read -r line; echo refused nothing; exec 0<&-; sleep 0.5; echo full >&2; exit 7';
+  const frontier = await Frontier.open({ workers: 1, program: script(folder, text) });
+  await new Promise((resolve) => { setTimeout(resolve, 200); });
+  const isEnd = (error) => error instanceof FrontierEnded && error.status === 7 && error.stderr === 'full';
+  await Promise.all([
+    assert.rejects(frontier.offer('http://a.test/'), isEnd), assert.rejects(frontier.take(0), isEnd),
+  ]);
+  await frontier.close();
+});
+
 inFolder('a program that prints much on standard error', async (folder) => {
   const program = script(folder, 'yes warning | head -c 300000 >&2; exec "$MERCATOR" "$@"');
   const frontier = await Frontier.open({ workers: 1, program });
