@@ -9,7 +9,7 @@ forbids the URL, and `failed` if there was no response or it cannot be read.
   Crawl-delay of robots.txt if that is longer. It skips a host if its robots.txt cannot be read, or
   asks for a delay of more than a day.
 - It reads at most --largest bytes of a page, for at most 30 seconds, and cuts a request off after
-  60 seconds. If a page takes too much CPU time (more than 1 second, and 5 for each million bytes),
+  60 seconds. If a page takes too much CPU time (more than 1 second plus 5 per million bytes),
   its links are lost. An error in a page is printed, and the crawl continues.
 - It does not follow a redirect, but offers its target to the frontier.
 - With --log, the crawl can be ended by Ctrl-C, `kill -9` or a crash: run the same command again to
@@ -217,6 +217,7 @@ def report(url: str, error: object) -> None:
 
 
 def visited_or_raised(url: str, known: Known, options: argparse.Namespace) -> Visit:
+    """Fetch a URL like `visited`, but let exceptions pass."""
     name = "{0.scheme}://{0.netloc}".format(urlsplit(url))
     if name not in known.sites:
         known.sites[name] = Site(name, known.asked, options.agent, options.delay)

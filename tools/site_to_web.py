@@ -85,7 +85,7 @@ links: the URLs in elements that load or lead to another document (a, area, img,
 A page is skipped and reported if its own line would be too long, or if this script
 cannot write its host in canonical form (not plain ASCII, or with a user name). The
 links of a document are skipped and reported if finding them takes more than
-1 second of CPU time, and 5 for each million bytes."""
+1 second of CPU time plus 5 per million bytes."""
 
 HEADER = b"savedweb 2\n"
 LINE_LIMIT = 4096  # most bytes of a line, without its line break
