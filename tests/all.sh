@@ -64,6 +64,7 @@ part tests/serve.py
 part tests/check.py --drawn 200 --changed 50 --large 20000
 part tests/cluster_model.py
 part tests/cluster.sh
+part tests/clients.sh
 part tests/install.sh
 wait "$mutants_job"
 mutants_job=
