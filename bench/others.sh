@@ -12,7 +12,8 @@
 #
 # Usage: bench/others.sh [--save FILE] [FOLDER ..]     FOLDER is examples/site by default
 # --save writes the elapsed times to FILE, for bench/chart.py.
-# Environment: PROGRAM, mercator's path (default: the program that this repository builds); RUNS (default: 3); LIMIT (default: 150).
+# Environment: PROGRAM, mercator's path (default: the program that this repository builds), and COMMIT, its commit (default: that of
+# the checkout that PROGRAM is in); RUNS (default: 3); LIMIT (default: 150).
 set -euo pipefail
 cd "$(dirname "$0")/.."
 program=${PROGRAM:-$PWD/crates/mercator_cli/out/mercator_cli}
@@ -115,7 +116,7 @@ name_of() {
 
 version_of() {
     case $1 in
-    mercator) git -C "$(dirname "$program")" describe --always --dirty --abbrev=7 2> /dev/null || echo "of an unknown commit" ;;
+    mercator) echo "${COMMIT:-$(git -C "$(dirname "$program")" describe --always --abbrev=7 2> /dev/null || echo "of an unknown commit")}" ;;
     html_proofer) htmlproofer --version | awk '{ print $NF }' ;;
     linkchecker) linkchecker --version 2> /dev/null | awk 'NR == 1 { print $2 }' ;;
     wget) wget --version | awk 'NR == 1 { print $3 }' ;;
