@@ -22,9 +22,10 @@ import shlex
 import subprocess
 import sys
 from collections import Counter
+from concurrent.futures import ThreadPoolExecutor
 from pathlib import Path
 from random import Random
-from typing import Iterator, NamedTuple, Optional, Sequence
+from typing import Callable, Iterator, NamedTuple, Optional, Sequence
 
 ROOT = Path(__file__).resolve().parent.parent
 CALLS = shlex.split(os.environ.get("CALLS", str(ROOT / "crates/library_calls/out/library_calls")))
@@ -478,27 +479,29 @@ def main() -> None:
     parser = argparse.ArgumentParser(description=__doc__, formatter_class=argparse.RawDescriptionHelpFormatter)
     parser.add_argument("--count", type=int, default=2, metavar="N", help="number of runs of random calls (default: 2)")
     parser.add_argument("--seed", default="1", help="seed of the random calls (default: 1)")
+    parser.add_argument("--jobs", type=int, default=1, metavar="N", help="number of checks at a time (default: 1)")
     given = parser.parse_args()
-    passed, failed = 0, 0
-
-    def judge(name: str, check: object, *arguments: object) -> None:
-        nonlocal passed, failed
-        try:
-            check(*arguments)  # type: ignore[operator]
-            passed += 1
-        except (Differs, subprocess.TimeoutExpired, IndexError, KeyError, ValueError) as fault:
-            failed += 1
-            print(f"{name}: {type(fault).__name__}: {fault}")
-
+    checks: list[tuple[str, Callable[..., None], tuple[object, ...]]] = []
     for number in range(given.count):
         for row in ROWS:
-            judge(f"{row.name}, run {number}", check_row, row, Random(f"{given.seed} {number} {row.name}"))
-    for plan in PLANS:
-        judge(plan.name, check_ends, plan)
-    for number, leaves in enumerate(LEAVING):
-        judge(f"leaving {number}", check_left, leaves)
-    for _ in range(given.count):
-        judge("steps of four threads", check_steps, 2_000, 4)
+            checks.append((f"{row.name}, run {number}", check_row, (row, Random(f"{given.seed} {number} {row.name}"))))
+    checks += [(plan.name, check_ends, (plan,)) for plan in PLANS]
+    checks += [(f"leaving {number}", check_left, (leaves,)) for number, leaves in enumerate(LEAVING)]
+    checks += [("steps of four threads", check_steps, (2_000, 4))] * given.count
+
+    def error_of(name: str, check: Callable[..., None], arguments: tuple[object, ...]) -> str:
+        """Return what a check finds wrong, or an empty text."""
+        try:
+            check(*arguments)
+        except (Differs, subprocess.TimeoutExpired, IndexError, KeyError, ValueError) as error:
+            return f"{name}: {type(error).__name__}: {error}"
+        return ""
+
+    with ThreadPoolExecutor(given.jobs) as pool:
+        errors = [error for error in pool.map(error_of, *zip(*checks)) if error]
+    for error in errors:
+        print(error)
+    passed, failed = len(checks) - len(errors), len(errors)
     print(f"{passed} passed, {failed} failed")
     sys.exit(failed > 0)
 

@@ -24,7 +24,7 @@ command_of() {
     documents) words=(docs/check.py) ;;
     definitions) words=(docs/definitions.py --check) ;;
     *_tests) words=(tests_of "$1") ;;
-    frontier) words=(tests/frontier.py --count 1) ;;
+    frontier) words=(tests/frontier.py --count 1 --jobs 2) ;;
     cases) words=(tests/cases.py --quick --seconds 300) ;;
     command_line) words=(tests/command-line.sh) ;;
     manual_page) words=(tests/manual_page.py) ;;
