@@ -1,6 +1,6 @@
 #!/bin/bash
 # Runs mercator from a clone. If the proved program was built from the sources as they are, that program runs; otherwise it is one
-# without proofs, which has the address sanitizer, so it is slower. Building that one takes about three minutes.
+# without proofs, which has the address sanitizer, so it is slower. Building that one takes about two minutes.
 #
 # Usage: ./try.sh [--proved] [ARGUMENT..]
 # The arguments are those of mercator [default: check examples/site]. With --proved the program is proved and built first, which
