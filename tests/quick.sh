@@ -28,7 +28,7 @@ command_of() {
     cases) words=(tests/cases.py --quick --seconds 300) ;;
     command_line) words=(tests/command-line.sh) ;;
     manual_page) words=(tests/manual_page.py) ;;
-    drawn) words=(tests/drawn.py --count 1000) ;;
+    drawn) words=(tests/drawn.py --count 500) ;;
     serve) words=(tests/serve.py --lines 2000 --part drawn_sessions --part drawn_parts --part all_at_once --part byte_by_byte --part compacted_logs) ;;
     bell_model) words=(tests/bell_model.py) ;;
     site_to_web) words=(tests/site_to_web.py) ;;
@@ -91,8 +91,10 @@ format() {
 
 # tests_of CRATE: runs its tests in Rattle.
 tests_of() {
-    local status=0
-    (cd "crates/$1" && rt try --test) > "$work/$1.tests" 2>&1 || status=$?
+    local status=0 limit=60
+    # The other tests of this crate take a few seconds in all.
+    [ "$1" != crawl_text_tests ] || limit=30
+    (cd "crates/$1" && rt try --test --seconds "$limit") > "$work/$1.tests" 2>&1 || status=$?
     awk -v status="$status" -v too_long="$too_long" '
         { print }
         name == too_long && /no-answer: the program did not end within the time limit/ { failed--; left_out++ }
@@ -101,7 +103,7 @@ tests_of() {
         /^test .* \.\.\. ok$/ { passed++ }
         /^test .* \.\.\. FAILED$/ { failed++; name = $2 }
         END {
-            if (left_out) print "left out, because it takes more than a minute without proofs: " too_long
+            if (left_out) print "left out, because it takes too long without proofs: " too_long
             # Each test has ended, and the status is 0 if all have passed.
             if (passed + failed + left_out != count || (status && !left_out)) failed += !failed
             print passed + 0 " passed, " failed + 0 " failed"
