@@ -1,12 +1,11 @@
 -- Which steps a subqueue makes.
-use Rattle.std.proofs.Common.{◌≡◌, ◌≢◌, ◌⊎◌, ⊎_elim, inl, inr, ℕ, zero, suc, ◌+◌, Bool, true, false, List, [], ◌∷◌, ◌++◌, length, set, refl, sym, ap, ◌∙◌, subst, true≢false}
-use mathlib.Core.Option.{some, some-injective, some-ne-none}
+use Rattle.std.proofs.Common.{◌≡◌, ◌≢◌, ℕ, ◌+◌, Bool, true, false, [], ◌∷◌, ◌++◌, set, refl, sym, ◌∙◌, subst, true≢false}
+use mathlib.Core.Option.{some, some-ne-none}
 use lib.ListN.{get_elem?}
 use Rattle.crawl_gate.specs.Seat.{GateId}
-use Rattle.crawl_frontier.specs.declared.entry.Entry.{Entry}
 use Rattle.crawl_frontier.specs.declared.rule.PassView.{PassView}
 use Rattle.crawl_frontier.specs.Rule.{SubqueueInvariant, home, pushing, popping, reunited, spent, plain}
-use Rattle.crawl_frontier.specs.History.{Moment, SubqueueStep, ViewAt, settles, divides, pushes, pops, finds_nothing, takes_in}
+use Rattle.crawl_frontier.specs.History.{Moment, SubqueueStep, settles, divides, pushes, pops, finds_nothing, takes_in}
 use Rattle.crawl_frontier.proofs.Passing as pass
 use Rattle.crawl_tie.specs.Whole.{made}
 use Rattle.crawl_tie.specs.Parts.{IsDivided, IsUnited, LaneMoves, IsMaking, pushing_one, popping_one, counting_one, taking_in_one}

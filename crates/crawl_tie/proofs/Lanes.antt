@@ -1,6 +1,5 @@
 -- Subqueues of the machine and of the running frontier, one by one.
-use Rattle.std.proofs.Common.{◌≡◌, ◌≢◌, ℕ, zero, suc, ◌+◌, Bool, true, false, cond, ◌||◌, List, [], ◌∷◌, ◌++◌, length, map, set, nat_eq, slice_get, slice_set, Some, None, refl, sym, ap, ◌∙◌, subst, arith, eqb-true, append_assoc}
-use Rattle.std.specs.List.{list_any}
+use Rattle.std.proofs.Common.{◌≡◌, ◌≢◌, ℕ, zero, suc, ◌+◌, Bool, true, cond, ◌||◌, List, [], ◌∷◌, ◌++◌, length, map, set, nat_eq, slice_get, slice_set, Some, None, refl, sym, ap, ◌∙◌, subst, arith, eqb-true}
 use Rattle.std.specs.Str.{bytes_eq}
 use Rattle.std.proofs.lemmas.List.{length-append, map-append, length_push}
 use Rattle.std.proofs.lemmas.List.Sums.{sum_by-cons}
@@ -16,7 +15,7 @@ use Rattle.crawl_frontier.specs.declared.entry.Message.{Message}
 use Rattle.crawl_frontier.specs.declared.rule.Home.{Home}
 use Rattle.crawl_frontier.specs.declared.rule.PassView.{PassView}
 use Rattle.crawl_frontier.specs.Entries.{has_url, count_of}
-use Rattle.crawl_frontier.specs.Rule.{SubqueueInvariant, home, pushing, popping, undivided, reunited, spent, plain, no_home}
+use Rattle.crawl_frontier.specs.Rule.{home, pushing, popping, undivided, reunited, spent, plain, no_home}
 use Rattle.crawl_frontier.specs.History.{Moment, SubqueueStep, ViewAt, settles, divides, pushes, pops, finds_nothing, takes_in, first_moment}
 use Rattle.crawl_frontier.proofs.Histories.{step_moves}
 use Rattle.crawl_frontier.proofs.Passing as pass

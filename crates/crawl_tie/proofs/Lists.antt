@@ -15,7 +15,7 @@ use Rattle.crawl_frontier.specs.Rule.{plain}
 use Rattle.crawl_frontier.specs.History.{Moment}
 use Rattle.crawl_frontier.proofs.Histories.{accepted_lists}
 use Rattle.crawl_tie.specs.Whole.{Lane, Whole, IsFirst}
-use Rattle.crawl_tie.specs.Acts.{Act, Splits, Looks, LooksAway, LooksHeld, Enters, Loses, LeavesOffer, LeavesSeen, LeavesFetch, LeavesSeeds, Closes, NotClosesClosed, NotClosesPending, Pushes, Pops, PopsNone, FindsNothing, TakesIn, Pushing, Popping, Atomic, History}
+use Rattle.crawl_tie.specs.Acts.{Act, Splits, Looks, LooksAway, Enters, Loses, LeavesOffer, LeavesSeen, LeavesFetch, LeavesSeeds, Closes, NotClosesClosed, NotClosesPending, Pushes, Pops, PopsNone, FindsNothing, TakesIn, Pushing, Popping, Atomic, History}
 use Rattle.crawl_tie.specs.Shows.{HasLists}
 use Rattle.crawl_tie.specs.Headline.{pushed_to, popped_from, fetched_at, accepted, delivered, fetches_done, Delivers}
 use Rattle.crawl_tie.proofs.Lanes.{pushed_has, popped_has, counted_has, taken_in_has, made_has, lists_split}
@@ -138,7 +138,6 @@ pub reached_step : (gate : GateId) (workers : ℕ) (w v : Whole) (acts : List Ac
 reached_step gate workers w v acts Splits r a = leaves gate workers w v acts Splits r (ap (λ (u : Whole). u.lanes) a.2) (λ q. (refl, refl, refl))
 reached_step gate workers w v acts (Looks id x) r a = leaves gate workers w v acts (Looks id x) r (ap (λ (u : Whole). u.lanes) a.2) (λ q. (refl, refl, refl))
 reached_step gate workers w v acts (LooksAway id x) r a = leaves gate workers w v acts (LooksAway id x) r (ap (λ (u : Whole). u.lanes) a.4) (λ q. (refl, refl, refl))
-reached_step gate workers w v acts (LooksHeld x) r a = leaves gate workers w v acts (LooksHeld x) r (ap (λ (u : Whole). u.lanes) a.2) (λ q. (refl, refl, refl))
 reached_step gate workers w v acts (Enters id n) r a = leaves gate workers w v acts (Enters id n) r (ap (λ (u : Whole). u.lanes) a.4) (λ q. (refl, refl, refl))
 reached_step gate workers w v acts (Loses id x) r a = leaves gate workers w v acts (Loses id x) r (ap (λ (u : Whole). u.lanes) a.5) (λ q. (refl, refl, refl))
 reached_step gate workers w v acts (LeavesOffer id n) r a = leaves gate workers w v acts (LeavesOffer id n) r (ap (λ (u : Whole). u.lanes) a.3) (λ q. (refl, refl, refl))

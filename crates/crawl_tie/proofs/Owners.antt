@@ -1,5 +1,5 @@
 -- Whose each unit is, over each kind of step.
-use Rattle.std.proofs.Common.{◌≡◌, ◌≢◌, ◌⊎◌, inl, inr, ⊎_elim, ℕ, zero, suc, ◌+◌, Bool, true, false, ◌||◌, nat_eq, List, [], ◌∷◌, ◌++◌, drop, map, set, slice_get, slice_set, Option, Some, None, refl, sym, ap, ◌∙◌, subst, arith, eqb-true, true≢false}
+use Rattle.std.proofs.Common.{◌≡◌, ◌≢◌, ◌⊎◌, inl, inr, ⊎_elim, ℕ, zero, suc, ◌+◌, Bool, true, false, ◌||◌, List, [], ◌∷◌, ◌++◌, drop, map, set, slice_get, slice_set, Option, Some, None, refl, sym, ap, ◌∙◌, subst, arith, true≢false}
 use Rattle.std.specs.List.{list_any}
 use Rattle.std.specs.Ordering.{nat_cmp}
 use Rattle.std.specs.BTreeMap.{is_at}
@@ -16,12 +16,12 @@ use Rattle.crawl_gate.specs.declared.rule.View.{View}
 use Rattle.crawl_gate.specs.Word.{Word, open_at}
 use Rattle.crawl_gate.specs.View.{fresh_view, view_entering, view_leaving}
 use Rattle.crawl_gate.specs.GateInvariant.{Moment}
-use Rattle.crawl_gate.specs.History.{SeatSteps, first_moment}
+use Rattle.crawl_gate.specs.History.{SeatSteps}
 use Rattle.crawl_gate.specs.Seat.{GateId}
 use Rattle.crawl_frontier.specs.declared.entry.Message.{Message}
 use Rattle.crawl_frontier.specs.History as subqueues
 use Rattle.crawl_tie.specs.Whole.{Lane, Whole, Owner, Seeds, Offer, Sent, IsFirst}
-use Rattle.crawl_tie.specs.Acts.{Splitting, Entering, Leaving, IsOwner, IsUnitOf, is_offering, with_gate, after_splitting, after_looking, after_entering, after_leaving, after_fetching, after_seeding, after_pushing}
+use Rattle.crawl_tie.specs.Acts.{Splitting, Entering, Leaving, IsOwner, IsUnitOf, is_offering, with_gate, after_splitting, after_entering, after_leaving, after_fetching, after_seeding, after_pushing}
 use Rattle.crawl_tie.specs.Parts.{UnitsAreOwned, is_owned}
 
 -- ## Indices of two lists at once

@@ -1,5 +1,5 @@
 -- A sample history, step by step.
-use Rattle.std.proofs.Common.{◌≡◌, ◌≢◌, ℕ, zero, suc, ◌+◌, ◌<◌, Bool, true, false, not, List, [], ◌∷◌, length, slice_get, slice_set, Option, Some, None, refl, sym, ap, ◌∙◌, subst, arith, true≢false}
+use Rattle.std.proofs.Common.{◌≡◌, ◌≢◌, ℕ, zero, suc, ◌<◌, Bool, true, false, not, List, [], ◌∷◌, length, slice_get, slice_set, Some, refl, sym, ap, arith, true≢false}
 use Rattle.std.specs.Prelude.{◌%◌}
 use Rattle.std.proofs.Math.Nat.{mod-lt}
 use Rattle.crawl_core.proofs.Sound.{some_is}
@@ -16,8 +16,8 @@ use Rattle.crawl_frontier.specs.declared.entry.Message.{Message}
 use Rattle.crawl_frontier.specs.declared.rule.Home.{Home}
 use Rattle.crawl_frontier.specs.Rule.{home, pushing, popping, reunited, spent}
 use Rattle.crawl_frontier.specs.History as subqueues
-use Rattle.crawl_tie.specs.Whole.{Lane, Whole, Owner, Seeds, Offer, Sent, IsFirst, fresh_lane}
-use Rattle.crawl_tie.specs.Acts.{Atomic, History, with_gate, with_lane, after_splitting, after_looking, after_entering, after_leaving, after_fetching, after_seeding, after_pushing}
+use Rattle.crawl_tie.specs.Whole.{Lane, Whole, Seeds, IsFirst, fresh_lane}
+use Rattle.crawl_tie.specs.Acts.{History, with_gate, after_splitting, after_looking, after_entering, after_leaving, after_fetching, after_seeding, after_pushing}
 use Rattle.crawl_tie.specs.Sample.{offers_made, turns_made}
 
 -- ## Which of two subqueues
@@ -195,7 +195,7 @@ abbrev w14 : GateId → Bool → Whole
 w14 gate b = record (w13 gate b) { lanes = both b (busy (popped (at_home gate b))) (fresh_at gate (not b)) }
 
 abbrev w15 : GateId → Bool → Whole
-w15 gate b = with_gate (w14 gate b) (gate_with (open_at 1) (seeds_left ∷ fresh ∷ fresh ∷ seven_held ∷ nine_left ∷ []))
+w15 gate b = after_looking (w14 gate b) (gate_with (open_at 1) (seeds_left ∷ fresh ∷ fresh ∷ seven_held ∷ nine_left ∷ [])) (queue b) (open_at 1)
 
 abbrev w16 : GateId → Bool → Whole
 w16 gate b = w15 gate b

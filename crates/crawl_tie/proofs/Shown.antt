@@ -1,11 +1,11 @@
 -- What the machine's invariants say of what a state shows, and the rows of the table.
-use Rattle.std.proofs.Common.{◌≡◌, ℕ, zero, suc, ◌<◌, ◌≤◌, Bool, true, false, ◌||◌, List, [], ◌∷◌, ◌++◌, take, drop, map, slice_get, Some, refl, sym, ap, ◌∙◌, subst, arith, true≢false, append_assoc}
+use Rattle.std.proofs.Common.{◌≡◌, ℕ, zero, suc, ◌<◌, Bool, true, false, ◌||◌, List, [], ◌∷◌, ◌++◌, take, drop, map, slice_get, Some, refl, sym, ap, ◌∙◌, subst, arith, true≢false, append_assoc}
 use Rattle.std.specs.Str.{bytes_eq}
 use Rattle.std.specs.Option.{option_map}
 use Rattle.std.proofs.lemmas.List.{append-nil}
 use Rattle.std.proofs.lemmas.Slice.Eq.{bytes_eq-Decides}
 use Rattle.crawl_core.specs.Messages.{count_from}
-use Rattle.crawl_core.specs.Subqueue.{Subqueue, waiting}
+use Rattle.crawl_core.specs.Subqueue.{Subqueue}
 use Rattle.crawl_core.specs.State.{State, start, count_of}
 use Rattle.crawl_core.specs.Run.{Run}
 use Rattle.crawl_core.specs.Invariants as machine
@@ -21,7 +21,6 @@ use Rattle.crawl_gate.specs.GateError.{IsMaximum}
 use Rattle.crawl_gate.specs.Seat.{GateId}
 use Rattle.crawl_frontier.specs.declared.entry.Entry.{Entry}
 use Rattle.crawl_frontier.specs.declared.entry.Message.{Message}
-use Rattle.crawl_frontier.specs.Rule.{plain}
 use Rattle.crawl_frontier.specs.Entries.{MayFollow, KeepsRule, has_url}
 use Rattle.crawl_tie.specs.Whole.{Whole}
 use Rattle.crawl_tie.specs.Acts.{Act, Atomic}

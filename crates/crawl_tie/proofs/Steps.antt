@@ -18,9 +18,9 @@ use Rattle.crawl_core.specs.declared.reply.Reply.{Reply}
 use Rattle.crawl_core.specs.declared.reply.Reply.TheVariants as told
 use Rattle.crawl_core.specs.declared.reply.Refusal.TheVariants as why
 use Rattle.crawl_core.specs.Flags.{one_if, same_flag}
-use Rattle.crawl_core.specs.Messages.{Message, has_url, count_from}
+use Rattle.crawl_core.specs.Messages.{has_url, count_from}
 use Rattle.crawl_core.specs.Subqueue.{Subqueue, empty_subqueue, unfinished, after_accepting, after_taking, after_finishing}
-use Rattle.crawl_core.specs.GateSide.{GateSide, GateTurn, units_out, shown_word, holds, remembers, let_go, grant, same_word, turned_away}
+use Rattle.crawl_core.specs.GateSide.{holds, remembers, let_go, grant, same_word, turned_away}
 use Rattle.crawl_core.specs.State.{State, start, count_of, word_of, unfinished_in}
 use Rattle.crawl_core.specs.Step.{Turn, turn, by_gate, with_subqueue}
 use Rattle.crawl_core.specs.Run.{Run}
@@ -38,8 +38,8 @@ use Rattle.crawl_gate.proofs.Histories.{keeps_invariant, first_kept}
 use Rattle.crawl_frontier.specs.declared.entry.Entry.{Entry}
 use Rattle.crawl_frontier.specs.Entries as entries
 use Rattle.crawl_frontier.specs.History as subqueues
-use Rattle.crawl_tie.specs.Whole.{Lane, Whole, IsFirst, Seeds, Offer, Sent}
-use Rattle.crawl_tie.specs.Acts.{Act, Splits, Looks, LooksAway, LooksHeld, Enters, Loses, LeavesOffer, LeavesSeen, LeavesFetch, LeavesSeeds, Closes, NotClosesClosed, NotClosesPending, Pushes, Pops, PopsNone, FindsNothing, TakesIn, Looking, Entering, Losing, Leaving, Pushing, Popping, StandsIn, IsUnitOf, IsOwner, core_word, is_offering, loaded_by, with_gate, with_lane, after_splitting, after_looking, after_entering, after_leaving, after_fetching, after_seeding, after_pushing, Atomic, History}
+use Rattle.crawl_tie.specs.Whole.{Lane, Whole, IsFirst, Seeds, Offer}
+use Rattle.crawl_tie.specs.Acts.{Act, Splits, Looks, LooksAway, Enters, Loses, LeavesOffer, LeavesSeen, LeavesFetch, LeavesSeeds, Closes, NotClosesClosed, NotClosesPending, Pushes, Pops, PopsNone, FindsNothing, TakesIn, Looking, Entering, Losing, Leaving, Pushing, Popping, StandsIn, IsUnitOf, IsOwner, core_word, is_offering, loaded_by, with_gate, with_lane, after_splitting, after_looking, after_entering, after_leaving, after_fetching, after_seeding, after_pushing, Atomic, History}
 use Rattle.crawl_tie.specs.Shows.{events_of, events, message_of, HasLists, ShowsLane, ShowsWhole}
 use Rattle.crawl_tie.specs.Parts.{UnitsAreOwned}
 use Rattle.crawl_tie.proofs.GateSteps.{Goes, looked, entered, lost, left, closed, not_closed, split_off, entered_below}
@@ -504,13 +504,6 @@ looks_away gate workers w s ties id x m look free away =
     (turned ∙ ap (λ b. (let t : Turn = record { reply = told.Refused (if b then why.Closed else why.Full); state = after } in t)) (ap (λ y. y.1) (sym is))) (record { owned = first.ties.owned; keeps = first.ties.keeps; max = refl }) first.ties.shows in
     then_next gate workers w' w' s ((Look id, told.Word x.0 x.1) ∷ []) ((Enter id, told.Refused (if x.1 then why.Closed else why.Full)) ∷ []) first second
 
-looks_held : (gate : GateId) (workers : ℕ) (w : Whole) (s : State) → Ties gate workers w s → (x : Word) (m : gates.Moment) → Looking w.gate m x → Next gate workers (with_gate w m) s []
-looks_held gate workers w s ties x m look =
-    let go = looked w.gate m x look in
-    none gate workers w (with_gate w m) s ties
-    (record { owned = still_owned w m look.view _ x x ties.owned look.steps refl; keeps = goes_keeps gate workers w s ties m x x go; max = refl })
-    (shows_still gate workers w s ties.shows m (go.to ∙ (sym go.from ∙ ties.shows.word)))
-
 -- ## Histories
 
 moved : (gate : GateId) (workers : ℕ) (w w' v : Whole) (s : State) (es : List (Event × Reply)) → v ≡ w' → Next gate workers w' s es → Next gate workers v s es
@@ -524,7 +517,6 @@ step gate workers w v s ties Splits a =
     (record { word = ap (λ (m : gates.Moment). m.words) a.1.next ∙ shows.word; holders = shows.holders; remembered = shows.remembered; opening = shows.opening; max = shows.max; lanes = shows.lanes }))
 step gate workers w v s ties (Looks id x) a = moved gate workers w _ v s _ a.2 (loads gate workers w s ties id x a.0 a.1)
 step gate workers w v s ties (LooksAway id x) a = moved gate workers w _ v s _ a.4 (looks_away gate workers w s ties id x a.0 a.1 a.2 a.3)
-step gate workers w v s ties (LooksHeld x) a = moved gate workers w _ v s _ a.2 (looks_held gate workers w s ties x a.0 a.1)
 step gate workers w v s ties (Enters id n) a = moved gate workers w _ v s _ a.4 (enters gate workers w s ties id n a.0 a.1 a.2 a.3)
 step gate workers w v s ties (Loses id x) a = moved gate workers w _ v s _ a.5 (loses gate workers w s ties id a.1 x a.0 a.2 a.3 a.4)
 step gate workers w v s ties (LeavesOffer id n) a = moved gate workers w _ v s _ a.3 (leaves_offer gate workers w s ties id n a.0 a.1 a.2)

@@ -24,26 +24,25 @@ use Rattle.crawl_frontier.specs.History as subqueues
 use Rattle.crawl_frontier.specs.History.{ViewAt}
 use Rattle.crawl_tie.specs.Whole.{Lane, Whole, Owner, Seeds, Offer, Sent}
 
--- Which step it is: the gate's kind or the subqueue's, and for whom. A count is the one that the step leaves, or meets
--- where it changes nothing.
+-- Which step it is: a kind of step of the gate or of a subqueue, and for whom. A count is the one that the step leaves, or that
+-- it finds if it changes nothing.
 pub data Act : Type 0 where
   -- `splits`: a pass of the gate is split off
   Splits : Act
-  -- `looks`: an offer of this sender loads this word, and goes on; or is told by it that the gate is closed or full; or the
-  -- unit of a URL that was popped loads it
+  -- `looks`: this sender loads this word, in an offer that continues, or as the worker that has just popped a URL; or its offer
+  -- ends with this load, because the gate is closed or full
   Looks : ℕ → Word → Act
   LooksAway : ℕ → Word → Act
-  LooksHeld : Word → Act
-  -- `enters`, `loses`: the exchange of an offer of this sender wins at this count, or meets this word
+  -- `enters`, `loses`: the exchange of an offer of this sender wins at this count, or finds this word
   Enters : ℕ → ℕ → Act
   Loses : ℕ → Word → Act
-  -- `leaves`: an offer gives its unit back; also since this URL stands in this subqueue; the fetch of a subqueue's worker is
+  -- `leaves`: an offer gives its unit back, or does so because this URL is in this subqueue; the fetch of a subqueue's worker is
   -- done; the seeds end
   LeavesOffer : ℕ → ℕ → Act
   LeavesSeen : ℕ → ℕ → List ℕ → ℕ → Act
   LeavesFetch : ℕ → ℕ → Act
   LeavesSeeds : ℕ → Act
-  -- `closes`; `not_closes`: the exchange finds the gate closed, or finds this many units out
+  -- `closes`; `not_closes`: the exchange finds the gate closed, or finds this number of units
   Closes : Act
   NotClosesClosed : Act
   NotClosesPending : ℕ → Act
@@ -152,7 +151,7 @@ pub record TakingIn (m m' : subqueues.Moment) : Type 0 where
   pub view' : ViewAt m other (popping home' taken empty_pops)
   pub next : m' ≡ record { items = m.items; views = slice_set (slice_set m.views pass (reunited (pushing home sent) (popping home' taken empty_pops))) other spent }
 
--- the URL stands in the list that the pass that pushes has sent
+-- the URL is in the list that the pass that pushes has sent
 pub record StandsIn (m : subqueues.Moment) (url : List ℕ) : Type 0 where
   pub pass : ℕ
   pub home : Home
@@ -235,7 +234,6 @@ Atomic w Splits w' = (gate : gates.Moment) × Splitting w.gate gate × (w' ≡ a
 Atomic w (Looks s x) w' = (gate : gates.Moment) × Looking w.gate gate x × (w' ≡ after_looking w gate s x)
 Atomic w (LooksAway s x) w' =
     (gate : gates.Moment) × Looking w.gate gate x × (is_offering w s ≡ false) × ((x.1 ≡ true) ⊎ (x.0 ≡ w.max)) × (w' ≡ after_looking w gate s x)
-Atomic w (LooksHeld x) w' = (gate : gates.Moment) × Looking w.gate gate x × (w' ≡ with_gate w gate)
 Atomic w (Enters s n) w' =
     (gate : gates.Moment) × (step : Entering w.gate gate n) × (is_offering w s ≡ false) × (loaded_by w s ≡ Some (core_word (open_at n)))
     × (w' ≡ after_entering w gate step.steps.seat s)

@@ -1,5 +1,5 @@
 -- What is left of a part's own kinds of step: none that the atomic steps do not make.
-use Rattle.std.specs.Prelude.{◌≡◌, ℕ, Bool, true, false, List, map, Option, Some, None}
+use Rattle.std.specs.Prelude.{◌≡◌, ℕ, Bool, true, false, map, Option, Some, None}
 use Rattle.crawl_gate.specs.declared.rule.View.{View}
 use Rattle.crawl_gate.specs.Word.{Word}
 use Rattle.crawl_gate.specs.GateInvariant as gates

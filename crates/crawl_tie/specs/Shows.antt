@@ -19,14 +19,13 @@ use Rattle.crawl_frontier.specs.Entries.{KeepsRule}
 use Rattle.crawl_frontier.specs.Rule.{SubqueueInvariant, home, plain}
 use Rattle.crawl_frontier.specs.History as subqueues
 use Rattle.crawl_tie.specs.Whole.{Lane, Whole}
-use Rattle.crawl_tie.specs.Acts.{Act, Splits, Looks, LooksAway, LooksHeld, Enters, Loses, LeavesOffer, LeavesSeen, LeavesFetch, LeavesSeeds, Closes, NotClosesClosed, NotClosesPending, Pushes, Pops, PopsNone, FindsNothing, TakesIn}
+use Rattle.crawl_tie.specs.Acts.{Act, Splits, Looks, LooksAway, Enters, Loses, LeavesOffer, LeavesSeen, LeavesFetch, LeavesSeeds, Closes, NotClosesClosed, NotClosesPending, Pushes, Pops, PopsNone, FindsNothing, TakesIn}
 
 -- the row of the table: the events of a step, with their replies
 abbrev pub events_of : Act → List (Event × Reply)
 events_of Splits = []
 events_of (Looks s x) = (Look s, told.Word x.0 x.1) ∷ []
 events_of (LooksAway s x) = (Look s, told.Word x.0 x.1) ∷ (Enter s, told.Refused (if x.1 then why.Closed else why.Full)) ∷ []
-events_of (LooksHeld x) = []
 events_of (Enters s n) = (Enter s, told.Entered (suc n)) ∷ []
 events_of (Loses s x) = (Enter s, told.Lost) ∷ []
 events_of (LeavesOffer s n) = (Back s, told.Count n) ∷ []
