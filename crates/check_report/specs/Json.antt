@@ -71,8 +71,8 @@ told_counts t c = count_if_at (codes "unreached") c.unreached (count_if_at (code
 
 abbrev pub total_members : List ℕ → Totals → Counts → Members
 total_members base t c =
-    kind (codes "total") (text_at (codes "base") base (count_at (codes "pages") t.pages (count_at (codes "links") t.links
-    (count_at (codes "redirects") t.moved (told_counts t c)))))
+    kind (codes "total") (text_at (codes "base") base (count_at (codes "pages") t.pages (count_at (codes "aliases") t.aliases
+    (count_at (codes "links") t.links (count_at (codes "redirects") t.moved (told_counts t c))))))
 
 abbrev pub members_of : Line → Members
 members_of (line.total base totals counts) = total_members base totals counts

@@ -58,6 +58,7 @@ total_item word n = counted word n ++ codes "</b></li>\n"
 
 abbrev pub site_items : Totals → List ℕ
 site_items t = total_item (codes "<li>pages <b>") t.pages ++ total_item (codes "<li>links <b>") t.links ++ total_item (codes "<li>redirects <b>") t.moved
+    ++ total_item (codes "<li>other URLs of pages <b>") t.aliases
 
 abbrev pub broken_items : Totals → List ℕ
 broken_items t = total_item (codes "<li>missing pages <b>") t.broken_urls ++ total_item (codes "<li>missing anchors <b>") t.broken_anchors

@@ -102,7 +102,7 @@ broken_total colour t =
 abbrev pub site_total : Totals → Counts → List ℕ
 site_total t c =
     counted (codes "pages ") t.pages ++ counted (codes ", links ") t.links ++ counted (codes ", redirects ") t.moved
-    ++ counted_if (codes ", unreached files ") c.unreached ++ counted_if (codes ", external URLs ") c.external
+    ++ counted (codes ", aliases ") t.aliases ++ counted_if (codes ", unreached files ") c.unreached ++ counted_if (codes ", external URLs ") c.external
 
 abbrev pub total_text : Bool → Totals → Counts → List ℕ
 total_text colour t c = site_total t c ++ codes "\n" ++ broken_total colour t ++ codes "\n"

@@ -83,6 +83,7 @@ fn put_total(out: &mut Writer, base: &str, totals: Totals, counts: Counts) -> Re
     put_text(out, "kind", "total")?;
     put_text(out, "base", base)?;
     put_count(out, "pages", totals.pages)?;
+    put_count(out, "aliases", totals.aliases)?;
     put_count(out, "links", totals.links)?;
     put_count(out, "redirects", totals.moved)?;
     put_told_counts(out, totals, counts)

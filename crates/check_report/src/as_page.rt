@@ -152,7 +152,8 @@ fn put_site_items(out: &mut Vec<u8>, totals: Totals) -> Result<(), NoMemory>
 {
     put_item(out, "<li>pages <b>", totals.pages)?;
     put_item(out, "<li>links <b>", totals.links)?;
-    put_item(out, "<li>redirects <b>", totals.moved)
+    put_item(out, "<li>redirects <b>", totals.moved)?;
+    put_item(out, "<li>other URLs of pages <b>", totals.aliases)
 }
 
 fn put_broken_items(out: &mut Vec<u8>, totals: Totals) -> Result<(), NoMemory>

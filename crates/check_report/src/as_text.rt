@@ -54,6 +54,7 @@ fn put_site_total(out: &mut Vec<u8>, totals: Totals, counts: Counts) -> Result<(
     put_counted(out, "pages ", totals.pages)?;
     put_counted(out, ", links ", totals.links)?;
     put_counted(out, ", redirects ", totals.moved)?;
+    put_counted(out, ", aliases ", totals.aliases)?;
     put_counted_if(out, ", unreached files ", counts.unreached)?;
     put_counted_if(out, ", external URLs ", counts.external)
 }
