@@ -20,7 +20,7 @@ pub struct Findings<'a> {
 
 /// The optional contents of a report.
 #[derive(Clone, Copy)]
-pub struct Told<'a> {
+pub struct Contents<'a> {
     /// Whether the report counts and lists unreached files.
     pub unreached: bool,
     /// The external links, if the report counts and lists them.

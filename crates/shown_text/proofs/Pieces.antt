@@ -83,7 +83,7 @@ plain_run how run utf8 plain =
 pub shown_both : (how : Lines) (front back : List ℕ) → IsUtf8 front → shown_in how (front ++ back) ≡ shown_in how front ++ shown_in how back
 shown_both how front back utf8 = ap (flat_map (shown_char_in how)) (chars-append front back utf8) ∙ flat_map-append (shown_char_in how) (chars front) (chars back)
 
-front_passes : (p : ℕ → Bool) (text : List ℕ) → list_all p (take_while p text) ≡ true
+pub front_passes : (p : ℕ → Bool) (text : List ℕ) → list_all p (take_while p text) ≡ true
 front_passes p [] = refl
 front_passes p (b ∷ bs) =
     ap (list_all p) (take_while-cons p b bs)

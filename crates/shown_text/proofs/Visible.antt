@@ -1,6 +1,6 @@
 -- What a shown text has.
-use Rattle.std.proofs.Common.{◌≡◌, ℕ, ◌+◌, ◌/◌, ◌%◌, ◌<◌, ◌≤◌, ◌==◌, Bool, true, false, ◌&&◌, ◌||◌, not, List, [], ◌∷◌, ◌++◌, codes, nat_le, nat_lt, chars, IsAscii, IsUtf8, refl, sym, ap, ◌∙◌, append-nil, arith}
-use Rattle.std.proofs.lemmas.Bool.{and_from, and_parts, cond_both, le-leb, ltb-true, ne_eqb, not-true, not_from_false, or_left}
+use Rattle.std.proofs.Common.{◌≡◌, ℕ, ◌+◌, ◌/◌, ◌%◌, ◌<◌, ◌≤◌, ◌==◌, Bool, true, false, ◌&&◌, ◌||◌, not, List, [], ◌∷◌, ◌++◌, codes, nat_le, nat_lt, chars, IsAscii, IsUtf8, refl, sym, ap, ◌∙◌, ⊎_elim, append-nil, arith}
+use Rattle.std.proofs.lemmas.Bool.{and_from, and_parts, cases_lt, cond_both, le-leb, lt-ltb, ltb-true, ne_eqb, not-true, not_from_false, or_left}
 use Rattle.std.proofs.lemmas.Bool.Decides.{nat_tests}
 use Rattle.std.proofs.lemmas.Fmt.{digits_is_IsNumeral}
 use Rattle.std.proofs.lemmas.List.Folds.{list_all-append}
@@ -12,65 +12,78 @@ use Rattle.std.specs.List.{flat_map, list_all}
 use Rattle.std.specs.Str.{encode_utf8_all}
 use Rattle.std.specs.Str.Parse.{AllDigits}
 use lib.Utf8.{scalar, scalars}
-use Rattle.shown_text.specs.Shown.{escape_of, is_escaped, is_hidden, is_printed, is_visible, is_visible_or_lf, shown_char_in, shown_in}
+use Rattle.shown_text.specs.Shown.{escape_of, is_escaped, is_hidden, is_printed, is_visible, is_visible_or_lf, shown_char, shown_char_in, shown_in}
 use Rattle.shown_text.specs.declared.escape.Lines.{Lines}
 use Rattle.shown_text.specs.declared.escape.Lines.TheVariants as lines
 use Rattle.shown_text.proofs.Pieces.{char_stays}
 
 -- ---- escapes
 
--- the test passes 0 to } of ASCII, which has \ and the lower-case letters
-abbrev PassesText : (ℕ → Bool) → Type 0
-PassesText p = (b : ℕ) → 48 ≤ b → b ≤ 125 → p b ≡ true
+-- the test passes the characters of escapes: the digits, and A to } of ASCII
+abbrev pub PassesEscapes : (ℕ → Bool) → Type 0
+PassesEscapes p = ((b : ℕ) → 48 ≤ b → b ≤ 57 → p b ≡ true) × ((b : ℕ) → 65 ≤ b → b ≤ 125 → p b ≡ true)
 
 digit_low : (d : ℕ) → digit_value d < 16 → 48 ≤ d
 digit_low d small = grind (arith, nat_tests)
 
+digit_letter : (d : ℕ) → digit_value d < 16 → 58 ≤ d → 65 ≤ d
+digit_letter d small other = grind (arith, nat_tests)
+
 digit_high : (d : ℕ) → digit_value d < 16 → d ≤ 125
 digit_high d small = grind (arith, nat_tests)
 
-digits_pass : (p : ℕ → Bool) → PassesText p → (ds : List ℕ) → AllDigits 16 ds → list_all p ds ≡ true
+digit_passes : (p : ℕ → Bool) → PassesEscapes p → (d : ℕ) → digit_value d < 16 → p d ≡ true
+digit_passes p passes d small =
+    ⊎_elim (λ digit. passes.0 d (digit_low d small) (omega (arith, digit))) (λ letter. passes.1 d (digit_letter d small letter) (digit_high d small)) (cases_lt d 58)
+
+digits_pass : (p : ℕ → Bool) → PassesEscapes p → (ds : List ℕ) → AllDigits 16 ds → list_all p ds ≡ true
 digits_pass p passes [] all = refl
-digits_pass p passes (d ∷ ds) all = and_from (p d) (list_all p ds) (passes d (digit_low d all.0) (digit_high d all.0)) (digits_pass p passes ds all.1)
+digits_pass p passes (d ∷ ds) all = and_from (p d) (list_all p ds) (digit_passes p passes d all.0) (digits_pass p passes ds all.1)
 
 -- a hidden character has a small number
 hidden_small : (c : ℕ) → is_hidden c ≡ true → c ≤ 8297
 hidden_small c hidden = grind (arith, nat_tests)
 
-pub escape_passes : (p : ℕ → Bool) → PassesText p → (c : ℕ) → is_hidden c ≡ true → list_all p (escape_of c) ≡ true
+pub escape_passes : (p : ℕ → Bool) → PassesEscapes p → (c : ℕ) → is_hidden c ≡ true → list_all p (escape_of c) ≡ true
 escape_passes p passes c hidden =
     let small = hidden_small c hidden in
     let number = digits 16 false c in
-    let start : list_all p (codes "\\u{") ≡ true = and_from (p 92) _ (passes 92 (omega arith) (omega arith)) (and_from (p 117) _ (passes 117 (omega arith) (omega arith)) (and_from (p 123) true (passes 123 (omega arith) (omega arith)) refl)) in
-    let end : list_all p (codes "}") ≡ true = and_from (p 125) true (passes 125 (omega arith) (omega arith)) refl in
+    let start : list_all p (codes "\\u{") ≡ true = and_from (p 92) _ (passes.1 92 (omega arith) (omega arith)) (and_from (p 117) _ (passes.1 117 (omega arith) (omega arith)) (and_from (p 123) true (passes.1 123 (omega arith) (omega arith)) refl)) in
+    let end : list_all p (codes "}") ≡ true = and_from (p 125) true (passes.1 125 (omega arith) (omega arith)) refl in
     let middle : list_all p number ≡ true = digits_pass p passes number (digits_is_IsNumeral 16 false (omega arith) (omega arith) c (omega arith)).0.1 in
     list_all-append p (codes "\\u{" ++ number) (codes "}")
     ∙ and_from (list_all p (codes "\\u{" ++ number)) (list_all p (codes "}")) (list_all-append p (codes "\\u{") number ∙ and_from (list_all p (codes "\\u{")) (list_all p number) start middle) end
 
 -- ---- ASCII
 
-is_low : ℕ → Bool
+unfoldable pub is_low : ℕ → Bool
 is_low b = nat_lt b 128
 
-ascii_from : (bs : List ℕ) → list_all is_low bs ≡ true → IsAscii bs
+pub ascii_from : (bs : List ℕ) → list_all is_low bs ≡ true → IsAscii bs
 unfolding is_low
 ascii_from [] low = IsAscii-nil
 ascii_from (b ∷ bs) low =
     let parts = and_parts (nat_lt b 128) (list_all is_low bs) low in
     IsAscii-cons b bs (ltb-true b 128 parts.0) (ascii_from bs parts.1)
 
-low_passes : PassesText is_low
+pub low_passes : PassesEscapes is_low
 unfolding is_low
-low_passes b low high = grind (arith, nat_tests)
+low_passes = (λ b from to. lt-ltb b 128 (omega arith), λ b from to. lt-ltb b 128 (omega arith))
 
-escape_ascii : (c : ℕ) → is_hidden c ≡ true → IsAscii (escape_of c)
+pub escape_ascii : (c : ℕ) → is_hidden c ≡ true → IsAscii (escape_of c)
 escape_ascii c hidden = ascii_from (escape_of c) (escape_passes is_low low_passes c hidden)
 
-text_visible : PassesText is_visible
-text_visible b low high = grind (arith, nat_tests)
+between_visible : (b : ℕ) → 32 ≤ b → b < 127 → is_visible b ≡ true
+between_visible b low high = grind (arith, nat_tests)
 
-text_printed : PassesText is_printed
-text_printed b low high = grind (arith, nat_tests)
+escapes_visible : PassesEscapes is_visible
+escapes_visible = (λ b from to. between_visible b (omega arith) (omega arith), λ b from to. between_visible b (omega arith) (omega arith))
+
+between_printed : (b : ℕ) → 32 ≤ b → b < 127 → is_printed b ≡ true
+between_printed b low high = grind (arith, nat_tests)
+
+pub escapes_printed : PassesEscapes is_printed
+escapes_printed = (λ b from to. between_printed b (omega arith) (omega arith), λ b from to. between_printed b (omega arith) (omega arith))
 
 -- ---- characters
 
@@ -116,7 +129,7 @@ passes_text p f each text utf8 = passes_each p f each (chars text) (scalars-char
 -- ---- shown characters
 
 pub escape_visible : (c : ℕ) → is_hidden c ≡ true → Passes is_visible (escape_of c)
-escape_visible c hidden = passes_ascii is_visible (escape_of c) (escape_ascii c hidden) (escape_passes is_visible text_visible c hidden)
+escape_visible c hidden = passes_ascii is_visible (escape_of c) (escape_ascii c hidden) (escape_passes is_visible escapes_visible c hidden)
 
 pub char_visible : (c : ℕ) → scalar c ≡ true → Passes is_visible (shown_char_in lines.One c)
 char_visible c is_scalar =
@@ -125,8 +138,8 @@ char_visible c is_scalar =
 or_lf : (c : ℕ) → is_visible c ≡ true → is_visible_or_lf c ≡ true
 or_lf c seen = or_left (is_visible c) (c == 10) seen
 
-text_or_lf : PassesText is_visible_or_lf
-text_or_lf b low high = or_lf b (text_visible b low high)
+escapes_or_lf : PassesEscapes is_visible_or_lf
+escapes_or_lf = (λ b from to. or_lf b (escapes_visible.0 b from to), λ b from to. or_lf b (escapes_visible.1 b from to))
 
 -- a character that is not escaped in a text of several lines
 stays_or_lf : (hidden feed : Bool) → (hidden && not feed) ≡ false → (not hidden || feed) ≡ true
@@ -142,7 +155,7 @@ line_char_visible c is_scalar =
     cond_both (is_escaped lines.Several c) (escape_of c) (encode_utf8 c) (Passes is_visible_or_lf)
     (λ escaped.
     let hidden = escaped_hidden (is_hidden c) (c == 10) escaped in
-    passes_ascii is_visible_or_lf (escape_of c) (escape_ascii c hidden) (escape_passes is_visible_or_lf text_or_lf c hidden))
+    passes_ascii is_visible_or_lf (escape_of c) (escape_ascii c hidden) (escape_passes is_visible_or_lf escapes_or_lf c hidden))
     (λ stays. passes_char is_visible_or_lf c is_scalar (stays_or_lf (is_hidden c) (c == 10) stays))
 
 -- ---- shown texts
@@ -177,30 +190,42 @@ lines_same text utf8 all = stay_all lines.Several is_visible_or_lf (λ c seen. o
 
 -- ---- bytes
 
-next_printed : (n : ℕ) (rest : List ℕ) → list_all is_printed rest ≡ true → list_all is_printed ((128 + n) ∷ rest) ≡ true
-next_printed n rest printed = and_from (is_printed (128 + n)) (list_all is_printed rest) (and_from (nat_le 32 (128 + n)) _ (le-leb 32 (128 + n) (omega arith)) (not_from_false _ (ne_eqb (128 + n) 127 (λ e. omega arith)))) printed
+-- a test that passes the bytes of UTF-8 that are not ASCII
+abbrev pub PassesHigh : (ℕ → Bool) → Type 0
+PassesHigh p = (b : ℕ) → 128 ≤ b → p b ≡ true
 
-high_printed : (b : ℕ) → 128 ≤ b → is_printed b ≡ true
+next_passes : (p : ℕ → Bool) → PassesHigh p → (n : ℕ) (rest : List ℕ) → list_all p rest ≡ true → list_all p ((128 + n) ∷ rest) ≡ true
+next_passes p high n rest all = and_from (p (128 + n)) (list_all p rest) (high (128 + n) (omega arith)) all
+
+-- the bytes of a character pass if it passes or is not ASCII
+pub encode_passes : (p : ℕ → Bool) → PassesHigh p → (c : ℕ) → (c < 128 → p c ≡ true) → list_all p (encode_utf8 c) ≡ true
+unfolding encode_utf8
+encode_passes p high c passes =
+    cond_both (nat_lt c 128) _ _ (λ t. list_all p t ≡ true) (λ one. and_from (p c) true (passes (ltb-true c 128 one)) refl)
+    (λ more. cond_both (nat_lt c 2048) _ _ (λ t. list_all p t ≡ true) (λ two. and_from (p (192 + c / 64)) _ (high (192 + c / 64) (omega arith)) (next_passes p high (c % 64) [] refl))
+    (λ more. cond_both (nat_lt c 65536) _ _ (λ t. list_all p t ≡ true)
+    (λ three. and_from (p (224 + c / 4096)) _ (high (224 + c / 4096) (omega arith)) (next_passes p high (c / 64 % 64) ((128 + c % 64) ∷ []) (next_passes p high (c % 64) [] refl)))
+    (λ four. and_from (p (240 + c / 262144)) _ (high (240 + c / 262144) (omega arith))
+    (next_passes p high (c / 4096 % 64) ((128 + c / 64 % 64) ∷ (128 + c % 64) ∷ []) (next_passes p high (c / 64 % 64) ((128 + c % 64) ∷ []) (next_passes p high (c % 64) [] refl))))))
+
+pub high_printed : PassesHigh is_printed
 high_printed b high = and_from (nat_le 32 b) _ (le-leb 32 b (omega arith)) (not_from_false _ (ne_eqb b 127 (λ e. omega arith)))
 
-seen_printed : (c : ℕ) → c < 128 → is_hidden c ≡ false → is_printed c ≡ true
+pub seen_printed : (c : ℕ) → c < 128 → is_hidden c ≡ false → is_printed c ≡ true
 seen_printed c small seen = grind (arith, nat_tests)
 
-pub char_printed : (c : ℕ) → is_hidden c ≡ false → list_all is_printed (encode_utf8 c) ≡ true
-unfolding encode_utf8
-char_printed c seen =
-    cond_both (nat_lt c 128) _ _ (λ t. list_all is_printed t ≡ true) (λ one. and_from (is_printed c) true (seen_printed c (ltb-true c 128 one) seen) refl)
-    (λ more. cond_both (nat_lt c 2048) _ _ (λ t. list_all is_printed t ≡ true) (λ two. and_from (is_printed (192 + c / 64)) _ (high_printed (192 + c / 64) (omega arith)) (next_printed (c % 64) [] refl))
-    (λ more. cond_both (nat_lt c 65536) _ _ (λ t. list_all is_printed t ≡ true)
-    (λ three. and_from (is_printed (224 + c / 4096)) _ (high_printed (224 + c / 4096) (omega arith)) (next_printed (c / 64 % 64) ((128 + c % 64) ∷ []) (next_printed (c % 64) [] refl)))
-    (λ four. and_from (is_printed (240 + c / 262144)) _ (high_printed (240 + c / 262144) (omega arith)) (next_printed (c / 4096 % 64) ((128 + c / 64 % 64) ∷ (128 + c % 64) ∷ []) (next_printed (c / 64 % 64) ((128 + c % 64) ∷ []) (next_printed (c % 64) [] refl))))))
+-- what is shown of a character passes if its escape does, or its bytes do
+pub shown_char_passes : (p : ℕ → Bool) → PassesEscapes p → PassesHigh p → (c : ℕ) → (c < 128 → is_hidden c ≡ false → p c ≡ true) → list_all p (shown_char c) ≡ true
+shown_char_passes p escapes high c passes =
+    cond_both (is_hidden c) (escape_of c) (encode_utf8 c) (λ t. list_all p t ≡ true) (escape_passes p escapes c) (λ seen. encode_passes p high c (λ small. passes small seen))
 
-pub shown_char_printed : (c : ℕ) → list_all is_printed (shown_char_in lines.One c) ≡ true
-shown_char_printed c = cond_both (is_hidden c) (escape_of c) (encode_utf8 c) (λ t. list_all is_printed t ≡ true) (escape_passes is_printed text_printed c) (char_printed c)
+pub shown_char_printed : (c : ℕ) → list_all is_printed (shown_char c) ≡ true
+shown_char_printed c = shown_char_passes is_printed escapes_printed high_printed c (seen_printed c)
 
-pub each_printed : (f : ℕ → List ℕ) → ((c : ℕ) → list_all is_printed (f c) ≡ true) → (cs : List ℕ) → list_all is_printed (flat_map f cs) ≡ true
-each_printed f each [] = refl
-each_printed f each (c ∷ cs) = list_all-append is_printed (f c) (flat_map f cs) ∙ and_from (list_all is_printed (f c)) (list_all is_printed (flat_map f cs)) (each c) (each_printed f each cs)
+-- what each character becomes passes
+pub each_passes : (p : ℕ → Bool) (f : ℕ → List ℕ) → ((c : ℕ) → list_all p (f c) ≡ true) → (cs : List ℕ) → list_all p (flat_map f cs) ≡ true
+each_passes p f each [] = refl
+each_passes p f each (c ∷ cs) = list_all-append p (f c) (flat_map f cs) ∙ and_from (list_all p (f c)) (list_all p (flat_map f cs)) (each c) (each_passes p f each cs)
 
 pub shown_printed : (text : List ℕ) → list_all is_printed (shown_in lines.One text) ≡ true
-shown_printed text = each_printed (shown_char_in lines.One) shown_char_printed (chars text)
+shown_printed text = each_passes is_printed shown_char shown_char_printed (chars text)
