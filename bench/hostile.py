@@ -15,7 +15,7 @@ A pattern fails if at any size
 - `site` takes more than 3 times as long as on an ordinary folder of the same size, or `check` more than 5 times. The ordinary
   folder has the same number of files, with links to the next one and to missing ones. For patterns that print much more than they
   read, times are divided by the bytes of the folder and of the output.
-- or the time, the memory or the output per byte is more than twice as much as at the smallest size.
+- or the time, the memory or the output per byte is more than twice as much as at the smallest size at which it can be measured.
 """
 
 from __future__ import annotations
@@ -39,7 +39,7 @@ COMMANDS = {"site": ["site"], "check": ["check", "--json", "--unreached", "--ext
 URL = "http://a.test/"
 MOST, GROWTH = 0.06, 2.0
 TIMES = {"site": 3.0, "check": 5.0}  # the most times as long as on an ordinary folder of the same size
-NOISE = 4.0  # MiB of memory, and milliseconds, that count as nothing
+NOISE = 4.0  # milliseconds, MiB of memory and KiB of output that count as nothing
 # The patterns of folders whose output is much larger than the folder: each link has a long base or is on a line of the report
 PRINTS_MUCH = {"base_long", "base_long_distinct"}
 NUMBER = b"0000000"  # replaced by the number of the repetition
@@ -134,9 +134,9 @@ class Input(NamedTuple):
     files: int = 1
 
 
-def write_input(wanted: Input, folder: str) -> Input:
+def write_input(given: Input, folder: str) -> Input:
     """Write the folder of a pattern, and return its real size and number of files."""
-    name, size, files = wanted
+    name, size, files = given
     if name in PATTERNS:
         pathlib.Path(folder, "index.html").write_bytes(b"<a href=page.html>")
         return Input(name, pathlib.Path(folder, "page.html").write_bytes(document(name, size)), 2)
@@ -146,14 +146,14 @@ def write_input(wanted: Input, folder: str) -> Input:
     return Input(name, *hostile_folders.write(pattern(hostile_folders.count_for(pattern, size)), folder))
 
 
-def made(wanted: Input, folder: str) -> Input:
+def made(given: Input, folder: str) -> Input:
     """Write the folder of a pattern, and return its real size and number of files.
 
     A process of its own writes it, because the memory of this process would count as that of the program.
     """
-    words = [sys.executable, __file__, "--write", folder, "--size", str(wanted.size), "--files", str(wanted.files), wanted.name]
+    words = [sys.executable, __file__, "--write", folder, "--size", str(given.size), "--files", str(given.files), given.name]
     size, files = map(int, subprocess.run(words, stdout=subprocess.PIPE, check=True).stdout.split())
-    return Input(wanted.name, size, files)
+    return Input(given.name, size, files)
 
 
 def limit_time() -> None:
@@ -212,10 +212,10 @@ class Measurement:
         for command, run in self.start.items():
             print(f"one empty file: `{command}` takes {run.seconds * 1e3:.1f} ms and {run.memory:.1f} MiB")
 
-    def rows(self, wanted: Input) -> list[Row]:
+    def rows(self, given: Input) -> list[Row]:
         """Measure both commands on an input."""
         with tempfile.TemporaryDirectory() as folder:
-            real = made(wanted, folder)
+            real = made(given, folder)
             return [Row(command, real, measured(self.program, command, folder) - self.start[command]) for command in COMMANDS]
 
     def verdict(self, name: str, faults: list[str], fine: str) -> None:
@@ -242,8 +242,7 @@ class Measurement:
         """Print the rows and the verdict of a pattern of folders."""
         faults: list[str] = []
         worst = dict.fromkeys(COMMANDS, 0.0)
-        first: dict[str, Row] = {}
-        last: dict[str, Row] = {}
+        growth = {command: Growth() for command in COMMANDS}
         for size in sizes:
             rows = self.rows(Input(name, size))
             for row, plain in zip(rows, self.rows(rows[0].input._replace(name="ordinary"))):
@@ -260,29 +259,36 @@ class Measurement:
                 elif times > TIMES[row.command] and row.run.seconds * 1e3 > NOISE:
                     limit = f"at most {TIMES[row.command]:g}"
                     faults.append(f"`{row.command}` takes {times:.1f} times as long as on an ordinary folder of {bytes_read} bytes, {limit}")
-                last[row.command] = row
-                faults += grown(first.setdefault(row.command, row), row)
-            if any(row.run.failed for row in last.values()):
+                faults += growth[row.command].faults(row)
+            if any(row.run.failed for row in rows):
                 break
-        growth = " and ".join(f"{last[command].per_byte() / first[command].per_byte():.2f}" for command in COMMANDS)
-        fine = f"`site` {worst['site']:.2f} and `check` {worst['check']:.2f} times an ordinary folder, growth {growth}"
+        shown = " and ".join(one.shown() for one in growth.values())
+        fine = f"`site` {worst['site']:.2f} and `check` {worst['check']:.2f} times an ordinary folder, growth {shown}"
         self.verdict(name, faults, fine)
 
 
-def grown(small: Row, large: Row) -> list[str]:
-    """Return what grows faster than the size of the folder."""
-    larger = large.input.size / small.input.size
-    values = {
-        "time": (small.run.seconds * 1e3, large.run.seconds * 1e3),
-        "memory": (small.run.memory, large.run.memory),
-        "output": (small.run.output / 1024, large.run.output / 1024),
-    }
-    found = {what: after / (max(before, NOISE) * larger) for what, (before, after) in values.items()}
-    return [
-        f"`{large.command}` at {large.input.size} bytes: {what} per byte grows {times:.1f} times"
-        for what, times in found.items()
-        if times > GROWTH
-    ]
+class Growth:
+    """Compares what a command needs per byte with what it needed at the smallest size at which that is more than NOISE."""
+
+    def __init__(self) -> None:
+        self.first: dict[str, float] = {}
+        self.last: dict[str, float] = {}
+
+    def faults(self, row: Row) -> list[str]:
+        """Return what grows faster than the size of the input."""
+        values = {"time": row.run.seconds * 1e3, "memory": row.run.memory, "output": row.run.output / 1024}
+        found = []
+        for what, value in values.items():
+            if value > NOISE:
+                self.last[what] = value / row.input.size
+                grown = self.last[what] / self.first.setdefault(what, self.last[what])
+                if grown > GROWTH:
+                    found.append(f"`{row.command}` at {row.input.size} bytes: {what} per byte grows {grown:.1f} times")
+        return found
+
+    def shown(self) -> str:
+        """Return how much the time per byte grew."""
+        return f"{self.last['time'] / self.first['time']:.2f}" if "time" in self.first else "-"
 
 
 def sizes_of(text: str) -> list[int]:

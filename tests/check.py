@@ -33,14 +33,14 @@ from checking import drawing, forms, loading
 from checking.known import KNOWN, Known, To, Zeros
 from checking.model import Model, Row, Settings
 from checking.tags import start_tags
-from checking.webs import Converter, first_difference
+from checking.webs import Converter, first_difference, model_fault
 
 BASE = "http://docs.test/"
 SECONDS = 120  # the time limit of a run
 SHOWN = 5  # the number of differences that a series prints
 EVERY = 8  # one of this number of random folders has its other forms compared
-# What each 1,000 random folders must have at least LEAST times
-KINDS = ("brokenpage", "brokenanchor", "placepage", "placeanchor", "worst", "redirect", "unreached", "external", "unused", "with aliases")
+# What 1,000 random folders must have at least LEAST times
+KINDS = "brokenpage brokenanchor placepage placeanchor worst redirect unreached external unused with_aliases".split()
 LEAST = 5
 
 
@@ -254,8 +254,20 @@ def compare_number(program: str, seed: int, number: int) -> Outcome:
         if number % EVERY == 0:
             faults.append((f"forms {settings}", form_fault(program, settings, folder, rows)))
         kinds = Counter(map(kind_of, rows))
-        kinds["with aliases"] += rows[0]["aliases"] > 0
+        kinds["with_aliases"] += rows[0]["aliases"] > 0
         return Outcome(number, faults, kinds, False)
+
+
+def compare_models(seed: int, number: int) -> Outcome:
+    """Compares the pages that the model finds in the random folder with this number with those of the converter."""
+    with tempfile.TemporaryDirectory() as above:
+        folder, settings, _ = draw_number(seed, number, above)
+        try:
+            model = Model(folder, settings._replace(base=BASE, seeds=()))
+        except drawn.NotPlain:
+            return Outcome(number, [], Counter(), True)
+        options = [f"--{name}" for name in ("exact", "follow") if getattr(settings, name)]
+        return Outcome(number, [("model", model_fault(model, converter().web(folder, options, BASE)))], Counter(), False)
 
 
 def keep(seed: int, number: int) -> str:
@@ -263,19 +275,21 @@ def keep(seed: int, number: int) -> str:
     return draw_number(seed, number, tempfile.mkdtemp(prefix=f"check-{number}-")).folder
 
 
-def compare_random(program: str, numbers: range, seed: int, jobs: int) -> None:
+def compare_random(program: Optional[str], numbers: range, seed: int, jobs: int) -> None:
     """Compares random folders with several processes."""
     series = Series("random folders")
     kinds: Counter[str] = Counter()
+    compare = partial(compare_number, program, seed) if program else partial(compare_models, seed)
     with ProcessPoolExecutor(jobs) as pool:
-        for outcome in pool.map(partial(compare_number, program, seed), numbers, chunksize=8):
+        for outcome in pool.map(compare, numbers, chunksize=8):
             kinds += outcome.kinds
             series.skipped += outcome.is_skipped
             for what, fault in outcome.faults:
                 kept = f", {keep(seed, outcome.number)}" if fault and series.failed < SHOWN else ""
                 series.add(f"number {outcome.number}, {what}{kept}", fault)
-    print("rows of random folders:", dict(sorted(kinds.items())))
-    if len(numbers) >= 1000:
+    if program:
+        print("rows of random folders:", dict(sorted(kinds.items())))
+    if program and len(numbers) >= 1000:
         rare = [kind for kind in KINDS if kinds[kind] < LEAST]
         series.add("kinds of rows", f"too few: {', '.join(rare)}" if rare else None)
         series.add("skipped reports", f"{series.skipped} of {len(numbers)}" if series.skipped > len(numbers) / 5 else None)
@@ -365,7 +379,7 @@ def main() -> int:
         "--tags", type=int, default=0, metavar="COUNT",
         help="also compare the tags of this number of random documents with html5lib (Debian's python3-html5lib)",
     )
-    option("--model", action="store_true", help="test only the model, on the folders with known results, without the program")
+    option("--model", action="store_true", help="test only the model, without the program: with known results and the converter")
     options = parser.parse_args()
     program = None if options.model else loading.program()
     compare_known(program)
@@ -374,12 +388,12 @@ def main() -> int:
         folders = options.folders or [folder for folder in loading.DOCUMENTATION if os.path.isdir(folder)]
         compare_folders(program, [shipped, *folders])
         compare_forms(program, shipped)
-        if options.drawn:
-            compare_random(program, range(options.first, options.first + options.drawn), options.seed, options.jobs)
         if options.changed:
             compare_changed(program, options.changed, options.seed)
         if options.large:
             compare_large(program, options.large)
+    if options.drawn:
+        compare_random(program, range(options.first, options.first + options.drawn), options.seed, options.jobs)
     if options.tags:
         compare_tags(options.tags, options.seed)
     print(f"{Series.passed_in_all} passed, {Series.failed_in_all} failed")

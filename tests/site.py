@@ -61,7 +61,7 @@ def random_texts(draw: random.Random) -> str:
         # In a script without an end tag a comment may start, which the converter does not know.
         is_ended = draw.random() < 0.9 or is_script
         end = f"</{name.swapcase()}{draw.choice(['', ' ', chr(10), '/', ' x=y', ' x'])}>" if is_ended else ""
-        text += f"<{name}{draw.choice(['', ' id=a', '/', ' src=own'])}>{inside}{end}<a href=behind{number}>"
+        text += f"<{name}{draw.choice(['', ' id=a', '/', ' src=own'])}>{inside}{end}<a href=after{number}>"
     return text
 
 

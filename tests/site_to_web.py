@@ -246,9 +246,9 @@ def served(folder: str) -> Iterator[Callable[[str], tuple[int, Optional[str]]]]:
     def ask(path: str) -> tuple[int, Optional[str]]:
         connection = http.client.HTTPConnection("127.0.0.1", server.server_port, timeout=10)
         connection.request("GET", path)
-        answer = connection.getresponse()
+        response = connection.getresponse()
         connection.close()
-        return answer.status, answer.getheader("Location")
+        return response.status, response.getheader("Location")
 
     try:
         yield ask
@@ -272,13 +272,13 @@ class TheShippedSite(Converting):
     def test_a_server_answers_as_the_web_says(self) -> None:
         """Request each page, and each target of a link in the site, from a server of the same folder."""
         pages = pages_of(self.web(SITE, "http://site.test/"))
-        asked = set(pages)
+        requested = set(pages)
         for url, lines in pages.items():
             targets = (urljoin(url, line.partition(" ")[2]).partition("#")[0] for line in lines)
-            asked.update(target for target in targets if target.startswith("http://site.test/"))
-        self.assertLess(len(pages), len(asked))
+            requested.update(target for target in targets if target.startswith("http://site.test/"))
+        self.assertLess(len(pages), len(requested))
         with served(SITE) as ask:
-            for url in sorted(asked):
+            for url in sorted(requested):
                 path = url.removeprefix("http://site.test").replace(" ", "%20")
                 status, location = ask(path)
                 below = pages.get("http://site.test" + path)
@@ -754,7 +754,7 @@ class Documents(Converting):
             ("in a description", '<meta name=description content="charset=latin1"><a href="\u00fc">'.encode(), "\u00fc"),
             ("in a comment", '<!--> <!-- <meta charset=latin1> --><a href="\u00fc">'.encode(), "\u00fc"),
             ("in a value", '<p title="<meta charset=latin1>"><a href="\u00fc">'.encode(), "\u00fc"),
-            ("behind one without", '<meta name=a><meta charset=""><meta/charset=L1><a href="\u00fc">'.encode(), "\u00c3\u00bc"),
+            ("after one without", '<meta name=a><meta charset=""><meta/charset=L1><a href="\u00fc">'.encode(), "\u00c3\u00bc"),
             ("cut", ('<meta charset="utf-8" title="' + "-" * 1000 + '"><a href="').encode() + b'\xfc">', "\u00fc"),
             ("a mark", '\ufeff<a href="\u00fc?\u00fc">'.encode("utf-16-le"), "\u00fc?\u00fc"),
             ("broken UTF-8", b'<meta charset="utf-8"><a href="a\xffb">', "a\ufffdb"),
@@ -792,7 +792,7 @@ def record(kind: str, url: str, block: bytes, *headers: str) -> bytes:
     return "\r\n".join(lines).encode() + b"\r\n\r\n" + block + b"\r\n\r\n"
 
 
-def answer(status: int, body: Content = b"", *headers: str, kind: str = "text/html") -> bytes:
+def response(status: int, body: Content = b"", *headers: str, kind: str = "text/html") -> bytes:
     """Return an HTTP response."""
     body = body if isinstance(body, bytes) else body.encode()
     lines = [f"HTTP/1.1 {status} Words", f"Content-Type: {kind}", *headers]
@@ -825,11 +825,11 @@ class Archives(WithArchives):
         pages = self.read(
             record("warcinfo", "", b"software: none"),
             record("request", "http://b.test/", b"GET / HTTP/1.1\r\n\r\n"),
-            record("response", "http://b.test/", answer(200, '<a href="old"><a href="gone">')),
-            record("response", "<http://B.test:80/old#f>", answer(301, "", "Location: /new?x=1")),
-            record("response", "http://b.test/new?x=1", answer(200, '<a href="http://a.test/">')),
-            record("response", "http://b.test/gone", answer(404, '<a href="x">')),
-            record("response", "http://b.test/picture", answer(200, '<a href="x">', kind="image/png")),
+            record("response", "http://b.test/", response(200, '<a href="old"><a href="gone">')),
+            record("response", "<http://B.test:80/old#f>", response(301, "", "Location: /new?x=1")),
+            record("response", "http://b.test/new?x=1", response(200, '<a href="http://a.test/">')),
+            record("response", "http://b.test/gone", response(404, '<a href="x">')),
+            record("response", "http://b.test/picture", response(200, '<a href="x">', kind="image/png")),
             record("resource", "http://a.test/", b'<a href="y">', "Content-Type: text/html; charset=utf-8"),
             record("metadata", "http://a.test/meta", b"via: x"),
             record("response", "dns:b.test", b"127.0.0.1"),
@@ -857,7 +857,7 @@ class Archives(WithArchives):
         }
         pages = self.read(
             *(
-                record("response", f"http://a.test/{status}", answer(status, '<a href="x">', "Location: there"))
+                record("response", f"http://a.test/{status}", response(status, '<a href="x">', "Location: there"))
                 for status in statuses
             )
         )
@@ -866,7 +866,7 @@ class Archives(WithArchives):
                 self.assertEqual(pages.get(f"http://a.test/{status}"), expected)
 
     def test_a_redirect_without_a_target_is_not_a_page(self) -> None:
-        pages = self.read(record("response", "http://a.test/", answer(301)))
+        pages = self.read(record("response", "http://a.test/", response(301)))
         self.assertEqual(pages, {})
         self.assertIn("responses that are not pages, status 301: 1\n", self.notes)
 
@@ -882,16 +882,16 @@ class Archives(WithArchives):
             ("two of them", "a\r\nLocation: b\r\n c", ["moved a"]),
         ):
             with self.subTest(name):
-                pages = self.read(record("response", "http://a.test/", answer(302, "", f"Location: {target}")))
+                pages = self.read(record("response", "http://a.test/", response(302, "", f"Location: {target}")))
                 self.assertEqual(pages, {"http://a.test/": expected})
                 self.assertEqual("target of the redirect skipped, it is too long" in self.notes, not expected)
 
     def test_the_first_of_two_pages_with_the_same_url_counts(self) -> None:
         pages = self.read(
-            record("response", "http://a.test", answer(404)),
-            record("response", "http://a.test/", answer(200, '<a href="first">')),
-            record("response", "http://A.test:80/#f", answer(200, '<a href="second">')),
-            record("response", "http://a.test/", answer(301, "", "Location: third")),
+            record("response", "http://a.test", response(404)),
+            record("response", "http://a.test/", response(200, '<a href="first">')),
+            record("response", "http://A.test:80/#f", response(200, '<a href="second">')),
+            record("response", "http://a.test/", response(301, "", "Location: third")),
         )
         self.assertEqual(pages, {"http://a.test/": ["link first"]})
         self.assertIn("page skipped, an earlier page has the same URL: 2\n", self.notes)
@@ -899,14 +899,14 @@ class Archives(WithArchives):
     def test_revisits(self) -> None:
         digest = "WARC-Payload-Digest: sha1:A"
         pages = self.read(
-            record("response", "http://a.test/1", answer(200, '<a href="x">'), digest),
-            record("response", "http://a.test/1b", answer(200, '<base href="/b/"><a href="x">'), digest),
-            record("revisit", "http://a.test/2", answer(200), digest),
-            record("revisit", "http://a.test/3", answer(304), digest),
+            record("response", "http://a.test/1", response(200, '<a href="x">'), digest),
+            record("response", "http://a.test/1b", response(200, '<base href="/b/"><a href="x">'), digest),
+            record("revisit", "http://a.test/2", response(200), digest),
+            record("revisit", "http://a.test/3", response(304), digest),
             record("revisit", "http://a.test/4", b"", digest),
-            record("revisit", "http://a.test/5", answer(302, "", "Location: y"), digest),
-            record("revisit", "http://a.test/6", answer(404), digest),
-            record("revisit", "http://a.test/7", answer(200), "WARC-Payload-Digest: sha1:B"),
+            record("revisit", "http://a.test/5", response(302, "", "Location: y"), digest),
+            record("revisit", "http://a.test/6", response(404), digest),
+            record("revisit", "http://a.test/7", response(200), "WARC-Payload-Digest: sha1:B"),
         )
         below = dict.fromkeys([f"http://a.test/{number}" for number in range(1, 5)], ["link x"])
         others = {"1b": ["link http://a.test/b/x"], "5": ["moved y"], "7": []}
@@ -927,9 +927,9 @@ class Archives(WithArchives):
             ("none", ["Content-Encoding: identity"], body),
         ):
             with self.subTest(name):
-                pages = self.read(record("response", "http://a.test/", answer(200, coded, *headers)))
+                pages = self.read(record("response", "http://a.test/", response(200, coded, *headers)))
                 self.assertEqual(pages, {"http://a.test/": ["link x"]})
-        pages = self.read(record("response", "http://a.test/", answer(200, body, "Content-Encoding: br")))
+        pages = self.read(record("response", "http://a.test/", response(200, body, "Content-Encoding: br")))
         self.assertEqual(pages, {"http://a.test/": []})
         note = "links skipped, the content coding is unknown or the body is invalid: http://a.test/\n"
         self.assertIn(note, self.notes)
@@ -945,26 +945,26 @@ class Archives(WithArchives):
             "": [],
         }.items():
             with self.subTest(kind):
-                pages = self.read(record("response", "http://a.test/", answer(200, document, kind=kind)))
+                pages = self.read(record("response", "http://a.test/", response(200, document, kind=kind)))
                 self.assertEqual(pages, {"http://a.test/": expected})
 
     def test_unsupported_hosts_are_skipped_and_reported(self) -> None:
         hosts = ("\u00fc.test", "me@a.test", "[::1]", "a.test:65536", "1.2", "0x7f.1", "a..test", "a b", "xn--a")
         pages = self.read(
-            *(record("response", f"http://{host}/", answer(200)) for host in hosts),
-            record("response", "http://xn--tda.test:8080/", answer(200)),
+            *(record("response", f"http://{host}/", response(200)) for host in hosts),
+            record("response", "http://xn--tda.test:8080/", response(200)),
         )
         self.assertEqual(pages, {"http://xn--tda.test:8080/": []})
         self.assertIn(f"page skipped, its host cannot be written in canonical form: {len(hosts)}\n", self.notes)
 
     def test_pages_come_in_order_of_url_whatever_the_order_of_records(self) -> None:
-        records = [record("response", f"http://{host}.test/", answer(200, f'<a href="{host}">')) for host in "cab"]
+        records = [record("response", f"http://{host}.test/", response(200, f'<a href="{host}">')) for host in "cab"]
         self.assertEqual(
             self.web("--warc", self.archive(*records)), self.web("--warc", self.archive(*reversed(records)))
         )
 
     def test_errors_write_nothing(self) -> None:
-        good = record("response", "http://a.test/", answer(200, '<a href="x">' * 100))
+        good = record("response", "http://a.test/", response(200, '<a href="x">' * 100))
         self.assert_error(1, "--warc", self.archive(good, good[:-200]), says="a WARC record is cut off")
         self.assert_error(1, "--warc", self.archive(b"<html>"), says="not a WARC file: a record does not begin")
         for length in ("", "Content-Length: x\r\n", f"Content-Length: {'9' * 5000}\r\n"):
@@ -1000,7 +1000,7 @@ class HostileInputs(WithArchives):
         self.assertEqual(
             self.converted(), {"http://a.test/data": [], "http://a.test/odd": ["link y"], "http://a.test/page": ["link x"]}
         )
-        block = answer(200, comments, kind="").replace(b"Content-Type: \r\n", b"")
+        block = response(200, comments, kind="").replace(b"Content-Type: \r\n", b"")
         self.assertEqual(self.read(record("response", "http://a.test/", block)), {"http://a.test/": []})
 
     def test_a_document_that_takes_too_long_loses_its_links_and_is_reported(self) -> None:
@@ -1030,15 +1030,15 @@ class HostileInputs(WithArchives):
     def test_headers_are_limited(self) -> None:
         long = "".join(f"X: {'a' * 60_000}\r\n" for _ in range(20)).rstrip()
         for headers, links in ((long, None), (long[:1_000_000], ["link x"])):
-            block = answer(200, "<a href=x>", headers)
+            block = response(200, "<a href=x>", headers)
             pages = self.read(record("response", "http://a.test/", block), record("resource", "http://b.test/", b""))
             with self.subTest(len(headers)):
                 self.assertEqual(pages.get("http://a.test/"), links)
                 self.assertEqual("responses that are not pages, status none: 1" in self.notes, links is None)
-        good = record("response", "http://a.test/", answer(200, "<a href=x>"), long[:1_000_000])
+        good = record("response", "http://a.test/", response(200, "<a href=x>"), long[:1_000_000])
         self.assertEqual(self.read(good), {"http://a.test/": ["link x"]})
         for packed in (False, True):
-            path = self.archive(record("response", "http://a.test/", answer(200), long), packed=packed)
+            path = self.archive(record("response", "http://a.test/", response(200), long), packed=packed)
             self.assert_error(1, "--warc", path, says="the headers of a WARC record have more than 1048576 bytes")
 
 
@@ -1090,7 +1090,7 @@ class Limits(WithArchives):
             ("document", packed, ["Content-Encoding: gzip"], "only the links at the beginning were read, the page"),
         )
         for name, body, headers, notes in cases:
-            block = answer(200, body, *headers)
+            block = response(200, body, *headers)
             path = self.archive(record("response", "http://a.test/", block), record("resource", "http://b.test/", b""))
             done = self.run_with("DOCUMENT_LIMIT", 500, "--warc", path)
             with self.subTest(name):

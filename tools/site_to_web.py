@@ -620,7 +620,7 @@ def links_of(body: bytes, url: Url, kind: Optional[str], web: Web, charset: Opti
         with limited_time(len(body)):
             return links_in_any_time(body, url, kind, web, charset)
     except TooSlow:
-        web.tell("links skipped, finding them takes too much CPU time", url.text())
+        web.note("links skipped, finding them takes too much CPU time", url.text())
         return []
 
 
@@ -639,7 +639,7 @@ def links_in_any_time(body: bytes, url: Url, kind: Optional[str], web: Web, char
     else:
         return []
     if charset == NOT_KNOWN:
-        web.tell("unknown encoding, only ASCII was read", url.text())
+        web.note("unknown encoding, only ASCII was read", url.text())
         given, base = known_links(given, base)
         charset = "cp1252"
     web.count("links over several lines, joined", sum("\n" in link.strip(EDGE) for link in given))
@@ -673,8 +673,8 @@ class Web:
         if number:
             self.counts[what] = self.counts.get(what, 0) + number
 
-    def tell(self, what: str, where: str) -> None:
-        """Print a note on something that was skipped or changed, and count it."""
+    def note(self, what: str, where: str) -> None:
+        """Print a note about something that was skipped or changed, and count it."""
         self.count(what)
         if not self.quiet:
             # The text is untrusted input and may go to a terminal, so control characters are escaped
@@ -706,11 +706,11 @@ class Web:
     def add(self, url: str, lines: Callable[[], Iterable[Optional[bytes]]]) -> bool:
         """Add a page and the lines that the function `lines` returns, except None. Return whether it was added."""
         if url in self.pages:
-            self.tell("page skipped, an earlier page has the same URL", url)
+            self.note("page skipped, an earlier page has the same URL", url)
             return False
         head = line_of("page", url)
         if head is None:
-            self.tell("page skipped, its URL is too long", url)
+            self.note("page skipped, its URL is too long", url)
             return False
         below = [line for line in lines() if line is not None]
         begin = self.size
@@ -736,14 +736,14 @@ class Web:
             start = text.encode("utf-8", "replace")[: LINE_LIMIT - len("link ")]
             line = line_of("link", start.decode("utf-8", "ignore"))
         if line is None:
-            self.tell("link skipped, it is too long", f"{url} links to {text}")
+            self.note("link skipped, it is too long", f"{url} links to {text}")
         return line
 
     def move(self, target: str, url: str) -> Optional[bytes]:
         """Return the line of a redirect, or None if it is too long; the page then has no link."""
         line = line_of("moved", target) or line_of("moved", target.partition("#")[0])
         if line is None:
-            self.tell("target of the redirect skipped, it is too long", f"{url} to {target}")
+            self.note("target of the redirect skipped, it is too long", f"{url} to {target}")
         return line
 
     def lines(self, begin: int, end: int) -> bytes:
@@ -785,19 +785,19 @@ def entries_below(folder: bytes, web: Web, follow: bool) -> list[bytes]:
             path = os.path.join(folder, place, name)
             if not follow and leads_out(path, top):
                 why = "a symbolic link that leads out of the folder (--follow follows it)"
-                web.tell(f"skipped, {why}", os.fsdecode(place + name))
+                web.note(f"skipped, {why}", os.fsdecode(place + name))
             elif os.path.isdir(path):
                 found.append(place + name + b"/")
                 real = os.path.realpath(path)
                 if real in above:
-                    web.tell("folder skipped, it leads back to a folder above it", os.fsdecode(place + name))
+                    web.note("folder skipped, it leads back to a folder above it", os.fsdecode(place + name))
                 else:
                     waiting.append((place + name + b"/", (*above, real)))
             elif os.path.isfile(path):
                 found.append(place + name)
             else:
                 why = "it cannot be read" if is_hidden(path) else "neither a file nor a folder"
-                web.tell(f"skipped, {why}", os.fsdecode(place + name))
+                web.note(f"skipped, {why}", os.fsdecode(place + name))
     return sorted(found)
 
 
@@ -851,7 +851,7 @@ class Folder:
         index = os.fsencode(options.index)
         for name in entries_below(self.folder, web, options.follow):
             if not is_utf8(name):
-                web.tell("name is not UTF-8, so its bytes are percent-encoded", self.url(name))
+                web.note("name is not UTF-8, so its bytes are percent-encoded", self.url(name))
             if name.endswith(b"/"):
                 self.moves[self.url(name[:-1])] = self.url(name)
                 continue
@@ -871,7 +871,7 @@ class Folder:
     def keep(self, url: str, name: bytes) -> None:
         """Make a URL the own one of a file, in place of an earlier one, unless another file has it."""
         if url in self.files:
-            self.web.tell("file skipped, another file has the same URL", f"{os.fsdecode(name)}, {url}")
+            self.web.note("file skipped, another file has the same URL", f"{os.fsdecode(name)}, {url}")
         else:
             self.files[url] = name
             self.own[name] = url
@@ -886,14 +886,14 @@ class Folder:
         if size == 0:
             return []
         if size > FILE_LIMIT:
-            self.web.tell("links skipped, the file has more than 1 GiB", url)
+            self.web.note("links skipped, the file has more than 1 GiB", url)
             return []
         with open(path, "rb") as file:
             body = file.read(min(START_LENGTH, size + 1))
             if kind or is_document(kind, body):
                 body += file.read(size + 1 - len(body))
         if len(body) > size:
-            self.web.tell("links skipped, the file changed while it was read", url)
+            self.web.note("links skipped, the file changed while it was read", url)
             return []
         return links_of(body, url_of(url), kind, self.web)
 
@@ -1050,7 +1050,7 @@ def unpacked(body: bytes, coding: str) -> Optional[bytes]:
     return body
 
 
-class Answer:
+class Response:
     """An HTTP response: its status (None if it is not one), headers and body."""
 
     def __init__(self, block: bytes) -> None:
@@ -1104,35 +1104,35 @@ class Archive:
             self.web.count("records of URLs that are neither http nor https")
             return
         if len(block) >= DOCUMENT_LIMIT:
-            self.web.tell("only the beginning of the record was read, it is too large", url.text())
+            self.web.note("only the beginning of the record was read, it is too large", url.text())
         if url.host is None:
-            self.web.tell("page skipped, its host cannot be written in canonical form", target)
+            self.web.note("page skipped, its host cannot be written in canonical form", target)
         elif headers["warc-type"] == "resource":
             self.document(block, url, headers.get("content-type", ""), digest)
         elif headers["warc-type"] == "revisit":
-            self.revisit(Answer(block), url, digest)
+            self.revisit(Response(block), url, digest)
         else:
-            self.answer(Answer(block), url, digest)
+            self.response(Response(block), url, digest)
 
-    def answer(self, answer: Answer, url: Url, digest: Optional[str]) -> None:
+    def response(self, response: Response, url: Url, digest: Optional[str]) -> None:
         """Add the page of an HTTP response, if it is one."""
-        target = answer.target()
+        target = response.target()
         if target is not None:
             self.web.moved(url.text(), cleaned(target))
-        elif answer.is_page():
-            self.document(answer.content(), url, answer.headers.get("content-type", ""), digest)
+        elif response.is_page():
+            self.document(response.content(), url, response.headers.get("content-type", ""), digest)
         else:
-            status = "none" if answer.status is None else answer.status
+            status = "none" if response.status is None else response.status
             self.web.count(f"responses that are not pages, status {status}")
 
-    def revisit(self, answer: Answer, url: Url, digest: Optional[str]) -> None:
+    def revisit(self, response: Response, url: Url, digest: Optional[str]) -> None:
         """Add a page with the same content as an earlier record, which may be missing."""
-        if not answer.is_page() and answer.status not in (None, 304):
-            self.answer(answer, url, digest)
+        if not response.is_page() and response.status not in (None, 304):
+            self.response(response, url, digest)
         elif digest in self.by_digest:
             self.web.again(url.text(), self.by_digest[digest])
         else:
-            self.web.tell("links skipped, the first record with this content is missing", url.text())
+            self.web.note("links skipped, the first record with this content is missing", url.text())
             self.web.page(url.text(), [])
 
     def document(self, body: Optional[bytes], url: Url, kind: str, digest: Optional[str]) -> None:
@@ -1140,12 +1140,12 @@ class Archive:
         charset = re.search(r"(?i)charset\s*=\s*[\"']?([^\s\"';]+)", kind)
         kind = kind.partition(";")[0].strip().lower()
         if body is None:
-            self.web.tell("links skipped, the content coding is unknown or the body is invalid", url.text())
+            self.web.note("links skipped, the content coding is unknown or the body is invalid", url.text())
             links = []
         else:
             links = links_of(body, url, kind, self.web, charset[1] if charset else None)
             if len(body) >= DOCUMENT_LIMIT and is_document(kind, body):
-                self.web.tell("only the links at the beginning were read, the page is too large", url.text())
+                self.web.note("only the links at the beginning were read, the page is too large", url.text())
         if self.web.page(url.text(), links) and digest:
             self.by_digest.setdefault(digest, url.text())
 

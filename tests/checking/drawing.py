@@ -197,7 +197,8 @@ def draw_symbolic_links(draw: Random, top: Path) -> None:
 
 def random_options(draw: Random) -> List[str]:
     """Random options of `mercator site`."""
-    options = draw.choice([[], [], [], ["--exact"], ["--queries"], ["--queries", "--exact"]])
+    options = ["--exact"] if draw.random() < 0.2 else []
+    options += ["--queries"] if draw.random() < 0.3 else []
     return options + (["--follow"] if draw.random() < 0.3 else [])
 
 

@@ -127,11 +127,11 @@ def page_fault(page: bytes, rows: List[Row]) -> Optional[str]:
         return f"its heading is not {heading(rows[0])}"
     read = Lines()
     read.feed(text)
-    wanted: Dict[str, str] = {}
+    expected: Dict[str, str] = {}
     for row in rows:
         if row["kind"] != "total":
             part, line = line_of(row)
-            wanted[part] = wanted.get(part, "\n") + line + "\n"
-    if read.texts != wanted:
-        return f"actual {read.texts}, expected {wanted}"
+            expected[part] = expected.get(part, "\n") + line + "\n"
+    if read.texts != expected:
+        return f"actual {read.texts}, expected {expected}"
     return None

@@ -3,10 +3,12 @@
 from __future__ import annotations
 
 import io
-from typing import Any, Iterator, List, Optional, Tuple
+from typing import Any, Dict, Iterator, List, Optional, Tuple
 
+import drawn
 from checking import loading
 from checking.documents import character, read_tags, with_query_in
+from checking.model import Alias, Found, Model, Moved, url_of
 
 DIFFERENCES = """\
 differences of the program:
@@ -36,7 +38,7 @@ class Converter:
     """The converter with this reader of documents."""
 
     def __init__(self, tool: Any = None, reader: Any = Reader) -> None:
-        self.tool = tool or loading.script("site_to_web_model", "tools/site_to_web.py")
+        self.tool: Any = tool or loading.script("site_to_web_model", "tools/site_to_web.py")
         self.names, self.text, self.entries = self.tool.charset_names, self.tool.text_of, self.tool.entries_below
         self.tool.LinkReader = reader
         self.tool.without_long_references = lambda text: text
@@ -67,6 +69,37 @@ class Converter:
         out = io.BytesIO()
         web.write(out)
         return out.getvalue()
+
+
+def pages_of(web: bytes) -> Dict[str, List[Tuple[str, str]]]:
+    """The pages of a saved web by their URLs: of each line its word and the URL of its text, if it is http or https."""
+    pages: Dict[str, List[Tuple[str, str]]] = {}
+    page = ""
+    for line in web.decode().split("\n")[1:-1]:
+        word, _, text = line.partition(" ")
+        if word == "page":
+            page = text
+            pages[page] = []
+        else:
+            url = url_of(text, drawn.url_of(page))
+            pages[page] += [(word, url)] if url else []
+    return pages
+
+
+def model_fault(model: Model, web: bytes) -> Optional[str]:
+    """A page of the model that this saved web does not have, or a missing page that it has."""
+    pages = pages_of(web)
+    for url, response in model.responses.items():
+        expected: Optional[List[Tuple[str, str]]] = None
+        if isinstance(response, Found):
+            expected = [("link", link.url) for link in model.links[url]]
+        elif isinstance(response, Alias):
+            expected = [("link", response.own)] if model.site.is_linked(response) else []
+        elif isinstance(response, Moved):
+            expected = [("moved", response.url)]
+        if pages.get(url) != expected:
+            return f"{url}\n  converter {pages.get(url)}\n  model     {expected}"
+    return None
 
 
 def first_difference(actual: bytes, expected: bytes) -> Optional[str]:
