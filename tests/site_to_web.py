@@ -581,6 +581,14 @@ class Folders(Converting):
         self.assertEqual(self.notes.count("page skipped, its URL is too long: http://a.test/%C3%BC"), 2)
         self.assertIn("page skipped, its URL is too long: 2\n", self.notes)
 
+    def test_a_file_whose_own_url_is_too_long_has_no_alias(self) -> None:
+        deep = "/".join(["%" * 200] * 7)
+        self.put(deep + "/index.html", "<a href=x>")
+        self.put("index.html", f'<a href="{deep}/"><a href="{deep}/?y"><a href="{deep}?z">')
+        # Each percent sign is three bytes of an own URL, and one of a link
+        others = {url: lines for url, lines in self.converted().items() if "%25" not in url}
+        self.assertEqual(list(others), ["http://a.test/", f"http://a.test/{deep}?z", "http://a.test/index.html"])
+
     def test_errors_write_nothing(self) -> None:
         self.assert_error(1, self.folder, "http://a.test/", says="no files in")
         os.mkdir(os.path.join(self.folder, "empty"))

@@ -906,11 +906,13 @@ class Folder:
         plain = target.site() + respelled(target.path)
         if target.query is not None and self.queries:
             plain += "?" + quote(unquote_to_bytes(target.query), safe=IN_QUERY)
-        return None if self.is_page(text) or not self.is_page(plain) else (text, plain)
+        is_page = text in self.files or text in self.moves
+        return None if is_page or not self.has_spellings(plain) else (text, plain)
 
-    def is_page(self, url: str) -> bool:
-        """Return whether a file or a folder has this URL."""
-        return url in self.files or url in self.moves
+    def has_spellings(self, url: str) -> bool:
+        """Return whether a folder has this URL, or a file whose own URL fits in a line."""
+        name = self.files.get(url)
+        return url in self.moves if name is None else line_of("page", self.own[name]) is not None
 
     def other_spellings(self, links: Iterable[str], url: str) -> dict[str, str]:
         """Return the URLs among links that spell a page's URL differently, each with the page's URL."""

@@ -222,7 +222,9 @@ def draw_folder(draw: Random, documents: Any, top: Path) -> None:
 def add_odd(draw: Random, top: Path) -> None:
     """Adds rare things: long names, a name that is not UTF-8, a FIFO, a socket, and symbolic links to nothing or to themselves."""
     (top / ("n" * 250 + ".html")).write_text("<a href=x#y>", "utf-8")
-    write(top / "/".join([draw.choice(["%", "\u00fc"]) * 100] * draw.randint(5, 8)) / "index.html", b"<a href=?x><a href=gone>")
+    deep = "/".join([draw.choice(["%" * 200, "\u00fc" * 100])] * draw.randint(5, 8))
+    write(top / deep / "index.html", b"<a href=?x><a href=gone>")
+    write(top / "deep.html", f'<a href="{deep}/"><a href="{deep}/?y"><a href="{escaped(deep)}/?z"><a href="{deep}?x"><a href="{deep}">'.encode())
     for target, name in (("itself.html", "itself.html"), ("gone.html", "dead.html")):
         if not os.path.lexists(top / name):
             os.symlink(target, top / name)

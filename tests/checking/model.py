@@ -189,14 +189,9 @@ class Site:
             return Moved(self.plain(name + b"/") + request.query)
         if name == b"" or name.endswith(b"/"):
             name += INDEX
-        if name not in self.names:
+        if name not in self.names or not is_short("page", self.own(name)):
             return None
         return Found(name) if url == self.own(name) else Alias(name, self.own(name))
-
-    def is_linked(self, alias: Alias) -> bool:
-        """Whether the link of an alias fits in a line of a saved web. It has only the path, as the host is the same."""
-        path = alias.own[len(str(self.base._replace(path=(), query=""))) - 1:]
-        return is_short("link", alias.own if path.startswith("//") else path)
 
     def document(self, name: bytes) -> Optional[Document]:
         """The document in a file, or None if the file is not a document or is not read."""
@@ -243,7 +238,7 @@ class Model:
         if isinstance(response, Moved):
             return {response.url}
         if isinstance(response, Alias):
-            return {response.own} if self.site.is_linked(response) else set()
+            return {response.own}
         if response is None:
             return set()
         document = self.site.document(response.name)
@@ -307,7 +302,7 @@ class Model:
         for page, response in self.responses.items():
             if isinstance(response, Moved):
                 linking.setdefault(response.url, set()).add(page)
-            elif isinstance(response, Alias) and self.site.is_linked(response):
+            elif isinstance(response, Alias):
                 linking.setdefault(response.own, set()).add(page)
         return linking
 

@@ -94,7 +94,7 @@ def model_fault(model: Model, web: bytes) -> Optional[str]:
         if isinstance(response, Found):
             expected = [("link", link.url) for link in model.links[url]]
         elif isinstance(response, Alias):
-            expected = [("link", response.own)] if model.site.is_linked(response) else []
+            expected = [("link", response.own)]
         elif isinstance(response, Moved):
             expected = [("moved", response.url)]
         if pages.get(url) != expected:
