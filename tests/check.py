@@ -37,7 +37,7 @@ from checking.webs import Converter, first_difference, model_fault
 
 BASE = "http://docs.test/"
 SECONDS = 120  # the time limit of a run
-SHOWN = 5  # the number of differences that a series prints
+SHOWN, LONGEST = 5, 4000  # the number of differences that a series prints, and the most letters of one
 EVERY = 8  # one of this number of random folders has its other forms compared
 # What 1,000 random folders must have at least LEAST times
 KINDS = "brokenpage brokenanchor placepage placeanchor worst redirect unreached external unused with_aliases".split()
@@ -104,7 +104,7 @@ class Series:
             return
         self.failed += 1
         if self.failed <= SHOWN:
-            print(f"{self.name}, {what}: {fault}")
+            print(f"{self.name}, {what}: {fault if len(fault) < LONGEST else fault[:LONGEST] + '..'}")
 
     def end(self) -> None:
         """Prints the counts. A series in which nothing passed has failed."""

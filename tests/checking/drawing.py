@@ -224,7 +224,7 @@ def add_odd(draw: Random, top: Path) -> None:
     (top / ("n" * 250 + ".html")).write_text("<a href=x#y>", "utf-8")
     deep = "/".join([draw.choice(["%" * 200, "\u00fc" * 100])] * draw.randint(5, 8))
     write(top / deep / "index.html", b"<a href=?x><a href=gone>")
-    write(top / "deep.html", f'<a href="{deep}/"><a href="{deep}/?y"><a href="{escaped(deep)}/?z"><a href="{deep}?x"><a href="{deep}">'.encode())
+    write(top / "deep.html", f'<a href="{deep}/"><a href="{deep}/?y"><a href="{escaped(deep)}/?z"><a href="{escaped(deep)}/">'.encode())
     for target, name in (("itself.html", "itself.html"), ("gone.html", "dead.html")):
         if not os.path.lexists(top / name):
             os.symlink(target, top / name)
