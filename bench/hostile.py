@@ -2,7 +2,8 @@
 """Measure `mercator site` and `mercator check` on documents and folders that an attacker might make to be slow.
 
 Both commands run on one processor. Times are CPU times without that for a folder with one empty file; the least of RUNS runs
-counts (environment variable, default: 3), or that of one run that takes more than 5 seconds. A run is killed after 60 seconds.
+counts (environment variable, default: 3), or that of one run that takes more than 5 seconds. A run is killed after 60 seconds, and
+it may reserve MEMORY GiB (environment variable, default: 12; 0 for no limit, as a program with the address sanitizer needs it).
 The last line of a pattern is its verdict, and the exit status is 1 if one has failed.
 
 A document repeats a pattern up to a size, and is in a folder with a page that links to it. The time of the whole program is an
@@ -33,6 +34,7 @@ import hostile_folders
 
 TOP = pathlib.Path(__file__).resolve().parents[1]
 RUNS = int(os.environ.get("RUNS", "3"))
+MEMORY = int(os.environ.get("MEMORY", "12"))
 LONG, LIMIT = 5.0, 60  # the seconds of a run that is not repeated, and of one that is killed
 # The arguments of each command, before the folder
 COMMANDS = {"site": ["site"], "check": ["check", "--json", "--unreached", "--external"]}
@@ -156,15 +158,17 @@ def made(given: Input, folder: str) -> Input:
     return Input(given.name, size, files)
 
 
-def limit_time() -> None:
-    """Let the system end this process after LIMIT seconds of CPU time."""
+def limit() -> None:
+    """Limit the CPU time of this process to LIMIT seconds, and the memory that it reserves to MEMORY GiB."""
     resource.setrlimit(resource.RLIMIT_CPU, (LIMIT, LIMIT))
+    if MEMORY:
+        resource.setrlimit(resource.RLIMIT_AS, (MEMORY << 30, MEMORY << 30))
 
 
 def run_once(words: list[str], is_counted: bool) -> Run:
     """Run a command, and count the bytes of its output or drop it. Exit status 4 of a check means broken links."""
     out = subprocess.PIPE if is_counted else subprocess.DEVNULL
-    process = subprocess.Popen(words, stdin=subprocess.DEVNULL, stdout=out, stderr=subprocess.DEVNULL, preexec_fn=limit_time)
+    process = subprocess.Popen(words, stdin=subprocess.DEVNULL, stdout=out, stderr=subprocess.DEVNULL, preexec_fn=limit)
     size = 0
     while process.stdout and (some := process.stdout.read(1 << 16)):
         size += len(some)

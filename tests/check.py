@@ -36,7 +36,7 @@ from checking.tags import start_tags
 from checking.webs import Converter, first_difference, model_fault
 
 BASE = "http://docs.test/"
-SECONDS = 120  # the time limit of a run
+SECONDS = 60  # the time limit of a run
 SHOWN, LONGEST = 5, 4000  # the number of differences that a series prints, and the most letters of one
 EVERY = 8  # one of this number of random folders has its other forms compared
 # What 1,000 random folders must have at least LEAST times
@@ -61,8 +61,11 @@ def arguments(settings: Settings, folder: str, scratch: str, form: str = "--json
 
 
 def run(program: str, words: List[str]) -> "subprocess.CompletedProcess[bytes]":
-    """Runs the program."""
-    return subprocess.run([program, *words], capture_output=True, check=False, stdin=subprocess.DEVNULL, timeout=SECONDS)
+    """Runs the program. If it does not end within the time limit, the status is -1."""
+    try:
+        return subprocess.run([program, *words], capture_output=True, check=False, stdin=subprocess.DEVNULL, timeout=SECONDS)
+    except subprocess.TimeoutExpired:
+        return subprocess.CompletedProcess(words, -1, b"", f"it did not end within {SECONDS} s".encode())
 
 
 def printed_rows(program: str, settings: Settings, folder: str) -> List[Row]:
