@@ -53,6 +53,7 @@ def arguments(settings: Settings, folder: str, scratch: str, form: str = "--json
     words += [f"--seed={seed}" for seed in settings.seeds]
     words += ["--exact"] if settings.exact else []
     words += ["--follow"] if settings.follow else []
+    words += ["--queries"] if settings.queries else []
     if settings.ignores:
         entries = Path(scratch, "ignores")
         entries.write_text("# known\n\n" + "\n".join(settings.ignores) + "\n", "utf-8")
@@ -152,17 +153,28 @@ def known_fault(known: Known, rows: List[Row]) -> Optional[str]:
     return None
 
 
-def compare_known(program: Optional[str]) -> None:
-    """Compares the model, and the program, if there is one, with the known results of folders, and both with each other."""
+Faults = List[Tuple[str, Optional[str]]]  # of each comparison what was compared, and the error if there is one
+
+
+def known_faults(program: Optional[str], number: int) -> Faults:
+    """Compares the model with the known results of a folder, and with the program, if there is one."""
+    known = KNOWN[number]
+    with tempfile.TemporaryDirectory() as scratch:
+        folder = write_known(known, Path(scratch, "site"))
+        settings = Settings(BASE, follow=known.follow)
+        faults = [(f"{known.name}, model", known_fault(known, Model(folder, settings._replace(front=BASE)).rows()))]
+        if program:
+            faults.append((known.name, difference(printed_rows(program, settings, folder), Model(folder, settings).rows())))
+        return faults
+
+
+def compare_known(program: Optional[str], jobs: int) -> None:
+    """Compares the folders with known results with several processes."""
     series = Series("folders with known results")
-    for known in KNOWN:
-        with tempfile.TemporaryDirectory() as scratch:
-            folder = write_known(known, Path(scratch, "site"))
-            settings = Settings(BASE, follow=known.follow)
-            short = settings._replace(front=BASE)
-            series.add(f"{known.name}, model", known_fault(known, Model(folder, short).rows()))
-            if program:
-                series.add(known.name, difference(printed_rows(program, settings, folder), Model(folder, settings).rows()))
+    with ProcessPoolExecutor(jobs) as pool:
+        for faults in pool.map(partial(known_faults, program), range(len(KNOWN))):
+            for what, fault in faults:
+                series.add(what, fault)
     series.end()
 
 
@@ -189,7 +201,7 @@ def random_settings(draw: Random) -> Settings:
     seeds = draw.choice([(), (), (), ("sub/",), ("#x", "a.html?b", "gone/../b.html"), ("?", "index.html", "%61.html?x", "a?y"), ("./", "s%75b")])
     return Settings(
         base, ignores=ignores, anchors=draw.random() < 0.8, unreached=draw.random() < 0.5, exact=draw.random() < 0.2,
-        external=draw.random() < 0.5, follow=draw.random() < 0.3, seeds=seeds,
+        external=draw.random() < 0.5, follow=draw.random() < 0.3, queries=draw.random() < 0.15, seeds=seeds,
     )
 
 
@@ -214,7 +226,7 @@ class Outcome(NamedTuple):
     """What was found in a random folder. Its report is None if it has a URL that the model does not support."""
 
     number: int
-    faults: List[Tuple[str, Optional[str]]]
+    faults: Faults
     kinds: Counter[str]
     is_skipped: bool
 
@@ -248,7 +260,7 @@ def compare_number(program: str, seed: int, number: int) -> Outcome:
     """Compares the random folder with this number."""
     with tempfile.TemporaryDirectory() as above:
         folder, settings, options = draw_number(seed, number, above)
-        faults: List[Tuple[str, Optional[str]]] = [(f"site {' '.join(options)}", web_fault(program, folder, options))]
+        faults: Faults = [(f"site {' '.join(options)}", web_fault(program, folder, options))]
         try:
             rows = Model(folder, settings).rows()
         except drawn.NotPlain:
@@ -269,7 +281,7 @@ def compare_models(seed: int, number: int) -> Outcome:
             model = Model(folder, settings._replace(base=BASE, seeds=()))
         except drawn.NotPlain:
             return Outcome(number, [], Counter(), True)
-        options = [f"--{name}" for name in ("exact", "follow") if getattr(settings, name)]
+        options = [f"--{name}" for name in ("exact", "follow", "queries") if getattr(settings, name)]
         return Outcome(number, [("model", model_fault(model, converter().web(folder, options, BASE)))], Counter(), False)
 
 
@@ -385,7 +397,7 @@ def main() -> int:
     option("--model", action="store_true", help="test only the model, without the program: with known results and the converter")
     options = parser.parse_args()
     program = None if options.model else loading.program()
-    compare_known(program)
+    compare_known(program, options.jobs)
     if program:
         shipped = str(loading.ROOT / "examples/site")
         folders = options.folders or [folder for folder in loading.DOCUMENTATION if os.path.isdir(folder)]

@@ -72,6 +72,7 @@ class Settings(NamedTuple):
     exact: bool = False
     external: bool = False
     follow: bool = False
+    queries: bool = False
     seeds: Tuple[str, ...] = ()  # links on the top at which the search starts
 
 
@@ -150,28 +151,45 @@ def names_below(folder: bytes, follow: bool) -> Set[bytes]:
     return {name for name in found if TOOL.is_utf8(name)}
 
 
+class Key(NamedTuple):
+    """What a server looks up: a path in the folder and a query, both without percent-escapes."""
+
+    path: bytes
+    query: Optional[bytes]
+
+
 class Site:
     """The pages of a folder, as a plain static server returns them."""
 
     def __init__(self, folder: str, settings: Settings) -> None:
         self.folder = os.fsencode(folder)
         self.base = drawn.url_of(settings.base)
-        self.exact = settings.exact
+        self.exact, self.queries = settings.exact, settings.queries
         self.names = names_below(self.folder, settings.follow)
         self.documents: Dict[bytes, Optional[Document]] = {}
+        self.files: Dict[Key, bytes] = {}  # the first file in the order of names has the key
+        self.own: Dict[bytes, str] = {}  # the own URL of each file: that of its folder for an index file
+        for name in sorted(name for name in self.names if not name.endswith(b"/")):
+            for key in self.keys(name):
+                if self.files.setdefault(key, name) == name:
+                    self.own[name] = self.url(key)
 
-    def plain(self, name: bytes) -> str:
-        """The URL of a name in a server's spelling."""
-        return str(self.base) + quote(name, safe=TOOL.IN_NAME + "/")
+    def keys(self, name: bytes) -> Iterator[Key]:
+        """What a server looks up to return a file."""
+        path, mark, query = name.partition(b"?") if self.queries else (name, b"", b"")
+        key = Key(path, unquote_to_bytes(query) if mark else None)
+        yield key
+        if os.path.basename(path) == INDEX:
+            yield key._replace(path=path[:-len(INDEX)])
 
-    def own(self, name: bytes) -> str:
-        """The own URL of a file: that of its folder for an index file."""
-        return self.plain(name[:-len(INDEX)] if os.path.basename(name) == INDEX else name)
+    def url(self, key: Key) -> str:
+        """The URL of a key in a server's spelling."""
+        path = str(self.base) + quote(key.path, safe=TOOL.IN_NAME + "/")
+        return path if key.query is None else f"{path}?{quote(key.query, safe=TOOL.IN_QUERY)}"
 
     def pages(self) -> List[Tuple[str, bytes]]:
         """The pages in order: each file, and each folder with an index file."""
-        files = [name for name in self.names if not name.endswith(b"/")]
-        return sorted({(url, name) for name in files for url in (self.plain(name), self.own(name))})
+        return sorted((self.url(key), name) for key, name in self.files.items())
 
     def response(self, url: str) -> Response:
         """What a server returns for a URL."""
@@ -182,16 +200,15 @@ class Site:
         if request.path[:len(front)] != front:
             return None
         parts = [unquote_to_bytes(part) for part in request.path[len(front):]]
-        name = b"/".join(parts)
-        if any(b"/" in part for part in parts) or (self.exact and url != self.plain(name)) or not is_short("page", url):
+        key = Key(b"/".join(parts), unquote_to_bytes(request.query[1:]) if self.queries and request.query else None)
+        if any(b"/" in part for part in parts) or (self.exact and url != self.url(key)) or not is_short("page", url):
             return None
-        if name + b"/" in self.names:
-            return Moved(self.plain(name + b"/") + request.query)
-        if name == b"" or name.endswith(b"/"):
-            name += INDEX
-        if name not in self.names or not is_short("page", self.own(name)):
+        if key.path + b"/" in self.names and key.query is None:
+            return Moved(self.url(key._replace(path=key.path + b"/")) + request.query)
+        name = self.files.get(key)
+        if name is None or not is_short("page", self.own[name]):
             return None
-        return Found(name) if url == self.own(name) else Alias(name, self.own(name))
+        return Found(name) if url == self.own[name] else Alias(name, self.own[name])
 
     def document(self, name: bytes) -> Optional[Document]:
         """The document in a file, or None if the file is not a document or is not read."""
@@ -201,7 +218,7 @@ class Site:
 
     def read(self, name: bytes) -> Optional[Document]:
         """Reads the document in a file."""
-        kind, packed = TOOL.kind_of(name)
+        kind, packed = TOOL.kind_of(next(self.keys(name)).path)
         path = os.path.join(self.folder, name)
         size = os.path.getsize(path)
         if packed or size > FILE_LIMIT:
