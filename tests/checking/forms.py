@@ -113,8 +113,10 @@ def line_of(row: Row) -> Tuple[str, str]:
 
 
 def heading(total: Row) -> str:
-    """The text of the heading."""
-    return f"<b>{total['broken']}</b> broken link{'' if total['broken'] == 1 else 's'}</h1>"
+    """The text of the heading: the number of broken links, or that of missing pages if no link leads to them."""
+    is_linked = total["broken"] > 0 or total["missing_pages"] == 0
+    count, noun = (total["broken"], "broken link") if is_linked else (total["missing_pages"], "missing page")
+    return f"<b>{count}</b> {noun}{'' if count == 1 else 's'}</h1>"
 
 
 def page_fault(page: bytes, rows: List[Row]) -> Optional[str]:
