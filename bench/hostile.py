@@ -1,16 +1,22 @@
 #!/usr/bin/env python3
-"""Measure `mercator site` and `mercator check` on HTML documents that an attacker might make to be slow.
+"""Measure `mercator site` and `mercator check` on documents and folders that an attacker might make to be slow.
 
-A document repeats a pattern up to a size, and is in a folder with a page that links to it. Both commands run on one
-processor. For each pattern, the script prints the CPU time per byte of each command at each size, the least of RUNS
-runs (environment variable, default: 2), and the peak memory. The time of the whole program is an upper bound of the
-time of the tokenizer.
+Both commands run on one processor. Times are CPU times without that for a folder with one empty file; the least of RUNS runs
+counts (environment variable, default: 3), or that of one run that takes more than 5 seconds. A run is killed after 60 seconds, and
+it may reserve MEMORY GiB (environment variable, default: 12; 0 for no limit, as a program with the address sanitizer needs it).
+The last line of a pattern is its verdict, and the exit status is 1 if one has failed.
 
-The exit status is 1 if `site` takes more than 0.06 microseconds per byte, or if the time per byte of either command is
-more than twice as long at the larger size as at the smaller one.
+A document repeats a pattern up to a size, and is in a folder with a page that links to it. The time of the whole program is an
+upper bound of the time of the tokenizer. A pattern fails if `site` takes more than 0.06 microseconds per byte, or if the time
+per byte of either command is more than twice as long at the largest size as at the smallest one.
 
-There is no pattern of links that differ only in their queries: by the rules of `site`, each of them is a page with all
-of these links, so the output grows with the square of their number.
+A folder has many files, links or spellings of one kind (hostile_folders.py). Its size is that of its files and of their paths.
+A pattern fails if at any size
+
+- `site` takes more than 3 times as long as on an ordinary folder of the same size, or `check` more than 5 times. The ordinary
+  folder has the same number of files, with links to the next one and to missing ones. For patterns that print much more than they
+  read, times are divided by the bytes of the folder and of the output.
+- or the time, the memory or the output per byte is more than twice as much as at the smallest size at which it can be measured.
 """
 
 from __future__ import annotations
@@ -18,15 +24,26 @@ from __future__ import annotations
 import argparse
 import os
 import pathlib
+import resource
 import subprocess
 import sys
 import tempfile
 from typing import NamedTuple
 
+import hostile_folders
+
 TOP = pathlib.Path(__file__).resolve().parents[1]
-RUNS = int(os.environ.get("RUNS", "2"))
-COMMANDS = ("site", "check")
+RUNS = int(os.environ.get("RUNS", "3"))
+MEMORY = int(os.environ.get("MEMORY", "12"))
+LONG, LIMIT = 5.0, 60  # the seconds of a run that is not repeated, and of one that is killed
+# The arguments of each command, before the folder
+COMMANDS = {"site": ["site"], "check": ["check", "--json", "--unreached", "--external"]}
+URL = "http://a.test/"
 MOST, GROWTH = 0.06, 2.0
+TIMES = {"site": 3.0, "check": 5.0}  # the most times as long as on an ordinary folder of the same size
+NOISE = 4.0  # milliseconds, MiB of memory and KiB of output that count as nothing
+# The patterns of folders whose output is much larger than the folder: each link has a long base or is on a line of the report
+PRINTS_MUCH = {"base_long", "base_long_distinct"}
 NUMBER = b"0000000"  # replaced by the number of the repetition
 
 # name: the beginning of the document, the repeated pattern, the end of the document
@@ -90,10 +107,16 @@ PATTERNS: dict[str, tuple[bytes, bytes, bytes]] = {
 
 
 class Run(NamedTuple):
-    """The CPU time in seconds and the peak memory in KiB of a run."""
+    """The CPU time in seconds, the peak memory in MiB and the bytes of the output of a run. It has failed if it was killed."""
 
     seconds: float
-    memory: int
+    memory: float
+    output: int
+    failed: bool = False
+
+    def __sub__(self, other: "Run") -> "Run":
+        """Return what this run needs more than another."""
+        return Run(max(self.seconds - other.seconds, 1e-6), max(self.memory - other.memory, 0.0), self.output, self.failed)
 
 
 def document(name: str, size: int) -> bytes:
@@ -105,88 +128,227 @@ def document(name: str, size: int) -> bytes:
     return before + b"".join(repeated.replace(NUMBER, b"%07d" % number) for number in range(count)) + after
 
 
-def write_document(name: str, size: int, folder: str) -> int:
-    """Write a document into the folder and return its length.
+class Input(NamedTuple):
+    """A pattern of a size; for the ordinary folder, also of a number of files."""
+
+    name: str
+    size: int
+    files: int = 1
+
+
+def write_input(given: Input, folder: str) -> Input:
+    """Write the folder of a pattern, and return its real size and number of files."""
+    name, size, files = given
+    if name in PATTERNS:
+        pathlib.Path(folder, "index.html").write_bytes(b"<a href=page.html>")
+        return Input(name, pathlib.Path(folder, "page.html").write_bytes(document(name, size)), 2)
+    if name == "ordinary":
+        return Input(name, *hostile_folders.write(hostile_folders.ordinary(files, size), folder))
+    pattern = hostile_folders.PATTERNS[name]
+    return Input(name, *hostile_folders.write(pattern(hostile_folders.count_for(pattern, size)), folder))
+
+
+def made(given: Input, folder: str) -> Input:
+    """Write the folder of a pattern, and return its real size and number of files.
 
     A process of its own writes it, because the memory of this process would count as that of the program.
     """
-    path = pathlib.Path(folder, "page.html")
-    with path.open("wb") as page:
-        subprocess.run([sys.executable, __file__, "--write", str(size), name], stdout=page, check=True)
-    return path.stat().st_size
+    words = [sys.executable, __file__, "--write", folder, "--size", str(given.size), "--files", str(given.files), given.name]
+    size, files = map(int, subprocess.run(words, stdout=subprocess.PIPE, check=True).stdout.split())
+    return Input(given.name, size, files)
 
 
-def run_once(words: list[str]) -> Run:
-    """Run a command and drop its output. Exit status 4 of a check means broken links."""
-    process = subprocess.Popen(words, stdin=subprocess.DEVNULL, stdout=subprocess.DEVNULL, stderr=subprocess.DEVNULL)
+def limit() -> None:
+    """Limit the CPU time of this process to LIMIT seconds, and the memory that it reserves to MEMORY GiB."""
+    resource.setrlimit(resource.RLIMIT_CPU, (LIMIT, LIMIT))
+    if MEMORY:
+        resource.setrlimit(resource.RLIMIT_AS, (MEMORY << 30, MEMORY << 30))
+
+
+def run_once(words: list[str], is_counted: bool) -> Run:
+    """Run a command, and count the bytes of its output or drop it. Exit status 4 of a check means broken links."""
+    out = subprocess.PIPE if is_counted else subprocess.DEVNULL
+    process = subprocess.Popen(words, stdin=subprocess.DEVNULL, stdout=out, stderr=subprocess.DEVNULL, preexec_fn=limit)
+    size = 0
+    while process.stdout and (some := process.stdout.read(1 << 16)):
+        size += len(some)
+    if process.stdout:
+        process.stdout.close()
     _, status, usage = os.wait4(process.pid, 0)
     process.returncode = os.WEXITSTATUS(status) if os.WIFEXITED(status) else -os.WTERMSIG(status)
-    if process.returncode not in (0, 4):
-        sys.exit(f"{' '.join(words)} ended with status {process.returncode}")
-    return Run(usage.ru_utime + usage.ru_stime, usage.ru_maxrss)
+    if process.returncode not in (0, 4) and process.returncode > 0:
+        print(f"{' '.join(words)} ended with status {process.returncode}", file=sys.stderr)
+    return Run(usage.ru_utime + usage.ru_stime, usage.ru_maxrss / 1024, size, process.returncode not in (0, 4))
 
 
 def measured(program: str, command: str, folder: str) -> Run:
-    """Return the least time and the greatest memory of RUNS runs."""
-    runs = [run_once([program, command, folder, "http://a.test/"]) for _ in range(RUNS)]
-    return Run(min(run.seconds for run in runs), max(run.memory for run in runs))
+    """Return the least time and the greatest memory of the runs of a command, and the size of its output."""
+    words = [program, *COMMANDS[command], folder, URL]
+    first = run_once(words, True)
+    runs = [first]
+    while len(runs) <= RUNS and not first.failed and first.seconds < LONG:
+        runs.append(run_once(words, False))
+    failed = any(run.failed for run in runs)
+    return Run(min(run.seconds for run in runs), max(run.memory for run in runs), first.output, failed)
 
 
-def row(program: str, name: str, sizes: list[int], folder: str) -> dict[str, list[float]]:
-    """Print the row of a pattern, and return the microseconds per byte of each command at each size."""
-    times: dict[str, list[float]] = {command: [] for command in COMMANDS}
-    most = 0
-    for size in sizes:
-        length = write_document(name, size, folder)
-        for command in COMMANDS:
-            run = measured(program, command, folder)
-            times[command].append(run.seconds / length * 1e6)
-            most = max(most, run.memory)
-    shown = "".join(f"{time:10.4f}" for command in COMMANDS for time in times[command])
-    print(f"{name:18}{shown}{most / 1024:10.1f}", flush=True)
-    return times
+class Row(NamedTuple):
+    """What a command needed for an input."""
+
+    command: str
+    input: Input
+    run: Run
+
+    def per_byte(self, is_output_counted: bool = False) -> float:
+        """Return the microseconds per byte of the input, or of the input and the output."""
+        return self.run.seconds / (self.input.size + self.run.output * is_output_counted) * 1e6
 
 
-def measure(program: str, names: list[str], sizes: list[int]) -> dict[str, dict[str, list[float]]]:
-    """Print all rows, and return their times by pattern."""
-    os.sched_setaffinity(0, {min(os.sched_getaffinity(0))})
-    heads = "".join(f"{command + f' {size / 2**20:g}':>10}" for command in COMMANDS for size in sizes)
-    print(f"{'us per byte, MiB':18}{heads}{'memory':>10}")
-    with tempfile.TemporaryDirectory() as folder:
-        pathlib.Path(folder, "index.html").write_bytes(b"<a href=page.html>")
-        return {name: row(program, name, sizes, folder) for name in names}
+class Measurement:
+    """Measures the program on patterns, and prints rows and verdicts."""
+
+    def __init__(self, program: str) -> None:
+        self.program = program
+        self.failed: list[str] = []
+        with tempfile.TemporaryDirectory() as folder:
+            pathlib.Path(folder, "index.html").write_bytes(b"")
+            self.start = {command: measured(program, command, folder) for command in COMMANDS}
+        for command, run in self.start.items():
+            print(f"one empty file: `{command}` takes {run.seconds * 1e3:.1f} ms and {run.memory:.1f} MiB")
+
+    def rows(self, given: Input) -> list[Row]:
+        """Measure both commands on an input."""
+        with tempfile.TemporaryDirectory() as folder:
+            real = made(given, folder)
+            return [Row(command, real, measured(self.program, command, folder) - self.start[command]) for command in COMMANDS]
+
+    def verdict(self, name: str, faults: list[str], fine: str) -> None:
+        """Print the verdict on a pattern."""
+        if faults:
+            self.failed.append(name)
+        print(f"{name}: {'FAILED, ' + '; '.join(faults) if faults else 'passed, ' + fine}", flush=True)
+
+    def document(self, name: str, sizes: list[int]) -> None:
+        """Print the row and the verdict of a pattern of documents."""
+        rows = [row for size in sizes for row in self.rows(Input(name, size))]
+        by_command = {command: [row for row in rows if row.command == command] for command in COMMANDS}
+        shown = "".join(f"{row.per_byte():10.4f}" for found in by_command.values() for row in found)
+        print(f"{name:18}{shown}{max(row.run.memory for row in rows):10.1f}")
+        faults = [f"`{row.command}` was killed or failed" for row in rows if row.run.failed]
+        slowest = max(row.per_byte() for row in by_command["site"])
+        if slowest > MOST:
+            faults.append(f"`site` takes {slowest:.4f} microseconds per byte, at most {MOST}")
+        grown = {command: found[-1].per_byte() / found[0].per_byte() for command, found in by_command.items()}
+        faults += [f"`{command}` takes {times:.2f} times as long per byte" for command, times in grown.items() if times > GROWTH]
+        self.verdict(name, faults, f"`site` {slowest:.4f} microseconds per byte, growth {grown['site']:.2f} and {grown['check']:.2f}")
+
+    def folder(self, name: str, sizes: list[int]) -> None:
+        """Print the rows and the verdict of a pattern of folders."""
+        faults: list[str] = []
+        worst = dict.fromkeys(COMMANDS, 0.0)
+        growth = {command: Growth() for command in COMMANDS}
+        for size in sizes:
+            rows = self.rows(Input(name, size))
+            for row, plain in zip(rows, self.rows(rows[0].input._replace(name="ordinary"))):
+                is_both = name in PRINTS_MUCH
+                times = row.per_byte(is_both) / plain.per_byte(is_both)
+                bytes_read = row.input.size
+                print(
+                    f"{name:20}{row.command:6}{bytes_read / 1024:9.1f} KiB{row.run.seconds * 1e3:11.1f} ms{row.per_byte(is_both):9.4f} us"
+                    f"{times:8.2f} times{row.run.memory:9.1f} MiB{row.run.output / 1024:10.1f} KiB printed"
+                )
+                worst[row.command] = max(worst[row.command], times)
+                if row.run.failed:
+                    faults.append(f"`{row.command}` was killed after {LIMIT} s, or failed, at {bytes_read} bytes")
+                elif times > TIMES[row.command] and row.run.seconds * 1e3 > NOISE:
+                    limit = f"at most {TIMES[row.command]:g}"
+                    faults.append(f"`{row.command}` takes {times:.1f} times as long as on an ordinary folder of {bytes_read} bytes, {limit}")
+                faults += growth[row.command].faults(row)
+            if any(row.run.failed for row in rows):
+                break
+        shown = " and ".join(one.shown() for one in growth.values())
+        fine = f"`site` {worst['site']:.2f} and `check` {worst['check']:.2f} times an ordinary folder, growth {shown}"
+        self.verdict(name, faults, fine)
 
 
-def judge(rows: dict[str, dict[str, list[float]]]) -> int:
-    """Print the slowest patterns and those whose time per byte grows, and return the exit status."""
-    status = 0
-    for command in COMMANDS:
-        time, slowest = max((max(times[command]), name) for name, times in rows.items())
-        print(f"slowest for `{command}`: {slowest}, {time:.4f} microseconds per byte")
-        for name, times in rows.items():
-            growth = times[command][-1] / times[command][0]
-            if growth > GROWTH:
-                print(f"{name}: `{command}` takes {growth:.2f} times as long per byte", file=sys.stderr)
-                status = 1
-        if command == "site" and time > MOST:
-            status = 1
-    return status
+class Growth:
+    """Compares what a command needs per byte with what it needed at the smallest size at which that is more than NOISE."""
+
+    def __init__(self) -> None:
+        self.first: dict[str, float] = {}
+        self.last: dict[str, float] = {}
+
+    def faults(self, row: Row) -> list[str]:
+        """Return what grows faster than the size of the input."""
+        values = {"time": row.run.seconds * 1e3, "memory": row.run.memory, "output": row.run.output / 1024}
+        found = []
+        for what, value in values.items():
+            if value > NOISE:
+                self.last[what] = value / row.input.size
+                grown = self.last[what] / self.first.setdefault(what, self.last[what])
+                if grown > GROWTH:
+                    found.append(f"`{row.command}` at {row.input.size} bytes: {what} per byte grows {grown:.1f} times")
+        return found
+
+    def shown(self) -> str:
+        """Return how much the time per byte grew."""
+        return f"{self.last['time'] / self.first['time']:.2f}" if "time" in self.first else "-"
+
+
+def sizes_of(text: str) -> list[int]:
+    """Return the sizes in bytes of a list of sizes in MiB."""
+    return [int(float(size) * 2**20) for size in text.split(",")]
+
+
+def options_of(parser: argparse.ArgumentParser) -> argparse.Namespace:
+    """Return the options of the command line."""
+    option = parser.add_argument
+    option("--sizes", default="8,32", metavar="MIB,..", help="sizes of the documents in MiB (default: 8,32)")
+    option("--folder-sizes", default="0.125,0.5", metavar="MIB,..", help="sizes of the folders in MiB (default: 0.125,0.5)")
+    option("--steps", type=int, metavar="COUNT",
+           help="measure folders of COUNT sizes, each twice the one before, up to the last of --folder-sizes")
+    option("--program", default=str(TOP / "crates/mercator_cli/out/mercator_cli"), metavar="FILE",
+           help="path of the program (default: the built one)")
+    option("--documents", action="store_true", help="measure all patterns of documents")
+    option("--folders", action="store_true", help="measure all patterns of folders")
+    option("--write", metavar="FOLDER", help="write the input of NAME to the existing FOLDER, print its size and number of files, and exit")
+    option("--size", type=int, default=2**20, metavar="BYTES", help="size of what --write writes (default: 1048576)")
+    option("--files", type=int, default=1, metavar="COUNT", help="number of files of the ordinary folder that --write writes (default: 1)")
+    option("names", nargs="*", metavar="NAME", help="pattern to measure (default: all)")
+    return parser.parse_args()
 
 
 def main() -> int:
+    """Measure the patterns."""
     parser = argparse.ArgumentParser(description=__doc__, formatter_class=argparse.RawDescriptionHelpFormatter)
-    option = parser.add_argument
-    option("--sizes", default="8,32", metavar="SMALL,LARGE", help="sizes of the documents in MiB (default: 8,32)")
-    option("--program", default=str(TOP / "crates/mercator_cli/out/mercator_cli"), metavar="FILE",
-           help="path of the program (default: the built one)")
-    option("--write", type=int, metavar="BYTES", help="write the document of NAME to standard output, and exit")
-    option("names", nargs="*", metavar="NAME", help="pattern to measure (default: all)")
-    options = parser.parse_args()
-    names: list[str] = options.names or list(PATTERNS)
-    if options.write is not None:
-        sys.stdout.buffer.write(document(names[0], options.write))
+    options = options_of(parser)
+    known = [*PATTERNS, *hostile_folders.PATTERNS, "ordinary"]
+    unknown = [name for name in options.names if name not in known]
+    if unknown:
+        parser.error(f"no such pattern: {unknown[0]}; the patterns are {', '.join(known)}")
+    if options.write:
+        real = write_input(Input(options.names[0], options.size, options.files), options.write)
+        print(real.size, real.files)
         return 0
-    return judge(measure(options.program, names, [int(float(size) * 2**20) for size in options.sizes.split(",")]))
+    is_all = not (options.names or options.documents or options.folders)
+    names = options.names + [name for name in PATTERNS if is_all or options.documents]
+    names += [name for name in hostile_folders.PATTERNS if is_all or options.folders]
+    sizes = sizes_of(options.folder_sizes)
+    if options.steps:
+        sizes = [sizes[-1] >> step for step in reversed(range(options.steps))]
+    os.sched_setaffinity(0, {min(os.sched_getaffinity(0))})
+    measurement = Measurement(options.program)
+    documents = [name for name in names if name in PATTERNS]
+    if documents:
+        heads = "".join(f"{command + f' {size / 2**20:g}':>10}" for command in COMMANDS for size in sizes_of(options.sizes))
+        print(f"{'us per byte, MiB':18}{heads}{'memory':>10}")
+    for name in documents:
+        measurement.document(name, sizes_of(options.sizes))
+    for name in names:
+        if name not in PATTERNS:
+            measurement.folder(name, sizes)
+    print(f"{len(names) - len(measurement.failed)} passed, {len(measurement.failed)} failed: {', '.join(measurement.failed) or 'none'}")
+    return 1 if measurement.failed else 0
 
 
 if __name__ == "__main__":

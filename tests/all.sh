@@ -61,7 +61,8 @@ part tests/refused-growths.sh tests
 part tests/drawn.py --count 100000
 part tests/plain_texts.py
 part tests/serve.py
-part tests/check.py --drawn 200 --changed 50 --large 20000
+part tests/check.py --drawn 10000 --changed 50 --large 20000
+part tests/site.py
 part tests/cluster_model.py
 part tests/cluster.sh
 part tests/clients.sh

@@ -1,10 +1,16 @@
 #!/usr/bin/env python3
-"""Compares the output of `mercator check --json` with an independent model: check.py [OPTION..] [FOLDER ..].
+"""Compares the output of `mercator check --json` and `mercator site` with an independent model: check.py [OPTION..] [FOLDER ..].
 
 The model (tests/checking/) has its own tokenizer, server, search and anchors, written from the standards. The script compares
-small folders with known results, the shipped site, each FOLDER, and random folders of difficult documents. Without a FOLDER it
-takes the documentation folders of site.py that are installed. The environment variable PROGRAM names the program to test; the
-default is the one built in crates/mercator_cli.
+small folders with known results, the shipped site, each FOLDER, and random folders: odd names, links in many spellings, base
+elements, encodings, redirects, and symbolic links. Without a FOLDER it takes the documentation folders that are installed
+(DOCUMENTATION in tests/checking/loading.py). The saved webs of random folders are compared with those of tools/site_to_web.py
+with the model's tokenizer. In every eighth random folder, the other forms of the report are compared, too.
+
+A random folder depends only on the seed and its number. The first folders that differ are kept, and their paths are printed.
+With at least 1,000 random folders, each kind of row must occur at least 5 times; otherwise the test fails. The environment
+variable PROGRAM names the program to test; the default is the one built in crates/mercator_cli. The last line is
+`N passed, M failed`; the exit status is 1 if any failed.
 """
 
 from __future__ import annotations
@@ -16,48 +22,57 @@ import subprocess
 import sys
 import tempfile
 from collections import Counter
+from concurrent.futures import ProcessPoolExecutor
+from functools import lru_cache, partial
 from pathlib import Path
 from random import Random
-from typing import Dict, List, Optional, Tuple
+from typing import Dict, List, NamedTuple, Optional, Tuple
 
 import drawn
 from checking import drawing, forms, loading
-from checking.reckoning import Asked, Reckoning, Row
+from checking.known import KNOWN, Known, To, Zeros
+from checking.model import Model, Row, Settings
 from checking.tags import start_tags
-from checking.worked import WORKED, Worked
+from checking.webs import Converter, first_difference, model_fault
 
 BASE = "http://docs.test/"
-BUILT = loading.ROOT / "crates/mercator_cli/out/mercator_cli"
-SHOWN = 5  # the number of differences that a series prints
+SECONDS = 60  # the time limit of a run
+SHOWN, LONGEST = 5, 4000  # the number of differences that a series prints, and the most letters of one
+EVERY = 8  # one of this number of random folders has its other forms compared
+# What 1,000 random folders must have at least LEAST times
+KINDS = "brokenpage brokenanchor placepage placeanchor worst redirect unreached external unused with_aliases".split()
+LEAST = 5
 
 
-def program() -> str:
-    """The path of the program."""
-    given = os.environ.get("PROGRAM", str(BUILT))
-    if not os.path.isfile(given):
-        sys.exit(f"no such file: {given} (run `rt run -- --help` in crates/mercator_cli to build it)")
-    return given
-
-
-def words_of(asked: Asked, folder: str, scratch: str, form: str = "--json") -> List[str]:
-    """The command's arguments."""
-    words = ["check", form]
-    words += [] if asked.anchors else ["--no-anchors"]
-    words += ["--unreached"] if asked.unreached else []
-    words += ["--external"] if asked.external else []
-    words += [f"--seed={seed}" for seed in asked.seeds]
-    words += ["--exact"] if asked.exact else []
-    if asked.ignores:
+def arguments(settings: Settings, folder: str, scratch: str, form: str = "--json") -> List[str]:
+    """The arguments of the command."""
+    words = ["check", form] if form else ["check"]
+    words += [] if settings.anchors else ["--no-anchors"]
+    words += ["--unreached"] if settings.unreached else []
+    words += ["--external"] if settings.external else []
+    words += [f"--seed={seed}" for seed in settings.seeds]
+    words += ["--exact"] if settings.exact else []
+    words += ["--follow"] if settings.follow else []
+    words += ["--queries"] if settings.queries else []
+    if settings.ignores:
         entries = Path(scratch, "ignores")
-        entries.write_text("# known\n\n" + "\n".join(asked.ignores) + "\n", "utf-8")
+        entries.write_text("# known\n\n" + "\n".join(settings.ignores) + "\n", "utf-8")
         words += ["--ignore", str(entries)]
-    return [*words, folder, asked.base]
+    return [*words, folder, settings.base]
 
 
-def told_by(call: str, asked: Asked, folder: str) -> List[Row]:
+def run(program: str, words: List[str]) -> "subprocess.CompletedProcess[bytes]":
+    """Runs the program. If it does not end within the time limit, the status is -1."""
+    try:
+        return subprocess.run([program, *words], capture_output=True, check=False, stdin=subprocess.DEVNULL, timeout=SECONDS)
+    except subprocess.TimeoutExpired:
+        return subprocess.CompletedProcess(words, -1, b"", f"it did not end within {SECONDS} s".encode())
+
+
+def printed_rows(program: str, settings: Settings, folder: str) -> List[Row]:
     """The rows that the program prints. Its exit status must be 4 if there are broken links, and 0 if not."""
     with tempfile.TemporaryDirectory() as scratch:
-        done = subprocess.run([call, *words_of(asked, folder, scratch)], capture_output=True, check=False)
+        done = run(program, arguments(settings, folder, scratch))
     rows = [json.loads(line) for line in done.stdout.splitlines()]
     status = 4 if any(row["kind"] == "broken" for row in rows) else 0
     if done.returncode != status or not rows:
@@ -67,22 +82,24 @@ def told_by(call: str, asked: Asked, folder: str) -> List[Row]:
     return rows
 
 
-def difference(given: List[Row], wanted: List[Row]) -> Optional[str]:
+def difference(actual: List[Row], expected: List[Row]) -> Optional[str]:
     """The first row in which the program's output differs from the model's."""
-    for one, other in zip(given, wanted):
+    for one, other in zip(actual, expected):
         if one != other:
             return f"\n  actual   {json.dumps(one)}\n  expected {json.dumps(other)}"
-    if len(given) != len(wanted):
-        more = [*given, *wanted][min(len(given), len(wanted))] if len(given) > len(wanted) else wanted[len(given)]
-        return f"{len(given)} rows, {len(wanted)} expected; the first extra row is {json.dumps(more)}"
+    if len(actual) != len(expected):
+        more = [*actual, *expected][min(len(actual), len(expected))] if len(actual) > len(expected) else expected[len(actual)]
+        return f"{len(actual)} rows, {len(expected)} expected; the first extra row is {json.dumps(more)}"
     return None
 
 
 class Series:
     """Counts comparisons that passed and failed, and prints the first failures."""
 
+    passed_in_all = failed_in_all = 0
+
     def __init__(self, name: str) -> None:
-        self.name, self.passed, self.failed, self.left = name, 0, 0, 0
+        self.name, self.passed, self.failed, self.skipped = name, 0, 0, 0
 
     def add(self, what: str, fault: Optional[str]) -> None:
         """Counts one comparison."""
@@ -91,80 +108,210 @@ class Series:
             return
         self.failed += 1
         if self.failed <= SHOWN:
-            print(f"{self.name}, {what}: {fault}")
+            print(f"{self.name}, {what}: {fault if len(fault) < LONGEST else fault[:LONGEST] + '..'}")
 
-    def end(self) -> int:
-        """Prints the counts and returns the number of failures, at least 1 if nothing passed."""
-        left = f", {self.left} skipped" if self.left else ""
-        print(f"{self.name}: {self.passed} passed, {self.failed} failed{left}")
-        return self.failed or not self.passed
+    def end(self) -> None:
+        """Prints the counts. A series in which nothing passed has failed."""
+        if not self.passed:
+            self.failed += not self.failed
+        skipped = f", {self.skipped} skipped" if self.skipped else ""
+        print(f"{self.name}: {self.passed} passed, {self.failed} failed{skipped}", flush=True)
+        Series.passed_in_all += self.passed
+        Series.failed_in_all += self.failed
 
 
-def told(rows: List[Row]) -> List[str]:
-    """The broken links, in the form of worked.py."""
+def broken_links(rows: List[Row]) -> List[str]:
+    """The broken links, in the form of known.py."""
     found = [f"{row['target']} {row['file']}:{row['line']}:{row['column']}" for row in rows if row["kind"] == "place"]
     placed = {row["target"] for row in rows if row["kind"] == "place"}
     return sorted(found + [row["target"] for row in rows if row["kind"] == "broken" and row["target"] not in placed])
 
 
-def filled(worked: Worked, top: Path) -> str:
+def write_known(known: Known, top: Path) -> str:
     """Writes the files to a folder and returns its path."""
-    for name, text in worked.files.items():
-        (top / name).parent.mkdir(parents=True, exist_ok=True)
-        (top / name).write_bytes(text if isinstance(text, bytes) else text.encode())
+    top.mkdir()
+    for name, content in known.files.items():
+        path = top / name
+        path.parent.mkdir(parents=True, exist_ok=True)
+        if isinstance(content, To):
+            path.symlink_to(content.path)
+        elif isinstance(content, Zeros):
+            path.write_bytes(b"")
+            os.truncate(path, content.size)
+        else:
+            path.write_bytes(content if isinstance(content, bytes) else content.encode())
     return str(top)
 
 
-def compare_worked(call: Optional[str]) -> int:
-    """Compares the folders with known results with the model, and the model with the program, if there is one."""
+def known_fault(known: Known, rows: List[Row]) -> Optional[str]:
+    """A result of the folder that these rows do not have."""
+    if broken_links(rows) != sorted(known.broken):
+        return f"{broken_links(rows)}, expected {sorted(known.broken)}"
+    for members in known.rows:
+        if not any(members.items() <= row.items() for row in rows):
+            return f"no row has {members}; the first one is {rows[0]}"
+    return None
+
+
+Faults = List[Tuple[str, Optional[str]]]  # of each comparison what was compared, and the error if there is one
+
+
+def known_faults(program: Optional[str], number: int) -> Faults:
+    """Compares the model with the known results of a folder, and with the program, if there is one."""
+    known = KNOWN[number]
+    with tempfile.TemporaryDirectory() as scratch:
+        folder = write_known(known, Path(scratch, "site"))
+        settings = Settings(BASE, follow=known.follow)
+        faults = [(f"{known.name}, model", known_fault(known, Model(folder, settings._replace(front=BASE)).rows()))]
+        if program:
+            faults.append((known.name, difference(printed_rows(program, settings, folder), Model(folder, settings).rows())))
+        return faults
+
+
+def compare_known(program: Optional[str], jobs: int) -> None:
+    """Compares the folders with known results with several processes."""
     series = Series("folders with known results")
-    for worked in WORKED:
-        with tempfile.TemporaryDirectory() as scratch:
-            folder = filled(worked, Path(scratch))
-            asked = Asked(BASE, front=BASE)
-            rows = Reckoning(folder, asked).rows()
-            wanted = sorted(worked.broken)
-            series.add(worked.name, None if told(rows) == wanted else f"model {told(rows)}, expected {wanted}")
-            if call:
-                series.add(worked.name, difference(told_by(call, Asked(BASE), folder), Reckoning(folder, Asked(BASE)).rows()))
-    return series.end()
+    with ProcessPoolExecutor(jobs) as pool:
+        for faults in pool.map(partial(known_faults, program), range(len(KNOWN))):
+            for what, fault in faults:
+                series.add(what, fault)
+    series.end()
 
 
-def compare_folder(series: Series, call: str, folder: str, asked: Asked) -> Counter[str]:
+def kind_of(row: Row) -> str:
+    """The kind of a row, as it is counted."""
+    return str(row["kind"] + row.get("missing", ""))
+
+
+def compare_folder(series: Series, program: str, folder: str, settings: Settings) -> Counter[str]:
     """Compares a folder, and returns the number of rows of each kind."""
     try:
-        wanted = Reckoning(folder, asked).rows()
+        expected = Model(folder, settings).rows()
     except drawn.NotPlain:
-        series.left += 1
+        series.skipped += 1
         return Counter()
-    series.add(f"{folder} {asked}", difference(told_by(call, asked, folder), wanted))
-    return Counter(row["kind"] + row.get("missing", "") for row in wanted)
+    series.add(f"{folder} {settings}", difference(printed_rows(program, settings, folder), expected))
+    return Counter(map(kind_of, expected))
 
 
-def drawn_question(draw: Random) -> Asked:
+def random_settings(draw: Random) -> Settings:
     """Random settings for a check."""
     base = draw.choice((BASE, BASE, BASE + "manual/"))
     ignores = draw.choice([(), (), (base + "gone",), (base + "a", "x", base + "sub/#")])
-    anchors, unreached, exact = draw.random() < 0.8, draw.random() < 0.5, draw.random() < 0.2
-    seeds = draw.choice([(), (), ("sub/",), ("#x", "a.html?b", "gone/../b.html")])
-    return Asked(base, ignores=ignores, anchors=anchors, unreached=unreached, exact=exact, external=draw.random() < 0.5, seeds=seeds)
+    seeds = draw.choice([(), (), (), ("sub/",), ("#x", "a.html?b", "gone/../b.html"), ("?", "index.html", "%61.html?x", "a?y"), ("./", "s%75b")])
+    return Settings(
+        base, ignores=ignores, anchors=draw.random() < 0.8, unreached=draw.random() < 0.5, exact=draw.random() < 0.2,
+        external=draw.random() < 0.5, follow=draw.random() < 0.3, queries=draw.random() < 0.15, seeds=seeds,
+    )
 
 
-def compare_drawn(call: str, count: int, seed: int) -> int:
-    """Compares random folders."""
-    series, draw = Series("random folders"), Random(seed)
+class Drawn(NamedTuple):
+    """A random folder, the settings of its check, and the options of its saved web."""
+
+    folder: str
+    settings: Settings
+    options: List[str]
+
+
+def draw_number(seed: int, number: int, above: str) -> Drawn:
+    """Makes the random folder with this number."""
+    draw = Random(f"{seed} {number}")
+    folder = Path(above, "site")
+    folder.mkdir()
+    drawing.draw_folder(draw, drawing.Documents(draw.choice([0.1, 0.3, 0.6])), folder)
+    return Drawn(str(folder), random_settings(draw), drawing.random_options(draw))
+
+
+class Outcome(NamedTuple):
+    """What was found in a random folder. Its report is None if it has a URL that the model does not support."""
+
+    number: int
+    faults: Faults
+    kinds: Counter[str]
+    is_skipped: bool
+
+
+@lru_cache(maxsize=1)
+def converter() -> Converter:
+    """The converter of this process."""
+    return Converter()
+
+
+def web_fault(program: str, folder: str, options: List[str]) -> Optional[str]:
+    """An error in the saved web of a folder."""
+    done = run(program, ["site", *options, folder, BASE])
+    if done.returncode != 0:
+        return f"exit status {done.returncode}: {done.stderr.decode(errors='replace')}"
+    return first_difference(done.stdout, converter().web(folder, options, BASE))
+
+
+def form_fault(program: str, settings: Settings, folder: str, rows: List[Row]) -> Optional[str]:
+    """An error in the other forms of the report of a folder: a control character, or an HTML page with other rows."""
+    with tempfile.TemporaryDirectory() as scratch:
+        for form in ("", "--annotations", "--html"):
+            done = run(program, arguments(settings, folder, scratch, form))
+            fault = forms.control_fault(done.stdout, "\n\t" if form == "--html" else "\n") or forms.control_fault(done.stderr)
+            if fault:
+                return f"{form}: {fault}"
+    return forms.page_fault(done.stdout, rows)
+
+
+def compare_number(program: str, seed: int, number: int) -> Outcome:
+    """Compares the random folder with this number."""
+    with tempfile.TemporaryDirectory() as above:
+        folder, settings, options = draw_number(seed, number, above)
+        faults: Faults = [(f"site {' '.join(options)}", web_fault(program, folder, options))]
+        try:
+            rows = Model(folder, settings).rows()
+        except drawn.NotPlain:
+            return Outcome(number, faults, Counter(), True)
+        faults.append((f"check {settings}", difference(printed_rows(program, settings, folder), rows)))
+        if number % EVERY == 0:
+            faults.append((f"forms {settings}", form_fault(program, settings, folder, rows)))
+        kinds = Counter(map(kind_of, rows))
+        kinds["with_aliases"] += rows[0]["aliases"] > 0
+        return Outcome(number, faults, kinds, False)
+
+
+def compare_models(seed: int, number: int) -> Outcome:
+    """Compares the pages that the model finds in the random folder with this number with those of the converter."""
+    with tempfile.TemporaryDirectory() as above:
+        folder, settings, _ = draw_number(seed, number, above)
+        try:
+            model = Model(folder, settings._replace(base=BASE, seeds=()))
+        except drawn.NotPlain:
+            return Outcome(number, [], Counter(), True)
+        options = [f"--{name}" for name in ("exact", "follow", "queries") if getattr(settings, name)]
+        return Outcome(number, [("model", model_fault(model, converter().web(folder, options, BASE)))], Counter(), False)
+
+
+def keep(seed: int, number: int) -> str:
+    """Makes a random folder that stays, and returns its path."""
+    return draw_number(seed, number, tempfile.mkdtemp(prefix=f"check-{number}-")).folder
+
+
+def compare_random(program: Optional[str], numbers: range, seed: int, jobs: int) -> None:
+    """Compares random folders with several processes."""
+    series = Series("random folders")
     kinds: Counter[str] = Counter()
-    for number in range(count):
-        with tempfile.TemporaryDirectory() as above:
-            folder = Path(above, f"site{number}")
-            folder.mkdir()
-            drawing.draw_folder(draw, folder)
-            kinds += compare_folder(series, call, str(folder), drawn_question(draw))
-    print("rows of random folders:", dict(kinds))
-    return series.end()
+    compare = partial(compare_number, program, seed) if program else partial(compare_models, seed)
+    with ProcessPoolExecutor(jobs) as pool:
+        for outcome in pool.map(compare, numbers, chunksize=8):
+            kinds += outcome.kinds
+            series.skipped += outcome.is_skipped
+            for what, fault in outcome.faults:
+                kept = f", {keep(seed, outcome.number)}" if fault and series.failed < SHOWN else ""
+                series.add(f"number {outcome.number}, {what}{kept}", fault)
+    if program:
+        print("rows of random folders:", dict(sorted(kinds.items())))
+    if program and len(numbers) >= 1000:
+        rare = [kind for kind in KINDS if kinds[kind] < LEAST]
+        series.add("kinds of rows", f"too few: {', '.join(rare)}" if rare else None)
+        series.add("skipped reports", f"{series.skipped} of {len(numbers)}" if series.skipped > len(numbers) / 5 else None)
+    series.end()
 
 
-def compare_changed(call: str, count: int, seed: int) -> int:
+def compare_changed(program: str, count: int, seed: int) -> None:
     """Compares copies of the shipped site in which each document has one change."""
     series, draw = Series("changed folders"), Random(seed)
     kinds: Counter[str] = Counter()
@@ -172,40 +319,40 @@ def compare_changed(call: str, count: int, seed: int) -> int:
         with tempfile.TemporaryDirectory() as above:
             folder = Path(above, f"site{number}")
             drawing.change_folder(draw, loading.ROOT / "examples/site", folder)
-            kinds += compare_folder(series, call, str(folder), Asked(BASE, unreached=True, external=True))
+            kinds += compare_folder(series, program, str(folder), Settings(BASE, unreached=True, external=True))
     print("rows of changed folders:", dict(kinds))
-    return series.end()
+    series.end()
 
 
-def compare_large(call: str, count: int) -> int:
+def compare_large(program: str, count: int) -> None:
     """Compares a folder with many pages."""
     series = Series("large folders")
     with tempfile.TemporaryDirectory() as folder:
         drawing.fill_large(Path(folder), count)
-        print("rows of a large folder:", dict(compare_folder(series, call, folder, Asked(BASE))))
-    return series.end()
+        print("rows of a large folder:", dict(compare_folder(series, program, folder, Settings(BASE))))
+    series.end()
 
 
-def compare_folders(call: str, folders: List[str]) -> int:
+def compare_folders(program: str, folders: List[str]) -> None:
     """Compares existing folders."""
     series = Series("folders")
     for folder in folders:
-        kinds = compare_folder(series, call, folder, Asked(BASE, unreached=True, external=True))
+        kinds = compare_folder(series, program, folder, Settings(BASE, unreached=True, external=True))
         print(f"{folder}: {dict(kinds)}")
-    return series.end()
+    series.end()
 
 
-def compare_forms(call: str, folder: str) -> int:
+def compare_forms(program: str, folder: str) -> None:
     """Compares the HTML page of a folder with its rows, and the text on a terminal with the text in a pipe."""
-    series, asked = Series("forms"), Asked(BASE, unreached=True, external=True)
+    series, settings = Series("forms"), Settings(BASE, unreached=True, external=True)
     with tempfile.TemporaryDirectory() as scratch:
-        page = subprocess.run([call, *words_of(asked, folder, scratch, "--html")], capture_output=True, check=False).stdout
-    series.add(f"page of {folder}", forms.page_fault(page, Reckoning(folder, asked).rows()))
-    series.add(f"colour of {folder}", forms.colour_fault(call, folder))
-    return series.end()
+        page = run(program, arguments(settings, folder, scratch, "--html")).stdout
+    series.add(f"page of {folder}", forms.page_fault(page, Model(folder, settings).rows()))
+    series.add(f"colour of {folder}", forms.colour_fault(program, folder))
+    series.end()
 
 
-def compare_tags(count: int, seed: int) -> int:
+def compare_tags(count: int, seed: int) -> None:
     """Compares the tags that the model reads in random documents with those of html5lib."""
     links = loading.script("html_links", "tests/html_links.py")
     from html5lib import _tokenizer
@@ -229,39 +376,43 @@ def compare_tags(count: int, seed: int) -> int:
         text = links.drawn_document(draw, number % 2 == 1)
         ours = [(tag.name, {one.name: one.value for one in reversed(tag.attributes)}) for tag in start_tags(text)]
         series.add(repr(text), None if ours == theirs(text) else f"model {ours}, expected {theirs(text)}")
-    return series.end()
+    series.end()
 
 
 def main() -> int:
     """Runs the comparisons."""
-    words = argparse.ArgumentParser(description=__doc__, formatter_class=argparse.RawDescriptionHelpFormatter)
-    words.add_argument("folders", nargs="*", metavar="FOLDER", help="folder to compare")
-    words.add_argument("--drawn", type=int, default=1000, metavar="COUNT", help="number of random folders (default: 1000)")
-    words.add_argument(
-        "--changed", type=int, default=100, metavar="COUNT", help="number of changed copies of the shipped site (default: 100)"
-    )
-    words.add_argument("--large", type=int, default=0, metavar="PAGES", help="also compare a folder with this number of pages")
-    words.add_argument("--seed", type=int, default=1, help="seed of the random folders (default: 1)")
-    words.add_argument(
+    parser = argparse.ArgumentParser(description=__doc__, formatter_class=argparse.RawDescriptionHelpFormatter)
+    option = parser.add_argument
+    option("folders", nargs="*", metavar="FOLDER", help="folder to compare")
+    option("--drawn", type=int, default=1000, metavar="COUNT", help="number of random folders (default: 1000)")
+    option("--first", type=int, default=0, metavar="NUMBER", help="number of the first random folder (default: 0)")
+    option("--changed", type=int, default=100, metavar="COUNT", help="number of changed copies of the shipped site (default: 100)")
+    option("--large", type=int, default=0, metavar="PAGES", help="also compare a folder with this number of pages")
+    option("--seed", type=int, default=1, help="seed of the random folders (default: 1)")
+    option("--jobs", type=int, default=os.cpu_count() or 1, help="number of processes (default: that of the processors)")
+    option(
         "--tags", type=int, default=0, metavar="COUNT",
         help="also compare the tags of this number of random documents with html5lib (Debian's python3-html5lib)",
     )
-    words.add_argument(
-        "--reckoning", action="store_true", help="test only the model, on the folders with known results, without the program"
-    )
-    given = words.parse_args()
-    call = None if given.reckoning else program()
-    failed = compare_worked(call)
-    if call:
+    option("--model", action="store_true", help="test only the model, without the program: with known results and the converter")
+    options = parser.parse_args()
+    program = None if options.model else loading.program()
+    compare_known(program, options.jobs)
+    if program:
         shipped = str(loading.ROOT / "examples/site")
-        folders = given.folders or [folder for folder in drawing.SITE.DOCUMENTS if os.path.isdir(folder)]
-        failed += compare_folders(call, [shipped, *folders]) + compare_forms(call, shipped)
-        failed += compare_drawn(call, given.drawn, given.seed) if given.drawn else 0
-        failed += compare_changed(call, given.changed, given.seed) if given.changed else 0
-        failed += compare_large(call, given.large) if given.large else 0
-    if given.tags:
-        failed += compare_tags(given.tags, given.seed)
-    return 1 if failed else 0
+        folders = options.folders or [folder for folder in loading.DOCUMENTATION if os.path.isdir(folder)]
+        compare_folders(program, [shipped, *folders])
+        compare_forms(program, shipped)
+        if options.changed:
+            compare_changed(program, options.changed, options.seed)
+        if options.large:
+            compare_large(program, options.large)
+    if options.drawn:
+        compare_random(program, range(options.first, options.first + options.drawn), options.seed, options.jobs)
+    if options.tags:
+        compare_tags(options.tags, options.seed)
+    print(f"{Series.passed_in_all} passed, {Series.failed_in_all} failed")
+    return 1 if Series.failed_in_all else 0
 
 
 if __name__ == "__main__":

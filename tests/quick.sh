@@ -12,7 +12,7 @@ cd "$(dirname "$0")/.." || exit 1
 # shellcheck source=tests/parts.sh
 . tests/parts.sh
 
-parts=(format documents definitions mercator_tests crawl_run_tests crawl_text_tests frontier cases command_line manual_page drawn serve bell_model site_to_web)
+parts=(format documents definitions mercator_tests crawl_run_tests crawl_text_tests frontier cases command_line manual_page drawn check serve bell_model site_to_web)
 kept=tests/out/quick
 # A test of crawl_text_tests that no time limit fits. tests/run.sh runs it.
 too_long=tests::indices::finds_what_a_plain_search_finds
@@ -29,6 +29,7 @@ command_of() {
     command_line) words=(tests/command-line.sh) ;;
     manual_page) words=(tests/manual_page.py) ;;
     drawn) words=(tests/drawn.py --count 500) ;;
+    check) words=(tests/check.py --drawn 20 --changed 2 --jobs 2) ;;
     serve) words=(tests/serve.py --lines 2000 --part drawn_sessions --part drawn_parts --part all_at_once --part byte_by_byte --part compacted_logs) ;;
     bell_model) words=(tests/bell_model.py) ;;
     site_to_web) words=(tests/site_to_web.py) ;;
@@ -38,7 +39,7 @@ command_of() {
 # programs PART: the crates of the programs that it needs.
 programs() {
     case $1 in
-    cases | command_line | manual_page | drawn | serve) echo mercator_cli ;;
+    cases | command_line | manual_page | drawn | check | serve) echo mercator_cli ;;
     frontier) echo mercator_cli library_calls ;;
     esac
 }
@@ -60,7 +61,7 @@ reads() {
         ;;
     # These may read any file, except those that only a build or a check reads.
     cases | manual_page) tracked | grep -Ev '^bench/|^crates/\w+/(src|specs|proofs|must-fail|mutants)/' ;;
-    *) tracked | grep -E '^(tests/[^/]+|tests/serving/.*|tools/.*|clients/.*|examples/.*)$' ;;
+    *) tracked | grep -E '^(tests/[^/]+|tests/(checking|serving)/.*|tools/.*|clients/.*|examples/.*)$' ;;
     esac
     [ ${#crates[@]} -eq 0 ] || tools/unproved.sh --sources "${crates[@]}"
 }

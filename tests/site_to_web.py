@@ -185,14 +185,14 @@ SHIPPED = {
     "/about%20us.html": ["link style.css", "link contact.html", "link mailto:bell@site.test", "link ."],
     "/api": ["moved /api/"],
     "/api/": CALLS,
-    "/api/index.html": CALLS,
+    "/api/index.html": ["link /api/"],
     "/api/v2": ["moved /api/v2/"],
     "/api/v2/calls.html": ["link types.html", "link /api/"],
     "/api/v2/types.html": ["link calls.html", "link ../v1/types.html"],
     "/contact.html": ["link about%20us.html", "link guide/use.html#first-steps", "link news/2026.html"],
     "/guide": ["moved /guide/"],
     "/guide/": GUIDE,
-    "/guide/index.html": GUIDE,
+    "/guide/index.html": ["link /guide/"],
     "/guide/install.html": [
         "link ../style.css",
         "link ../downloads.html",
@@ -207,7 +207,7 @@ SHIPPED = {
     ],
     "/images": ["moved /images/"],
     "/images/bell.svg": [],
-    "/index.html": TOP,
+    "/index.html": ["link /"],
     "/news": ["moved /news/"],
     "/news/": NEWS,
     "/news/2025.html": ["link ../api/v2", "link 2026.html"],
@@ -218,8 +218,8 @@ SHIPPED = {
         "link /search?q=bell&page=1",
         "link 2025.html",
     ],
-    "/news/?from=top": NEWS,
-    "/news/index.html": NEWS,
+    "/news/?from=top": ["link /news/"],
+    "/news/index.html": ["link /news/"],
     "/old.html": ["link news/2025.html"],
     "/style.css": [],
 }
@@ -246,9 +246,9 @@ def served(folder: str) -> Iterator[Callable[[str], tuple[int, Optional[str]]]]:
     def ask(path: str) -> tuple[int, Optional[str]]:
         connection = http.client.HTTPConnection("127.0.0.1", server.server_port, timeout=10)
         connection.request("GET", path)
-        answer = connection.getresponse()
+        response = connection.getresponse()
         connection.close()
-        return answer.status, answer.getheader("Location")
+        return response.status, response.getheader("Location")
 
     try:
         yield ask
@@ -263,7 +263,7 @@ class TheShippedSite(Converting):
         lines = self.web(SITE, "http://site.test/")
         self.assertEqual(pages_of(lines), {"http://site.test" + path: below for path, below in SHIPPED.items()})
         links = sum(line.startswith("link ") for line in lines)
-        self.assertIn(f"{len(SHIPPED)} pages, 5 of them redirects; {links} links; ", self.notes)
+        self.assertIn(f"{len(SHIPPED)} pages, 5 of them redirects and 5 aliases; {links} links; ", self.notes)
 
     def test_its_stored_web_is_what_the_tool_writes(self) -> None:
         with open(os.path.join(ROOT, "examples", "site.web"), "rb") as stored:
@@ -272,13 +272,13 @@ class TheShippedSite(Converting):
     def test_a_server_answers_as_the_web_says(self) -> None:
         """Request each page, and each target of a link in the site, from a server of the same folder."""
         pages = pages_of(self.web(SITE, "http://site.test/"))
-        asked = set(pages)
+        requested = set(pages)
         for url, lines in pages.items():
             targets = (urljoin(url, line.partition(" ")[2]).partition("#")[0] for line in lines)
-            asked.update(target for target in targets if target.startswith("http://site.test/"))
-        self.assertLess(len(pages), len(asked))
+            requested.update(target for target in targets if target.startswith("http://site.test/"))
+        self.assertLess(len(pages), len(requested))
         with served(SITE) as ask:
-            for url in sorted(asked):
+            for url in sorted(requested):
                 path = url.removeprefix("http://site.test").replace(" ", "%20")
                 status, location = ask(path)
                 below = pages.get("http://site.test" + path)
@@ -316,9 +316,12 @@ class Folders(Converting):
             self.put(b"caf\xe9.html", '<html><a href="caf%E9.html"><a href="caf%e9.html">')
         except OSError:
             self.skipTest("this file system does not accept such a name")
-        below = ["link caf%E9.html", "link caf%e9.html"]
         self.assertEqual(
-            self.converted(), {"http://a.test/caf%E9.html": below, "http://a.test/caf%e9.html": below}
+            self.converted(),
+            {
+                "http://a.test/caf%E9.html": ["link caf%E9.html", "link caf%e9.html"],
+                "http://a.test/caf%e9.html": ["link /caf%E9.html"],
+            },
         )
         self.assertIn("name is not UTF-8, so its bytes are percent-encoded: http://a.test/caf%E9.html\n", self.notes)
 
@@ -360,41 +363,71 @@ class Folders(Converting):
         self.put("index.html", '<html><a href="dir?x=1"><a href="dir?x=1"><a href="d%69r">')
         self.put("dir/index.html", '<html><a href="?y">')
         self.put("empty/name.txt")
-        below = ["link dir?x=1", "link dir?x=1", "link d%69r"]
         self.assertEqual(
             self.converted(),
             {
-                "http://a.test/": below,
+                "http://a.test/": ["link dir?x=1", "link dir?x=1", "link d%69r"],
                 "http://a.test/d%69r": ["moved /dir/"],
                 "http://a.test/dir": ["moved /dir/"],
                 "http://a.test/dir/": ["link ?y"],
-                "http://a.test/dir/?x=1": ["link ?y"],
-                "http://a.test/dir/?y": ["link ?y"],
-                "http://a.test/dir/index.html": ["link ?y"],
-                "http://a.test/dir/index.html?y": ["link ?y"],
+                "http://a.test/dir/?x=1": ["link /dir/"],
+                "http://a.test/dir/?y": ["link /dir/"],
+                "http://a.test/dir/index.html": ["link /dir/"],
                 "http://a.test/dir?x=1": ["moved /dir/?x=1"],
                 "http://a.test/empty": ["moved /empty/"],
                 "http://a.test/empty/name.txt": [],
-                "http://a.test/index.html": below,
+                "http://a.test/index.html": ["link /"],
             },
         )
+        self.assertIn("11 pages, 4 of them redirects and 4 aliases; 8 links;", self.notes)
 
-    def test_a_redirect_never_names_a_host(self) -> None:
+    def test_redirects_and_aliases_never_name_a_host(self) -> None:
+        self.put("index.html", '<html><a href="dir?x">')
         self.put("dir/x.txt")
         pages = self.converted(base="http://a.test//docs/")
         self.assertEqual(pages["http://a.test//docs/dir"], ["moved http://a.test//docs/dir/"])
+        self.assertEqual(pages["http://a.test//docs/dir?x"], ["moved http://a.test//docs/dir/?x"])
+        self.assertEqual(pages["http://a.test//docs/index.html"], ["link http://a.test//docs/"])
 
-    def test_exact_leaves_other_spellings_out(self) -> None:
+    def test_exact_skips_other_spellings(self) -> None:
         self.put("index.html", '<html><a href="?x"><a href="%69ndex.html">')
         self.assertEqual(list(self.converted("--exact")), ["http://a.test/", "http://a.test/index.html"])
 
-    def test_pages_below_another_spelling_are_other_spellings(self) -> None:
-        self.put("index.html", '<html><a href="%64ir/a.html">')
-        self.put("dir/a.html", '<html><a href="b.html">')
-        self.put("dir/b.html", '<html><a href="/dir/a.html">')
-        spelled = [url for url in self.converted() if "%" in url]
-        self.assertEqual(spelled, ["http://a.test/%64ir/a.html", "http://a.test/%64ir/b.html"])
-        self.assertIn("pages that are other spellings of a page: 2\n", self.notes)
+    def test_the_links_of_a_file_are_those_of_its_own_url(self) -> None:
+        self.put("index.html", '<html><a href="%64ir/a.html"><a href="dir/a.html?1">')
+        self.put("dir/a.html", '<html><a href="b.html"><a href=""><a href="?2">')
+        self.put("dir/b.html", '<html><a href="/d%69r/a.html">')
+        others = {url: lines for url, lines in self.converted().items() if "%" in url or "?" in url}
+        names = ("%64ir/a.html", "d%69r/a.html", "dir/a.html?1", "dir/a.html?2")
+        self.assertEqual(others, {f"http://a.test/{name}": ["link /dir/a.html"] for name in names})
+
+    def test_two_spellings_of_each_nested_folder_are_as_many_aliases(self) -> None:
+        for depth in range(30):
+            self.put("a/" * depth + "index.html", '<a href="a/"><a href="%61/">')
+        # For each folder its URL and its index file, and for each but the top its redirect and its other spelling
+        self.assertEqual(len(self.converted()), 30 + 30 + 29 + 29)
+
+    def test_each_query_is_an_alias(self) -> None:
+        self.put("p.html", "".join(f'<a href="?{number}">' for number in range(300)) + '<a href="#x">')
+        pages = self.converted()
+        self.assertEqual(len(pages["http://a.test/p.html"]), 301)
+        self.assertEqual([lines for url, lines in pages.items() if "?" in url], [["link /p.html"]] * 300)
+
+    def test_a_page_that_links_to_itself_in_another_spelling(self) -> None:
+        self.put("%.html", '<html><a href="%.html"><a href="%25.html"><a href="?">')
+        links = ["link %.html", "link %25.html", "link ?"]
+        own = ["link /%25.html"]
+        self.assertEqual(
+            self.converted(),
+            {"http://a.test/%.html": own, "http://a.test/%25.html": links, "http://a.test/%25.html?": own},
+        )
+
+    def test_links_of_another_folder_by_a_base(self) -> None:
+        self.put("index.html", '<html><base href="/d%69r/"><a href="a.html">')
+        self.put("dir/a.html")
+        pages = self.converted()
+        self.assertEqual(pages["http://a.test/"], ["link http://a.test/d%69r/a.html"])
+        self.assertEqual(pages["http://a.test/d%69r/a.html"], ["link /dir/a.html"])
 
     def test_an_escaped_slash_and_other_hosts_are_no_other_spelling(self) -> None:
         self.put("dir/x.html", '<html><a href="/dir%2Fx.html"><a href="http://b.test/dir/x.html?q">')
@@ -404,7 +437,7 @@ class Folders(Converting):
         self.put("home.htm", '<html><a href="x">')
         self.assertEqual(
             self.converted("--index", "home.htm"),
-            {"http://a.test/": ["link x"], "http://a.test/home.htm": ["link x"]},
+            {"http://a.test/": ["link x"], "http://a.test/home.htm": ["link /"]},
         )
 
     def test_queries_of_names(self) -> None:
@@ -429,10 +462,16 @@ class Folders(Converting):
             {
                 "http://a.test/dir": ["moved /dir/"],
                 "http://a.test/dir/?page=2": ["link x"],
-                "http://a.test/dir/index.html?page=2": ["link x"],
+                "http://a.test/dir/index.html?page=2": ["link /dir/?page=2"],
             },
         )
         self.assertEqual(list(self.converted()), ["http://a.test/dir", "http://a.test/dir/index.html%3Fpage=2"])
+
+    def test_an_index_file_whose_folder_has_another_page(self) -> None:
+        self.put("?q", '<html><a href="x">')
+        self.put("index.html?q", '<html><a href="y">')
+        pages = self.converted("--queries")
+        self.assertEqual(pages, {"http://a.test/?q": ["link x"], "http://a.test/index.html?q": ["link y"]})
 
     def test_images_are_pages_without_links(self) -> None:
         for name in ("a.png", "b.jpg", "c.svg"):
@@ -446,7 +485,7 @@ class Folders(Converting):
                 "http://a.test/images/c.svg": [],
             },
         )
-        self.assertIn("4 pages, 1 of them redirects; 0 links;", self.notes)
+        self.assertIn("4 pages, 1 of them redirects and 0 aliases; 0 links;", self.notes)
 
     def test_html_is_known_by_suffix_or_first_bytes(self) -> None:
         document = '<!-- c --> <!DOCTYPE html><a href="x">'
@@ -482,6 +521,56 @@ class Folders(Converting):
         self.assertIn("folder skipped, it leads back to a folder above it: dir/up\n", self.notes)
         self.assertIn("skipped, neither a file nor a folder: gone\n", self.notes)
 
+    def test_symbolic_links_out_of_the_folder_are_followed_with_the_option(self) -> None:
+        above = os.path.dirname(self.folder)
+        os.makedirs(os.path.join(above, "site and more", "dir"))
+        for name in ("a.html", "dir/b.html"):
+            with open(os.path.join(above, "site and more", name), "w", encoding="utf-8") as file:
+                file.write("<a href=x>")
+        self.put("in.html", "<a href=y>")
+        links = {
+            "top": "../site",
+            "in": "../site/in.html",
+            "twice.html": "through",
+            "through": os.path.join(above, "site and more", "a.html"),
+            "dir": "../site and more/dir",
+            "near": "../site and more",
+            "device.html": "/dev/null",
+            "gone.html": "../gone.html",
+        }
+        for name, target in links.items():
+            os.symlink(target, os.path.join(self.folder, name))
+        inside = {"in": [], "in.html": ["link y"], "top": ["moved /top/"]}
+        self.assertEqual(self.converted(), {f"http://a.test/{name}": lines for name, lines in inside.items()})
+        note = "site_to_web: skipped, a symbolic link that leads out of the folder (--follow follows it): {}\n"
+        for name in ("device.html", "dir", "near", "through", "twice.html"):
+            self.assertIn(note.format(name), self.notes)
+        self.assertIn("skipped, neither a file nor a folder: gone.html\n", self.notes)
+        pages = self.converted("--follow")
+        for name in ("dir/b.html", "near/a.html", "near/dir/b.html", "twice.html"):
+            self.assertEqual(pages[f"http://a.test/{name}"], ["link x"])
+        self.assertIn("skipped, neither a file nor a folder: device.html\n", self.notes)
+        self.assertNotIn("leads out", self.notes)
+
+    def test_a_symbolic_link_to_the_folder_is_the_folder(self) -> None:
+        self.put("a.html", "<a href=x>")
+        link = os.path.join(os.path.dirname(self.folder), "link")
+        os.symlink("site", link)
+        self.assertEqual(pages_of(self.web(link, "http://a.test/")), {"http://a.test/a.html": ["link x"]})
+
+    def test_files_that_the_system_makes_are_not_read(self) -> None:
+        """Reading /proc/kmsg would wait for ever. The size of such a file is 0."""
+        self.put("a.html", "<a href=x>")
+        os.symlink("/proc/kmsg", os.path.join(self.folder, "x.html"))
+        self.assertEqual(self.converted("--follow"), {"http://a.test/a.html": ["link x"], "http://a.test/x.html": []})
+
+    def test_a_file_of_more_than_a_gibibyte_is_not_read(self) -> None:
+        self.put("x.html", "<a href=x>")
+        os.truncate(os.path.join(self.folder, "x.html"), 3 << 30)
+        self.put("y.html", "<a href=y>")
+        self.assertEqual(self.converted(), {"http://a.test/x.html": [], "http://a.test/y.html": ["link y"]})
+        self.assertIn("links skipped, the file has more than 1 GiB: http://a.test/x.html\n", self.notes)
+
     def test_a_page_whose_line_is_too_long_is_skipped_and_reported(self) -> None:
         deep = "/".join(["\u00fc" * 100] * 7)
         self.put(deep + "/x.txt")
@@ -491,6 +580,14 @@ class Folders(Converting):
         self.assertEqual([len(url) - len("http://a.test") for url in pages], [*range(601, 3607, 601), 6])
         self.assertEqual(self.notes.count("page skipped, its URL is too long: http://a.test/%C3%BC"), 2)
         self.assertIn("page skipped, its URL is too long: 2\n", self.notes)
+
+    def test_a_file_whose_own_url_is_too_long_has_no_alias(self) -> None:
+        deep = "/".join(["%" * 200] * 7)
+        self.put(deep + "/index.html", "<a href=x>")
+        self.put("index.html", f'<a href="{deep}/"><a href="{deep}/?y"><a href="{deep}?z">')
+        # Each percent sign is three bytes of an own URL, and one of a link
+        others = {url: lines for url, lines in self.converted().items() if "%25" not in url}
+        self.assertEqual(list(others), ["http://a.test/", f"http://a.test/{deep}?z", "http://a.test/index.html"])
 
     def test_errors_write_nothing(self) -> None:
         self.assert_error(1, self.folder, "http://a.test/", says="no files in")
@@ -665,7 +762,7 @@ class Documents(Converting):
             ("in a description", '<meta name=description content="charset=latin1"><a href="\u00fc">'.encode(), "\u00fc"),
             ("in a comment", '<!--> <!-- <meta charset=latin1> --><a href="\u00fc">'.encode(), "\u00fc"),
             ("in a value", '<p title="<meta charset=latin1>"><a href="\u00fc">'.encode(), "\u00fc"),
-            ("behind one without", '<meta name=a><meta charset=""><meta/charset=L1><a href="\u00fc">'.encode(), "\u00c3\u00bc"),
+            ("after one without", '<meta name=a><meta charset=""><meta/charset=L1><a href="\u00fc">'.encode(), "\u00c3\u00bc"),
             ("cut", ('<meta charset="utf-8" title="' + "-" * 1000 + '"><a href="').encode() + b'\xfc">', "\u00fc"),
             ("a mark", '\ufeff<a href="\u00fc?\u00fc">'.encode("utf-16-le"), "\u00fc?\u00fc"),
             ("broken UTF-8", b'<meta charset="utf-8"><a href="a\xffb">', "a\ufffdb"),
@@ -703,7 +800,7 @@ def record(kind: str, url: str, block: bytes, *headers: str) -> bytes:
     return "\r\n".join(lines).encode() + b"\r\n\r\n" + block + b"\r\n\r\n"
 
 
-def answer(status: int, body: Content = b"", *headers: str, kind: str = "text/html") -> bytes:
+def response(status: int, body: Content = b"", *headers: str, kind: str = "text/html") -> bytes:
     """Return an HTTP response."""
     body = body if isinstance(body, bytes) else body.encode()
     lines = [f"HTTP/1.1 {status} Words", f"Content-Type: {kind}", *headers]
@@ -736,11 +833,11 @@ class Archives(WithArchives):
         pages = self.read(
             record("warcinfo", "", b"software: none"),
             record("request", "http://b.test/", b"GET / HTTP/1.1\r\n\r\n"),
-            record("response", "http://b.test/", answer(200, '<a href="old"><a href="gone">')),
-            record("response", "<http://B.test:80/old#f>", answer(301, "", "Location: /new?x=1")),
-            record("response", "http://b.test/new?x=1", answer(200, '<a href="http://a.test/">')),
-            record("response", "http://b.test/gone", answer(404, '<a href="x">')),
-            record("response", "http://b.test/picture", answer(200, '<a href="x">', kind="image/png")),
+            record("response", "http://b.test/", response(200, '<a href="old"><a href="gone">')),
+            record("response", "<http://B.test:80/old#f>", response(301, "", "Location: /new?x=1")),
+            record("response", "http://b.test/new?x=1", response(200, '<a href="http://a.test/">')),
+            record("response", "http://b.test/gone", response(404, '<a href="x">')),
+            record("response", "http://b.test/picture", response(200, '<a href="x">', kind="image/png")),
             record("resource", "http://a.test/", b'<a href="y">', "Content-Type: text/html; charset=utf-8"),
             record("metadata", "http://a.test/meta", b"via: x"),
             record("response", "dns:b.test", b"127.0.0.1"),
@@ -768,7 +865,7 @@ class Archives(WithArchives):
         }
         pages = self.read(
             *(
-                record("response", f"http://a.test/{status}", answer(status, '<a href="x">', "Location: there"))
+                record("response", f"http://a.test/{status}", response(status, '<a href="x">', "Location: there"))
                 for status in statuses
             )
         )
@@ -777,7 +874,7 @@ class Archives(WithArchives):
                 self.assertEqual(pages.get(f"http://a.test/{status}"), expected)
 
     def test_a_redirect_without_a_target_is_not_a_page(self) -> None:
-        pages = self.read(record("response", "http://a.test/", answer(301)))
+        pages = self.read(record("response", "http://a.test/", response(301)))
         self.assertEqual(pages, {})
         self.assertIn("responses that are not pages, status 301: 1\n", self.notes)
 
@@ -793,16 +890,16 @@ class Archives(WithArchives):
             ("two of them", "a\r\nLocation: b\r\n c", ["moved a"]),
         ):
             with self.subTest(name):
-                pages = self.read(record("response", "http://a.test/", answer(302, "", f"Location: {target}")))
+                pages = self.read(record("response", "http://a.test/", response(302, "", f"Location: {target}")))
                 self.assertEqual(pages, {"http://a.test/": expected})
                 self.assertEqual("target of the redirect skipped, it is too long" in self.notes, not expected)
 
     def test_the_first_of_two_pages_with_the_same_url_counts(self) -> None:
         pages = self.read(
-            record("response", "http://a.test", answer(404)),
-            record("response", "http://a.test/", answer(200, '<a href="first">')),
-            record("response", "http://A.test:80/#f", answer(200, '<a href="second">')),
-            record("response", "http://a.test/", answer(301, "", "Location: third")),
+            record("response", "http://a.test", response(404)),
+            record("response", "http://a.test/", response(200, '<a href="first">')),
+            record("response", "http://A.test:80/#f", response(200, '<a href="second">')),
+            record("response", "http://a.test/", response(301, "", "Location: third")),
         )
         self.assertEqual(pages, {"http://a.test/": ["link first"]})
         self.assertIn("page skipped, an earlier page has the same URL: 2\n", self.notes)
@@ -810,14 +907,14 @@ class Archives(WithArchives):
     def test_revisits(self) -> None:
         digest = "WARC-Payload-Digest: sha1:A"
         pages = self.read(
-            record("response", "http://a.test/1", answer(200, '<a href="x">'), digest),
-            record("response", "http://a.test/1b", answer(200, '<base href="/b/"><a href="x">'), digest),
-            record("revisit", "http://a.test/2", answer(200), digest),
-            record("revisit", "http://a.test/3", answer(304), digest),
+            record("response", "http://a.test/1", response(200, '<a href="x">'), digest),
+            record("response", "http://a.test/1b", response(200, '<base href="/b/"><a href="x">'), digest),
+            record("revisit", "http://a.test/2", response(200), digest),
+            record("revisit", "http://a.test/3", response(304), digest),
             record("revisit", "http://a.test/4", b"", digest),
-            record("revisit", "http://a.test/5", answer(302, "", "Location: y"), digest),
-            record("revisit", "http://a.test/6", answer(404), digest),
-            record("revisit", "http://a.test/7", answer(200), "WARC-Payload-Digest: sha1:B"),
+            record("revisit", "http://a.test/5", response(302, "", "Location: y"), digest),
+            record("revisit", "http://a.test/6", response(404), digest),
+            record("revisit", "http://a.test/7", response(200), "WARC-Payload-Digest: sha1:B"),
         )
         below = dict.fromkeys([f"http://a.test/{number}" for number in range(1, 5)], ["link x"])
         others = {"1b": ["link http://a.test/b/x"], "5": ["moved y"], "7": []}
@@ -838,9 +935,9 @@ class Archives(WithArchives):
             ("none", ["Content-Encoding: identity"], body),
         ):
             with self.subTest(name):
-                pages = self.read(record("response", "http://a.test/", answer(200, coded, *headers)))
+                pages = self.read(record("response", "http://a.test/", response(200, coded, *headers)))
                 self.assertEqual(pages, {"http://a.test/": ["link x"]})
-        pages = self.read(record("response", "http://a.test/", answer(200, body, "Content-Encoding: br")))
+        pages = self.read(record("response", "http://a.test/", response(200, body, "Content-Encoding: br")))
         self.assertEqual(pages, {"http://a.test/": []})
         note = "links skipped, the content coding is unknown or the body is invalid: http://a.test/\n"
         self.assertIn(note, self.notes)
@@ -856,26 +953,26 @@ class Archives(WithArchives):
             "": [],
         }.items():
             with self.subTest(kind):
-                pages = self.read(record("response", "http://a.test/", answer(200, document, kind=kind)))
+                pages = self.read(record("response", "http://a.test/", response(200, document, kind=kind)))
                 self.assertEqual(pages, {"http://a.test/": expected})
 
     def test_unsupported_hosts_are_skipped_and_reported(self) -> None:
         hosts = ("\u00fc.test", "me@a.test", "[::1]", "a.test:65536", "1.2", "0x7f.1", "a..test", "a b", "xn--a")
         pages = self.read(
-            *(record("response", f"http://{host}/", answer(200)) for host in hosts),
-            record("response", "http://xn--tda.test:8080/", answer(200)),
+            *(record("response", f"http://{host}/", response(200)) for host in hosts),
+            record("response", "http://xn--tda.test:8080/", response(200)),
         )
         self.assertEqual(pages, {"http://xn--tda.test:8080/": []})
         self.assertIn(f"page skipped, its host cannot be written in canonical form: {len(hosts)}\n", self.notes)
 
     def test_pages_come_in_order_of_url_whatever_the_order_of_records(self) -> None:
-        records = [record("response", f"http://{host}.test/", answer(200, f'<a href="{host}">')) for host in "cab"]
+        records = [record("response", f"http://{host}.test/", response(200, f'<a href="{host}">')) for host in "cab"]
         self.assertEqual(
             self.web("--warc", self.archive(*records)), self.web("--warc", self.archive(*reversed(records)))
         )
 
     def test_errors_write_nothing(self) -> None:
-        good = record("response", "http://a.test/", answer(200, '<a href="x">' * 100))
+        good = record("response", "http://a.test/", response(200, '<a href="x">' * 100))
         self.assert_error(1, "--warc", self.archive(good, good[:-200]), says="a WARC record is cut off")
         self.assert_error(1, "--warc", self.archive(b"<html>"), says="not a WARC file: a record does not begin")
         for length in ("", "Content-Length: x\r\n", f"Content-Length: {'9' * 5000}\r\n"):
@@ -911,7 +1008,7 @@ class HostileInputs(WithArchives):
         self.assertEqual(
             self.converted(), {"http://a.test/data": [], "http://a.test/odd": ["link y"], "http://a.test/page": ["link x"]}
         )
-        block = answer(200, comments, kind="").replace(b"Content-Type: \r\n", b"")
+        block = response(200, comments, kind="").replace(b"Content-Type: \r\n", b"")
         self.assertEqual(self.read(record("response", "http://a.test/", block)), {"http://a.test/": []})
 
     def test_a_document_that_takes_too_long_loses_its_links_and_is_reported(self) -> None:
@@ -941,15 +1038,15 @@ class HostileInputs(WithArchives):
     def test_headers_are_limited(self) -> None:
         long = "".join(f"X: {'a' * 60_000}\r\n" for _ in range(20)).rstrip()
         for headers, links in ((long, None), (long[:1_000_000], ["link x"])):
-            block = answer(200, "<a href=x>", headers)
+            block = response(200, "<a href=x>", headers)
             pages = self.read(record("response", "http://a.test/", block), record("resource", "http://b.test/", b""))
             with self.subTest(len(headers)):
                 self.assertEqual(pages.get("http://a.test/"), links)
                 self.assertEqual("responses that are not pages, status none: 1" in self.notes, links is None)
-        good = record("response", "http://a.test/", answer(200, "<a href=x>"), long[:1_000_000])
+        good = record("response", "http://a.test/", response(200, "<a href=x>"), long[:1_000_000])
         self.assertEqual(self.read(good), {"http://a.test/": ["link x"]})
         for packed in (False, True):
-            path = self.archive(record("response", "http://a.test/", answer(200), long), packed=packed)
+            path = self.archive(record("response", "http://a.test/", response(200), long), packed=packed)
             self.assert_error(1, "--warc", path, says="the headers of a WARC record have more than 1048576 bytes")
 
 
@@ -980,6 +1077,19 @@ class Limits(WithArchives):
         self.assertEqual(done[:2], (1, b""))
         self.assertIn("the most that a crawl reads", done.notes)
 
+    def test_the_largest_file_that_is_read(self) -> None:
+        self.put("x.html", "<a href=x>")
+        for limit, expected in ((10, ["link x"]), (9, [])):
+            done = self.run_with("FILE_LIMIT", limit, self.folder, "http://a.test/")
+            self.assertEqual(pages_of(checked_lines(done.out)), {"http://a.test/x.html": expected})
+
+    def test_a_file_that_grows_while_it_is_read_loses_its_links(self) -> None:
+        self.put("x.html", "<a href=x>")
+        with mock.patch.object(os.path, "getsize", return_value=9):
+            done = self.run_with("FILE_LIMIT", 100, self.folder, "http://a.test/")
+        self.assertEqual(pages_of(checked_lines(done.out)), {"http://a.test/x.html": []})
+        self.assertIn("links skipped, the file changed while it was read: http://a.test/x.html\n", done.notes)
+
     def test_only_the_beginning_of_large_records_is_read(self) -> None:
         document = '<a href="x">' + " " * 1000 + '<a href="y">'
         packed = gzip.compress(document.encode())
@@ -988,7 +1098,7 @@ class Limits(WithArchives):
             ("document", packed, ["Content-Encoding: gzip"], "only the links at the beginning were read, the page"),
         )
         for name, body, headers, notes in cases:
-            block = answer(200, body, *headers)
+            block = response(200, body, *headers)
             path = self.archive(record("response", "http://a.test/", block), record("resource", "http://b.test/", b""))
             done = self.run_with("DOCUMENT_LIMIT", 500, "--warc", path)
             with self.subTest(name):

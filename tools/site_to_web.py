@@ -45,19 +45,24 @@ exit status:
   3  bad command line
 
 pages of a folder, as a plain static server returns them:
-  - A file is the page BASE/its/path. The bytes of its name are percent-encoded by
-    the path percent-encode set of the URL Standard, and so are `%`, `\\` and `?`.
-    Symbolic links are followed.
-  - A folder with an index file is a page `/dir/` with the links of that file;
-    `/dir/index.html` is another page with the same links. `/dir` is a redirect to
-    `/dir/`, whether or not `/dir/` is a page.
-  - If a link spells the URL of a page differently (with other percent-escapes, or
-    with a query, which is ignored for a file), a server returns the same page, so
-    that URL is a page too. --exact skips these pages. With --queries, a `?` in a
-    file name starts the query (`index.html?x` is the pages `/index.html?x` and
-    `/?x`), and no query is ignored.
+  - Each file has one own URL, which is the page with the links of the file. It is
+    BASE/its/path, or that of the folder, `/dir/`, for an index file. The bytes of a
+    name are percent-encoded by the path percent-encode set of the URL Standard, and
+    so are `%`, `\\` and `?`.
+  - `/dir` is a redirect to `/dir/`, whether or not `/dir/` is a page.
+  - An alias is another URL for which a server returns a file. `/dir/index.html` is
+    always one. A URL in a link is one if it has other percent-escapes than a file's
+    own URL, or a query, which a server ignores for a file. The page of an alias has
+    one link, which is the file's own URL. So the links of a file are followed once.
+  - In the same way, a link to `/dir` in another spelling leads to a redirect.
+  - With --exact, a link in another spelling or with a query leads to no page. With
+    --queries, a `?` in a file name starts the query (the own URL of `index.html?x`
+    is `/?x`), and no query is ignored.
+  - A symbolic link is followed if it leads to a file or folder in FOLDER. Others
+    are skipped and reported, unless --follow is given.
   - Whether a file is HTML is decided by its suffix or, if the suffix is unknown, by
-    its first bytes. All other files are pages without links.
+    its first bytes. All other files are pages without links, and so are files of
+    more than 2^30 bytes.
 
 pages of a WARC: the response, resource and revisit records of http and https URLs.
   A status of 200 to 299 is a page, and a redirect leads to its target. A URL with
@@ -92,6 +97,7 @@ LINE_LIMIT = 4096  # most bytes of a line, without its line break
 INPUT_LIMIT = 1 << 30  # most bytes that a crawl reads
 HEADER_LIMIT = 1 << 20  # most bytes of the headers of a WARC record, and of an HTTP response
 DOCUMENT_LIMIT = 1 << 26  # most bytes that are read of a WARC record, and of its decompressed document
+FILE_LIMIT = 1 << 30  # most bytes of a file whose links are read
 # The CPU time in which the links of a document must be found. The densest documents need 2 seconds per million bytes.
 SECONDS, SECONDS_PER_MILLION_BYTES = 1.0, 5.0
 FAULT, BAD_WORDS = 1, 3  # exit statuses, the same as those of mercator: an error, and a bad command line
@@ -614,7 +620,7 @@ def links_of(body: bytes, url: Url, kind: Optional[str], web: Web, charset: Opti
         with limited_time(len(body)):
             return links_in_any_time(body, url, kind, web, charset)
     except TooSlow:
-        web.tell("links skipped, finding them takes too much CPU time", url.text())
+        web.note("links skipped, finding them takes too much CPU time", url.text())
         return []
 
 
@@ -633,7 +639,7 @@ def links_in_any_time(body: bytes, url: Url, kind: Optional[str], web: Web, char
     else:
         return []
     if charset == NOT_KNOWN:
-        web.tell("unknown encoding, only ASCII was read", url.text())
+        web.note("unknown encoding, only ASCII was read", url.text())
         given, base = known_links(given, base)
         charset = "cp1252"
     web.count("links over several lines, joined", sum("\n" in link.strip(EDGE) for link in given))
@@ -659,7 +665,7 @@ class Web:
         # By URL: the positions in the file of the page's first line, of the line after it, and of its end
         self.pages: dict[str, tuple[int, int, int]] = {}
         self.size = 0
-        self.links = self.moves = 0
+        self.links = self.moves = self.aliases = 0
         self.counts: dict[str, int] = {}
 
     def count(self, what: str, number: int = 1) -> None:
@@ -667,8 +673,8 @@ class Web:
         if number:
             self.counts[what] = self.counts.get(what, 0) + number
 
-    def tell(self, what: str, where: str) -> None:
-        """Print a note on something that was skipped or changed, and count it."""
+    def note(self, what: str, where: str) -> None:
+        """Print a note about something that was skipped or changed, and count it."""
         self.count(what)
         if not self.quiet:
             # The text is untrusted input and may go to a terminal, so control characters are escaped
@@ -686,6 +692,12 @@ class Web:
         self.moves += added
         return added
 
+    def alias(self, url: str, own: str) -> bool:
+        """Add a page whose only link is the own URL of the file. Return whether it was added."""
+        added = self.page(url, [own])
+        self.aliases += added
+        return added
+
     def again(self, url: str, earlier: str) -> bool:
         """Add a page with the links of an earlier page. Return whether it was added."""
         _, begin, end = self.pages[earlier]
@@ -694,11 +706,11 @@ class Web:
     def add(self, url: str, lines: Callable[[], Iterable[Optional[bytes]]]) -> bool:
         """Add a page and the lines that the function `lines` returns, except None. Return whether it was added."""
         if url in self.pages:
-            self.tell("page skipped, an earlier page has the same URL", url)
+            self.note("page skipped, an earlier page has the same URL", url)
             return False
         head = line_of("page", url)
         if head is None:
-            self.tell("page skipped, its URL is too long", url)
+            self.note("page skipped, its URL is too long", url)
             return False
         below = [line for line in lines() if line is not None]
         begin = self.size
@@ -724,14 +736,14 @@ class Web:
             start = text.encode("utf-8", "replace")[: LINE_LIMIT - len("link ")]
             line = line_of("link", start.decode("utf-8", "ignore"))
         if line is None:
-            self.tell("link skipped, it is too long", f"{url} links to {text}")
+            self.note("link skipped, it is too long", f"{url} links to {text}")
         return line
 
     def move(self, target: str, url: str) -> Optional[bytes]:
         """Return the line of a redirect, or None if it is too long; the page then has no link."""
         line = line_of("moved", target) or line_of("moved", target.partition("#")[0])
         if line is None:
-            self.tell("target of the redirect skipped, it is too long", f"{url} to {target}")
+            self.note("target of the redirect skipped, it is too long", f"{url} to {target}")
         return line
 
     def lines(self, begin: int, end: int) -> bytes:
@@ -749,39 +761,51 @@ class Web:
     def summary(self) -> None:
         """Print the numbers of pages, links and bytes, and everything that was counted."""
         size = len(HEADER) + self.size
-        words = [f"{len(self.pages)} pages, {self.moves} of them redirects; {self.links} links; {size} bytes"]
-        words += [f"{what}: {count}" for what, count in sorted(self.counts.items())]
-        for line in words:
+        kinds = f"{self.moves} of them redirects and {self.aliases} aliases"
+        lines = [f"{len(self.pages)} pages, {kinds}; {self.links} links; {size} bytes"]
+        lines += [f"{what}: {count}" for what, count in sorted(self.counts.items())]
+        for line in lines:
             print(f"site_to_web: {line}", file=sys.stderr)
 
 
 # ---------------------------------------------------------------- folders
 
 
-def entries_below(folder: bytes, web: Web) -> list[bytes]:
+def entries_below(folder: bytes, web: Web, follow: bool) -> list[bytes]:
     """Return the sorted paths of the files and folders below a folder; those of folders end in a slash.
 
-    Symbolic links are followed, except to a folder above them.
+    Symbolic links are followed, except to a folder above them and, unless `follow` is set, to anything outside.
     """
+    top = os.path.realpath(folder)
     found: list[bytes] = []
-    waiting: list[tuple[bytes, tuple[bytes, ...]]] = [(b"", (os.path.realpath(folder),))]
+    waiting: list[tuple[bytes, tuple[bytes, ...]]] = [(b"", (top,))]
     while waiting:
         place, above = waiting.pop()
         for name in sorted(os.listdir(os.path.join(folder, place))):
             path = os.path.join(folder, place, name)
-            if os.path.isdir(path):
+            if not follow and leads_out(path, top):
+                why = "a symbolic link that leads out of the folder (--follow follows it)"
+                web.note(f"skipped, {why}", os.fsdecode(place + name))
+            elif os.path.isdir(path):
                 found.append(place + name + b"/")
                 real = os.path.realpath(path)
                 if real in above:
-                    web.tell("folder skipped, it leads back to a folder above it", os.fsdecode(place + name))
+                    web.note("folder skipped, it leads back to a folder above it", os.fsdecode(place + name))
                 else:
                     waiting.append((place + name + b"/", (*above, real)))
             elif os.path.isfile(path):
                 found.append(place + name)
             else:
                 why = "it cannot be read" if is_hidden(path) else "neither a file nor a folder"
-                web.tell(f"skipped, {why}", os.fsdecode(place + name))
+                web.note(f"skipped, {why}", os.fsdecode(place + name))
     return sorted(found)
+
+
+def leads_out(path: bytes, top: bytes) -> bool:
+    """Return whether a path is a symbolic link to something outside the folder with the real path `top`."""
+    if not os.path.islink(path) or not os.path.exists(path):
+        return False
+    return not (os.path.realpath(path) + b"/").startswith(os.path.join(top, b""))
 
 
 def is_hidden(path: bytes) -> bool:
@@ -813,18 +837,21 @@ def split_name(name: bytes, queries: bool) -> tuple[bytes, bytes, bytes]:
 
 
 class Folder:
-    """The pages of a folder: `files` has the file of each page by URL, `moves` the target of each redirect by URL."""
+    """The pages of a folder.
+
+    By URL, `files` has the file of each page, and `moves` the target of each redirect. By file, `own` has its own URL.
+    """
 
     def __init__(self, folder: str, base: Url, options: argparse.Namespace, web: Web) -> None:
         self.folder, self.base, self.web = os.fsencode(folder), base, web
         self.queries, self.exact = options.queries, options.exact
         self.files: dict[str, bytes] = {}
+        self.own: dict[bytes, str] = {}
         self.moves: dict[str, str] = {}
-        self.known: set[str] = set()
         index = os.fsencode(options.index)
-        for name in entries_below(self.folder, web):
+        for name in entries_below(self.folder, web, options.follow):
             if not is_utf8(name):
-                web.tell("name is not UTF-8, so its bytes are percent-encoded", self.url(name))
+                web.note("name is not UTF-8, so its bytes are percent-encoded", self.url(name))
             if name.endswith(b"/"):
                 self.moves[self.url(name[:-1])] = self.url(name)
                 continue
@@ -842,22 +869,33 @@ class Folder:
         return url + "?" + quote(unquote_to_bytes(query), safe=IN_QUERY) if mark else url
 
     def keep(self, url: str, name: bytes) -> None:
-        """Make a file the page of a URL, unless the URL has one."""
+        """Make a URL the own one of a file, in place of an earlier one, unless another file has it."""
         if url in self.files:
-            self.web.tell("file skipped, another file has the same URL", f"{os.fsdecode(name)}, {url}")
+            self.web.note("file skipped, another file has the same URL", f"{os.fsdecode(name)}, {url}")
         else:
             self.files[url] = name
+            self.own[name] = url
 
-    def links(self, name: bytes, url: Url) -> list[str]:
-        """Return the links of a file at a Url."""
+    def links(self, name: bytes, url: str) -> list[str]:
+        """Return the links of a file at its own URL. No more bytes are read than it has, and none if it is empty."""
         kind, packed = kind_of(split_name(name, self.queries)[0])
         if packed or (kind and kind != STYLE_KIND and kind not in HTML_KINDS):
             return []
-        with open(os.path.join(self.folder, name), "rb") as file:
-            body = file.read(START_LENGTH)
+        path = os.path.join(self.folder, name)
+        size = os.path.getsize(path)
+        if size == 0:
+            return []
+        if size > FILE_LIMIT:
+            self.web.note("links skipped, the file has more than 1 GiB", url)
+            return []
+        with open(path, "rb") as file:
+            body = file.read(min(START_LENGTH, size + 1))
             if kind or is_document(kind, body):
-                body += file.read()
-            return links_of(body, url, kind, self.web)
+                body += file.read(size + 1 - len(body))
+        if len(body) > size:
+            self.web.note("links skipped, the file changed while it was read", url)
+            return []
+        return links_of(body, url_of(url), kind, self.web)
 
     def spelled_otherwise(self, link: str, url: Url) -> Optional[tuple[str, str]]:
         """Return the canonical URL of a link and that of the page that a server returns for it, if these differ."""
@@ -868,51 +906,59 @@ class Folder:
         plain = target.site() + respelled(target.path)
         if target.query is not None and self.queries:
             plain += "?" + quote(unquote_to_bytes(target.query), safe=IN_QUERY)
-        return None if text in self.known or not self.is_page(plain) else (text, plain)
+        is_page = text in self.files or text in self.moves
+        return None if is_page or not self.has_spellings(plain) else (text, plain)
 
-    def is_page(self, url: str) -> bool:
-        """Return whether a file or a folder has this URL."""
-        return url in self.files or url in self.moves
+    def has_spellings(self, url: str) -> bool:
+        """Return whether a folder has this URL, or a file whose own URL fits in a line."""
+        name = self.files.get(url)
+        return url in self.moves if name is None else line_of("page", self.own[name]) is not None
 
-    def write_page(self, text: str, plain: str) -> list[str]:
-        """Add the page `text`, for which a server returns the page `plain`, and return its links."""
-        url = url_of(text)
-        if plain in self.files:
-            links = self.links(self.files[plain], url)
-            self.web.page(text, links)
-            return links
-        target = self.moves[plain] + url.tail()
-        short = target[len(url.site()) :]
+    def other_spellings(self, links: Iterable[str], url: str) -> dict[str, str]:
+        """Return the URLs among links that spell a page's URL differently, each with the page's URL."""
+        base = url_of(url)
+        # Only links with escapes or a query can
+        marked = [link for link in dict.fromkeys(links) if "?" in link or "%" in link]
+        found = (self.spelled_otherwise(link, base) for link in marked)
+        return {} if self.exact else dict(filter(None, found))
+
+    def write_file(self, url: str, name: bytes) -> list[str]:
+        """Add the page at a URL of a file. Return the links of the file at its own URL, and none at an alias."""
+        own = self.own[name]
+        if url != own:
+            self.web.alias(url, self.target(own))
+            return []
+        links = self.links(name, url)
+        self.web.page(url, links)
+        return links
+
+    def target(self, url: str) -> str:
+        """Return the text with which a page of the folder leads to a URL of the folder."""
+        text = url[len(self.base.site()) :]
         # Two slashes would start a host
-        target = target if short.startswith("//") else short
-        self.web.moved(text, target)
-        return [target]
+        return url if text.startswith("//") else text
 
-    def other_spellings(self, links: list[str], text: str, plain: str) -> dict[str, str]:
-        """Return the URLs among a page's links that spell a page's URL differently, each with the page's own URL."""
-        found: dict[str, str] = {}
-        url = url_of(text)
-        for link in dict.fromkeys(links):
-            # Only links with escapes or a query can, and all links of a page that is such a spelling itself
-            if "?" in link or "%" in link or text != plain:
-                other = self.spelled_otherwise(link, url)
-                if other:
-                    found[other[0]] = other[1]
-        return found
+    def write_spelled(self, found: dict[str, str]) -> dict[str, str]:
+        """Add the pages with these other spellings of pages' URLs. Return those among the targets of redirects."""
+        again: dict[str, str] = {}
+        for text, plain in found.items():
+            if plain in self.files:
+                self.web.alias(text, self.target(self.own[self.files[plain]]))
+            else:
+                target = self.target(self.moves[plain] + url_of(text).tail())
+                self.web.moved(text, target)
+                again.update(self.other_spellings([target], text))
+        return again
 
     def write(self) -> None:
-        """Add all pages, then their other spellings that pages link to, until there are no new ones."""
-        pages = {url: url for url in (*self.files, *self.moves)}
-        self.known = set(pages)
-        while pages:
-            found: dict[str, str] = {}
-            for text, plain in sorted(pages.items()):
-                links = self.write_page(text, plain)
-                if not self.exact:
-                    found.update(self.other_spellings(links, text, plain))
-            self.web.count("pages that are other spellings of a page", len(found))
-            self.known.update(found)
-            pages = found
+        """Add all pages, and then their other spellings that links or redirects lead to."""
+        found: dict[str, str] = {}
+        for url, name in sorted(self.files.items()):
+            found.update(self.other_spellings(self.write_file(url, name), url))
+        for url, target in self.moves.items():
+            self.web.moved(url, self.target(target))
+        again = self.write_spelled(found)
+        self.write_spelled({text: plain for text, plain in again.items() if text not in found})
 
 
 # ---------------------------------------------------------------- web archives
@@ -1006,7 +1052,7 @@ def unpacked(body: bytes, coding: str) -> Optional[bytes]:
     return body
 
 
-class Answer:
+class Response:
     """An HTTP response: its status (None if it is not one), headers and body."""
 
     def __init__(self, block: bytes) -> None:
@@ -1060,35 +1106,35 @@ class Archive:
             self.web.count("records of URLs that are neither http nor https")
             return
         if len(block) >= DOCUMENT_LIMIT:
-            self.web.tell("only the beginning of the record was read, it is too large", url.text())
+            self.web.note("only the beginning of the record was read, it is too large", url.text())
         if url.host is None:
-            self.web.tell("page skipped, its host cannot be written in canonical form", target)
+            self.web.note("page skipped, its host cannot be written in canonical form", target)
         elif headers["warc-type"] == "resource":
             self.document(block, url, headers.get("content-type", ""), digest)
         elif headers["warc-type"] == "revisit":
-            self.revisit(Answer(block), url, digest)
+            self.revisit(Response(block), url, digest)
         else:
-            self.answer(Answer(block), url, digest)
+            self.response(Response(block), url, digest)
 
-    def answer(self, answer: Answer, url: Url, digest: Optional[str]) -> None:
+    def response(self, response: Response, url: Url, digest: Optional[str]) -> None:
         """Add the page of an HTTP response, if it is one."""
-        target = answer.target()
+        target = response.target()
         if target is not None:
             self.web.moved(url.text(), cleaned(target))
-        elif answer.is_page():
-            self.document(answer.content(), url, answer.headers.get("content-type", ""), digest)
+        elif response.is_page():
+            self.document(response.content(), url, response.headers.get("content-type", ""), digest)
         else:
-            status = "none" if answer.status is None else answer.status
+            status = "none" if response.status is None else response.status
             self.web.count(f"responses that are not pages, status {status}")
 
-    def revisit(self, answer: Answer, url: Url, digest: Optional[str]) -> None:
+    def revisit(self, response: Response, url: Url, digest: Optional[str]) -> None:
         """Add a page with the same content as an earlier record, which may be missing."""
-        if not answer.is_page() and answer.status not in (None, 304):
-            self.answer(answer, url, digest)
+        if not response.is_page() and response.status not in (None, 304):
+            self.response(response, url, digest)
         elif digest in self.by_digest:
             self.web.again(url.text(), self.by_digest[digest])
         else:
-            self.web.tell("links skipped, the first record with this content is missing", url.text())
+            self.web.note("links skipped, the first record with this content is missing", url.text())
             self.web.page(url.text(), [])
 
     def document(self, body: Optional[bytes], url: Url, kind: str, digest: Optional[str]) -> None:
@@ -1096,12 +1142,12 @@ class Archive:
         charset = re.search(r"(?i)charset\s*=\s*[\"']?([^\s\"';]+)", kind)
         kind = kind.partition(";")[0].strip().lower()
         if body is None:
-            self.web.tell("links skipped, the content coding is unknown or the body is invalid", url.text())
+            self.web.note("links skipped, the content coding is unknown or the body is invalid", url.text())
             links = []
         else:
             links = links_of(body, url, kind, self.web, charset[1] if charset else None)
             if len(body) >= DOCUMENT_LIMIT and is_document(kind, body):
-                self.web.tell("only the links at the beginning were read, the page is too large", url.text())
+                self.web.note("only the links at the beginning were read, the page is too large", url.text())
         if self.web.page(url.text(), links) and digest:
             self.by_digest.setdefault(digest, url.text())
 
@@ -1135,6 +1181,11 @@ def command_line() -> CommandLine:
         "--queries", action="store_true", help="read a ? in a file name as the start of a query (for `wget -r`)"
     )
     words.add_argument("--exact", action="store_true", help="accept only the exact spelling of a page's URL")
+    words.add_argument(
+        "--follow",
+        action="store_true",
+        help="follow symbolic links that lead out of FOLDER, which are otherwise listed and skipped",
+    )
     words.add_argument(
         "--styles", action="store_true", help="also read url() and @import in styles and style sheets"
     )

@@ -4,7 +4,7 @@ from __future__ import annotations
 
 import re
 from bisect import bisect_right
-from typing import Any, Dict, FrozenSet, List, NamedTuple, Optional, Tuple
+from typing import Any, Dict, FrozenSet, List, NamedTuple, Optional, Set, Tuple
 from urllib.parse import quote
 
 from checking import loading
@@ -147,11 +147,10 @@ def texts_of(tag: str, found: Dict[str, Attribute]) -> List[Link]:
     return links
 
 
-def document_of(body: bytes) -> Document:
-    """Reads a document."""
-    text, charset = text_of(body)
+def read_tags(text: str) -> Tuple[List[Link], Optional[str], Set[str]]:
+    """The links, the base and the ids of a document with this text."""
     links: List[Link] = []
-    ids = set()
+    ids: Set[str] = set()
     base = None
     for tag in start_tags(text):
         found = firsts(tag)
@@ -162,5 +161,12 @@ def document_of(body: bytes) -> Document:
             ids.add(found["id"].value)
         if tag.name == "a" and "name" in found:
             ids.add(found["name"].value)
+    return links, base, ids
+
+
+def document_of(body: bytes) -> Document:
+    """Reads a document."""
+    text, charset = text_of(body)
+    links, base, ids = read_tags(text)
     document = Document(tuple(links), base, frozenset(ids), Lines(text), charset)
     return in_ascii(document) if charset == "other" else document

@@ -1,4 +1,7 @@
-"""Random folders: those of site.py with ids and fragments, copies with one change per document, and folders of many files."""
+"""Random folders: odd names, links in many spellings, documents in several encodings, and symbolic links.
+
+Also copies of a folder with one change in each document, and folders of many files.
+"""
 
 from __future__ import annotations
 
@@ -7,20 +10,45 @@ import shutil
 import socket
 from pathlib import Path
 from random import Random
-from typing import Any
+from typing import Any, List
 from urllib.parse import quote as escaped
 
-from checking import loading
-
-SITE: Any = loading.script("site_folders", "tests/site.py")
+NAMES = """index.html index.html index.html a.html b.htm c d.txt e%20f.html g h.html \u00fc.html i?j.html k#l.html m+n.html [o].html p&q.html
+r;s.html t=u.html v@w.html x:y.html ~z.html %.html %zz.html A.HTML A.html %41.html %2541.html %61.html .html .hidden ...html caf\u00e9
+\u65e5\u672c.html 'q'.html "q".html <r>.html {s}.html |t|.html ^u.html `v`.html \\w.html x.xhtml y.svg z.css index.htm INDEX.HTML
+index.html? %69ndex.html index%2ehtml a.html.gz a.html?b ?b # %2e %2E%2e""".split()
+NAMES += ["\u0085.html", "a b.html", " .html", "a\tb.html", "a\nb.html", "\x01.html", "\x1b[31m.html", "\x7f.html", "\u202ex.html", "\u2028"]
+FOLDERS = ["", "", "", "sub/", "sub/deep/", "a.html.d/", "e f/", "%41/", "A/", "a/", "%61/", "\u00e4/", "q?r/", "h#/", "\x1b/", "sub/index.html/"]
+BASES = [
+    "", "sub/", "/", "http://docs.test/sub/", "//other.test/x/", "mailto:x", "data:x", "x y", "?q", "#f", "https:g", "../..", "http://", "\u00fc/",
+    "sub/#\u00fc", "s%75b/", "./%2e/sub", "sub/?q", "index.html", "index.html?x", "/sub//", "/./sub/../sub/",
+]
+HEADS = ["", "", "", "<!doctype html>", "<html>", "\n<!-- c --><!DOCTYPE HTML>", "<?xml version='1.0'?><html>", "<!-- --> -->\n<html>"]
+DECLARED = [
+    "", "", "", "<meta charset=utf-8>", '<meta charset="windows-1252">', "<meta charset=iso-8859-1>", "<meta charset=koi8-r>",
+    "<meta charset=utf-16>", "<meta charset=windows-1251>", "<meta charset=shift_jis>", "<meta charset=iso-8859-15>",
+    '<meta name=a content="charset=l1">', "<!-- <meta charset=l1> --><!--><META/charset=' L1 '>", '<meta charset=utf8 content="charset=l1">',
+    "<meta http-equiv=Content-Type content='a; charset Charset = l1;b'>", '<p x="<meta charset=l1>"></p x=">"><meta charset=x>', "<meta charset=''>",
+    "<meta http-equiv=content-type content='charset=\"cp819\"' charset>", "<meta content=charset='l1 http-equiv=content-TYPE>", "<?x <meta charset=l1>",
+]
+ENDS = [
+    "", "", "", "?", "?a=b", "?\u00fc", "?&uuml;&#1092;", "?%61", "?b", "#f", "#\u00fc", "#x", "?x#y", "?#x", "/", "/index.html", "/?", "//", "/.", "/..",
+    "?" + "x" * 10, "?" + "x" * 4080, "?" + "x" * 4090, "?" + "x" * 5000,
+]
+OWN = ["", "", "?", "?x", "?x#y", "#", "#x", "?#x", ".", "./", "./?", "index.html", "index.html?x", "%69ndex.html", "..", "../", "../?x"]
+FOREIGN = [
+    " ", "\n x \t", "javascript:x", "data:," + "y" * 5000, "x#" + "z" * 5000, "mailto:\u00e9" + "\u00fc" * 3000, "%", "%f", "a\tb\nc", "http://[::1]/",
+    "http:x", "&#128;", "//docs.test/sub", "http://docs.test/sub", "/sub?x", "e%20f?a%20b", "http://docs.test", "https://docs.test/", "/m%61nual/",
+    "/manual", "/manual/a.html", "//",
+]
 FRAGMENTS = [
     "", "x", "x", "y", "X", "\u00fc", "%C3%BC", "%c3%bc", "a b", "a%20b", "a+b", "top", "TOP", "%74op", "top%20", ":~:text=x",
     "x:~:text=y", "y:~", "y&amp;z", "y&z", "%zz", "%", "%FF", "'", "&quot;", "\u65e5", "#x", "x#y", "\t", "x\n", "&#120;", "\0", "&NoBreak;", "<x>", "`",
-    "a b%41", "\u00fc%79",
+    "a b%41", "\u00fc%79", "%78", "&#27;[31m",
 ]
 IDS = [
     "x", "x", "y", "\u00fc", "%C3%BC", "a b", "a+b", "TOP", "y&amp;z", "x:~:text=y", "", "A", "%", "\u65e5", "#x", " x", "&#120;",
-    "<x>", "`", "&quot;", "a b%41", "\u00fc%79", "\u00fcy",
+    "<x>", "`", "&quot;", "a b%41", "\u00fc%79", "\u00fcy", "%78",
 ]
 PIECES = [
     "<!-- <a href=gone.html id=x> -->", "<!--><p id=y>", "<script><!--<script></script><a href=gone1.html>--></script>", "<script>x</script>",
@@ -33,10 +61,59 @@ PIECES = [
     "<a href=https://docs.test/x><a href=http://www.docs.test/>", "<a href=http://docs.test:8080/x><a href=http://docs.tes/>",
     "<a href=http://me@docs.test/x><a href=//docs.test.org/>", "<a href=http://docs.test:80/gone18.html>",
 ]
+TARGETS = [
+    ".", "..", "sub", "sub/", "./a", "../site", "../site/sub", "../site/a.html", "a.html", "index.html", "linked", "gone", "../site2", "../site2/in.html",
+    "../out.html", "../gone.html", "/dev/null", "../site2/back",
+]
+LINKED = ["linked", "linked.html", "linked.html", "index.html", "sub/linked", "a/linked.html"]
+
+
+def spelled(draw: Random, name: str) -> str:
+    """A name with its special characters, and some others, as percent-escapes."""
+    share = draw.choice([0, 0, 0.1, 0.5])
+    special = draw.choice(["%?#", "%?#\\ ", "%?#\\\"<>`{}^ "])
+    letters = []
+    for letter in name:
+        if letter in special or not letter.isprintable() or letter != "/" and draw.random() < share:
+            escapes = (draw.choice(["%{:02x}", "%{:02X}"]).format(byte) for byte in letter.encode("utf-8", "surrogateescape"))
+            letters.append("".join(escapes))
+        else:
+            letters.append(letter)
+    return "".join(letters)
+
+
+def path_to(draw: Random, name: str, place: str) -> str:
+    """A path from a document in the folder `place` to a name: relative or absolute, sometimes with needless segments."""
+    kind = draw.random()
+    if kind < 0.15:
+        return name
+    if kind < 0.25:
+        return draw.choice(["/", "//docs.test/", "http://DOCS.test:80/", "http://docs.test/manual/"]) + name
+    up = "../" * place.count("/")
+    if kind < 0.35:
+        middle = draw.choice(["./", "x/../", "%2e/", "/", ".//", "sub/../", "sub/%2e%2E/", "\\", "..\\", "%2F"])
+        return up + (name.replace("/", "/" + middle) if "/" in name else middle + name)
+    return up + name
+
+
+def random_link(draw: Random, names: List[str], place: str) -> str:
+    """A random link of a document in the folder `place`: to a file, to a folder, to the document itself, or any text."""
+    kind = draw.random()
+    if kind < 0.15:
+        return draw.choice(OWN)
+    if kind < 0.25:
+        return draw.choice(FOREIGN)
+    name = draw.choice(names)
+    if kind < 0.4:
+        return path_to(draw, name, place)  # as it is, without escapes
+    if kind < 0.7:
+        folder = name.rpartition("/")[0] + "/"
+        name = draw.choice([name, folder, folder, folder[:-1], folder + "index.html"])
+    return path_to(draw, spelled(draw, name.lstrip("/")), place) + draw.choice(ENDS)
 
 
 class Documents:
-    """Makes random documents for site.py."""
+    """Makes random documents."""
 
     def __init__(self, wild: float) -> None:
         self.wild = wild
@@ -53,27 +130,107 @@ class Documents:
         if draw.random() < 0.3:
             value = draw.choice(IDS).replace(quote, "")
             return f"<{draw.choice(['p', 'p', 'h1', 'a'])} {draw.choice(['id', 'id', 'name', 'ID'])}={quote}{value}{quote}>"
-        name = draw.choice(["", "", *SITE.FOLDERS]) + draw.choice(["", *SITE.NAMES]) if draw.random() < 0.8 else ""
+        name = draw.choice(["", "", *FOLDERS]) + draw.choice(["", *NAMES]) if draw.random() < 0.8 else ""
         link = name.replace(quote, "") + draw.choice(["", "", "#", "#", " #"]) + draw.choice(FRAGMENTS).replace(quote, "")
         return draw.choice(["", "", " ", "\n"]) + f"<a href={quote}{link}{quote}>"
 
 
-def draw_folder(draw: Random, top: Path) -> None:
+def random_file(draw: Random, documents: Any, names: List[str], name: str) -> bytes:
+    """The bytes of a random file with this name."""
+    if draw.random() < 0.1:
+        return draw.choice([b"", b"plain", bytes(draw.randrange(256) for _ in range(200)), b"<html", b"\xef\xbb\xbf<html>"])
+    text = draw.choice(HEADS) + draw.choice(DECLARED)
+    if draw.random() < 0.15:
+        text += f'<base href="{draw.choice(BASES)}">'
+    place = name[:name.rfind("/") + 1]
+    for _ in range(draw.randint(0, 12)):
+        link = random_link(draw, names, place).replace('"', "&quot;")
+        text += f'<a href="{link}">x</a>'
+    if draw.random() < 0.5:
+        text += documents.drawn_document(draw, draw.random() < 0.5)
+    encoding = draw.choice(["utf-8"] * 6 + ["cp1252", "latin-1", "utf-16-le", "utf-16-be", "utf-8-sig"])
+    mark = {"utf-16-le": b"\xff\xfe", "utf-16-be": b"\xfe\xff"}.get(encoding, b"")
+    return mark + text.encode(encoding, "replace") + (b"\xff\x81" if draw.random() < 0.05 else b"")
+
+
+def write(path: Path, content: bytes) -> None:
+    """Writes a file, and the folders above it, unless something else has one of these names."""
+    if not os.path.lexists(path) and not any(up.is_file() for up in path.parents):
+        path.parent.mkdir(parents=True, exist_ok=True)
+        path.write_bytes(content)
+
+
+def draw_files(draw: Random, documents: Any, top: Path) -> None:
+    """Fills a folder with random files."""
+    names = sorted({draw.choice(FOLDERS) + draw.choice(NAMES) for _ in range(draw.randint(1, 14))})
+    for name in names:
+        write(top / name, random_file(draw, documents, names, name))
+
+
+def draw_nest(draw: Random, top: Path) -> None:
+    """Adds nested folders whose index files have links to the next folder in several spellings."""
+    name = draw.choice(["a", "a", "%41", "\u00fc", "d e", "q?r"])
+    folder = draw.choice(["", "", "sub/"])
+    for _ in range(draw.randint(2, 8)):
+        links = [spelled(draw, name) + draw.choice(["/", "/", "", "/?x", "?x", "/index.html", "/index.html?y", "//"]) for _ in range(draw.randint(2, 4))]
+        links += [draw.choice(OWN) for _ in range(draw.randint(0, 2))] + ["gone" for _ in range(draw.randint(0, 1))]
+        text = "".join(f'<a href="{link}">' for link in links)
+        write(top / folder / "index.html", text.encode())
+        folder += name + "/"
+    write(top / folder / draw.choice(["index.html", "index.html", "a.html"]), b"<p id=x>")
+
+
+def draw_symbolic_links(draw: Random, top: Path) -> None:
+    """Adds symbolic links, and something outside of the folder to which some lead."""
+    write(top.parent / "out.html", b"<a href=x><a href=a.html>")
+    write(top.parent / "site2/in.html", b"<a href=../a.html><a href=gone>")
+    os.symlink("../site", top.parent / "site2/back")
+    for _ in range(draw.randint(1, 3)):
+        place = top / draw.choice(LINKED)
+        if place.parent.is_dir() and not os.path.lexists(place):
+            up = "../" if place.parent != top and draw.random() < 0.8 else ""
+            target = up + draw.choice(TARGETS)
+            if draw.random() < 0.2 and not target.startswith("/"):
+                target = os.path.normpath(place.parent / target)
+            os.symlink(target, place)
+
+
+def random_options(draw: Random) -> List[str]:
+    """Random options of `mercator site`."""
+    options = ["--exact"] if draw.random() < 0.2 else []
+    options += ["--queries"] if draw.random() < 0.3 else []
+    return options + (["--follow"] if draw.random() < 0.3 else [])
+
+
+def draw_folder(draw: Random, documents: Any, top: Path) -> None:
     """Fills a folder. Half of the folders without an index file get one that links to their documents."""
-    SITE.draw_folder(draw, Documents(draw.choice([0.1, 0.3, 0.6])), top)
-    if draw.random() < 0.2:
-        add_odd(top)
-    if draw.random() < 0.5 and not (top / "index.html").exists():
+    if draw.random() < 0.25:
+        draw_nest(draw, top)
+    draw_files(draw, documents, top)
+    if draw.random() < 0.4:
+        draw_symbolic_links(draw, top)
+    if draw.random() < 0.1:
+        add_odd(draw, top)
+    if draw.random() < 0.5 and not os.path.lexists(top / "index.html"):
         names = sorted(path.relative_to(top).as_posix() for path in top.rglob("*.html") if path.is_file())[:12]
         links = [f'<a href="{escaped(name.encode("utf-8", "surrogateescape"))}">x</a>\n' for name in names]
         (top / "index.html").write_text("".join(links) + "<p id=x>", encoding="utf-8")
+    if not any(path.is_file() for path in top.rglob("*")):
+        write(top / "only.html", b"")
 
 
-def add_odd(top: Path) -> None:
-    """Adds rare things: a name of the greatest length, a socket, and symbolic links to nothing or to themselves."""
+def add_odd(draw: Random, top: Path) -> None:
+    """Adds rare things: long names, a name that is not UTF-8, a FIFO, a socket, and symbolic links to nothing or to themselves."""
     (top / ("n" * 250 + ".html")).write_text("<a href=x#y>", "utf-8")
-    os.symlink("itself.html", top / "itself.html")
-    os.symlink("gone.html", top / "dead.html")
+    deep = "/".join([draw.choice(["%" * 200, "\u00fc" * 100])] * draw.randint(5, 8))
+    write(top / deep / "index.html", b"<a href=?x><a href=gone>")
+    write(top / "deep.html", f'<a href="{deep}/"><a href="{deep}/?y"><a href="{escaped(deep)}/?z"><a href="{escaped(deep)}/">'.encode())
+    for target, name in (("itself.html", "itself.html"), ("gone.html", "dead.html")):
+        if not os.path.lexists(top / name):
+            os.symlink(target, top / name)
+    with open(os.path.join(os.fsencode(top), b"caf\xe9.html"), "wb") as file:
+        file.write(b"<a href=x>")
+    os.mkfifo(top / "fifo.html")
     here = os.getcwd()
     os.chdir(top)  # because the path of a socket must be short
     try:

@@ -11,11 +11,13 @@ import subprocess
 from html.parser import HTMLParser
 from typing import Dict, List, Optional, Tuple
 
-from checking.reckoning import Row
+from checking.model import Row
 
 CODES = re.compile(rb"\x1b\[[0-9]+m")
 POLICY = re.compile(r"script-src 'sha256-([^']*)'")
 SCRIPT = re.compile(r"<script>(.*?)</script>", re.S)
+# C0, DEL, C1, the line separators, and the characters that change the direction of writing
+CONTROL = "[\0-\x1f\x7f-\x9f\u2028\u2029\u202a-\u202e\u2066-\u2069]"
 
 
 def on_terminal(words: List[str], **named: str) -> bytes:
@@ -80,8 +82,16 @@ def wrong(row: Row) -> str:
 
 
 def shown(text: str) -> str:
-    """A text with symbols for its control characters."""
-    return re.sub("[\0-\x1f\x7f]", lambda one: chr(0x2421 if one[0] == "\x7f" else 0x2400 + ord(one[0])), text)
+    """A text with escapes for its control characters, as people see it."""
+    return re.sub(CONTROL, lambda one: f"\\u{{{ord(one[0]):x}}}", text)
+
+
+def control_fault(text: bytes, allowed: str = "\n") -> Optional[str]:
+    """The first line with a control character that is not allowed."""
+    for line in text.decode("utf-8").split("\n"):
+        if any(one not in allowed for one in re.findall(CONTROL, line)):
+            return f"a control character in {line!r}"
+    return None
 
 
 def line_of(row: Row) -> Tuple[str, str]:
@@ -103,8 +113,10 @@ def line_of(row: Row) -> Tuple[str, str]:
 
 
 def heading(total: Row) -> str:
-    """The text of the heading."""
-    return f"<b>{total['broken']}</b> broken link{'' if total['broken'] == 1 else 's'}</h1>"
+    """The text of the heading: the number of broken links, or that of missing pages if no link leads to them."""
+    is_linked = total["broken"] > 0 or total["missing_pages"] == 0
+    count, noun = (total["broken"], "broken link") if is_linked else (total["missing_pages"], "missing page")
+    return f"<b>{count}</b> {noun}{'' if count == 1 else 's'}</h1>"
 
 
 def page_fault(page: bytes, rows: List[Row]) -> Optional[str]:
@@ -117,11 +129,11 @@ def page_fault(page: bytes, rows: List[Row]) -> Optional[str]:
         return f"its heading is not {heading(rows[0])}"
     read = Lines()
     read.feed(text)
-    wanted: Dict[str, str] = {}
+    expected: Dict[str, str] = {}
     for row in rows:
         if row["kind"] != "total":
             part, line = line_of(row)
-            wanted[part] = wanted.get(part, "\n") + line + "\n"
-    if read.texts != wanted:
-        return f"actual {read.texts}, expected {wanted}"
+            expected[part] = expected.get(part, "\n") + line + "\n"
+    if read.texts != expected:
+        return f"actual {read.texts}, expected {expected}"
     return None

@@ -52,11 +52,11 @@ def number_read(number: int) -> str:
     return chr(C1.get(number, number))
 
 
-def name_read(text: str, behind: str) -> str:
-    """The text of `&` and a run of letters and digits in a value, if `behind` follows the run."""
+def name_read(text: str, following: str) -> str:
+    """The text of `&` and a run of letters and digits in a value, if the text `following` is after the run."""
     for end in range(min(len(text), LONGEST_NAME), 0, -1):
         if text[:end] in NAMED:
-            more = text[end:] + behind
+            more = text[end:] + following
             if text[end - 1] != ";" and re.match("[=0-9A-Za-z]", more):
                 break
             return NAMED[text[:end]] + text[end:]

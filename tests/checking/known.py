@@ -1,0 +1,177 @@
+"""Small folders with known results, which were found by hand."""
+
+from __future__ import annotations
+
+from typing import Any, Dict, List, NamedTuple, Tuple, Union
+
+
+class To(NamedTuple):
+    """A symbolic link to a path."""
+
+    path: str
+
+
+class Zeros(NamedTuple):
+    """A file of this number of zeros, which takes no room on the disk."""
+
+    size: int
+
+
+class Known(NamedTuple):
+    """A folder with its results."""
+
+    name: str
+    files: Dict[str, Union[str, bytes, To, Zeros]]
+    # The broken links: TARGET FILE:LINE:COLUMN, or only TARGET if no link leads to it; an anchor has a `#`
+    broken: List[str]
+    rows: Tuple[Dict[str, Any], ...] = ()  # some members of some rows
+    follow: bool = False  # whether symbolic links out of the folder are followed
+
+
+def total(pages: int, links: int, redirects: int, aliases: int) -> Tuple[Dict[str, Any]]:
+    """The row of totals."""
+    return ({"kind": "total", "pages": pages, "links": links, "redirects": redirects, "aliases": aliases},)
+
+
+def anchors(name: str, ids: str, links: str, broken: List[str]) -> Known:
+    """A page a.html with these elements, and an index file with each of these links on its own line."""
+    lines = "".join(f'<a href="a.html{link}">\n' for link in links.split(" "))
+    return Known(name, {"index.html": lines, "a.html": ids}, broken)
+
+
+KNOWN = [
+    Known("a missing page", {"index.html": "<p>\n <a href='gone.html'>"}, ["gone.html index.html:2:11"]),
+    Known("two links to one page", {"index.html": "<a href=x><img src=x>"}, ["x index.html:1:9", "x index.html:1:20"]),
+    Known("columns are characters", {"index.html": "\u00fc\u65e5\U0001f514<a href=x>"}, ["x index.html:1:12"]),
+    Known("spaces before a value", {"index.html": "<a href =\n 'x'>"}, ["x index.html:2:3"]),
+    Known("all links of a srcset", {"index.html": "<img srcset='x 1x, y 2x'>"}, ["x index.html:1:14", "y index.html:1:14"]),
+    Known("the first of two attributes with one name", {"index.html": "<a href=x href=y>"}, ["x index.html:1:9"]),
+    Known("no links in a comment", {"index.html": "<!-- <a href=x> --!><a href=y><!--><a href=z>"}, ["y index.html:1:29", "z index.html:1:44"]),
+    Known("no links in a script", {"index.html": "<script>'<a href=x>'</script><a href=y>"}, ["y index.html:1:38"]),
+    Known("an escaped script", {"index.html": "<script><!--<script></script><a href=x>--></script><a href=y>"}, ["y index.html:1:60"]),
+    Known("character references", {"index.html": "<a href='x&amp;y&copy=1'>"}, ["x&y&copy=1 index.html:1:10"]),
+    Known("a tag that is cut off at the end", {"index.html": "<a href=x><a href='y"}, ["x index.html:1:9"]),
+    Known("a space before a fragment", {"index.html": "<a href=' x #y '>"}, ["x%20 index.html:1:10"]),
+    Known(
+        "only ASCII in an unknown encoding",
+        {"index.html": b"<meta charset=koi8-r><a href=\xc1><a href=x><a href='&#1092;'><a href='y#\xc1'>"},
+        ["%D1%84 index.html:1:51", "x index.html:1:40", "y index.html:1:69"],
+    ),
+    Known(
+        "an unknown base",
+        {"index.html": b"<meta charset=koi8-r><base href='\xc1/'><a href=x><a href=http://docs.test/y>"},
+        ["y index.html:1:56"],
+    ),
+    Known(
+        "unknown anchors",
+        {"index.html": "<a href='a.html#\u00fc'><a href=a.html#y>", "a.html": b"<meta charset=koi8-r><p id=x><a name=\xc1><a href=#z>"},
+        [],
+    ),
+    Known(
+        "known anchors in an unknown encoding",
+        {"index.html": "<a href=a.html#x><a href=a.html#y>", "a.html": b"<meta charset=koi8-r><p id=x>\xc1<a href=#z>"},
+        ["a.html#y index.html:1:26", "a.html#z a.html:1:39"],
+    ),
+    Known("a folder without an index file", {"index.html": "<a href=f>", "f/a.html": ""}, ["f/ index.html:1:9"]),
+    Known("a folder with an index file", {"index.html": "<a href=f>", "f/index.html": "<a href=a>"}, ["f/a f/index.html:1:9"]),
+    Known("a base", {"index.html": "<base href=f/><a href=a.html><a href=b.html>", "f/a.html": ""}, ["f/b.html index.html:1:38"]),
+    Known("no index", {"a.html": "<a href=x>"}, ["./"]),
+    Known("other schemes and hosts", {"index.html": "<a href=mailto:x><a href=//other.test/x><a href=ftp:x>"}, []),
+    anchors("an id", "<p id=x>", "#x #y", ["a.html#y index.html:2:10"]),
+    anchors("case matters", "<p id=x>", "#X", ["a.html#X index.html:1:10"]),
+    anchors("the name of an a", "<a name=x><b name=y>", "#x #y", ["a.html#y index.html:2:10"]),
+    anchors("the top", "<p>", "# #top #TOP #%74op #top2", ["a.html#top2 index.html:5:10"]),
+    anchors("percent-decoded", "<p id='a b'><p id=\u00fc><p id=%41>", "#a%20b #%C3%BC #\u00fc #%41 #A", ["a.html#A index.html:5:10"]),
+    anchors("escapes next to other letters", "<p id=\u00fc%41><p id=\u00fcB>", "#\u00fc%41 #\u00fc%42", ["a.html#\u00fc%41 index.html:1:10"]),
+    anchors("fragments are reported as written", "<p>", "#\u00fc #%C3%BC", ["a.html#%C3%BC index.html:2:10", "a.html#\u00fc index.html:1:10"]),
+    anchors("text fragments", "<p id=x>", "#:~:text=y #x:~:text=y #z:~:text=y", ["a.html#z:~:text=y index.html:3:10"]),
+    anchors("a query does not change the anchors", "<p id=x>", "?q#x ?q#y", ["a.html?q#y index.html:2:10"]),
+    Known("anchors of the same page", {"index.html": "<a href=#x><a href='#y'><p id=x>"}, ["./#y index.html:1:21"]),
+    Known("an anchor of one page is not one of another", {"index.html": "<p id=x><a href=a.html#x>", "a.html": ""}, ["a.html#x index.html:1:17"]),
+    Known("an anchor of a folder", {"index.html": "<a href=f#x><a href=f#y>", "f/index.html": "<p id=x>"}, ["f/#y index.html:1:21"]),
+    Known("any anchor of a file that is not a document", {"index.html": "<a href=a.pdf#page=2><img src=b.svg#x>", "a.pdf": "", "b.svg": ""}, []),
+    Known(
+        "two spellings of each nested folder",
+        {"a/" * depth + "index.html": "<a href=a/><a href=%61/>" if depth < 22 else "" for depth in range(23)},
+        [],
+        total(pages=23, links=44, redirects=0, aliases=22),
+    ),
+    Known(
+        "twenty queries of a page",
+        {"index.html": "".join(f"<a href=p.html?{number}>" for number in range(20)), "p.html": "<a href=gone.html>"},
+        ["gone.html p.html:1:9"],
+        (*total(pages=2, links=21, redirects=0, aliases=20), {"kind": "broken", "target": "gone.html", "pages": 1}),
+    ),
+    Known(
+        "links to the same page",
+        {"index.html": "<a href=''><a href='?'><a href='?x'><a href='#x'><a href=index.html><a href=gone>"},
+        ["./#x index.html:1:46", "gone index.html:1:77"],
+        (
+            *total(pages=1, links=6, redirects=0, aliases=3),
+            {"kind": "broken", "target": "./#x", "pages": 1},
+            {"kind": "broken", "target": "gone", "pages": 1},
+        ),
+    ),
+    Known(
+        "an anchor of a page in three spellings",
+        {"index.html": "<a href=p.html#y><a href=p.html?1#y><a href=%70.html#y><a href=p.html?1#x>", "p.html": "<p id=x>"},
+        ["%70.html#y index.html:1:45", "p.html#y index.html:1:9", "p.html?1#y index.html:1:26"],
+        total(pages=2, links=4, redirects=0, aliases=2),
+    ),
+    Known(
+        "a folder without its slash, with a query",
+        {"index.html": "<a href=f?x#y><a href=%66>", "f/index.html": ""},
+        ["f/?x#y index.html:1:9"],
+        total(pages=2, links=2, redirects=2, aliases=1),
+    ),
+    Known(
+        "a page that links to its folder with escapes",
+        {"index.html": "<a href=%64/p.html>", "d/p.html": "<a href=q.html><a href=gone>", "d/q.html": "<a href=gone>"},
+        ["d/gone d/p.html:1:24", "d/gone d/q.html:1:9"],
+        (*total(pages=3, links=4, redirects=0, aliases=1), {"kind": "broken", "target": "d/gone", "pages": 2}),
+    ),
+    Known(
+        "names that differ only in their escapes",
+        {"index.html": "<a href=A.html#x><a href=%41.html#x><a href=%2541.html#x>", "A.html": "<p id=x>", "%41.html": ""},
+        ["%2541.html#x index.html:1:45"],
+        total(pages=3, links=3, redirects=0, aliases=1),
+    ),
+    Known(
+        "symbolic links in the folder and out of it",
+        {
+            "index.html": "<a href=in.html><a href=in/a.html><a href=out.html><a href=out/a.html><a href=near/a.html>",
+            "b/a.html": "<a href=gone.html>", "in.html": To("b/a.html"), "in": To("b"),
+            "out.html": To("../a.html"), "out": To(".."), "near": To("../site2"),
+            "../a.html": "<a href=gone.html>", "../site2/a.html": "",
+        },
+        [
+            "gone.html in.html:1:9", "in/gone.html in/a.html:1:9", "near/a.html index.html:1:79", "out.html index.html:1:43",
+            "out/a.html index.html:1:60",
+        ],
+        total(pages=3, links=7, redirects=0, aliases=0),
+    ),
+    Known(
+        "symbolic links out of the folder that are followed",
+        {
+            "index.html": "<a href=out.html><a href=out/a.html><a href=near/a.html>",
+            "out.html": To("../a.html"), "out": To(".."), "near": To("../site2"),
+            "../a.html": "<a href=gone.html>", "../site2/a.html": "",
+        },
+        ["gone.html out.html:1:9", "out/gone.html out/a.html:1:9"],
+        total(pages=4, links=5, redirects=0, aliases=0),
+        follow=True,
+    ),
+    Known(
+        "a symbolic link to a file of the system that never ends",
+        {"index.html": "<a href=x.html>", "x.html": To("/proc/kmsg")},
+        [],
+        total(pages=2, links=1, redirects=0, aliases=0),
+        follow=True,
+    ),
+    Known(
+        "a file of three gibibytes",
+        {"index.html": "<a href=x.html#y>", "x.html": Zeros(3 << 30)},
+        [],
+        total(pages=2, links=1, redirects=0, aliases=0),
+    ),
+]

@@ -1,0 +1,412 @@
+"""The broken links of a folder, by a model of a plain static server and a search from the top.
+
+drawn.py parses the URLs. It raises NotPlain if a URL needs tables that it does not have.
+"""
+
+from __future__ import annotations
+
+import os
+import re
+from collections import Counter
+from functools import lru_cache
+from typing import AbstractSet, Any, Dict, Iterator, List, NamedTuple, Optional, Set, Tuple, Union
+from urllib.parse import quote, unquote_to_bytes
+
+import drawn
+from checking.documents import TOOL, Document, document_of, with_query_in
+
+Row = Dict[str, Any]
+FRAGMENT = "\"<>`"  # percent-encoded in a fragment, in addition to controls, spaces and everything beyond ASCII
+MOST_FILES = 10  # the number of files in the list of files with the most broken links
+LINE_LIMIT = 4096  # the most bytes in a line of a saved web
+FILE_LIMIT = 1 << 30  # the most bytes of a file that is read
+INDEX = b"index.html"
+
+
+class Found(NamedTuple):
+    """A file at its own URL."""
+
+    name: bytes  # the file's path in the folder
+
+
+class Alias(NamedTuple):
+    """A file at another URL than its own."""
+
+    name: bytes
+    own: str
+
+
+class Moved(NamedTuple):
+    """A redirect."""
+
+    url: str
+
+
+Response = Union[Found, Alias, Moved, None]
+
+
+class Place(NamedTuple):
+    """The location of a link."""
+
+    file: str
+    line: int
+    column: int
+
+
+class Link(NamedTuple):
+    """A link of a page: its target and its location."""
+
+    url: str
+    fragment: Optional[str]
+    place: Place
+
+
+class Settings(NamedTuple):
+    """The settings of a check."""
+
+    base: str
+    front: str = ""  # the prefix that is removed from URLs in the report
+    ignores: Tuple[str, ...] = ()
+    anchors: bool = True
+    unreached: bool = False
+    exact: bool = False
+    external: bool = False
+    follow: bool = False
+    queries: bool = False
+    seeds: Tuple[str, ...] = ()  # links on the top at which the search starts
+
+
+def url_of(text: str, base: drawn.Url) -> Optional[str]:
+    """The URL of a link without its fragment, or None if it is not http or https."""
+    text, mark, _ = TOOL.cleaned(text).partition("#")
+    if not text:
+        return str(base)
+    if mark:
+        # Spaces before a fragment are not at the end of the text, so they are not removed
+        text = re.sub(r"[\0-\x20]+\Z", lambda run: quote(run[0]), text)
+    # The result is the same for all pages of a folder
+    return resolved(text, base if text[0] == "?" else base._replace(path=(*base.path[:-1], ""), query=""))
+
+
+@lru_cache(maxsize=1 << 18)
+def resolved(text: str, base: drawn.Url) -> Optional[str]:
+    """The URL of a text without a fragment."""
+    if not TOOL.is_web(TOOL.scheme_of(text)):
+        return None
+    path, mark, query = text.partition("?")
+    # The current URL Standard escapes this character, and drawn.py rejects it
+    url = drawn.url_or_none(path.replace("^", "%5E") + mark + query, base)
+    return None if url is None else str(url)
+
+
+def is_short(word: str, text: str) -> bool:
+    """Whether a line of a saved web with this word and text is within the limit."""
+    return len(f"{word} {text}".encode("utf-8", "replace")) <= LINE_LIMIT
+
+
+def fragment_of(text: str) -> Optional[str]:
+    """The text after the `#` of a link, or None if it has none."""
+    _, mark, fragment = TOOL.cleaned(text).partition("#")
+    return fragment if mark else None
+
+
+def has_id(text: str, ids: AbstractSet[str]) -> bool:
+    """Whether a document with these ids has the anchor that the text after a `#` names."""
+    fragment = drawn.encoded(text, FRAGMENT).partition(":~:")[0]
+    read = unquote_to_bytes(fragment).decode("utf-8", "replace")
+    return not fragment or fragment in ids or read in ids or read.lower() == "top"
+
+
+def last_of(url: str) -> str:
+    """The last segment of a URL's path."""
+    return re.split("[?]", url)[0].rpartition("/")[2]
+
+
+def in_bytes(row: Tuple[Tuple[str, str], object]) -> Tuple[bytes, bytes]:
+    """A sort key: the bytes of a page's URL and of a fragment."""
+    return row[0][0].encode(), row[0][1].encode("utf-8", "replace")
+
+
+def names_below(folder: bytes, follow: bool) -> Set[bytes]:
+    """The paths of the files and folders below a folder; those of folders end in a slash.
+
+    A symbolic link counts as what it leads to, if that is in the folder or `follow` is set. A folder is not entered from itself.
+    """
+    top = os.path.realpath(folder)
+    found: Set[bytes] = set()
+
+    def enter(place: bytes, above: Tuple[bytes, ...]) -> None:
+        for entry in os.scandir(os.path.join(folder, place)):
+            real = os.path.realpath(entry.path)
+            if entry.is_symlink() and not follow and os.path.commonpath([top, real]) != top:
+                continue
+            if os.path.isfile(entry.path):
+                found.add(place + entry.name)
+            elif os.path.isdir(entry.path):
+                found.add(place + entry.name + b"/")
+                if real not in above:
+                    enter(place + entry.name + b"/", (*above, real))
+
+    enter(b"", (top,))
+    return {name for name in found if TOOL.is_utf8(name)}
+
+
+class Key(NamedTuple):
+    """What a server looks up: a path in the folder and a query, both without percent-escapes."""
+
+    path: bytes
+    query: Optional[bytes]
+
+
+class Site:
+    """The pages of a folder, as a plain static server returns them."""
+
+    def __init__(self, folder: str, settings: Settings) -> None:
+        self.folder = os.fsencode(folder)
+        self.base = drawn.url_of(settings.base)
+        self.exact, self.queries = settings.exact, settings.queries
+        self.names = names_below(self.folder, settings.follow)
+        self.documents: Dict[bytes, Optional[Document]] = {}
+        self.files: Dict[Key, bytes] = {}  # the first file in the order of names has the key
+        self.own: Dict[bytes, str] = {}  # the own URL of each file: that of its folder for an index file
+        for name in sorted(name for name in self.names if not name.endswith(b"/")):
+            for key in self.keys(name):
+                if self.files.setdefault(key, name) == name:
+                    self.own[name] = self.url(key)
+
+    def keys(self, name: bytes) -> Iterator[Key]:
+        """What a server looks up to return a file."""
+        path, mark, query = name.partition(b"?") if self.queries else (name, b"", b"")
+        key = Key(path, unquote_to_bytes(query) if mark else None)
+        yield key
+        if os.path.basename(path) == INDEX:
+            yield key._replace(path=path[:-len(INDEX)])
+
+    def url(self, key: Key) -> str:
+        """The URL of a key in a server's spelling."""
+        path = str(self.base) + quote(key.path, safe=TOOL.IN_NAME + "/")
+        return path if key.query is None else f"{path}?{quote(key.query, safe=TOOL.IN_QUERY)}"
+
+    def pages(self) -> List[Tuple[str, bytes]]:
+        """The pages in order: each file, and each folder with an index file."""
+        return sorted((self.url(key), name) for key, name in self.files.items())
+
+    def response(self, url: str) -> Response:
+        """What a server returns for a URL."""
+        request = drawn.url_of(url)
+        front = self.base.path[:-1]
+        if request._replace(path=(), query="") != self.base._replace(path=(), query=""):
+            return None
+        if request.path[:len(front)] != front:
+            return None
+        parts = [unquote_to_bytes(part) for part in request.path[len(front):]]
+        key = Key(b"/".join(parts), unquote_to_bytes(request.query[1:]) if self.queries and request.query else None)
+        if any(b"/" in part for part in parts) or (self.exact and url != self.url(key)) or not is_short("page", url):
+            return None
+        if key.path + b"/" in self.names and key.query is None:
+            return Moved(self.url(key._replace(path=key.path + b"/")) + request.query)
+        name = self.files.get(key)
+        if name is None or not is_short("page", self.own[name]):
+            return None
+        return Found(name) if url == self.own[name] else Alias(name, self.own[name])
+
+    def document(self, name: bytes) -> Optional[Document]:
+        """The document in a file, or None if the file is not a document or is not read."""
+        if name not in self.documents:
+            self.documents[name] = self.read(name)
+        return self.documents[name]
+
+    def read(self, name: bytes) -> Optional[Document]:
+        """Reads the document in a file."""
+        kind, packed = TOOL.kind_of(next(self.keys(name)).path)
+        path = os.path.join(self.folder, name)
+        size = os.path.getsize(path)
+        if packed or size > FILE_LIMIT:
+            return None
+        body = b""
+        if size:
+            with open(path, "rb") as file:
+                body = file.read()
+        return document_of(body) if TOOL.is_document(kind, body) else None
+
+
+class Model:
+    """A search from the top of a folder, and the broken links that it finds."""
+
+    def __init__(self, folder: str, settings: Settings) -> None:
+        self.settings, self.site = settings, Site(folder, settings)
+        self.responses: Dict[str, Response] = {}
+        self.links: Dict[str, List[Link]] = {}  # by the own URL of each file
+        self.skipped = 0
+        waiting = [str(drawn.url_of(seed, self.site.base)) for seed in settings.seeds] or [str(self.site.base)]
+        while waiting:
+            url = waiting.pop()
+            if url not in self.responses and self.is_within(url):
+                self.responses[url] = self.site.response(url)
+                waiting += self.followed(url)
+
+    def is_within(self, url: str) -> bool:
+        """Whether a URL is below the top."""
+        return url.startswith(str(self.site.base))
+
+    def followed(self, url: str) -> Set[str]:
+        """The URLs that a page links or redirects to."""
+        response = self.responses[url]
+        if isinstance(response, Moved):
+            return {response.url}
+        if isinstance(response, Alias):
+            return {response.own}
+        if response is None:
+            return set()
+        document = self.site.document(response.name)
+        self.links[url] = [] if document is None else list(self.links_of(document, url, os.fsdecode(response.name)))
+        return {link.url for link in self.links[url]}
+
+    def links_of(self, document: Document, url: str, name: str) -> Iterator[Link]:
+        """The links of a page with their targets."""
+        page = base = drawn.url_of(url)
+        front = ""  # goes before a link without a scheme
+        has_base = False
+        if document.base is not None:
+            try:
+                base = drawn.url_of(document.base, page)
+                has_base = True
+            except drawn.NotUrl:
+                pass
+            except drawn.NotHttp:
+                scheme = TOOL.scheme_of(TOOL.cleaned(document.base))
+                front = "" if scheme in ("data", "javascript") else f"{scheme}:"
+        for link in document.links:
+            text = with_query_in(TOOL.cleaned(link.text), document.charset)
+            target = url_of(text if TOOL.scheme_of(text) else front + text, base)
+            if target is None:
+                self.skipped += TOOL.scheme_of(front + text) not in (None, "http", "https") or is_short("link", text)
+            elif is_short("link", target if has_base else text.partition("#")[0]):
+                fragment = None if document.ids is None else fragment_of(link.text)
+                yield Link(target, fragment, Place(name, *document.lines.place(link.at)))
+
+    def rows(self) -> List[Row]:
+        """The rows that the program prints as JSON."""
+        linking = self.linking()
+        broken = [*self.missing_pages(linking), *(self.missing_anchors() if self.settings.anchors else ())]
+        places = [row for row in broken if row["kind"] == "place"]
+        redirects = [
+            {"kind": "redirect", "page": self.shown(url), "to": self.shown(response.url), "pages": len(linking[url])}
+            for url, response in sorted(self.responses.items()) if isinstance(response, Moved) and linking.get(url)
+        ]
+        files = sorted(Counter(row["file"] for row in places).items(), key=lambda row: (-row[1], row[0].encode()))
+        unreached = list(self.unreached()) if self.settings.unreached else []
+        external = self.external() if self.settings.external else []
+        counts = {"unreached": len(unreached)} if self.settings.unreached else {}
+        counts.update({"external": len(external)} if self.settings.external else {})
+        total = {
+            "kind": "total", "pages": len(self.links), "redirects": len(redirects), **counts,
+            "aliases": sum(isinstance(response, Alias) for response in self.responses.values()),
+            "links": self.skipped + sum(map(len, self.links.values())), "broken": len(places),
+            "missing_pages": sum(row["kind"] == "broken" and row["missing"] == "page" for row in broken),
+            "missing_anchors": sum(row["kind"] == "broken" and row["missing"] == "anchor" for row in broken),
+        }
+        worst = [{"kind": "worst", "file": file, "links": count} for file, count in files[:MOST_FILES]]
+        names = [{"kind": "unreached", "name": name} for name in unreached]
+        return [total, *broken, *worst, *redirects, *names, *external, *self.unused()]
+
+    def linking(self) -> Dict[str, Set[str]]:
+        """The pages that link to each URL. A redirect or an alias counts as a link to its target."""
+        linking: Dict[str, Set[str]] = {}
+        for page, links in self.links.items():
+            for link in links:
+                linking.setdefault(link.url, set()).add(page)
+        for page, response in self.responses.items():
+            if isinstance(response, Moved):
+                linking.setdefault(response.url, set()).add(page)
+            elif isinstance(response, Alias):
+                linking.setdefault(response.own, set()).add(page)
+        return linking
+
+    def shown(self, url: str) -> str:
+        """A URL as the report prints it."""
+        return (url[len(self.settings.front):] or "./") if url.startswith(self.settings.front) else url
+
+    def is_ignored(self, target: str) -> bool:
+        """Whether a target is on the ignore list."""
+        return any(target.startswith(entry) for entry in self.settings.ignores)
+
+    def missing_pages(self, linking: Dict[str, Set[str]]) -> Iterator[Row]:
+        """The rows of missing pages, with the locations of links to them and to redirects to them."""
+        names = self.names()
+        ends = {url: response.url for url, response in self.responses.items() if isinstance(response, Moved)}
+        places: Dict[str, Set[Place]] = {}
+        for links in self.links.values():
+            for link in links:
+                places.setdefault(ends.get(link.url, link.url), set()).add(link.place)
+        for url in sorted(url for url, response in self.responses.items() if response is None):
+            if not self.is_ignored(self.shown(url)):
+                pages, found = linking.get(url, ()), places.get(url, set())
+                same, file = names.get(last_of(url), (None, None))
+                is_inside = file in {place.file for place in found}
+                yield from self.broken_rows(self.shown(url), "page", len(pages), found, None if is_inside else same)
+
+    def broken_rows(self, target: str, missing: str, pages: int, places: Set[Place], same_name: Optional[str]) -> Iterator[Row]:
+        """The row of a missing target and the rows of the links to it."""
+        shown = {"target": target, "missing": missing}
+        same = None if same_name is None else self.shown(same_name)
+        yield {"kind": "broken", **shown, "pages": pages, "same_name": same}
+        for place in sorted(places, key=lambda place: (place.file.encode(), place.line, place.column)):
+            yield {"kind": "place", **shown, **place._asdict()}
+
+    def missing_anchors(self) -> Iterator[Row]:
+        """The rows of missing anchors in existing pages."""
+        for (url, fragment), (pages, places) in sorted(self.anchors_missing().items(), key=in_bytes):
+            target = f"{self.shown(url)}#{fragment}"
+            if not self.is_ignored(target):
+                yield from self.broken_rows(target, "anchor", len(pages), places, None)
+
+    def anchors_missing(self) -> Dict[Tuple[str, str], Tuple[Set[str], Set[Place]]]:
+        """The missing anchors by URL and fragment, each with the pages that link to it and the locations.
+
+        The anchors of an alias are those of its file.
+        """
+        missing: Dict[Tuple[str, str], Tuple[Set[str], Set[Place]]] = {}
+        for page, links in self.links.items():
+            for link in links:
+                response = self.responses.get(link.url)
+                url = response.url if isinstance(response, Moved) else link.url
+                found = self.responses.get(url)
+                if link.fragment is not None and isinstance(found, (Found, Alias)) and not self.has_anchor(found.name, link.fragment):
+                    pages, places = missing.setdefault((url, link.fragment), (set(), set()))
+                    pages.add(page)
+                    places.add(link.place)
+        return missing
+
+    def has_anchor(self, name: bytes, fragment: str) -> bool:
+        """Whether a file has an anchor. True if its anchors are not known or it is not a document."""
+        document = self.site.document(name)
+        return document is None or document.ids is None or has_id(fragment, document.ids)
+
+    def names(self) -> Dict[str, Tuple[str, str]]:
+        """The pages with a unique file name, by that name, and their files."""
+        pages = [(url, name.decode()) for url, name in self.site.pages() if last_of(url)]
+        counts = Counter(last_of(url) for url, _ in pages)
+        return {last_of(url): (url, name) for url, name in pages if counts[last_of(url)] == 1}
+
+    def unreached(self) -> Iterator[str]:
+        """The unreached files, each by the first of its pages."""
+        reached = {response.name for response in self.responses.values() if isinstance(response, (Found, Alias))}
+        for url, name in self.site.pages():
+            if name not in reached:
+                reached.add(name)
+                yield self.shown(url)
+
+    def external(self) -> List[Row]:
+        """The rows of external links."""
+        urls = Counter(link.url for links in self.links.values() for link in links if not self.is_within(link.url))
+        return [{"kind": "external", "url": url, "links": count} for url, count in sorted(urls.items(), key=lambda row: row[0].encode())]
+
+    def unused(self) -> Iterator[Row]:
+        """The rows of ignore entries that match nothing."""
+        texts = [self.shown(url) for url, response in self.responses.items() if response is None]
+        if self.settings.anchors:
+            texts += [f"{self.shown(url)}#{fragment}" for url, fragment in self.anchors_missing()]
+        for entry in self.settings.ignores:
+            if not any(text.startswith(entry) for text in texts):
+                yield {"kind": "unused", "name": entry}

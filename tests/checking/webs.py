@@ -1,0 +1,114 @@
+"""The saved web of a folder, by tools/site_to_web.py with another tokenizer and the known differences of the program."""
+
+from __future__ import annotations
+
+import io
+from typing import Any, Dict, Iterator, List, Optional, Tuple
+
+import drawn
+from checking import loading
+from checking.documents import character, read_tags, with_query_in
+from checking.model import Alias, Found, Model, Moved, url_of
+
+DIFFERENCES = """\
+differences of the program:
+  a name that is not UTF-8 is skipped with a note, because no library call can open its file
+  the only known encodings are UTF-8, UTF-16 and windows-1252
+  the bytes 81, 8D, 8F, 90 and 9D of windows-1252 are C1 controls, as in the Encoding Standard"""
+KNOWN = {"utf_8": "utf-8", "u8": "utf-8", "windows-1252": "cp1252", "1252": "cp1252", "utf-8": "utf-8", "cp1252": "cp1252"}
+
+
+class Reader:
+    """Reads a document with the model's tokenizer, in place of the reader of site_to_web.py."""
+
+    def __init__(self, _: bool) -> None:
+        self.links: List[str] = []
+        self.base: Optional[str] = None
+
+    def feed(self, text: str) -> None:
+        """Reads the whole text of a document."""
+        links, self.base, _ = read_tags(text)
+        self.links = [link.text for link in links]
+
+    def close(self) -> None:
+        """Does nothing, since nothing is buffered."""
+
+
+class Converter:
+    """The converter with this reader of documents."""
+
+    def __init__(self, tool: Any = None, reader: Any = Reader) -> None:
+        self.tool: Any = tool or loading.script("site_to_web_model", "tools/site_to_web.py")
+        self.names, self.text, self.entries = self.tool.charset_names, self.tool.text_of, self.tool.entries_below
+        self.tool.LinkReader = reader
+        self.tool.without_long_references = lambda text: text
+        self.tool.charset_names = self.known_names
+        self.tool.text_of = self.text_with_controls
+        self.tool.with_query_in = with_query_in
+        self.tool.entries_below = self.utf_8_entries
+
+    def known_names(self, body: bytes, charset: Optional[str]) -> Iterator[str]:
+        """The names of the document's encodings, as far as the program knows them."""
+        return (KNOWN.get(name, "unheard") for name in self.names(body, charset) if name)
+
+    def text_with_controls(self, body: bytes, charset: Optional[str]) -> Tuple[str, str]:
+        """A document's text and encoding, with the controls of windows-1252."""
+        text, name = self.text(body, charset)
+        return ("".join(map(character, body)), name) if name == "cp1252" else (text, name)
+
+    def utf_8_entries(self, *arguments: Any) -> List[bytes]:
+        """The files and folders whose names are UTF-8."""
+        return list(filter(self.tool.is_utf8, self.entries(*arguments)))
+
+    def web(self, folder: str, options: List[str], base: str) -> bytes:
+        """The saved web of a folder."""
+        parser = self.tool.command_line()
+        settings = parser.parse_args(["--quiet", *options, folder, base])
+        web = self.tool.Web(settings)
+        self.tool.Folder(folder, self.tool.base_of(base, parser), settings, web).write()
+        out = io.BytesIO()
+        web.write(out)
+        return out.getvalue()
+
+
+def pages_of(web: bytes) -> Dict[str, List[Tuple[str, str]]]:
+    """The pages of a saved web by their URLs: of each line its word and the URL of its text, if it is http or https."""
+    pages: Dict[str, List[Tuple[str, str]]] = {}
+    page = ""
+    for line in web.decode().split("\n")[1:-1]:
+        word, _, text = line.partition(" ")
+        if word == "page":
+            page = text
+            pages[page] = []
+        else:
+            url = url_of(text, drawn.url_of(page))
+            pages[page] += [(word, url)] if url else []
+    return pages
+
+
+def model_fault(model: Model, web: bytes) -> Optional[str]:
+    """A page of the model that this saved web does not have, or a missing page that it has."""
+    pages = pages_of(web)
+    for url, response in model.responses.items():
+        expected: Optional[List[Tuple[str, str]]] = None
+        if isinstance(response, Found):
+            expected = [("link", link.url) for link in model.links[url]]
+        elif isinstance(response, Alias):
+            expected = [("link", response.own)]
+        elif isinstance(response, Moved):
+            expected = [("moved", response.url)]
+        if pages.get(url) != expected:
+            return f"{url}\n  converter {pages.get(url)}\n  model     {expected}"
+    return None
+
+
+def first_difference(actual: bytes, expected: bytes) -> Optional[str]:
+    """The first line in which two saved webs differ, and its page."""
+    ours, theirs = actual.split(b"\n"), expected.split(b"\n")
+    page = b""
+    for number, (one, other) in enumerate(zip(ours, theirs), 1):
+        if one != other:
+            return f"line {number}, {page.decode()}\n  actual   {one!r}\n  expected {other!r}"
+        if one.startswith(b"page "):
+            page = one
+    return None if actual == expected else f"{len(ours)} lines, {len(theirs)} expected"
