@@ -64,8 +64,8 @@ func run(args []string) int {
 	}
 	ctx, stop := signal.NotifyContext(context.Background(), os.Interrupt)
 	defer stop()
-	isStopped, err := crawl(ctx, s)
-	if isStopped {
+	err = crawl(ctx, s)
+	if errors.Is(err, context.Canceled) {
 		return 2
 	}
 	if err != nil {
@@ -110,25 +110,25 @@ func parse(args []string) (*settings, error) {
 	return &s, err
 }
 
-// crawl crawls until no URL is left, or until it is stopped.
-func crawl(ctx context.Context, s *settings) (isStopped bool, err error) {
+// crawl crawls until no URL is left. If it is stopped before, the error is context.Canceled.
+func crawl(ctx context.Context, s *settings) error {
 	f, err := frontier.Open(ctx, s.frontier)
 	if err != nil {
-		return ctx.Err() != nil, err
+		return err
 	}
 	defer f.Close()
-	// The frontier does not end with this context, so that the last page can be done.
+	if err := offerSeeds(f, s.seeds); err != nil {
+		return err
+	}
+	// The frontier does not end with this context, so that the last of --pages URLs can be done.
 	ctx, cancel := context.WithCancel(ctx)
 	defer cancel()
-	if err := offerSeeds(f, s.seeds); err != nil {
-		return ctx.Err() != nil, err
-	}
 	visitors := make([]*visitor, s.frontier.Workers)
 	for queue := range visitors {
 		visitors[queue] = newVisitor(s)
 	}
 	var count atomic.Int64
-	err = f.Run(ctx, func(ctx context.Context, queue int, url string) error {
+	return f.Run(ctx, func(ctx context.Context, queue int, url string) error {
 		r := visitors[queue].visit(ctx, url)
 		if err := ctx.Err(); err != nil {
 			return err // the URL stays in progress
@@ -153,7 +153,6 @@ func crawl(ctx context.Context, s *settings) (isStopped bool, err error) {
 		}
 		return nil
 	})
-	return ctx.Err() != nil, err
 }
 
 func offerSeeds(f *frontier.Frontier, seeds []string) error {
