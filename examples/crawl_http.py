@@ -340,20 +340,26 @@ def options_of_command_line() -> argparse.Namespace:
     )
     option = parser.add_argument
     option("--workers", type=int, default=4, metavar="N", help="number of fetchers (default: 4)")
+    option("--log", metavar="FILE", help="log file; run again with it to resume")
+    option("--pages", type=int, default=0, metavar="N", help="stop after N URLs")
+    add_options_to(parser)
+    return parser.parse_args()
+
+
+def add_options_to(parser: argparse.ArgumentParser) -> None:
+    """Add the options that `crawl_cluster.py` has too."""
+    option = parser.add_argument
     option("--within", metavar="SUFFIX",
            help="crawl only hosts equal to SUFFIX or subdomains of it")
-    option("--log", metavar="FILE", help="log file; run again with it to resume")
     option("--delay", type=float, default=1, metavar="S",
            help="seconds between two requests to a host (default: 1)")
     option("--largest", type=int, default=5_000_000, metavar="BYTES",
            help="most bytes to read of a page (default: 5000000)")
-    option("--pages", type=int, default=0, metavar="N", help="stop after N URLs")
     option("--agent", default="crawl_http", metavar="NAME",
            help="User-Agent to send; choose a name of your own (default: crawl_http)")
     option("--program", metavar="FILE",
            help="path of mercator (default: $MERCATOR if it is set, else `mercator`)")
     option("seed", nargs="+", metavar="SEED", help="URL to start from")
-    return parser.parse_args()
 
 
 def main() -> int:
