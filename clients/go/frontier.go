@@ -86,7 +86,7 @@ type Frontier struct {
 // killed may use the log a moment longer: Open waits for it, and after about nine seconds fails
 // with ErrLogInUse. If ctx is done, also after Open has returned, the program is killed.
 func Open(ctx context.Context, options Options) (*Frontier, error) {
-	for wait := 50 * time.Millisecond; ; wait = wait * 3 / 2 {
+	for wait, begun := 50*time.Millisecond, time.Now(); ; wait = wait * 3 / 2 {
 		f, err := start(ctx, options)
 		if err != nil {
 			return nil, fmt.Errorf("frontier: cannot start the program: %w", err)
@@ -97,7 +97,7 @@ func Open(ctx context.Context, options Options) (*Frontier, error) {
 		if !strings.Contains(err.Error(), ": in use") {
 			return nil, err
 		}
-		if wait > 3*time.Second {
+		if time.Since(begun)+wait > 10*time.Second {
 			return nil, fmt.Errorf("%w: %v", ErrLogInUse, err)
 		}
 		select {

@@ -24,6 +24,9 @@ func TestMain(m *testing.M) {
 		fmt.Println("skipped: MERCATOR does not name the program")
 		os.Exit(0)
 	}
+	if log := os.Getenv("CRAWL_TO_BE_KILLED"); log != "" {
+		crawlToBeKilled(log)
+	}
 	os.Exit(m.Run())
 }
 
@@ -495,6 +498,64 @@ func TestLog(t *testing.T) {
 			t.Fatalf("%v: %v", wrong, err)
 		}
 	}
+}
+
+const killedLink = "link http://a.test/ page/%04d"
+
+// A crawler that sends links to a program that does not read them, over a small pipe.
+func crawlToBeKilled(log string) {
+	t := new(testing.T)
+	f := open(t, Options{Workers: 1, Log: log})
+	setPipeSize(t, f.stdin.(syscall.Conn), 4096)
+	syscall.Kill(f.cmd.Process.Pid, syscall.SIGSTOP)
+	fmt.Println(f.cmd.Process.Pid)
+	var texts []string
+	for i := 0; i < 1000; i++ {
+		texts = append(texts, strings.TrimPrefix(fmt.Sprintf(killedLink, i), "link http://a.test/ "))
+	}
+	f.Links("http://a.test/", texts...)
+}
+
+// The program would read the beginning of a request as a request.
+func TestKillCutsNoRequestOff(t *testing.T) {
+	log := filepath.Join(t.TempDir(), "crawl.log")
+	crawler := exec.Command(os.Args[0])
+	crawler.Env = append(os.Environ(), "CRAWL_TO_BE_KILLED="+log)
+	stdout, err := crawler.StdoutPipe()
+	checkError(t, "the crawler", err, nil)
+	checkError(t, "the crawler", crawler.Start(), nil)
+	var pid int
+	_, err = fmt.Fscan(stdout, &pid)
+	checkError(t, "the program", err, nil)
+	time.Sleep(time.Second) // until the pipe is full
+	crawler.Process.Signal(syscall.SIGSTOP)
+	syscall.Kill(pid, syscall.SIGCONT)
+	var links []string
+	for end := time.Now().Add(limit); len(links) == 0 && time.Now().Before(end); {
+		links = linksIn(t, log)
+	}
+	time.Sleep(200 * time.Millisecond) // until the program has answered these, and reads
+	crawler.Process.Kill()
+	crawler.Wait()
+	open(t, Options{Workers: 1, Log: log}).Close() // the program has ended
+	for i, line := range linksIn(t, log) {
+		check(t, "a request", line, fmt.Sprintf(killedLink, i))
+	}
+	if len(links) == 0 {
+		t.Fatal("no request was sent")
+	}
+}
+
+func linksIn(t *testing.T, log string) (links []string) {
+	t.Helper()
+	text, err := os.ReadFile(log)
+	checkError(t, "the log", err, nil)
+	for _, line := range strings.Split(string(text), "\n") {
+		if strings.HasPrefix(line, "link") {
+			links = append(links, line)
+		}
+	}
+	return links
 }
 
 func TestNamesThatBeginLikeOptions(t *testing.T) {
