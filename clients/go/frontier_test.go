@@ -17,7 +17,7 @@ import (
 	"time"
 )
 
-const limit = 30 * time.Second
+const limit = 2 * time.Minute
 
 func TestMain(m *testing.M) {
 	if os.Getenv("MERCATOR") == "" {
@@ -152,7 +152,7 @@ func TestAnswers(t *testing.T) {
 func TestNoWakeUpIsLost(t *testing.T) {
 	f := open(t, Options{Workers: 2})
 	ctx := timed(t)
-	const rounds = 2000
+	const rounds = 1000
 	errs := make(chan error)
 	hosts := []string{"", ""} // by queue
 	for i := 0; hosts[0] == "" || hosts[1] == ""; i++ {
@@ -420,7 +420,9 @@ func TestNoURLIsLostForLackOfRoom(t *testing.T) {
 				return err
 			})
 			checkError(t, "the crawl", err, nil)
-			check(t, fmt.Sprintf("--max-pending %d, %d workers", most, workers), fetched, reached)
+			if !reflect.DeepEqual(fetched, reached) {
+				t.Fatalf("--max-pending %d, %d workers: %d of %d URLs", most, workers, len(fetched), len(reached))
+			}
 			f.Close()
 		}
 	}
