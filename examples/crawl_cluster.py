@@ -53,20 +53,10 @@ def options_of_command_line() -> argparse.Namespace:
            help="name of the crawl, with which its keys in Redis begin (default: crawl)")
     option("--workers", type=int, default=4, metavar="N",
            help="number of fetchers of each part (default: 4)")
-    option("--within", metavar="SUFFIX",
-           help="crawl only hosts equal to SUFFIX or subdomains of it")
     option("--max-pending", type=most_of, metavar="M",
            help="most URLs of a part waiting or in progress at a time, at least 2"
            " (default: 1048576)")
-    option("--delay", type=float, default=1, metavar="S",
-           help="seconds between two requests to a host (default: 1)")
-    option("--largest", type=int, default=5_000_000, metavar="BYTES",
-           help="most bytes to read of a page (default: 5000000)")
-    option("--agent", default="crawl_http", metavar="NAME",
-           help="User-Agent to send; choose a name of your own (default: crawl_http)")
-    option("--program", metavar="FILE",
-           help="path of mercator (default: $MERCATOR if it is set, else `mercator`)")
-    option("seed", nargs="+", metavar="SEED", help="URL to start from")
+    crawl_http.add_options_to(parser)
     return parser.parse_args()
 
 

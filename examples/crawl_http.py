@@ -3,11 +3,12 @@
 
 N fetchers run in threads, and each host is fetched by one of them. For each URL, the crawler prints
 a line with the status, the number of new links, and the URL. The status is `robots` if robots.txt
-forbids the URL, and `failed` if there was no response or it cannot be read.
+forbids the URL, `no-robots` if robots.txt cannot be read, and `failed` if the host does not respond
+or the response cannot be read.
 
 - The crawler obeys robots.txt. Between two requests to a host it waits --delay seconds, or the
-  Crawl-delay of robots.txt if that is longer. It skips a host if its robots.txt cannot be read, or
-  asks for a delay of more than a day.
+  Crawl-delay of robots.txt if that is longer. It skips a host if its robots.txt asks for a delay of
+  more than a day, or if three requests for it fail: there is no response, or its status is 5xx.
 - It reads at most --largest bytes of a page, for at most 30 seconds, and cuts a request off after
   60 seconds. If a page takes too much CPU time (more than 1 second plus 5 per million bytes),
   its links are lost. An error in a page is printed, and the crawl continues.
@@ -28,19 +29,22 @@ import socket
 import sys
 import threading
 import time
+from collections import deque
 from contextlib import closing, contextmanager, suppress
 from pathlib import Path
-from typing import Dict, Iterator, List, NamedTuple, Optional, Tuple
+from typing import Callable, Deque, Dict, Iterator, List, NamedTuple, Optional, Tuple
 from urllib.parse import SplitResult, urljoin, urlsplit
 from urllib.robotparser import RobotFileParser
 
 from page_links import links_of
 
 sys.path.insert(0, str(Path(__file__).resolve().parent.parent / "clients" / "python"))
-from mercator_frontier import Frontier, FrontierError, Refusal
+from mercator_frontier import Frontier, FrontierError, Pending, Refusal
 
 SECONDS = 30
 DAY = 86_400
+ATTEMPTS = 3  # requests for a robots.txt that fail
+HOPS = 5  # redirects of a robots.txt
 PORTS = {"http": 80, "https": 443}
 REDIRECTS = (301, 302, 303, 307, 308)
 PAGES = ("text/html", "application/xhtml+xml")
@@ -145,32 +149,45 @@ class Site:
         self.host, self.asked = urlsplit(site).hostname, asked
         self.agent, self.delay = agent, delay
         self.robots = RobotFileParser()
-        # If robots.txt cannot be read, it might forbid everything.
-        self.is_shut = True
+        # The status of all URLs if none may be fetched. A robots.txt that cannot be read might
+        # forbid everything.
+        self.refusal: Optional[str] = "no-robots"
         url = site + "/robots.txt"
         try:
-            self.is_shut = self.forbids_all(url)
+            self.refusal = self.read_robots(url)
         except Exception as error:
             report(url, error)
 
-    def forbids_all(self, url: str) -> bool:
-        """Fetch robots.txt, and return whether the host is to be skipped."""
-        for _ in range(6):
-            reply = self.fetch(url, 500_000, is_robots=True)
-            if reply.leads_to is None:
-                break
-            url = urljoin(url, reply.leads_to)
-        self.robots.parse(reply.body.decode("utf-8", "replace").splitlines())
-        wanted = int(self.robots.crawl_delay(self.agent) or 0)
-        self.delay = max(self.delay, wanted)
-        return reply.status == "failed" or reply.status.startswith("5") or wanted > DAY
+    def read_robots(self, url: str) -> Optional[str]:
+        """Read robots.txt. Return the status of all URLs if none may be fetched."""
+        for _ in range(ATTEMPTS):
+            body, refusal = self.fetch_robots(url)
+            if refusal is None:
+                self.robots.parse(body.decode("utf-8", "replace").splitlines())
+                wanted = int(self.robots.crawl_delay(self.agent) or 0)
+                self.delay = max(self.delay, wanted)
+                return "robots" if wanted > DAY else None
+        return refusal
 
-    def allows(self, url: str) -> bool:
-        """Return whether robots.txt allows the URL."""
-        try:
-            return not self.is_shut and self.robots.can_fetch(self.agent, url)
-        except ValueError:
-            return False  # urllib cannot read the URL
+    def fetch_robots(self, url: str) -> Tuple[bytes, Optional[str]]:
+        """Return robots.txt, or if it cannot be read, the status of all URLs."""
+        for hop in range(1 + HOPS):
+            reply = self.fetch(url, 500_000, is_robots=True)
+            if reply.status == "failed" and hop == 0:
+                return b"", "failed"
+            if reply.status == "failed" or reply.status.startswith("5"):
+                break
+            if reply.leads_to is None:
+                return reply.body, None
+            url = urljoin(url, reply.leads_to)
+        return b"", "no-robots"
+
+    def refusal_of(self, url: str) -> Optional[str]:
+        """Return the status of a URL that must not be fetched, or None."""
+        with suppress(ValueError):  # urllib cannot read the URL
+            if self.refusal or self.robots.can_fetch(self.agent, url):
+                return self.refusal
+        return "robots"
 
     def fetch(self, url: str, largest: int, is_robots: bool = False) -> Reply:
         """Fetch a URL after the delay since the last request to the host."""
@@ -222,9 +239,8 @@ def visited_or_raised(url: str, known: Known, options: argparse.Namespace) -> Vi
     if name not in known.sites:
         known.sites[name] = Site(name, known.asked, options.agent, options.delay)
     site = known.sites[name]
-    reply = Reply("robots")
-    if site.allows(url):
-        reply = site.fetch(url, options.largest)
+    refusal = site.refusal_of(url)
+    reply = Reply(refusal) if refusal else site.fetch(url, options.largest)
     if reply.kind not in PAGES:
         return Visit(reply.status, url, [] if reply.leads_to is None else [reply.leads_to])
     links = links_of(url, reply.body, reply.charset)
@@ -234,20 +250,34 @@ def visited_or_raised(url: str, known: Known, options: argparse.Namespace) -> Vi
 
 
 class Crawl:
-    """A crawl by several fetchers, each in a thread."""
+    """A crawl by several fetchers, each in a thread.
 
-    def __init__(self, frontier: Frontier, options: argparse.Namespace) -> None:
-        self.frontier, self.options = frontier, options
+    Links that are refused because too many URLs are unfinished are kept, and are offered again when
+    a URL is done. The crawl can end when the seeds have ended, so these end only after all accepted
+    URLs are done and nothing is kept. This requires a `max_pending` of at least 2.
+    """
+
+    def __init__(
+        self, frontier: Frontier, fetch: Callable[[int, str], Visit], pages: int = 0
+    ) -> None:
+        """Create a crawl that fetches with `fetch(queue, url)`, and stops after `pages` URLs."""
+        self.frontier, self.fetch, self.left = frontier, fetch, pages
         self.lock = threading.Lock()
-        self.left: int = options.pages
+        self.kept: Deque[Tuple[str, str]] = deque()  # the base and the text of each link
         self.stopped = threading.Event()
         self.failed: Optional[Exception] = None
 
-    def run(self) -> None:
+    def run(self, seeds: List[str]) -> None:
         """Crawl until no URL is left or the crawl is stopped."""
+        for seed, offer in zip(seeds, self.frontier.offer_all(seeds)):
+            if offer is Refusal.FULL:
+                self.kept.append((seed, ""))
+            # A resumed crawl has seen its seeds before, or is over.
+            elif isinstance(offer, Refusal) and offer not in (Refusal.SEEN, Refusal.CLOSED):
+                print(f"crawl_http: seed {seed}: {offer.value}", file=sys.stderr)
         fetchers = [
             threading.Thread(target=self.work, args=(queue,), daemon=True)
-            for queue in range(self.options.workers)
+            for queue in range(self.frontier.workers)
         ]
         for fetcher in fetchers:
             fetcher.start()
@@ -256,35 +286,52 @@ class Crawl:
                 pass
         except KeyboardInterrupt:
             self.stopped.set()
+        if self.kept and not self.failed:
+            print(f"crawl_http: {len(self.kept)} links lost, the frontier is full", file=sys.stderr)
 
     def work(self, queue: int) -> None:
         """Fetch the URLs of one queue."""
-        known = Known()
         try:
-            while (url := self.frontier.take(queue)) is not None:
-                self.visit(url, known)
-                self.frontier.done(queue)
-                self.count()
+            first = self.frontier.try_take(queue)
+            if isinstance(first, Pending):
+                with self.lock:
+                    self.end_seeds_if_over(first.left)
+            url = first if isinstance(first, str) else self.frontier.take(queue)
+            while url is not None:
+                self.visit(queue, url)
+                url = self.frontier.take(queue)
         except Exception as error:  # stop, since the other fetchers would wait for this one forever
             if not self.stopped.is_set():
                 self.failed = error
             self.stopped.set()
 
-    def visit(self, url: str, known: Known) -> None:
-        """Fetch a URL, offer its links, and print a line."""
-        status, base, texts = visited(url, known, self.options)
+    def visit(self, queue: int, url: str) -> None:
+        """Fetch a URL, offer its links, print a line, and finish the URL."""
+        status, base, texts = self.fetch(queue, url)
         offers = self.frontier.links(base, texts)
         with self.lock:
             print(status, sum(map(bool, offers)), url, flush=True)
-            if Refusal.FULL in offers:
-                print(f"crawl_http: {url}: links lost, the frontier is full", file=sys.stderr)
-
-    def count(self) -> None:
-        """Stop the crawl after --pages URLs."""
-        with self.lock:
+            refused = [text for text, offer in zip(texts, offers) if offer is Refusal.FULL]
+            self.kept += [(base, text) for text in refused]
+            self.end_seeds_if_over(self.offer_kept(self.frontier.done(queue)))
             self.left -= 1
             if self.left == 0:
                 self.stopped.set()
+
+    def offer_kept(self, left: int) -> int:
+        """Offer what was kept until there is no room. Return the number of unfinished URLs."""
+        while self.kept:
+            offer = self.frontier.link(*self.kept[0])
+            if offer is Refusal.FULL:
+                break
+            left += bool(offer)
+            self.kept.popleft()
+        return left
+
+    def end_seeds_if_over(self, left: int) -> None:
+        """End the seeds if nothing else is left. They count as one unfinished URL."""
+        if left == 1 and not self.kept:
+            self.frontier.end_seeds()
 
 
 def options_of_command_line() -> argparse.Namespace:
@@ -293,20 +340,26 @@ def options_of_command_line() -> argparse.Namespace:
     )
     option = parser.add_argument
     option("--workers", type=int, default=4, metavar="N", help="number of fetchers (default: 4)")
+    option("--log", metavar="FILE", help="log file; run again with it to resume")
+    option("--pages", type=int, default=0, metavar="N", help="stop after N URLs")
+    add_options_to(parser)
+    return parser.parse_args()
+
+
+def add_options_to(parser: argparse.ArgumentParser) -> None:
+    """Add the options that `crawl_cluster.py` has too."""
+    option = parser.add_argument
     option("--within", metavar="SUFFIX",
            help="crawl only hosts equal to SUFFIX or subdomains of it")
-    option("--log", metavar="FILE", help="log file; run again with it to resume")
     option("--delay", type=float, default=1, metavar="S",
            help="seconds between two requests to a host (default: 1)")
     option("--largest", type=int, default=5_000_000, metavar="BYTES",
            help="most bytes to read of a page (default: 5000000)")
-    option("--pages", type=int, default=0, metavar="N", help="stop after N URLs")
     option("--agent", default="crawl_http", metavar="NAME",
            help="User-Agent to send; choose a name of your own (default: crawl_http)")
     option("--program", metavar="FILE",
            help="path of mercator (default: $MERCATOR if it is set, else `mercator`)")
     option("seed", nargs="+", metavar="SEED", help="URL to start from")
-    return parser.parse_args()
 
 
 def main() -> int:
@@ -315,13 +368,11 @@ def main() -> int:
     settings = {"within": options.within, "log": options.log, "program": options.program}
     try:
         with Frontier(options.workers, **settings) as frontier:
-            for seed, offer in zip(options.seed, frontier.offer_all(options.seed)):
-                # A resumed crawl has seen its seeds before, or is over.
-                if isinstance(offer, Refusal) and offer not in (Refusal.SEEN, Refusal.CLOSED):
-                    print(f"crawl_http: seed {seed}: {offer.value}", file=sys.stderr)
-            frontier.end_seeds()
-            crawl = Crawl(frontier, options)
-            crawl.run()
+            known = [Known() for _ in range(options.workers)]
+            crawl = Crawl(
+                frontier, lambda queue, url: visited(url, known[queue], options), options.pages
+            )
+            crawl.run(options.seed)
     except FrontierError as error:
         print(f"crawl_http: {error}", file=sys.stderr)
         return 1

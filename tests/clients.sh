@@ -1,7 +1,8 @@
 #!/bin/bash
-# Tests the clients of `mercator serve` in Python and Node: the conformance suite of clients/conformance over both, with its own
-# test, the kill test over the program, the tests of the Node client, and the example in its README. Without Node 18 or later, its
-# parts are skipped. It prints a line per part, with the output of one that fails, and at last `N passed, M failed`.
+# Tests the clients of `mercator serve` in Python, Node and Go: the conformance suite of clients/conformance over each of them, with
+# its own test, the kill test over the program, the tests of the Node and Go clients, and the examples in their READMEs. If Node 18
+# or Go 1.19, or a later version, is not installed, a line says that its client is skipped. The script prints a line per part, with
+# the output of one that fails, and at last `N passed, M failed`.
 #
 # Usage: tests/clients.sh. PROGRAM in the environment is another program than crates/mercator_cli/out/mercator_cli (which
 # `rt run` in that folder makes), and KILLS is the number of kills of each kill test; 25.
@@ -30,17 +31,37 @@ part() {
     fi
 }
 
+# client NAME CRAWLER: the conformance suite and the kill test of a client.
+client() {
+    part "conformance of the $1 client" $suite/conformance.py "$2"
+    part "the kill test of the $1 client" $suite/kill_test.py --kills "$KILLS" "$2"
+}
+
 # notices MISTAKE TEXT: the kill test fails with this text.
 notices() {
     $suite/kill_test.py --kills 4 $suite/crawlers/crawl_mistakes.py "$1" | tee "$scratch/told"
     grep -q "^FAILED: .*$2" "$scratch/told"
 }
 
-# The lines of JavaScript in the README print three URLs, and none when they run again.
-readme_runs() {
-    sed -n '/^```js$/,/^```$/{//!p}' clients/node/README.md | sed "s|'\./clients/node|'$PWD/clients/node|" > "$scratch/lines.mjs"
+# code LANGUAGE FOLDER: the example in the README of a client.
+code() {
+    sed -n "/^\`\`\`$1\$/,/^\`\`\`\$/{//!p}" "clients/$2/README.md"
+}
+
+# prints_urls COMMAND WORD..: the example prints three URLs, and none when it runs again, since it has a log.
+prints_urls() {
     printf '%s\n' http://a.test/ http://a.test/b http://c.test/ > "$scratch/urls"
-    (cd "$scratch" && node lines.mjs | diff urls - && node lines.mjs | diff /dev/null -)
+    rm -f "$scratch/crawl.log"
+    (cd "$scratch" && "$@" | diff urls - && "$@" | diff /dev/null -)
+}
+
+is_node_here() {
+    command -v node > /dev/null && [ "$(node -p 'process.versions.node.split(".")[0]')" -ge 18 ]
+}
+
+node_example() {
+    code js node | sed "s|'\./clients/node|'$PWD/clients/node|" > "$scratch/lines.mjs"
+    prints_urls node lines.mjs
 }
 
 # The tests that fail are printed at last.
@@ -51,8 +72,25 @@ node_tests() {
     return "$status"
 }
 
-is_node_here() {
-    command -v node > /dev/null && [ "$(node -p 'process.versions.node.split(".")[0]')" -ge 18 ]
+is_go_here() {
+    command -v go > /dev/null && [[ $(go env GOVERSION) =~ ^go1\.([0-9]+) ]] && [ "${BASH_REMATCH[1]}" -ge 19 ]
+}
+
+# build_go NAME FILE: builds a Go program that uses the client.
+build_go() {
+    (cd clients/go && go build -o "$scratch/$1" "$2")
+}
+
+go_example() {
+    code go go > "$scratch/lines.go"
+    build_go lines "$scratch/lines.go" && prints_urls ./lines
+}
+
+go_tests() {
+    local changed
+    changed=$(gofmt -l clients/go $suite/crawlers/crawl_go.go) || return
+    [ -z "$changed" ] || { echo "gofmt would change $changed"; return 1; }
+    (cd clients/go && go vet ./... && go vet ../conformance/crawlers/crawl_go.go && go test -count=1 ./...)
 }
 
 [ -x "$MERCATOR" ] || { echo "$MERCATOR is not there: \`rt run -- --help\` in crates/mercator_cli builds it"; exit 1; }
@@ -60,15 +98,21 @@ part "the conformance suite's own test" $suite/conformance.py --self-test
 part "the kill test of a crawler without mistakes" $suite/kill_test.py --kills 4 $suite/crawlers/crawl_mistakes.py none
 part "the kill test of one that finishes what was in progress" notices again_is_done "never requested"
 part "the kill test of one that does not ask what was in progress" notices no_again "refused busy"
-part "conformance of the Python client" $suite/conformance.py $suite/crawlers/crawl_python.py
-part "the kill test of the Python client" $suite/kill_test.py --kills "$KILLS" $suite/crawlers/crawl_python.py
+client Python $suite/crawlers/crawl_python.py
 if is_node_here; then
-    part "conformance of the Node client" $suite/conformance.py $suite/crawlers/crawl_node.mjs
-    part "the kill test of the Node client" $suite/kill_test.py --kills "$KILLS" $suite/crawlers/crawl_node.mjs
-    part "the example of the Node client" readme_runs
+    client Node $suite/crawlers/crawl_node.mjs
+    part "the example of the Node client" node_example
     part "the tests of the Node client" node_tests
 else
     echo "the Node client: skipped, since there is no Node 18 or later"
+fi
+if is_go_here; then
+    part "the crawler over the Go client is built" build_go crawl_go ../conformance/crawlers/crawl_go.go
+    client Go "$scratch/crawl_go"
+    part "the example of the Go client" go_example
+    part "the tests of the Go client" go_tests
+else
+    echo "the Go client: skipped, since there is no Go 1.19 or later"
 fi
 echo "$passed passed, $failed failed"
 [ "$failed" -eq 0 ]

@@ -9,11 +9,11 @@
  *
  * It prints a line for each URL: the status, the number of its links that are new, and the URL. The
  * status is `robots` if robots.txt forbids the URL, `no-robots` if robots.txt cannot be read, and
- * `failed` if there is no response.
+ * `failed` if the host does not respond.
  *
  * - It respects robots.txt, and waits between two requests to a host: --delay seconds, or the
- *   Crawl-delay of robots.txt if that is longer. It skips a host whose robots.txt asks for more
- *   than a day, or still cannot be read after three attempts (no response, or a status 5xx).
+ *   Crawl-delay of robots.txt if that is longer. It skips a host if its robots.txt asks for more
+ *   than a day, or if three requests for it fail: there is no response, or its status is 5xx.
  * - It reads at most --largest bytes of a page, in at most SECONDS.
  * - It offers the target of a redirect, and does not follow it.
  * - With --log, it resumes after Ctrl-C, `kill -9` or a crash: run the same command again.
@@ -274,7 +274,7 @@ function unescaped(text) {
 
 /** What a worker knows about the hosts that it visits. */
 class Hosts {
-  /** @type {Map<string, {robots: Robots | null, delay: number}>} */
+  /** @type {Map<string, {robots: Robots | string, delay: number}>} */
   #sites = new Map();
   /** When each host, on whatever port, may be asked again. @type {Map<string, number>} */
   #next = new Map();
@@ -291,30 +291,33 @@ class Hosts {
     let site = this.#sites.get(origin);
     if (!site) {
       const robots = await this.#robotsOf(origin, hostname);
-      site = { robots, delay: Math.max(delay, robots?.delay ?? 0) };
+      site = { robots, delay: Math.max(delay, typeof robots === 'string' ? 0 : robots.delay) };
       this.#sites.set(origin, site);
     }
-    if (!site.robots) return replyOf('no-robots');
+    if (typeof site.robots === 'string') return replyOf(site.robots);
     // The delay may not be a number: then the site is skipped, too.
     if (!(site.delay <= DAY && site.robots.allows(url))) return replyOf('robots');
     return this.#get(hostname, site.delay, url, agent, largest);
   }
 
-  /** The robots.txt of a site, or null if it cannot be read. */
+  /** The robots.txt of a site; or if it cannot be read, the status of the site's URLs. */
   async #robotsOf(/** @type {string} */ origin, /** @type {string} */ hostname) {
     const { agent, delay } = this.settings;
+    let status = '';
     for (let attempt = 0; attempt < 3; attempt += 1) {
       let url = `${origin}/robots.txt`;
+      status = 'no-robots';
       for (let hop = 0; hop < 6; hop += 1) {
         const reply = await this.#get(hostname, delay, url, agent, ROBOTS_BYTES, true);
         if (reply.target === undefined) {
           if (/^[2-4]/.test(reply.status)) return new Robots(reply.text, agent);
+          if (reply.status === 'failed' && hop === 0) status = 'failed';
           break;
         }
         url = joined(url, reply.target);
       }
     }
-    return null;
+    return status;
   }
 
   /**

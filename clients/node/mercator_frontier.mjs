@@ -176,7 +176,7 @@ export class Frontier {
    * this call waits for it, and after about nine seconds throws `LogInUse`.
    */
   static async open(/** @type {Options} */ options = {}) {
-    for (let wait = 50; ; wait *= 1.5) {
+    for (let wait = 50, end = Date.now() + 10_000; ; wait *= 1.5) {
       const frontier = new Frontier(options);
       try {
         await frontier.#resume();
@@ -185,7 +185,7 @@ export class Frontier {
         await frontier.close();
         const text = error instanceof FrontierEnded && error.status === 1 ? error.stderr : '';
         if (!/^mercator: log .*: in use/m.test(text)) throw error;
-        if (wait > 3_000) throw new LogInUse(text);
+        if (Date.now() + wait > end) throw new LogInUse(text);
       }
       await sleep(wait);
     }

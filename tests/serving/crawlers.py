@@ -5,6 +5,7 @@ from __future__ import annotations
 import http.client
 import http.server
 import importlib
+import io
 import logging
 import re
 import shutil
@@ -13,7 +14,8 @@ import subprocess
 import sys
 import threading
 import time
-from contextlib import suppress
+from contextlib import redirect_stdout, suppress
+from functools import partial
 from pathlib import Path
 from typing import Dict, List, Optional, Tuple
 from unittest import mock
@@ -100,6 +102,54 @@ def crawler(trial: Trial) -> None:
         expect(done.returncode == 0 and not done.stderr, f"status {done.returncode}: {done.stderr.decode()}")
         expect(len(found) == len(wanted) and dict(found) == wanted, f"other URLs: {set(found) ^ set(wanted.items())}")
         print(f"  {len(found)} URLs")
+    full_frontier(trial)
+
+
+class Tree(http.server.BaseHTTPRequestHandler):
+    """A page with seven links, which have seven links each. Three hosts have it."""
+
+    port = 0
+
+    @classmethod
+    def links(cls, path: str) -> List[str]:
+        if len(path) > 2:
+            return []
+        return [f"http://127.0.0.{number % 3 + 1}:{cls.port}{path}{number}" for number in range(7)]
+
+    def do_GET(self) -> None:
+        self.send_response(404 if self.path == "/robots.txt" else 200)
+        self.send_header("Content-Type", "text/html")
+        self.end_headers()
+        self.wfile.write("".join(f"<a href={link}>" for link in self.links(self.path)).encode())
+
+    def log_message(self, format: str, *words: object) -> None:
+        return
+
+
+def full_frontier(trial: Trial) -> None:
+    """Seeds and links that are refused because too many URLs are unfinished are offered again."""
+    sys.path.insert(0, str(CRAWLER.parent))
+    crawl_http = importlib.import_module(CRAWLER.stem)
+    servers: List[http.server.ThreadingHTTPServer] = []
+    for host in (1, 2, 3):
+        servers.append(http.server.ThreadingHTTPServer((f"127.0.0.{host}", Tree.port), Tree))
+        Tree.port = servers[0].server_port
+        threading.Thread(target=servers[-1].serve_forever, daemon=True).start()
+    seeds = [f"http://127.0.0.{host}:{Tree.port}/" for host in (1, 2, 3)]
+    first = Tree.links("/")
+    wanted = {*seeds, *first, *(link for url in first for link in Tree.links(urlsplit(url).path))}
+    for most in (2, 3, 20):
+        log = trial.folder / f"full-{most}.log"
+        argv = [str(CRAWLER), "--program", trial.program, "--delay", "0", "--log", str(log), *seeds]
+        frontier = partial(crawl_http.Frontier, max_pending=most)
+        for left in (wanted, set()):  # in the second crawl, all of them are done
+            patches = mock.patch.object(crawl_http, "Frontier", frontier), mock.patch.object(sys, "argv", argv)
+            with patches[0], patches[1], redirect_stdout(io.StringIO()) as output:
+                expect(crawl_http.main() == 0, "the status")
+            found = [url for url, _ in found_by_crawler(output.getvalue().encode())]
+            expect(sorted(found) == sorted(left), f"--max-pending {most}: {len(found)} of {len(left)} URLs")
+    for server in servers:
+        server.shutdown()
 
 
 def crawler_help(trial: Trial) -> None:
@@ -284,13 +334,14 @@ def hostile_hosts(trial: Trial) -> None:
     An unknown charset, and one that is not for text, do not hide any link.
     """
     trial.want_link()
-    rules = (
-        "Disallow: //[", "Crawl-delay: \u00b2", "Request-rate: 1/\u00b2", "Crawl-delay: " + "9" * 400, "Crawl-delay: " + "9" * 5_000
-    )
-    shut = [HostileHost(rule) for rule in rules]
+    rules = dict.fromkeys(("Disallow: //[", "Crawl-delay: \u00b2", "Request-rate: 1/\u00b2"), "no-robots")
+    rules["Crawl-delay: " + "9" * 400] = "robots"
+    # Only old versions of Python read a number of 5,000 digits.
+    rules["Crawl-delay: " + "9" * 5_000] = "no-robots" if hasattr(sys, "set_int_max_str_digits") else "robots"
+    shut = {HostileHost(rule): status for rule, status in rules.items()}
     read = [HostileHost("Disallow: /y", charset) for charset in ("utf-8", "bogus", "base64", "idna", "x\0y")]
     read += [HostileHost("Disallow: /y", kind=kind) for kind in ("application/octet-stream", "text/robots")]
-    wanted = {host.url: "robots" for host in shut}
+    wanted = {host.url: status for host, status in shut.items()}
     wanted.update({host.url + path: "robots" if path == "y" else "200" for host in read for path in ("", "x", "y")})
     hosts = [*shut, *read]
     done = run_crawler(crawler_words(trial, "--delay", "0", "--within", "127.0.0.1", *(host.url for host in hosts)))
@@ -307,6 +358,7 @@ def hostile_hosts(trial: Trial) -> None:
     hostile_pages(trial)
     odd_errors()
     moved_robots()
+    failing_hosts(trial)
 
 
 class HostilePages(http.server.BaseHTTPRequestHandler):
@@ -366,9 +418,9 @@ def odd_errors() -> None:
         known = crawl_http.Known()
         with mock.patch.object(crawl_http, "fetch", side_effect=error), mock.patch.object(logging, "warning") as told:
             visits = [crawl_http.visited(f"http://a.test/{path}", known, options) for path in "xy"]
-        expect([visit.status for visit in visits] == ["robots", "robots"], f"{visits}")
+        expect([visit.status for visit in visits] == ["no-robots"] * 2, f"{visits}")
         check_line(told, f"http://a.test/robots.txt: {type(error).__name__}: ")
-        known.sites["http://a.test"].allows = lambda url: True
+        known.sites["http://a.test"].refusal_of = lambda url: None
         with mock.patch.object(crawl_http, "fetch", side_effect=error), mock.patch.object(logging, "warning") as told:
             visit = crawl_http.visited("http://a.test/x", known, options)
         expect(visit == ("failed", "http://a.test/x", []), f"{visit}")
@@ -396,10 +448,55 @@ def moved_robots() -> None:
     with mock.patch.object(crawl_http, "fetch", fetch):
         site = crawl_http.Site("http://a.test", {}, "bell", 0)
     expect(asked == ["http://a.test/robots.txt", "http://b.test/x/y", "http://b.test/x/z"], f"{asked}")
-    expect(not site.allows("http://a.test/"), "the rule is not obeyed")
+    expect(site.refusal_of("http://a.test/") == "robots", "the rule is not obeyed")
     with suppress(ValueError):
         crawl_http.connected(urlsplit("ftp://127.0.0.1:80/"))
         raise Differs("ftp: is fetched by HTTP")
+
+
+class FailingHost(http.server.BaseHTTPRequestHandler):
+    """A host whose robots.txt cannot be read, or only the third time, or leads elsewhere."""
+
+    asked: List[str] = []
+
+    def do_GET(self) -> None:
+        host = self.connection.getsockname()[0][-1]
+        FailingHost.asked.append(host + self.path)
+        times = FailingHost.asked.count(host + self.path)
+        is_robots = self.path == "/robots.txt"
+        status = {"1": 503 if times < 3 else 404, "2": 500, "4": 301, "5": 301, "6": 301}.get(host, 200)
+        self.send_response(status if is_robots else 200)
+        targets = {"4": "/shut", "5": "ftp://127.0.0.1:80/robots.txt", "6": "/robots.txt"}
+        self.send_header("Location", targets.get(host, ""))
+        self.end_headers()
+        texts = {"/robots.txt": b"User-agent: *\nCrawl-delay: 86401", "/shut": b"User-agent: *\nDisallow: /"}
+        self.wfile.write(texts.get(self.path, b""))
+
+    def log_message(self, format: str, *words: object) -> None:
+        return
+
+
+def failing_hosts(trial: Trial) -> None:
+    """A host that does not respond is not reported like one that forbids its URLs.
+
+    A robots.txt that cannot be read is requested three times.
+    """
+    FailingHost.asked.clear()
+    servers: List[http.server.ThreadingHTTPServer] = []
+    for host in range(1, 7):
+        port = servers[0].server_port if servers else 0
+        servers.append(http.server.ThreadingHTTPServer((f"127.0.0.{host}", port), FailingHost))
+        threading.Thread(target=servers[-1].serve_forever, daemon=True).start()
+    statuses = ["200", "no-robots", "robots", "robots", "no-robots", "no-robots"]
+    wanted = {f"http://127.0.0.{host}:{port}/": status for host, status in enumerate(statuses, 1)}
+    wanted.update({"http://127.0.0.9:1/": "failed", "http://127.0.0.9:1/b": "failed"})
+    done = run_crawler(crawler_words(trial, "--delay", "0", *wanted))
+    for server in servers:
+        server.shutdown()
+    found = dict(found_by_crawler(done.stdout))
+    expect(found == wanted and done.returncode == 0, f"{found}, status {done.returncode}: {done.stderr.decode()}")
+    attempts = [FailingHost.asked.count(path) for path in ("1/robots.txt", "2/robots.txt", "2/")]
+    expect(attempts == [3, 3, 0], f"attempts: {attempts}")
 
 
 def dribbling_hosts(trial: Trial) -> None:

@@ -40,6 +40,7 @@ async function serve(hosts, handler) {
     await new Promise((resolve, reject) => {
       server.once('error', reject).listen(port, `127.0.0.${host}`, resolve);
     });
+    server.unref(); // a test that fails must not wait for it
     port = server.address().port;
     servers.push(server);
   }
@@ -188,7 +189,7 @@ test('a robots.txt that fails, a host that is down, --pages', options, async () 
   const { status, rows } = await crawl(['--delay', '0', ...urls, 'http://127.0.0.4:1/']);
   assert.equal(status, 0);
   assert.deepEqual(new Map(rows), new Map([
-    [urls[0], '200'], [urls[1], 'no-robots'], [urls[2], '200'], ['http://127.0.0.4:1/', 'no-robots'],
+    [urls[0], '200'], [urls[1], 'no-robots'], [urls[2], '200'], ['http://127.0.0.4:1/', 'failed'],
   ]));
   const one = await crawl(['--delay', '0', '--workers', '1', '--pages', '2', ...urls]);
   assert.deepEqual([one.status, one.rows.length], [2, 2]);

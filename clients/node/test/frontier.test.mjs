@@ -17,7 +17,7 @@ import {
 
 const options = {
   skip: process.env.MERCATOR ? false : 'MERCATOR does not name the program',
-  timeout: 60_000,
+  timeout: 300_000,
 };
 
 /** Runs a test with a frontier, and closes it. */

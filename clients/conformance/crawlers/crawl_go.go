@@ -1,0 +1,90 @@
+// A crawler over the Go client, for the suite: crawl_go WORKERS LOG SEED..
+package main
+
+import (
+	"context"
+	"fmt"
+	"io"
+	"net/http"
+	"os"
+	"strconv"
+	"strings"
+	"time"
+
+	"mercator.example/frontier"
+)
+
+// Each connection is used once, since net/http repeats requests on those that are used again.
+var client = http.Client{
+	Transport: &http.Transport{DisableKeepAlives: true},
+	Timeout:   10 * time.Second,
+	CheckRedirect: func(*http.Request, []*http.Request) error {
+		return http.ErrUseLastResponse
+	},
+}
+
+// get returns the target of a redirect, or the lines of a page.
+func get(ctx context.Context, url string) []string {
+	request, err := http.NewRequestWithContext(ctx, http.MethodGet, url, nil)
+	if err != nil {
+		return nil
+	}
+	response, err := client.Do(request)
+	if err != nil {
+		return nil
+	}
+	defer response.Body.Close()
+	switch response.StatusCode {
+	case http.StatusFound:
+		return []string{response.Header.Get("Location")}
+	case http.StatusOK:
+		if body, err := io.ReadAll(response.Body); err == nil {
+			lines := strings.Split(string(body), "\n")
+			return lines[:len(lines)-1]
+		}
+	}
+	return nil
+}
+
+func crawl(workers int, log string, seeds []string) error {
+	ctx := context.Background()
+	options := frontier.Options{Workers: workers}
+	if log != "-" {
+		options.Log = log
+	}
+	f, err := frontier.Open(ctx, options)
+	if err != nil {
+		return err
+	}
+	defer f.Close()
+	if _, err := f.Offer(seeds...); err != nil {
+		return err
+	}
+	if err := f.EndSeeds(); err != nil {
+		return err
+	}
+	return f.Run(ctx, func(ctx context.Context, queue int, url string) error {
+		base := url
+		var texts []string
+		for _, line := range get(ctx, url) {
+			if strings.HasPrefix(line, "base ") {
+				base = line[len("base "):]
+			} else {
+				texts = append(texts, strings.ReplaceAll(line, `\n`, "\n"))
+			}
+		}
+		_, err := f.Links(base, texts...)
+		return err
+	})
+}
+
+func main() {
+	workers, err := strconv.Atoi(os.Args[1])
+	if err == nil {
+		err = crawl(workers, os.Args[2], os.Args[3:])
+	}
+	if err != nil {
+		fmt.Fprintln(os.Stderr, "crawl_go:", err)
+		os.Exit(1)
+	}
+}

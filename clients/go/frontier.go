@@ -1,0 +1,400 @@
+// Package frontier is a client of mercator serve, the URL frontier for crawlers.
+//
+// A crawler fetches pages, and asks the frontier what to fetch next. The frontier runs as a process
+// of its own, with one queue per worker, numbered from 0. All URLs of a host are in one queue. Each
+// URL is given out once, however it is spelled. When all URLs are done, the crawl is over.
+//
+// With Options.Log, a crawl that was killed resumes: run it again with the same options. URLs that
+// are refused because too many are unfinished are kept in memory, and are offered again when there
+// is room. A kill loses them. README.md has more, and docs/SESSION.md describes the protocol.
+package frontier
+
+import (
+	"bufio"
+	"context"
+	"errors"
+	"fmt"
+	"io"
+	"os"
+	"os/exec"
+	"strconv"
+	"strings"
+	"sync"
+	"syscall"
+	"time"
+)
+
+// The errors that a Frontier returns, also wrapped. If the program has failed, the error wraps an
+// *exec.ExitError, and its text has the message of the program.
+var (
+	ErrClosed        = errors.New("frontier: closed by the crawler")
+	ErrLogInUse      = errors.New("frontier: the log is in use")
+	ErrNoSuchQueue   = errors.New("frontier: no such queue")
+	ErrNothingTaken  = errors.New("frontier: the queue is not working on a URL")
+	ErrQueueBusy     = errors.New("frontier: the last URL of the queue is not done")
+	ErrUnknownAnswer = errors.New("frontier: unknown answer")
+)
+
+var refusals = map[string]error{
+	"refused busy":    ErrQueueBusy,
+	"refused nosuch":  ErrNoSuchQueue,
+	"refused nothing": ErrNothingTaken,
+}
+
+// Options are the options of a frontier. A crawl resumes only with the options that it began with.
+type Options struct {
+	Workers    int    // number of workers and queues, 1 to 512; 0 means 4
+	MaxPending int64  // most URLs waiting or in progress at a time; 0 means the program's default
+	Within     string // accept only hosts equal to this suffix or subdomains of it; "" means all
+	Log        string // file that gets all requests, from which a crawl resumes; "" means none
+	Sync       bool   // sync the log to disk before each answer
+	Program    string // the program; "" means $MERCATOR, or else mercator on the PATH
+}
+
+// A Status says whether an offered URL was accepted, and if not, why.
+type Status string
+
+const (
+	Accepted Status = "accepted"
+	Seen     Status = "seen"     // it was accepted before, in this spelling or another
+	Filtered Status = "filtered" // its host is outside Options.Within
+	NotURL   Status = "not a URL"
+	NotHTTP  Status = "not http or https"
+	TooLong  Status = "line too long" // the request has more than 4,096 bytes
+	NotUTF8  Status = "not UTF-8"
+	Closed   Status = "refused closed" // the crawl is over
+	Full     Status = "refused full"   // too many URLs are unfinished; it will be offered again
+)
+
+// A Frontier is a URL frontier that runs as a process of its own. Several goroutines may use it at
+// the same time. Use Open to start one.
+type Frontier struct {
+	ctx    context.Context
+	cmd    *exec.Cmd
+	stdin  io.WriteCloser
+	stdout *bufio.Reader
+	stderr strings.Builder
+	// mu is held from requests to their answers, and by the callers of the methods after Close.
+	mu    sync.Mutex
+	end   error           // why no request is answered any more, or nil
+	wakes []chan struct{} // by queue: closed when a wait in this queue may be over
+	begun map[int]bool    // by queue: whether a URL was taken from it
+	kept  []string        // requests that were refused for lack of room
+}
+
+// Open starts a frontier. If the log exists, the crawl resumes. The program of a crawler that was
+// killed may use the log a moment longer: Open waits for it, and after about nine seconds fails
+// with ErrLogInUse. If ctx is done, also after Open has returned, the program is killed.
+func Open(ctx context.Context, options Options) (*Frontier, error) {
+	for wait, begun := 50*time.Millisecond, time.Now(); ; wait = wait * 3 / 2 {
+		f, err := start(ctx, options)
+		if err != nil {
+			return nil, fmt.Errorf("frontier: cannot start the program: %w", err)
+		}
+		if _, err = f.exchange([]string{"again 0"}); err == nil {
+			return f, nil
+		}
+		if !strings.Contains(err.Error(), ": in use") {
+			return nil, err
+		}
+		if time.Since(begun)+wait > 10*time.Second {
+			return nil, fmt.Errorf("%w: %v", ErrLogInUse, err)
+		}
+		select {
+		case <-time.After(wait):
+		case <-ctx.Done():
+			return nil, ctx.Err()
+		}
+	}
+}
+
+func start(ctx context.Context, options Options) (*Frontier, error) {
+	workers, program := options.Workers, options.Program
+	if workers == 0 {
+		workers = 4
+	}
+	if program == "" {
+		program = os.Getenv("MERCATOR")
+	}
+	if program == "" {
+		program = "mercator"
+	}
+	args := []string{"serve", fmt.Sprint("--workers=", workers)}
+	if options.MaxPending != 0 {
+		args = append(args, fmt.Sprint("--max-pending=", options.MaxPending))
+	}
+	if options.Within != "" {
+		args = append(args, "--within="+options.Within)
+	}
+	if options.Log != "" {
+		args = append(args, "--log="+options.Log)
+	}
+	if options.Sync {
+		args = append(args, "--sync")
+	}
+	f := &Frontier{ctx: ctx, cmd: exec.CommandContext(ctx, program, args...), begun: map[int]bool{}}
+	for len(f.wakes) < workers {
+		f.wakes = append(f.wakes, make(chan struct{}))
+	}
+	// In a session of its own, so that Ctrl-C reaches only the crawler.
+	f.cmd.SysProcAttr = &syscall.SysProcAttr{Setsid: true}
+	f.cmd.Stderr = &f.stderr
+	stdout, err := f.cmd.StdoutPipe()
+	if err != nil {
+		return nil, err
+	}
+	f.stdout = bufio.NewReader(stdout)
+	if f.stdin, err = f.cmd.StdinPipe(); err == nil {
+		err = f.cmd.Start()
+	}
+	return f, err
+}
+
+// Offer offers URLs, such as seeds, in their order. There is one status per URL.
+func (f *Frontier) Offer(urls ...string) ([]Status, error) {
+	return f.offer("offer ", urls)
+}
+
+// Links offers the links of a page in their order. Call it before the page is done. The base is the
+// URL of the page, or that of its <base>, and the texts are the links as they appear on it. The
+// target of a redirect is a link, too.
+func (f *Frontier) Links(base string, texts ...string) ([]Status, error) {
+	// In a request the base ends at its first space. The rest is what the URL Standard strips.
+	base = strings.TrimFunc(base, func(r rune) bool { return r <= ' ' })
+	base = strings.NewReplacer("\t", "", "\n", "", "\r", "", " ", "%20").Replace(base)
+	return f.offer(fmt.Sprintf("link %.5000s ", base), texts)
+}
+
+func (f *Frontier) offer(word string, texts []string) ([]Status, error) {
+	requests := make([]string, len(texts))
+	for i, text := range texts {
+		// A request is one line: the URL Standard removes each line feed. Longer texts are cut:
+		// above 4,096 bytes, all are answered "line too long".
+		requests[i] = fmt.Sprintf("%s%.5000s", word, strings.ReplaceAll(text, "\n", ""))
+	}
+	f.mu.Lock()
+	defer f.mu.Unlock()
+	return f.send(requests)
+}
+
+// EndSeeds says that all seeds were offered, so that the crawl can end. If the seeds had ended
+// before, as they may have in a crawl that resumes, it does nothing.
+func (f *Frontier) EndSeeds() error {
+	f.mu.Lock()
+	defer f.mu.Unlock()
+	if _, err := f.lower("endseeds"); err != ErrNothingTaken {
+		return err
+	}
+	return nil
+}
+
+// Take takes the URL that has waited longest in a queue. If there is none, it waits until there is
+// one, until the crawl is over, or until ctx is done. If the crawl is over, the error is io.EOF. In
+// a crawl that resumes, the first URL of a queue is the one that was in progress.
+func (f *Frontier) Take(ctx context.Context, queue int) (string, error) {
+	f.mu.Lock()
+	defer f.mu.Unlock()
+	if !f.begun[queue] {
+		f.begun[queue] = true
+		if _, url, err := f.ask(fmt.Sprint("again ", uint32(queue)), "taken"); err != ErrNothingTaken {
+			return url, err
+		}
+	}
+	for ctx.Err() == nil {
+		word, url, err := f.ask(fmt.Sprint("next ", uint32(queue)), "taken", "pending", "closed")
+		if word == "closed" {
+			return "", io.EOF
+		}
+		if word != "pending" {
+			return url, err
+		}
+		// No request was sent after the one that is pending, so no wake-up is lost.
+		wake := f.wakes[queue]
+		f.mu.Unlock()
+		select {
+		case <-wake:
+		case <-ctx.Done():
+		}
+		f.mu.Lock()
+	}
+	return "", ctx.Err()
+}
+
+// Done says that the URL of a queue is finished, fetched or not. It returns the number of URLs that
+// are unfinished.
+func (f *Frontier) Done(queue int) (int, error) {
+	f.mu.Lock()
+	defer f.mu.Unlock()
+	return f.lower(fmt.Sprint("done ", uint32(queue)))
+}
+
+// Run calls visit for each URL until the crawl is over: for several URLs at a time, but for only
+// one of each queue, and so of each host. When visit returns nil, the URL is done. If visit fails,
+// or ctx is done, Run cancels the context of the visits, waits for them, and returns the first
+// error. A URL whose visit failed stays in progress: with a log, the next crawl begins with it.
+func (f *Frontier) Run(
+	ctx context.Context, visit func(ctx context.Context, queue int, url string) error,
+) error {
+	ctx, cancel := context.WithCancel(ctx)
+	defer cancel()
+	work := func(queue int) (err error) {
+		for err == nil {
+			var url string
+			if url, err = f.Take(ctx, queue); err != nil {
+				return err
+			}
+			if err = visit(ctx, queue, url); err != nil {
+				return fmt.Errorf("frontier: visit of %s: %w", url, err)
+			}
+			_, err = f.Done(queue)
+		}
+		return err
+	}
+	errs := make(chan error)
+	for queue := range f.wakes {
+		go func(queue int) { errs <- work(queue) }(queue)
+	}
+	var first error
+	for range f.wakes {
+		if err := <-errs; err != io.EOF && first == nil {
+			first = err
+			cancel()
+		}
+	}
+	return first
+}
+
+// Close ends the program. Calls that wait, and later ones, fail with ErrClosed. The error is nil if
+// the program exited with status 0.
+func (f *Frontier) Close() error {
+	f.stdin.Close()
+	defer time.AfterFunc(10*time.Second, func() { f.cmd.Process.Kill() }).Stop()
+	f.mu.Lock()
+	defer f.mu.Unlock()
+	if err := f.ended(); err != ErrClosed {
+		return err
+	}
+	return nil
+}
+
+// lower sends a request that finishes something, and then offers what was kept. No other request is
+// sent meanwhile, so the crawl cannot end without the URLs that were kept.
+func (f *Frontier) lower(request string) (int, error) {
+	_, count, err := f.ask(request, "count")
+	if err != nil {
+		return 0, err
+	}
+	for queue := 0; count == "0" && queue < len(f.wakes); queue++ {
+		f.wake(queue)
+	}
+	unfinished, err := strconv.Atoi(count)
+	// The loop ends when an offer is refused again, and so kept.
+	for left := len(f.kept); err == nil && left > 0 && left == len(f.kept); left-- {
+		offer := f.kept[:1]
+		f.kept = f.kept[1:]
+		_, err = f.send(offer)
+	}
+	return unfinished, err
+}
+
+// send offers URLs, and keeps those that are refused for lack of room.
+func (f *Frontier) send(requests []string) ([]Status, error) {
+	answers, err := f.exchange(requests)
+	statuses := make([]Status, len(answers))
+	for i, answer := range answers {
+		statuses[i] = Status(answer)
+		switch statuses[i] {
+		case Seen, Filtered, NotURL, NotHTTP, TooLong, NotUTF8, Closed:
+		case Full:
+			f.kept = append(f.kept, requests[i])
+		default:
+			var queue, number uint
+			n, _ := fmt.Sscanf(answer, "accepted %d %d", &queue, &number)
+			if n < 2 || int(queue) >= len(f.wakes) {
+				return nil, f.unknown(answer)
+			}
+			statuses[i] = Accepted
+			f.wake(int(queue))
+		}
+	}
+	return statuses, err
+}
+
+// wake ends the waits in a queue.
+func (f *Frontier) wake(queue int) {
+	close(f.wakes[queue])
+	f.wakes[queue] = make(chan struct{})
+}
+
+// ask sends a request, and returns the first word of its answer, which must be known, and the rest.
+func (f *Frontier) ask(request string, known ...string) (word, rest string, err error) {
+	answers, err := f.exchange([]string{request})
+	if err != nil {
+		return "", "", err
+	}
+	word, rest, _ = strings.Cut(answers[0], " ")
+	for _, one := range known {
+		if word == one {
+			return word, rest, nil
+		}
+	}
+	if err = refusals[answers[0]]; err == nil {
+		err = f.unknown(answers[0])
+	}
+	return "", "", err
+}
+
+// exchange sends requests, and returns their answers. It writes whole requests in pieces of at most
+// PIPE_BUF bytes, so that none is cut off if the crawler is killed. It reads the answers to a piece
+// before it writes the next one, so that neither side waits for the other to read.
+func (f *Frontier) exchange(requests []string) (answers []string, err error) {
+	if f.end != nil {
+		return nil, f.end
+	}
+	var piece []byte
+	for i, request := range requests {
+		piece = append(append(piece, request...), '\n')
+		if i+1 < len(requests) && len(piece)+len(requests[i+1]) < 4096 {
+			continue
+		}
+		f.stdin.Write(piece) // if this fails, so does a read
+		for piece = nil; len(answers) <= i; {
+			answer, err := f.stdout.ReadString('\n')
+			if err != nil { // a last line without a line feed is not an answer
+				return nil, f.ended()
+			}
+			answers = append(answers, answer[:len(answer)-1])
+		}
+	}
+	if f.stdout.Buffered() > 0 {
+		return nil, f.unknown("more than one per request")
+	}
+	return answers, nil
+}
+
+// ended waits until the program has exited, ends all waits, and returns how it exited.
+func (f *Frontier) ended() error {
+	err := f.cmd.Wait()
+	switch {
+	case f.end != nil:
+		return f.end
+	case f.ctx.Err() != nil:
+		f.end = f.ctx.Err()
+	case err != nil:
+		f.end = fmt.Errorf("frontier: %w: %s", err, strings.TrimSpace(f.stderr.String()))
+	default:
+		f.end = ErrClosed
+	}
+	for queue := range f.wakes {
+		f.wake(queue)
+	}
+	return f.end
+}
+
+// unknown ends the program, since nobody knows what it means by this answer.
+func (f *Frontier) unknown(answer string) error {
+	f.cmd.Process.Kill()
+	f.ended()
+	f.end = fmt.Errorf("%w: %s", ErrUnknownAnswer, answer)
+	return f.end
+}

@@ -1,0 +1,3 @@
+module mercator.example/frontier
+
+go 1.19
