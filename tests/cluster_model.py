@@ -4,13 +4,14 @@
 The protocol is that of `clients/python/mercator_cluster.py`. The sites are small: a few URLs, each
 with its part and its links. Every reachable state is tried: each step of each part, crashes,
 entries that arrive twice, commands of dead clients that arrive late or never, and losses of data in
-Redis.
+Redis, by a restart or while it runs.
 
     own     no URL is lost: in no state does the crawl look complete, or is recorded as complete, or
             is a gate closed before all URLs are fetched; and from each state, ordinary steps lead
             to the end
     faults  each of the bugs that are planted in the protocol is found
-    loss    like `own`, while Redis loses its last entries or all of them
+    loss    like `own`, while Redis restarts without its last entries or with none, or loses all
+            keys while it runs
     naive   a single counter of pending URLs, in three variants, fails in each; prints short traces
 
 Without --all, the script takes about two minutes. The last line is `N passed, M failed`.
@@ -85,7 +86,9 @@ class Frontier(NamedTuple):
     hand: int = -1  # the URL in progress, or -1
     done: int = 0  # as bits
     seen: int = 0  # as bits
-    sent: int = 0  # the URLs of other parts that were offered here and so are in the log, as bits
+    # The URLs that were offered here, and so are in the log, but that only Redis has: of other
+    # parts, and those that there was no room for. As bits.
+    sent: int = 0
     ended: int = 0  # whether `endseeds` was requested
 
     def is_quiet(self) -> bool:
@@ -101,7 +104,7 @@ class Frontier(NamedTuple):
         if self.is_closed():
             return "closed", self
         if of.room is not None and len(self.queue) + (self.hand >= 0) >= of.room:
-            return "full", self
+            return "full", self._replace(sent=self.sent | 1 << url)
         if self.seen >> url & 1:
             return "seen", self
         return "accepted", self._replace(seen=self.seen | 1 << url, queue=self.queue + (url,))
@@ -137,6 +140,7 @@ class Client(NamedTuple):
     page: Tuple[Any, ...] = ()  # the links to offer, and the URLs to send
     wire: Urls = ()  # the ids whose removal was sent and not yet executed
     told: int = 0  # the URLs that it has sent, as bits: they are not sent again
+    stale: int = 0  # whether Redis has lost its keys since this client was started
     looked: int = 0  # for a planted bug: the number of streams that were found empty
     aside: Tuple[Any, ...] = ()  # for a planted bug: the entry that was being read
 
@@ -242,7 +246,7 @@ class Own:
         return state._replace(streams=state.streams[:part] + (kept,) + state.streams[part + 1:])
 
     def begin(self, state: State, me: int, sent: int) -> State:
-        """Send the URLs in the log that belong to other parts, and the seeds to the own stream."""
+        """Send the URLs in the log that only Redis had, and the seeds to the own stream."""
         for to in range(self.count):
             its = (url for url, part in enumerate(self.web.part) if part == to)
             urls = tuple(url for url in its if sent >> url & 1)
@@ -287,6 +291,9 @@ class Own:
                 after = self.with_part(state, me, frontier, self.started(frontier))
                 out.append((f"part {me} starts again", "step", after))
                 continue
+            if client.stale and self.fault != "does not notice that Redis lost its keys":
+                after = self.with_part(state, me, frontier, None)
+                out.append((f"part {me} notices that Redis lost its keys", "step", after))
             self.reader_steps(state, me, frontier, client, out)
             self.fetcher_steps(state, me, frontier, client, out)
             self.end_steps(state, me, frontier, client, out)
@@ -298,6 +305,7 @@ class Own:
             out.append((what, "late", self.execute(rest, part, command)))
         if state.losses:
             out.extend(self.loss(state))
+            out.append(self.flush(state))
         return [(what, kind, self.tidy(self.at_once(after))) for what, kind, after in out]
 
     @staticmethod
@@ -373,8 +381,10 @@ class Own:
         has_to_send = self.has_to_send(me, frontier, client)
         if has_to_send and (is_early and not frontier.seen if is_ready else not is_early):
             again = 0 if self.fault == "sends nothing again" else frontier.sent
+            if self.fault == "sends no refused URL again":
+                again &= sum(1 << url for url, part in enumerate(self.web.part) if part != me)
             go("sends its seeds", c=client._replace(begun=1), s=self.begin(state, me, again))
-        elif not is_ready:
+        elif not is_ready and (not client.stale or self.fault == HAS_NO_EPOCH):
             go("is ready", s=self.make_ready(state, me))
         if state.doubles and client.cursor:
             go("reads its stream from the start once more", c=client._replace(cursor=0, reading=()),
@@ -507,7 +517,7 @@ class Own:
                 go(f"finds the stream of part {looked} empty", c=client._replace(looked=looked + 1))
             if looked == self.count:
                 go("SET complete", s=self.complete(state))
-        elif not state.complete and self.is_complete(state):
+        elif not state.complete and self.is_complete(state) and not client.stale:
             go("sees all ready and all streams empty; SET complete", s=self.complete(state))
         if state.complete:
             go("finds `complete`; endseeds", f=frontier._replace(ended=1))
@@ -525,8 +535,10 @@ class Own:
             kept = max(client.offered)
             late.append((me, ("del", tuple(number for number in client.offered if number != kept))))
         if not state.ready >> me & 1:
-            has_to_send = self.has_to_send(me, frontier, client)
-            late.append((me, ("begin", frontier.sent) if has_to_send else ("ready",)))
+            if self.has_to_send(me, frontier, client):
+                late.append((me, ("begin", frontier.sent)))
+            elif not client.stale:
+                late.append((me, ("ready",)))
         if client.reading and not client.reading[1] and client.reading[2]:
             late.append((me, ("add", *client.reading[2][0])))
         if client.page and not client.page[0] and client.page[1]:
@@ -548,6 +560,24 @@ class Own:
                     state._replace(streams=streams, ready=ready, complete=complete, parts=parts,
                                    late=(), losses=state.losses - 1),
                 )
+
+    def flush(self, state: State) -> Step:
+        """Empty Redis while it runs: the connections stay, and so do commands under way.
+
+        A part that becomes ready after that is ready in an epoch that nobody looks at.
+        """
+        parts, late = list(state.parts), list(state.late)
+        for me, (frontier, client) in enumerate(parts):
+            if client is not None:
+                begun = client.begun or state.ready >> me & 1
+                parts[me] = Part(frontier, client._replace(stale=1, begun=begun))
+        if self.fault != HAS_NO_EPOCH:
+            late = [(me, ("add", me, ()) if c[0] == "ready" else c) for me, c in late]
+        return (
+            "Redis LOSES its keys", "loss",
+            state._replace(streams=((),) * self.count, ready=0, complete=0, parts=tuple(parts),
+                           late=tuple(late), losses=state.losses - 1),
+        )
 
     def tidy(self, state: State) -> State:
         """Return the same state in a normal form.
@@ -921,6 +951,7 @@ SPLIT = web("5 URLs, 2 parts", "a0:b0,a1 a1:b1 a2:b0 b0:a2 b1:a0", "a:a0")
 THREE = web("ring of 3 parts", "a0:b0,c0 b0:c0 c0:a0", "a:a0")
 FOUR = web("3 parts, 4 URLs", "a0:b0 a1:b0 b0:c0,a0 c0:a1", "a:a0")
 FULL = web("ring, at most 1 pending", "a0:b0,a1 a1:b0 b0:a1", "a:a0", 1)
+TIGHT = web("1 part, at most 1 pending", "a0:a1,a2 a1: a2:", "a:a0", 1)
 FULLER = web("4 URLs, at most 1 pending", "a0:a1,b0,b1 a1: b0:b1,a1 b1:a0", "a:a0", 1)
 
 # A site, and the numbers of crashes, doubles and losses.
@@ -935,10 +966,11 @@ OWN_ALL: Tuple[Row, ...] = (
     (THREE, 0, 1, 0), (RING, 1, 1, 0), (RING, 2, 0, 0), (FULL, 1, 1, 0), (WRONG, 1, 1, 0),
     (THREE, 1, 0, 0), (RING, 2, 1, 0),
 )
-LOSS: Tuple[Row, ...] = ((ONE, 0, 0, 1),)
+LOSS: Tuple[Row, ...] = ((ONE, 0, 0, 1), (TIGHT, 0, 0, 2))
 LOSS_ALL: Tuple[Row, ...] = ((ONE, 0, 1, 1), (ONE, 0, 0, 2), (ONE, 1, 0, 1), (RING, 0, 0, 1))
 # A mistake of the operator: the other parts wait.
 STAYS_ENDED = "is not started again after it had finished"
+HAS_NO_EPOCH = "is ready although Redis lost what it had sent"
 FAULTS: Tuple[Tuple[str, Row], ...] = (
     ("done before its links are sent", (ONE, 1, 0, 0)), ("keeps no entry", (ONE, 0, 0, 0)),
     ("keeps the entry that was read last", (RING, 1, 1, 0)),
@@ -951,6 +983,8 @@ FAULTS: Tuple[Tuple[str, Row], ...] = (
     ("ends its seeds when it is quiet", (ONE, 0, 0, 0)), ("drops refused URLs", (FULL, 0, 0, 0)),
     ("sends nothing again", (ONE, 0, 0, 1)),
     ("stays ready when Redis restarts", (ONE, 0, 0, 1)), (STAYS_ENDED, (ONE, 0, 0, 1)),
+    ("does not notice that Redis lost its keys", (ONE, 0, 0, 1)), (HAS_NO_EPOCH, (ONE, 0, 0, 1)),
+    ("sends no refused URL again", (TIGHT, 0, 0, 1)),
 )
 
 

@@ -17,6 +17,7 @@ from __future__ import annotations
 import argparse
 import itertools
 import json
+import logging
 import os
 import random
 import select
@@ -190,6 +191,7 @@ class Faults(NamedTuple):
 
     kills: int = 0  # kills of parts: of the client, its frontier, or both
     losses: int = 0  # kills of Redis; every second time it keeps its files
+    flushes: int = 0  # how many times Redis is emptied while it runs
     is_twice: bool = False  # every entry is sent twice
     late: float = 0.0  # the share of the sent URLs that are delayed by up to 50 ms
 
@@ -262,7 +264,7 @@ def started(shared: Shared, part: int) -> Part:
     made._outbox = FaultyOutbox(part, shared.faults)  # the outbox of a ready part is empty
     process = made._frontier._channel._process
     (shared.folder / f"frontier.{part}").write_text(str(process.pid))
-    (shared.folder / f"redis.{part}").write_text(made._broker._ready.rpartition(":")[2])
+    (shared.folder / f"redis.{part}").write_text(made._broker._ready.partition(":ready:")[2])
     return made
 
 
@@ -339,7 +341,7 @@ class Crawling:
         """Run all parts until the crawl is complete, with failures at random moments."""
         faults, folder = self.shared.faults, self.shared.folder
         whole = sum(len(url) + 3 for url in wanted)
-        what = ["part"] * faults.kills + ["redis"] * faults.losses
+        what = ["part"] * faults.kills + ["redis"] * faults.losses + ["keys"] * faults.flushes
         moments = sorted((self.draw.random() * whole, word) for word in what)
         end = time.monotonic() + SECONDS
         try:
@@ -369,16 +371,24 @@ class Crawling:
                 self.parts[part] = forked(self.shared, part)
                 continue
             expect(status == 0, f"part {part} ended with {status}")
-            if (self.shared.folder / f"redis.{part}").read_text() != self.server.run_id:
-                # Redis was killed after the part had finished, so the new one lacks its data.
+            if (self.shared.folder / f"redis.{part}").read_text() != self.data():
+                # Redis was killed or emptied after the part had finished, so it lacks its data.
                 self.parts[part] = forked(self.shared, part)
 
+    def data(self) -> str:
+        """Return the name of the data that Redis has: of its process, and of its keys."""
+        epoch = self.server.client.get(f"{{{self.shared.crawl.name}}}:epoch") or b""
+        return f"{self.server.run_id}:{epoch.decode()}"
+
     def strike(self, word: str) -> None:
-        """Kill a part or Redis."""
+        """Kill a part or Redis, or empty Redis."""
         if word == "part":
             kill(self.shared.folder, *self.draw.choice(list(self.parts.items())), self.draw)
             return
-        self.server.lose(everything=self.losses % 2 == 0)
+        if word == "keys":
+            self.server.empty()
+        else:
+            self.server.lose(everything=self.losses % 2 == 0)
         self.losses += 1
         self.stopped += len(self.parts)
         # A part that had finished has to send its data to the new Redis.
@@ -537,6 +547,69 @@ def lost_redis(trial: Trial) -> None:
         drawn_crawl(trial, "lost", number, (2, 4)[number % 2], faults, has_threads=number % 4 == 3)
 
 
+def emptied_redis(trial: Trial) -> None:
+    """Redis loses all keys while it runs; sometimes it is killed too, or the parts are."""
+    for number in range(trial.webs):
+        faults = Faults(flushes=3, losses=number % 3 == 1, kills=2 * (number % 3 == 2))
+        parts = (1, 2, 4)[number // 2 % 3]
+        drawn_crawl(trial, "emptied", number, parts, faults, has_threads=number % 4 == 3)
+
+
+def reported_loss(trial: Trial) -> None:
+    """`run` reports that Redis has lost the keys, and completes the crawl."""
+    shared = trial.new(drawn_web(trial.draw("reported"), 1, 9), 1, 1, Faults())
+    fetches: List[str] = []
+
+    def fetch(queue: int, url: str) -> Tuple[str, List[str]]:
+        fetches.append(url)
+        if len(fetches) == 3:
+            trial.server.empty()
+        return url, shared.web.pages.get(url, [])
+
+    with mock.patch.object(mercator_cluster.logger, "warning") as warning:
+        run(lambda: started(shared, 0), fetch)
+    expect(is_complete(shared, trial.server), "`complete` is not set")
+    expect(set(fetches) == set(wanted_of(shared.web, trial.program, shared.folder)), "other URLs")
+    texts = [str(call.args[0]) % call.args[1:] for call in warning.call_args_list]
+    is_right = len(texts) == 1 and "Redis has lost the keys of this crawl" in texts[0]
+    expect(is_right, f"the warnings: {texts}")
+
+
+def emptied_before_ready(trial: Trial) -> None:
+    """Redis is emptied after a part has sent its seeds, and before the part is ready."""
+    shared = trial.new(drawn_web(trial.draw("before ready"), 3, 20), 1, 2, Faults())
+    wanted = wanted_of(shared.web, trial.program, shared.folder)
+    make_ready, losses = mercator_cluster._Broker.make_ready, iter([True])
+
+    def make_ready_without_keys(broker: Any) -> None:
+        if next(losses, False):
+            trial.server.empty()
+        make_ready(broker)
+
+    with mock.patch.object(mercator_cluster._Broker, "make_ready", make_ready_without_keys):
+        work(shared, 0)
+    trial.compare(shared, wanted, Stopped())
+
+
+def reported_wait(trial: Trial) -> None:
+    """A part that waits for a part that does not run reports it once."""
+    web = Web({}, [])
+    shared = trial.new(web, 3, 1, Faults())
+    with mock.patch.object(mercator_cluster, "_SILENT", 0.1), \
+            mock.patch.object(mercator_cluster, "_IDLE", 0.01), \
+            mock.patch.object(mercator_cluster.logger, "warning") as warning:
+        part = ByHand(shared, 1)
+        try:
+            begun = time.monotonic()
+            while time.monotonic() - begun < 1:
+                expect(not part.is_over(), "the crawl is complete without two parts")
+        finally:
+            part.made.close()
+    texts = [str(call.args[0]) % call.args[1:] for call in warning.call_args_list]
+    is_right = len(texts) == 1 and "waits for these parts: 0, 2." in texts[0]
+    expect(is_right, f"the warnings: {texts}")
+
+
 class ByHand:
     """One of two parts in this process, which run round by round, independently of time."""
 
@@ -619,9 +692,14 @@ def lose_at_the_end(shared: Shared, server: Server, parts: List[ByHand]) -> None
 
 
 def full(trial: Trial) -> None:
-    """Frontiers with little room: URLs without room wait in the part's own stream."""
+    """Frontiers with little room: URLs without room wait in the part's own stream.
+
+    Sometimes Redis loses the stream: killed, or emptied.
+    """
     for number in range(trial.webs):
-        faults, parts = Faults(kills=2 * (number % 2)), (1, 2, 4)[number % 3]
+        some = 2 * (number % 2)
+        faults = (Faults(kills=some), Faults(losses=some), Faults(flushes=some))[number // 2 % 3]
+        parts = (1, 2, 4)[number % 3]
         drawn_crawl(trial, "full", number, parts, faults, max_pending=(2, 9, 40)[number % 3])
 
 
@@ -918,7 +996,8 @@ def speed(trial: Trial) -> None:
 
 
 PARTS: Tuple[Callable[[Trial], None], ...] = (
-    plain, killed, twice_and_late, lost_redis, lost_at_the_end, full, one_host, many_queues,
+    plain, killed, twice_and_late, lost_redis, emptied_redis, reported_loss, emptied_before_ready,
+    reported_wait, lost_at_the_end, full, one_host, many_queues,
     refused, full_redis, http, words_like_options, refused_arguments, reported_seeds, absent_redis,
     locked_redis, long_base, unix_socket, interrupted, gone_redis, speed,
 )
@@ -952,6 +1031,7 @@ def main() -> None:
     options = parser.parse_args()
     program = program_of(options.program)
     folder = Path(tempfile.mkdtemp(prefix="cluster-"))
+    mercator_cluster.logger.addHandler(logging.NullHandler())  # not a warning for each loss
     passed = failed = 0
     trial = Trial(options, program, folder)
     try:

@@ -7,8 +7,12 @@ this script, on seven addresses of the loopback, counts the requests. Each site 
 Scrapy's own scheduler and with this one; both must request the same URLs. With this one,
 
 - each URL is requested once, except for retries, as a search by this script finds it;
+- it is requested in its canonical form;
 - no host has two requests in progress at the same time;
 - the spider ends by itself, and the frontier has closed.
+
+Crawls with JOBDIR are stopped or killed, and started again: all runs together must request each URL
+once, except those that were in progress at a kill, and run its callback.
 
 The script needs Scrapy; Debian's package `python3-scrapy` is for /usr/bin/python3. The last line is
 `N passed, M failed`; the exit status is 1 if any failed.
@@ -39,7 +43,7 @@ from urllib.parse import unquote, urljoin, urlsplit
 import scrapy
 from scrapy import signals
 from scrapy.crawler import CrawlerProcess
-from scrapy.exceptions import DontCloseSpider, IgnoreRequest
+from scrapy.exceptions import CloseSpider, DontCloseSpider, IgnoreRequest
 from scrapy.http import HtmlResponse
 from scrapy.resolver import CachingThreadedResolver
 from scrapy.utils.response import get_base_url
@@ -146,6 +150,38 @@ def drawn_site(rand: Random, port: int, pages: int) -> Site:
     return site
 
 
+def numbered_site(rand: Random, port: int, pages: int) -> Site:
+    """Return a random site whose paths end with the number of the page, without redirects."""
+    paths = [(address_of(rand.randrange(HOSTS)), f"/{rand.choice('pqr')}/{number}")
+             for number in range(pages)]
+    site = Site(paths[0])
+    for number, asked in enumerate(paths):
+        kind = "200" if number == 0 else rand.choice(["200"] * 8 + ["flaky", "404"])
+        # Page n is linked from page n // 3, which is a page with links.
+        links = [link for link in paths[3 * number:3 * number + 3] if link != asked]
+        links += [rand.choice(paths) for _ in range(rand.randrange(5))]
+        if kind == "404" and 3 * number < pages:
+            kind = "200"
+        if kind == "404":
+            links = []
+        body = page_of(spelled(rand, port, link) for link in links)
+        site.pages[asked] = Page(kind, body, tuple(links))
+        site.pages[form_of(number)] = Page("200")
+    return site
+
+
+def form_of(number: int) -> Asked:
+    return address_of(number % 3), f"/form/{number}"
+
+
+def forms_of(site: Site) -> Dict[Asked, int]:
+    """Return the forms that the spider posts in a numbered site, each once."""
+    found = site.wanted()
+    links = {link for asked in found for link in site.answer(asked).links}
+    numbers = {int(path.rsplit("/", 1)[1]) for _, path in links}
+    return {form_of(number): 1 for number in numbers if number % 5 == 0}
+
+
 class FolderSite(Site):
     """The files of a folder, at the root of a host."""
 
@@ -185,6 +221,15 @@ def without_dots(target: str) -> str:
     return "/" + "/".join(kept) + mark + query
 
 
+def canonical(asked: Asked, url: str) -> str:
+    """Return the URL of a request, with its port, as the URL Standard spells it."""
+    number = int(asked[0].rsplit(".", 1)[1]) - 1
+    host = asked[0] if number == HOSTS - 1 else name_of(number)
+    names = {host, asked[0]}  # the example site has the address of a host that has a name
+    host = next((name for name in names if url.startswith(f"http://{name}:")), host)
+    return f"http://{host}:{url.split(':')[2].partition('/')[0]}{asked[1]}"
+
+
 class Count:
     """Counts the requests to the servers."""
 
@@ -196,10 +241,13 @@ class Count:
         self.active: Counter[str] = Counter()
         self.most = 0  # the greatest number of requests in progress at one host
         self.order: List[Asked] = []
+        self.odd: List[str] = []  # URLs of GET requests that are not canonical
 
-    def begins(self, method: str, asked: Asked) -> int:
+    def begins(self, method: str, asked: Asked, url: str) -> int:
         with self.lock:
             counts = self.asked if method == "GET" else self.posted
+            if method == "GET" and url != canonical(asked, url):
+                self.odd.append(url)
             counts[asked] += 1
             self.order.append(asked)
             self.active[asked[0]] += 1
@@ -224,7 +272,7 @@ class Handler(BaseHTTPRequestHandler):
     def serve(self, method: str) -> None:
         count: Count = self.server.count  # type: ignore[attr-defined]
         asked = (str(self.server.server_address[0]), without_dots(self.path))  # type: ignore[index]
-        tries = count.begins(method, asked)
+        tries = count.begins(method, asked, f"http://{self.headers['Host']}{self.path}")
         time.sleep(WORK)
         page = count.site.answer(asked)
         status, headers = 200, {"Content-Type": "text/html; charset=utf-8"}
@@ -331,6 +379,7 @@ class Spider(scrapy.Spider):
         self.raising = set(asked.get("raising", ()))
         self.parsed: List[str] = []
         self.failed: List[str] = []
+        self.is_stopped = False
 
     def start_requests(self) -> Iterable[scrapy.Request]:
         for seed in self.asked["seeds"]:
@@ -340,10 +389,50 @@ class Spider(scrapy.Spider):
                 yield scrapy.Request(url, self.parse, method="POST", body=extra, errback=self.fail)
             elif kind == "again":
                 yield scrapy.Request(url, self.parse, dont_filter=True, errback=self.fail)
+            elif kind == "each run":
+                meta = {"mercator_each_run": True}
+                yield scrapy.Request(url, self.parse, dont_filter=True, meta=meta)
             else:
                 yield scrapy.Request(url, self.parse, errback=self.fail)
 
+    def record(self, callback: str, response: Any, number: int = -1) -> None:
+        """Record that a callback ran, in the file of the settings, if there is one."""
+        if "record" in self.asked:
+            path = without_dots(urlsplit(response.url).path)
+            with open(self.asked["record"], "a", encoding="utf-8") as file:
+                file.write(f"{callback} {response.request.method} {number} {path}\n")
+
+    def parse_odd(self, response: Any, number: int) -> Iterable[scrapy.Request]:
+        """The callback of pages with an odd number, in sites with two callbacks."""
+        self.record("odd", response, number)
+        yield from self.followed(response)
+
+    def parse_form(self, response: Any) -> None:
+        self.record("form", response)
+
     def parse(self, response: Any, **rest: Any) -> Iterable[scrapy.Request]:
+        self.record("even", response)
+        yield from self.stored(response)
+        yield from self.followed(response)
+
+    def stored(self, response: Any) -> Iterable[scrapy.Request]:
+        """Request the URLs of the settings, and stop the spider, in the callback of the seed."""
+        if self.is_stopped or "stored" not in self.asked:
+            return
+        self.is_stopped = True
+        for kind, url in self.asked["stored"]:
+            if kind == "post":
+                yield scrapy.Request(url, self.parse_form, method="POST", body="a", priority=-1)
+            elif kind == "odd":
+                yield scrapy.Request(url, self.parse_odd, cb_kwargs={"number": 7})
+            elif kind == "again":
+                yield scrapy.Request(url, self.parse, dont_filter=True)
+            else:
+                yield scrapy.Request(url, callback=lambda response: None)
+        raise CloseSpider("stopped")
+
+    def followed(self, response: Any) -> Iterable[scrapy.Request]:
+        """Request the links of a page."""
         self.parsed.append(response.url)
         if len(self.parsed) == self.asked.get("kill_after"):
             children = Path(f"/proc/self/task/{os.getpid()}/children").read_text(encoding="ascii")
@@ -361,8 +450,23 @@ class Spider(scrapy.Spider):
                 url = urljoin(base, link)
             except ValueError:
                 continue
+            if self.asked.get("has_two_callbacks"):
+                yield from self.two_kinds(url)
+                continue
             priority = int(url.rsplit("/", 1)[1]) if self.asked.get("by_number") else 0
             yield scrapy.Request(url, self.parse, errback=self.fail, priority=priority)
+
+    def two_kinds(self, url: str) -> Iterable[scrapy.Request]:
+        """Request a page with the callback of its number, and post a form for every fifth."""
+        number = int(urlsplit(url).path.rsplit("/", 1)[1])
+        if number % 2:
+            yield scrapy.Request(url, self.parse_odd, errback=self.fail,
+                                 cb_kwargs={"number": number})
+        else:
+            yield scrapy.Request(url, self.parse, errback=self.fail)
+        if number % 5 == 0:
+            form = f"http://{name_of(number % 3)}:{urlsplit(url).port}/form/{number}"
+            yield scrapy.Request(form, self.parse_form, method="POST", body="a")
 
     def idle(self) -> None:
         """Add another request, like a spider that gets its requests from outside."""
@@ -431,26 +535,44 @@ class Tests:
 
     def crawl(self, site: Site, scheduler: str, asked: Told) -> Tuple[Count, Told]:
         """Crawl a site in a process of its own, and check that it ends by itself."""
-        self.crawls += 1
         count = self.servers.counts(site)
+        return count, self.run(site, scheduler, asked)
+
+    def run(self, site: Site, scheduler: str, asked: Told) -> Told:
+        """Run a crawl and check that it ends by itself; return its results."""
+        process, files = self.start(site, scheduler, asked)
+        none = {"stats": {}, "parsed": [], "failed": [], "dropped": 0}
+        try:
+            _, errors = process.communicate(timeout=LONGEST)
+        except subprocess.TimeoutExpired:
+            process.kill()
+            process.communicate()
+            self.check(f"crawl {self.crawls} ends by itself", False, f"see {files['log']}")
+            return none
+        self.check(f"crawl {self.crawls} ends well", process.returncode == 0, errors[-2000:])
+        if process.returncode != 0:
+            return none
+        told: Told = json.loads(Path(files["told"]).read_text(encoding="utf-8"))
+        return told
+
+    def start(
+        self, site: Site, scheduler: str, asked: Told
+    ) -> Tuple[subprocess.Popen[str], Dict[str, str]]:
+        """Start a crawl, and return its process and its files."""
+        self.crawls += 1
         settings = {"SCHEDULER": scheduler, "MERCATOR_PROGRAM": self.program}
         settings.update(asked.get("settings", {}))
         name = str(self.kept / str(self.crawls))
         files = {kind: f"{name}.{kind}" for kind in ("log", "told", "asked")}
         asked = {"seeds": [self.url(site.seed)], **asked, **files, "settings": settings}
         Path(files["asked"]).write_text(json.dumps(asked), encoding="utf-8")
-        try:
-            done = subprocess.run(
-                [sys.executable, __file__, "--crawl", files["asked"]],
-                capture_output=True, text=True, timeout=LONGEST, check=False,
-            )
-        except subprocess.TimeoutExpired:
-            self.check(f"crawl {self.crawls} ends by itself", False, f"see {files['log']}")
-            return count, {"stats": {}, "parsed": [], "failed": [], "dropped": 0}
-        self.check(f"crawl {self.crawls} ends well", done.returncode == 0, done.stderr[-2000:])
-        if done.returncode != 0:
-            return count, {"stats": {}, "parsed": [], "failed": [], "dropped": 0}
-        return count, json.loads(Path(files["told"]).read_text(encoding="utf-8"))
+        process = subprocess.Popen(
+            [sys.executable, __file__, "--crawl", files["asked"]],
+            stdout=subprocess.DEVNULL, stderr=subprocess.PIPE, text=True,
+            # A shell starts its background jobs with this signal ignored.
+            preexec_fn=lambda: signal.signal(signal.SIGINT, signal.SIG_DFL),
+        )
+        return process, files
 
     def check_mercator(
         self, what: str, count: Count, told: Told, wanted: Optional[Dict[Asked, int]]
@@ -464,6 +586,7 @@ class Tests:
                 if count.asked[asked] != wanted.get(asked, 0)
             }
             self.check(f"{what}: each URL once, but for retries", not differ, differ)
+        self.check(f"{what}: canonical URLs", not count.odd, count.odd)
         self.check(f"{what}: one request of a host at a time", count.most == 1, count.most)
         self.check(f"{what}: finished", stats.get("finish_reason") == "finished", stats)
         self.check(f"{what}: the frontier closed", stats.get("mercator/closed") is True, stats)
@@ -642,6 +765,148 @@ class Tests:
         errors = re.findall(r"^.*(?:CRITICAL:|Error\b).*", log, re.M)
         self.check("refused settings: why", len(errors) == 1 and "513" in errors[0], errors)
 
+    # ---- crawls that resume
+
+    def stopped_crawl(self) -> None:
+        """A crawl that Ctrl-C stops several times: nothing is requested twice."""
+        self.resumed_crawl("stopped", signal.SIGINT, [15, 40, 70], Random(11))
+
+    def killed_crawl(self) -> None:
+        """A crawl that is killed several times: only what was in progress is requested again."""
+        draw = Random(12)
+        for number in range(2):
+            at = sorted(draw.sample(range(1, 110), 4))
+            self.resumed_crawl(f"killed {number}", signal.SIGKILL, at, draw, (64, 4)[number])
+
+    def resumed_crawl(
+        self, what: str, how: signal.Signals, at: List[int], draw: Random, workers: int = 64,
+        most: int = 1_000,
+    ) -> None:
+        """Stop a crawl when the servers have had these numbers of requests, and complete it."""
+        site = numbered_site(draw, self.servers.port, 120)
+        folder = self.kept / what.replace(" ", "-")
+        record = self.kept / f"{folder.name}.record"
+        record.touch()
+        settings = {"JOBDIR": str(folder), "MERCATOR_WORKERS": workers,
+                    "MERCATOR_MAX_PENDING": most}
+        asked = {"settings": settings, "has_two_callbacks": True, "record": str(record)}
+        count = self.servers.counts(site)
+        kills = sum(self.stop_at(site, asked, count, number, how) for number in at)
+        self.check(f"{what}: it was stopped", kills >= len(at) - 1, kills)
+        told = self.run(site, MERCATOR, asked)
+        stats = told["stats"]
+        self.check(f"{what}: finished", stats.get("finish_reason") == "finished", stats)
+        self.check(f"{what}: the frontier closed", stats.get("mercator/closed") is True, stats)
+        self.check(f"{what}: canonical URLs", not count.odd, count.odd)
+        in_progress = 0 if how == signal.SIGINT else kills * HOSTS
+        self.check_counts(f"{what}: pages", count.asked, site.wanted(), in_progress)
+        self.check_counts(f"{what}: forms", count.posted, forms_of(site), in_progress)
+        self.check_callbacks(what, site, record, in_progress)
+        before = sum(count.asked.values()) + sum(count.posted.values())
+        self.run(site, MERCATOR, asked)
+        after = sum(count.asked.values()) + sum(count.posted.values())
+        self.check(f"{what}: nothing after the end", before == after, (before, after))
+
+    def stop_at(
+        self, site: Site, asked: Told, count: Count, number: int, how: signal.Signals
+    ) -> bool:
+        """Run a crawl until the servers have had this number of requests, and send the signal.
+
+        Return whether the crawl had not ended by then.
+        """
+        process, _ = self.start(site, MERCATOR, asked)
+        end = time.monotonic() + LONGEST
+        while len(count.order) < number and process.poll() is None and time.monotonic() < end:
+            time.sleep(0.002)
+        is_running = process.poll() is None
+        if is_running:
+            process.send_signal(how)
+        process.communicate(timeout=LONGEST)
+        return is_running
+
+    def check_counts(
+        self, what: str, counts: Counter[Asked], wanted: Dict[Asked, int], more: int
+    ) -> None:
+        """Check that each URL was requested as often as wanted, but for `more` requests."""
+        missing = {asked for asked, times in wanted.items() if counts[asked] < times}
+        self.check(f"{what}: none is missing", not missing, missing)
+        others = {*counts} - {asked for asked, times in wanted.items() if times}
+        self.check(f"{what}: no others", not others, others)
+        again = {asked: counts[asked] - wanted[asked] for asked in wanted}
+        total = sum(times for times in again.values() if times > 0)
+        self.check(f"{what}: at most {more} again", total <= more, again)
+
+    def check_callbacks(self, what: str, site: Site, record: Path, more: int) -> None:
+        """Check that the right callback ran for each page and form, with its argument."""
+        lines = Counter(record.read_text(encoding="utf-8").splitlines())
+        wanted = [f"form POST -1 {path}" for _, path in forms_of(site)]
+        for (host, path), _ in site.wanted().items():
+            if site.answer((host, path)).kind != "404":
+                number = int(path.rsplit("/", 1)[1])
+                is_odd = number % 2 == 1
+                wanted.append(f"odd GET {number} {path}" if is_odd else f"even GET -1 {path}")
+        missing, others = {*wanted} - {*lines}, {*lines} - {*wanted}
+        self.check(f"{what}: the callbacks", not missing and not others, (missing, others))
+        again = sum(lines.values()) - len(lines)
+        self.check(f"{what}: at most {more} callbacks again", again <= more, lines.most_common(3))
+
+    def small_resumed_crawl(self) -> None:
+        """A frontier with little room: the requests that wait outside are stored too."""
+        self.resumed_crawl("small", signal.SIGKILL, [5, 30, 60], Random(13), 4, 9)
+
+    def stored_requests(self) -> None:
+        """What a stopped spider has not sent is sent in the next run, with its callback."""
+        seed, (form, odd, again, unstored, each) = (address_of(0), "/"), [
+            (address_of(1), path) for path in ("/form", "/odd/7", "/again", "/lambda", "/each")
+        ]
+        site = Site(seed)
+        for asked in (seed, form, odd, again, unstored, each):
+            site.pages[asked] = Page("200", page_of([]))
+        record, folder = self.kept / "stored.record", self.kept / "stored"
+        kinds = (("post", form), ("odd", odd), ("again", again), ("again", again),
+                 ("lambda", unstored))
+        asked = {
+            "settings": {"JOBDIR": str(folder), "CONCURRENT_REQUESTS": 1}, "record": str(record),
+            "stored": [[kind, self.url(one)] for kind, one in kinds],
+            "extra": [["each run", self.url(each), ""]],
+        }
+        count = self.servers.counts(site)
+        stats = self.run(site, MERCATOR, asked)["stats"]
+        self.check("stored: stopped", stats.get("finish_reason") == "stopped", stats)
+        self.check("stored: not closed", stats.get("mercator/closed") is False, stats)
+        log = (self.kept / f"{self.crawls}.log").read_text(encoding="utf-8")
+        warnings = log.count("cannot be stored for another run")
+        self.check("stored: the function without a name", warnings == 1, warnings)
+        with open(folder / "mercator.requests", "ab") as file:
+            file.write(b"\xff\x00\x00\x00torn")  # the beginning of a record
+        first = count.asked.copy()
+        del asked["stored"]
+        stats = self.run(site, MERCATOR, asked)["stats"]
+        self.check("stored: finished", stats.get("finish_reason") == "finished", stats)
+        self.check("stored: the frontier closed", stats.get("mercator/closed") is True, stats)
+        self.check("stored: the seed", count.asked[seed] == 1, count.asked)
+        others = [count.asked[odd], count.asked[unstored], count.asked[again], count.posted[form]]
+        self.check("stored: the others", others == [1, 1, 2, 1], others)
+        runs = count.asked[each] - first[each]
+        self.check("stored: sent in each run", runs == 1, count.asked)
+        lines = record.read_text(encoding="utf-8").splitlines()
+        for line in ("form POST -1 /form", "odd GET 7 /odd/7", "even GET -1 /lambda"):
+            self.check(f"stored: {line}", lines.count(line) == 1, lines)
+
+    def used_folder(self) -> None:
+        """Other settings with the JOBDIR of a crawl are refused: nothing is requested."""
+        site = Site((address_of(0), "/"))
+        site.pages[site.seed] = Page("200", page_of([]))
+        settings = {"JOBDIR": str(self.kept / "used"), "MERCATOR_WORKERS": 3}
+        self.crawl(site, MERCATOR, {"settings": settings})
+        settings["MERCATOR_WORKERS"] = 4
+        count = self.servers.counts(site)
+        process, files = self.start(site, MERCATOR, {"settings": settings})
+        process.communicate(timeout=LONGEST)
+        log = Path(files["log"]).read_text(encoding="utf-8")
+        is_right = not count.order and "made with other options" in log
+        self.check("used folder: refused", is_right, log[-TOLD:])
+
 
 def main() -> int:
     parser = argparse.ArgumentParser(
@@ -650,6 +915,8 @@ def main() -> int:
     parser.add_argument("--program", metavar="FILE",
                         help="path of mercator (default: $MERCATOR, else the built one)")
     parser.add_argument("--keep", action="store_true", help="keep the logs of the crawls")
+    parser.add_argument("--test", action="append", metavar="NAME",
+                        help="run only the test with this name; repeatable")
     parser.add_argument("--crawl", help=argparse.SUPPRESS)
     asked = parser.parse_args()
     if asked.crawl:
@@ -662,8 +929,11 @@ def main() -> int:
     tests = Tests(str(Path(program).resolve()), kept)
     for test in (tests.shipped_site, tests.drawn_sites, tests.odd_requests, tests.small_frontier,
                  tests.within, tests.priorities, tests.idle_spider, tests.closed_spider,
-                 tests.lost_frontier, tests.missing_program, tests.refused_settings):
-        test()
+                 tests.lost_frontier, tests.missing_program, tests.refused_settings,
+                 tests.stopped_crawl, tests.killed_crawl, tests.small_resumed_crawl,
+                 tests.stored_requests, tests.used_folder):
+        if not asked.test or test.__name__ in asked.test:
+            test()
     if asked.keep or tests.failed:
         print(f"logs of the crawls: {kept}")
     else:

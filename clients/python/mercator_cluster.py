@@ -16,11 +16,13 @@ Failures
 - If a part is killed, start it again with the same arguments. It resumes from its log, and first
   fetches the URLs that were in progress.
 - If a part loses the connection to Redis, `run` closes it and starts it again from its log.
-- If Redis restarts, even with no data, every part has to start again: each then sends the URLs for
-  other parts again, from its log. `run` does this for a part that is running. Start a part by hand
-  if it had finished before the restart, or if it finishes without having connected to the new
-  Redis. The other parts wait until all have started again, so none takes an unfinished crawl for
-  complete.
+- If Redis loses the keys of the crawl, every part has to start again: each then sends the URLs that
+  it had found for other parts once more, from its log. Redis loses them by FLUSHALL or FLUSHDB, or
+  by a restart without its data. Any restart counts, since the last entries may be lost. `run`
+  notices this, logs a warning, and starts a part again that is running. A part that had finished
+  has to be started by hand. Until all have started again, the other parts wait, so none takes an
+  unfinished crawl for complete. They log a warning with the parts for which they wait.
+- If somebody deletes a single stream of the crawl, this is not noticed, and its URLs are lost.
 - A killed process loses nothing. A crash of the machine loses what was not yet on its disk, so by
   default (`sync`) the log is synced to disk before an entry is removed from Redis.
 - A crawl cannot resume if one of its logs is lost, or with other numbers of parts or queues.
@@ -45,7 +47,11 @@ The keys of the crawl NAME, which are all on one node of a Redis cluster:
     {NAME}:to:I       the stream of part I. An entry has the field `u`, with one line per URL. The
                       line is the URL; or the base, a space and the text of a link, if part I had no
                       room for the URL or if the URL is too long for a request
-    {NAME}:ready:RUN  the parts that have sent their seeds to the Redis with the run_id RUN
+    {NAME}:epoch      a random text, set by the first part that finds none. If it is another one,
+                      Redis has lost all keys in between
+    {NAME}:ready:RUN:EPOCH
+                      the parts that have sent their seeds, and the URLs for other parts in their
+                      logs, to the Redis with the run_id RUN in this epoch
     {NAME}:complete   set when the crawl is complete; never deleted
     {NAME}:shape      the numbers of parts and queues, and the suffix
     {NAME}:logs       the identity of each part's log
@@ -59,7 +65,9 @@ from __future__ import annotations
 
 import contextlib
 import logging
+import math
 import os
+import secrets
 import threading
 import time
 from collections import deque
@@ -77,7 +85,7 @@ from mercator_frontier import (
 )
 
 __all__ = [
-    "ClusterError", "Counts", "Crawl", "Cut", "Fetched", "OtherCrawl", "Part", "Taken",
+    "ClusterError", "Counts", "Crawl", "Cut", "Fetched", "KeysLost", "OtherCrawl", "Part", "Taken",
     "UnsafeRedis", "run",
 ]
 
@@ -117,6 +125,9 @@ _PATIENCE = 60.0
 _PAUSE = 0.2
 _GONE = 600.0
 
+# The seconds that a part with nothing to do waits for others before it logs which.
+_SILENT = 10.0
+
 # The default of `max_pending`, which is that of the program.
 _MOST = 1_048_576
 
@@ -136,6 +147,10 @@ class ClusterError(FrontierError):
 
 class Cut(ClusterError):
     """Raised when the connection to Redis is lost. Start the part again from its log."""
+
+
+class KeysLost(Cut):
+    """Raised when Redis has lost the keys of the crawl. Start the part again from its log."""
 
 
 class OtherCrawl(ClusterError):
@@ -200,8 +215,8 @@ class _ServedPart:
         # Each option and its value are one argument, since a value may look like an option.
         self._command += [f"--part={part}/{crawl.parts}", f"--workers={crawl.workers}"]
         self._command += [] if crawl.within is None else [f"--within={crawl.within}"]
-        pending = [] if max_pending is None else [f"--max-pending={max_pending}"]
-        self._channel = Channel([*self._command, *pending, f"--log={os.fsdecode(log)}"], log)
+        self._command += [] if max_pending is None else [f"--max-pending={max_pending}"]
+        self._channel = Channel([*self._command, f"--log={os.fsdecode(log)}"], log)
 
     def ask(self, requests: bytes, count: int) -> List[bytes]:
         """Send `count` request lines and return their answers. Each line is in the log before."""
@@ -214,16 +229,16 @@ class _ServedPart:
             raise UnknownAnswer("the program does not know the request `identity`")
         return identity
 
-    def offers_of_log(self) -> Iterator[bytes]:
-        """Yield all offers of the log, as request lines."""
+    def requests_of_log(self) -> Iterator[bytes]:
+        """Yield all requests of the log, as lines."""
         with open(self._log, "rb") as log:
             log.readline()
-            yield from (line for line in log if line.startswith((b"offer ", b"link ")))
+            yield from log
 
     @contextlib.contextmanager
-    def without_room(self) -> Iterator[Channel]:
-        """Start a frontier that accepts no URL but answers `elsewhere` as this one does."""
-        channel = Channel([*self._command, "--max-pending=1"])
+    def without_log(self) -> Iterator[Channel]:
+        """Start an empty frontier with the options of this one, and without a log."""
+        channel = Channel(self._command)
         try:
             yield channel
         finally:
@@ -290,13 +305,31 @@ class _Broker:
         self._name = f"{{{crawl.name}}}:"
         self.streams = [f"{self._name}to:{to}" for to in range(crawl.parts)]
         self.mine = self.streams[part]
-        self._complete = self._name + "complete"
-        # A Redis has a new run_id after each restart.
-        self._ready = f"{self._name}ready:{self._redis.info('server')['run_id']}"
+        self.missing: List[int] = []  # the parts that were not ready at the last `is_complete`
+        self._complete, self._epoch = self._name + "complete", self._name + "epoch"
+        _, self._its_epoch = self._at_once(
+            ("SETNX", self._epoch, secrets.token_hex(16)), ("GET", self._epoch)
+        )
+        # A Redis has a new run_id after each restart. Without the epoch, a part could become ready
+        # although FLUSHALL had deleted what it sent before.
+        run_id = self._redis.info("server")["run_id"]
+        self._ready = f"{self._name}ready:{run_id}:{self._its_epoch.decode()}"
 
     def pipeline(self) -> Any:
         """Return a pipeline: its commands are sent together, and executed one by one."""
         return self._redis.pipeline(transaction=False)
+
+    def ask_epoch(self, pipe: Any) -> None:
+        """Add a command to the pipeline whose reply `check_epoch` takes."""
+        pipe.execute_command("GET", self._epoch)
+
+    def check_epoch(self, reply: Optional[bytes]) -> None:
+        """Raise `KeysLost` if Redis has lost the keys of the crawl since the part was started."""
+        if reply != self._its_epoch:
+            raise KeysLost(
+                f"Redis has lost the keys of this crawl, for example by FLUSHALL: part {self._part}"
+                " starts again from its log. Start any part again that has ended"
+            )
 
     def join(self, crawl: Crawl, log: bytes) -> bool:
         """Return whether the part is ready.
@@ -329,19 +362,22 @@ class _Broker:
         """Remove these entries from the own stream, and return whether the crawl is complete.
 
         Both happen in one transaction. If the crawl is complete, this is recorded for all parts.
+        Raise `KeysLost` if Redis has lost the keys of the crawl.
         """
         replies = self._at_once(
             *([("XDEL", self.mine, *removed)] if removed else []),
             *(("XLEN", stream) for stream in self.streams),
-            ("SCARD", self._ready), ("EXISTS", self._complete),
+            ("SMEMBERS", self._ready), ("EXISTS", self._complete), ("GET", self._epoch),
         )
-        *lengths, ready, is_told = replies[1:] if removed else replies
-        is_seen = ready == len(lengths) and not any(lengths)
-        if is_seen and not is_told:
-            self.tell_complete()
-        return bool(is_seen or is_told)
+        *lengths, ready, is_recorded, epoch = replies[1:] if removed else replies
+        self.check_epoch(epoch)
+        self.missing = sorted(set(range(len(lengths))) - set(map(int, ready)))
+        is_seen = not self.missing and not any(lengths)
+        if is_seen and not is_recorded:
+            self.record_complete()
+        return bool(is_seen or is_recorded)
 
-    def tell_complete(self) -> None:
+    def record_complete(self) -> None:
         """Record that the crawl is complete, and wake each part with an empty entry."""
         wake = (("XADD", stream, "*", "u", b"") for stream in self.streams)
         self._at_once(("SET", self._complete, "1"), *wake)
@@ -541,11 +577,12 @@ class Part:
         self._most = _MOST if max_pending is None else max_pending
         self._room: Optional[int] = None  # for how many URLs there is room, once one was refused
         self._is_closed = False
-        with _cuts_are_told():
+        self._silent_since: Optional[float] = None  # when the part began to wait for others
+        with _cuts_are_raised():
             self._broker = _Broker(crawl, part)
         self._frontier = _ServedPart(crawl, part, log, max_pending, program)
         try:
-            with _cuts_are_told():
+            with _cuts_are_raised():
                 self._begin(crawl, seeds)
         except BaseException:
             self.close()
@@ -569,17 +606,22 @@ class Part:
         The list may be empty. A call is usually one round trip to Redis. If this part has no URL in
         progress and nothing else to do, the call waits for new URLs, at most a second.
 
-        Raise `Cut` if the connection to Redis is lost, `NothingTaken` if a page's queue has no URL
-        in progress, and `FrontierEnded` if the program has ended.
+        Raise `Cut` if the connection to Redis is lost, `KeysLost` if Redis has lost the keys of the
+        crawl, `NothingTaken` if a page's queue has no URL in progress, and `FrontierEnded` if the
+        program has ended.
         """
-        with _cuts_are_told():
+        with _cuts_are_raised():
             taken, self._again = self._again, []
             self._offer_all(fetched)
             self._exchange()
             taken += self._take()
-            if self._is_quiet() and self._broker.is_complete(self._inbox.empty()):
+            if not self._is_quiet():
+                self._silent_since = None
+            elif self._broker.is_complete(self._inbox.empty()):
                 self._end()
                 return None
+            else:
+                self._report_missing()
             return taken
 
     def close(self) -> None:
@@ -602,7 +644,7 @@ class Part:
             self._again.append(self._taken(self._queues[0], answer))
         self._is_closed = answer == b"closed"
         if self._is_closed:
-            self._broker.tell_complete()  # the log has `endseeds`
+            self._broker.record_complete()  # the log has `endseeds`
         elif not is_ready:
             self._announce(seeds)
 
@@ -614,13 +656,22 @@ class Part:
                 self._again.append(self._taken(queue, answer))
 
     def _announce(self, seeds: Iterable[str]) -> None:
-        """Send the seeds and the URLs in the log for other parts; then the part is ready."""
-        with self._frontier.without_room() as frontier:
-            for lines in _slices(self._frontier.offers_of_log(), _SLICE):
-                offers = _Offers(_Owner(), b"".join(lines), len(lines))
-                for index, answer in enumerate(frontier.exchange(offers.requests, offers.size)):
+        """Send the seeds, and URLs in the log that only Redis had; then the part is ready.
+
+        These are the URLs for other parts, and those that the frontier had no room for, which were
+        in the part's own stream.
+        """
+        nobody = _Owner()
+        with self._frontier.without_log() as frontier:
+            for requests in _slices(self._frontier.requests_of_log(), _SLICE):
+                offers = _Offers(nobody, b"".join(requests), len(requests))
+                lines = offers.lines()
+                answers = frontier.exchange(offers.requests, offers.size)
+                for index, answer in enumerate(answers):
                     if answer.startswith(b"elsewhere "):
                         self._put(answer, offers, index)
+                    elif answer == b"refused full":
+                        self._outbox.put(self._part, lines[index], nobody)
                 self._send_all()
             for some in _slices(seeds, _SLICE):
                 self._put_seeds(some, frontier)
@@ -633,7 +684,7 @@ class Part:
         lines = list(map(_line_of_seed, seeds))
         requests = b"".join([b"offer " + line + b"\n" for line in lines])
         for seed, line, answer in zip(seeds, lines, frontier.exchange(requests, len(lines))):
-            if answer in _NO_MATTER:
+            if answer in _NO_MATTER and answer != b"seen":
                 logger.warning("seed %s: %s", seed, answer.decode())
             else:
                 self._outbox.put(self._part, line, nobody)
@@ -722,7 +773,9 @@ class Part:
         pipe = self._broker.pipeline()
         self._outbox.send(pipe, self._broker.streams)
         is_read = self._inbox.ask(pipe, self._broker.mine, _IDLE if is_idle else 0)
+        self._broker.ask_epoch(pipe)
         replies = _replies_to(pipe)
+        self._broker.check_epoch(replies.pop())
         self._outbox.receive(replies, self.counts)
         if is_read:
             self._inbox.read(replies[-1])
@@ -771,6 +824,20 @@ class Part:
             return False
         return self._next_of_first() in (b"pending 1", b"closed")
 
+    def _report_missing(self) -> None:
+        """Log a warning, once, if this part has waited some time for parts that are not ready."""
+        now = time.monotonic()
+        if not self._broker.missing:
+            self._silent_since = None
+        elif self._silent_since is None:
+            self._silent_since = now
+        elif now - self._silent_since >= _SILENT:
+            self._silent_since = math.inf  # not again before this part has work
+            logger.warning(
+                "part %d has nothing to do, and waits for these parts: %s. Start each that is not"
+                " running", self._part, ", ".join(map(str, self._broker.missing)),
+            )
+
     def _end(self) -> None:
         """End the seeds, since the crawl is complete for all parts; this closes the frontier."""
         requests = b"endseeds\n" + b"".join(b"next %d\n" % queue for queue in self._queues)
@@ -787,7 +854,7 @@ def run(start: Callable[[], Part], fetch: Fetch) -> None:
     """Run a part until the crawl is complete, and fetch in up to one thread per queue.
 
     start  a function that creates the part; it is called again after each loss of the connection to
-           Redis
+           Redis, or of the keys in Redis
     fetch  a function of a queue and a URL that fetches the URL; it returns the URL that its links
            are resolved against, and a list of the links' texts
 
@@ -798,30 +865,35 @@ def run(start: Callable[[], Part], fetch: Fetch) -> None:
 
         run(lambda: Part(crawl, 0, "part0.log", seeds=seeds), fetch)
 
-    If Redis does not answer, try to connect for ten minutes, and then raise `Cut`. One warning is
-    logged by `logging`, which by default prints it on standard error. Any other exception ends the
-    run and is raised.
+    If Redis does not answer, try to connect for ten minutes, and then raise `Cut`. Any other
+    exception ends the run and is raised. Each loss, and a Redis that does not answer, is logged as
+    a warning by `logging`, which by default prints it on standard error.
     """
     while True:
-        with _started(start) as part, contextlib.suppress(Cut):
-            _crawl(part, fetch)
-            return
+        with _started(start) as part:
+            try:
+                _crawl(part, fetch)
+                return
+            except KeysLost as lost:
+                logger.warning("%s", lost)
+            except Cut as cut:
+                logger.warning("the connection to Redis was lost, the part starts again: %s", cut)
         time.sleep(_PAUSE)
 
 
 def _started(start: Callable[[], Part]) -> Part:
     """Return the part, once Redis answers."""
     begun = time.monotonic()
-    is_told = False
+    is_reported = False
     while True:
         try:
             return start()
         except Cut as cut:
             if time.monotonic() - begun > _GONE:
                 raise
-            if not is_told:
+            if not is_reported:
                 logger.warning("Redis does not answer, trying for %.0f s: %s", _GONE, cut)
-            is_told = True
+            is_reported = True
         time.sleep(_PAUSE)
 
 
@@ -915,7 +987,8 @@ def _connected(url: str) -> Any:
 
 
 @contextlib.contextmanager
-def _cuts_are_told() -> Iterator[None]:
+def _cuts_are_raised() -> Iterator[None]:
+    """Raise `Cut` in place of the exceptions for a lost connection."""
     try:
         yield
     except redis.AuthenticationError:  # Redis answers, but needs another password

@@ -133,7 +133,10 @@ class Accepted(NamedTuple):
 
 
 class Refusal(enum.Enum):
-    """The reason why an offered URL was not accepted. Every member is false."""
+    """The reason why an offered URL was not accepted. Every member is false.
+
+    CLOSED and FULL are also the results for a URL that was accepted before.
+    """
 
     SEEN = "seen"  # the URL was accepted before, in this spelling or another
     FILTERED = "filtered"  # its host is outside `within`
@@ -142,7 +145,7 @@ class Refusal(enum.Enum):
     TOO_LONG = "line too long"  # the request has more than 4,096 bytes
     NOT_TEXT = "not UTF-8"  # the text has a lone surrogate
     CLOSED = "refused closed"  # the crawl is over
-    FULL = "refused full"  # `max_pending` URLs are unfinished: not stored, offer it again later
+    FULL = "refused full"  # `max_pending` URLs are unfinished; nothing changed: offer it later
 
     def __bool__(self) -> bool:
         return False
@@ -331,7 +334,7 @@ class Frontier:
         """
         with self._lock:
             self._check(queue)
-            return _in_hand(self._ask(b"again %d\n" % queue))
+            return _in_progress(self._ask(b"again %d\n" % queue))
 
     def close(self) -> None:
         """End the program. Without a log, the state of the crawl is lost.
@@ -396,7 +399,7 @@ class Frontier:
     def _ask_again(self) -> Dict[int, str]:
         """Return the URL of each queue that was in progress when the log ended."""
         requests = b"".join(b"again %d\n" % queue for queue in range(self.workers))
-        urls = map(_in_hand, self._ask_all(requests, self.workers))
+        urls = map(_in_progress, self._ask_all(requests, self.workers))
         return {queue: url for queue, url in enumerate(urls) if url is not None}
 
     def _count_in(self, answer: bytes) -> int:
@@ -650,7 +653,7 @@ def _accepted_in(answers: List[bytes]) -> Iterator[Accepted]:
     return map(made, zip(map(int, words[1::3]), map(int, words[2::3])))
 
 
-def _in_hand(answer: bytes) -> Optional[str]:
+def _in_progress(answer: bytes) -> Optional[str]:
     """Return the URL in an answer to `again`, or None if there is none."""
     word, _, rest = answer.partition(b" ")
     if word == b"taken":
