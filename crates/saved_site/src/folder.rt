@@ -255,12 +255,14 @@ impl<R: Files> DiskFolders<'_, R> {
         name: String,
         inside: &mut Inside,
     ) -> Result<(), AllocError> {
-        if self.follow {
-            return inside.push(name);
-        }
         match self.rt.canonicalize(self.alloc, path) {
-            Ok(real) if self.is_inside(real.as_path()) => inside.push(name),
-            Ok(_) => inside.note(Left::LeadsOut, name),
+            Ok(real) => {
+                if self.is_followed(real.as_path()) {
+                    inside.push(name)
+                } else {
+                    inside.note(Left::LeadsOut, name)
+                }
+            }
             Err(error) => inside.note_error(&error, Left::Unread, name),
         }
     }
@@ -275,10 +277,14 @@ impl<R: Files> DiskFolders<'_, R> {
     ) -> Result<(), AllocError> {
         let name = with_slash(name)?;
         match self.rt.canonicalize(self.alloc, path) {
-            Ok(real) if self.follow || self.is_inside(real.as_path()) => {
-                inside.push_folder(above, name, real.as_path().as_str())
+            Ok(real) => {
+                let real = real.as_path();
+                if self.is_followed(real) {
+                    inside.push_folder(above, name, real.as_str())
+                } else {
+                    inside.note(Left::LeadsOut, name)
+                }
             }
-            Ok(_) => inside.note(Left::LeadsOut, name),
             Err(error) => {
                 inside.push(name.clone()?)?;
                 inside.note_error(&error, Left::FolderUnread, name)
@@ -286,9 +292,9 @@ impl<R: Files> DiskFolders<'_, R> {
         }
     }
 
-    /// Whether a path without symbolic links is that of the top or below it.
-    fn is_inside(&self, real: Path<'_>) -> bool {
-        real.starts_with(self.real)
+    /// Whether a symbolic link to this path is followed: the path is that of the top or below it, or all links are followed.
+    fn is_followed(&self, real: Path<'_>) -> bool {
+        self.follow || real.starts_with(self.real)
     }
 }
 
