@@ -154,7 +154,7 @@ pub(crate) struct DiskFolders<'a, R> {
     pub(crate) alloc: Global,
     pub(crate) top: &'a str,
     /// The path of the top without symbolic links.
-    pub(crate) real: Path<'a>,
+    pub(crate) real: String,
     /// Whether symbolic links out of the top are followed.
     pub(crate) follow: bool,
 }
@@ -294,7 +294,7 @@ impl<R: Files> DiskFolders<'_, R> {
 
     /// Whether a symbolic link to this path is followed: the path is that of the top or below it, or all links are followed.
     fn is_followed(&self, real: Path<'_>) -> bool {
-        self.follow || real.starts_with(self.real)
+        self.follow || real.starts_with(self.real.as_str())
     }
 }
 

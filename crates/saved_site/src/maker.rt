@@ -186,11 +186,7 @@ impl Maker {
         task: &Task,
         is_read: bool,
     ) -> Result<NewPage, AllocError> {
-        let body = if is_read {
-            Some(self.body.as_slice())
-        } else {
-            None
-        };
+        let body = contents_of(&self.body, is_read);
         page_of(self.alloc, input, task, body, &mut self.found)
     }
 
@@ -207,6 +203,11 @@ impl Maker {
         self.linker = with_page(linker, &page)?;
         Ok(())
     }
+}
+
+/// The contents of a file, if they were read.
+fn contents_of(body: &Body, is_read: bool) -> Option<&[u8]> {
+    if is_read { Some(body.as_slice()) } else { None }
 }
 
 /// The same with one more page, if there is a linker.

@@ -23,7 +23,7 @@ pub(crate) fn entries_below<R: Files<File: Send, Dir: Send> + Threads + Sync>(
     top: &str,
     follow: bool,
 ) -> Result<(Vec<String>, Vec<Note>), SiteError> {
-    let real = rt.canonicalize(alloc, top)?;
+    let real = rt.canonicalize(alloc, top)?.into_string();
     if !fs::metadata(rt, top)?.is_dir() {
         return Err(SiteError::Io(io::Error::from(ErrorKind::InvalidInput)));
     }
@@ -31,7 +31,7 @@ pub(crate) fn entries_below<R: Files<File: Send, Dir: Send> + Threads + Sync>(
         rt,
         alloc,
         top,
-        real: real.as_path(),
+        real,
         follow,
     };
     let begun = begun(alloc, &folders)?;
