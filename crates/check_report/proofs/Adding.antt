@@ -1,4 +1,4 @@
--- Bytes that are printed one behind the other.
+-- Bytes that are printed one joined the other.
 use Rattle.std.proofs.Common.{◌≡◌, ℕ, ◌+◌, ◌<◌, ◌≤◌, List, [], ◌∷◌, ◌++◌, length, map, take, get_or, Result, Ok, Err, IfOk, OnOk, Vec, Global, append-nil, sym, ap, subst, ◌∙◌}
 use Rattle.std.proofs.lemmas.List.{append_assoc, map_more, take_more, take_all}
 use Rattle.std.proofs.lemmas.List.Concat.{flat_map-append}
@@ -10,19 +10,19 @@ use Rattle.check_report.specs.declared.row.Part.{Part}
 
 -- ---- bytes
 
--- bytes behind bytes
-pub behind : {X : Type 0} (old mid new a b : List X) → mid ≡ old ++ a → new ≡ mid ++ b → new ≡ old ++ (a ++ b)
-behind old mid new a b p q = q ∙ ap (λ t. t ++ b) p ∙ append_assoc old a b
+-- bytes joined bytes
+pub joined : {X : Type 0} (old mid new a b : List X) → mid ≡ old ++ a → new ≡ mid ++ b → new ≡ old ++ (a ++ b)
+joined old mid new a b p q = q ∙ ap (λ t. t ++ b) p ∙ append_assoc old a b
 
 -- the same, where the last may run out of memory
-pub last_behind : {X V E : Type 0} (answer : Result V E) (old mid new a b : List X) → mid ≡ old ++ a → OnOk answer (new ≡ mid ++ b) → OnOk answer (new ≡ old ++ (a ++ b))
-last_behind (Ok v) old mid new a b p q = behind old mid new a b p q
-last_behind (Err e) old mid new a b p q = tt
+pub last_joined : {X V E : Type 0} (answer : Result V E) (old mid new a b : List X) → mid ≡ old ++ a → OnOk answer (new ≡ mid ++ b) → OnOk answer (new ≡ old ++ (a ++ b))
+last_joined (Ok v) old mid new a b p q = joined old mid new a b p q
+last_joined (Err e) old mid new a b p q = tt
 
 -- what one element more gives
 pub bytes_more : {X : Type 0} (f : X → List ℕ) (old mid new : List ℕ) (xs : List X) (k : ℕ) (d : X) → k < length xs → mid ≡ old ++ flat_map f (take k xs) → new ≡ mid ++ f (get_or xs k d) → new ≡ old ++ flat_map f (take (k + 1) xs)
 bytes_more f old mid new xs k d below before now =
-    behind old mid new (flat_map f (take k xs)) (f (get_or xs k d)) before now
+    joined old mid new (flat_map f (take k xs)) (f (get_or xs k d)) before now
     ∙ ap (λ t. old ++ (flat_map f (take k xs) ++ t)) (sym (append-nil (f (get_or xs k d))))
     ∙ ap (λ t. old ++ t) (sym (flat_map-append f (take k xs) (get_or xs k d ∷ [])) ∙ ap (flat_map f) (sym (take_more xs k d below)))
 
@@ -37,7 +37,7 @@ adds_none how out = sym (append-nil out)
 
 pub adds_both : (how : Form) (out mid more : List ℕ) (xs ys : List Line) → Adds how out mid xs → Adds how mid more ys → Adds how out more (xs ++ ys)
 adds_both how out mid more xs ys p q =
-    behind out mid more (flat_map (bytes_of how) xs) (flat_map (bytes_of how) ys) p q ∙ ap (λ t. out ++ t) (sym (flat_map-append (bytes_of how) xs ys))
+    joined out mid more (flat_map (bytes_of how) xs) (flat_map (bytes_of how) ys) p q ∙ ap (λ t. out ++ t) (sym (flat_map-append (bytes_of how) xs ys))
 
 -- the same rows in other words
 pub adds_same : (how : Form) (out more : List ℕ) (xs ys : List Line) → xs ≡ ys → Adds how out more xs → Adds how out more ys
@@ -66,6 +66,6 @@ then_more how (Ok more) out mid xs ys before after = adds_both how out mid more.
 then_more how (Err e) out mid xs ys before after = tt
 
 -- a part, where it has rows
-pub part_more : {E : Type 0} (how : Form) (answer : Result (Vec ℕ Global) E) (out begun told : List ℕ) (of_part : Part) (rows : ℕ) (lines : List Line) → Adds how out begun (edge rows (begin of_part)) → Adds how begun told lines → IfOk answer (λ more. Adds how told more.items (edge rows (finish of_part))) → IfOk answer (λ more. Adds how out more.items (in_part of_part rows lines))
-part_more how answer out begun told of_part rows lines first middle last =
-    then_more how answer out told (edge rows (begin of_part) ++ lines) (edge rows (finish of_part)) (adds_both how out begun told (edge rows (begin of_part)) lines first middle) last
+pub part_more : {E : Type 0} (how : Form) (answer : Result (Vec ℕ Global) E) (out begun listed : List ℕ) (of_part : Part) (rows : ℕ) (lines : List Line) → Adds how out begun (edge rows (begin of_part)) → Adds how begun listed lines → IfOk answer (λ more. Adds how listed more.items (edge rows (finish of_part))) → IfOk answer (λ more. Adds how out more.items (in_part of_part rows lines))
+part_more how answer out begun listed of_part rows lines first middle last =
+    then_more how answer out listed (edge rows (begin of_part) ++ lines) (edge rows (finish of_part)) (adds_both how out begun listed (edge rows (begin of_part)) lines first middle) last

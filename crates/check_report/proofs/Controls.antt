@@ -1,88 +1,166 @@
--- No C1 control is left in what people read.
-use Rattle.std.proofs.Common.{◌≡◌, ℕ, ◌+◌, ◌==◌, true, false, ◌&&◌, not, List, [], ◌∷◌, ◌++◌, codes, nat_lt, refl, arith}
-use Rattle.std.proofs.lemmas.Bool.{and_right, cond_both, ltb-true, ne_eqb}
-use Rattle.std.specs.List.{flat_map}
-use Rattle.check_report.specs.Escape.{begins_with_c1, escaped, has_no_c1, html_byte, is_c1, shown_byte, without_c1}
+-- No control character is left in an escaped text.
+use Rattle.std.proofs.Common.{◌≡◌, ℕ, nat_le, ◌+◌, ◌/◌, ◌%◌, ◌≤◌, ◌==◌, true, false, ◌&&◌, not, List, [], ◌∷◌, ◌++◌, codes, nat_lt, chars, IsUtf8, refl, arith}
+use Rattle.std.proofs.lemmas.Bool.{and_parts, both_ways, cond_both, eqb-true, false_from_ne_true, leb-true, ltb-true, ne_eqb}
+use Rattle.std.proofs.lemmas.Bool.Decides.{nat_tests}
+use Rattle.std.specs.Char.{encode_utf8}
+use Rattle.std.specs.List.{flat_map, list_all}
+use Rattle.shown_text.specs.Shown.{escape_of, is_hidden, is_printed, is_visible, shown_char}
+use Rattle.shown_text.proofs.Visible.{Passes, ascii_from, char_visible, each_passes, escape_passes, is_low, low_passes, passes_ascii, passes_text, shown_char_printed}
+use Rattle.check_report.specs.Escape.{begins_with_c1, data_char, escaped, escaped_char, has_no_c1, html_char, is_c1, property_char}
+use Rattle.check_report.specs.declared.escape.Escape.{Escape}
 use Rattle.check_report.specs.declared.escape.Escape.TheVariants as escape
-use Rattle.check_report.proofs.Inert.{chosen}
 
--- ---- one byte
+-- ---- what holds of each escape, and of what is shown of a character, holds of an escaped character
 
--- a byte that is no 194 begins no C1 control
-pub begins_none : (b : ℕ) (rest : List ℕ) → (b == 194) ≡ false → begins_with_c1 (b ∷ rest) ≡ false
+pub record Holds (P : List ℕ → Type 0) : Type 0 where
+  pub percent : P (codes "%25")
+  pub return : P (codes "%0D")
+  pub feed : P (codes "%0A")
+  pub colon : P (codes "%3A")
+  pub comma : P (codes "%2C")
+  pub ampersand : P (codes "&amp;")
+  pub less : P (codes "&lt;")
+  pub greater : P (codes "&gt;")
+  pub quote : P (codes "&#34;")
+  pub apostrophe : P (codes "&#39;")
+
+data_holds : (P : List ℕ → Type 0) → Holds P → (c : ℕ) → P (shown_char c) → P (data_char c)
+data_holds P all c other =
+    cond_both (c == 37) (codes "%25") _ P (λ is. all.percent) (λ not_percent. cond_both (c == 13) (codes "%0D") _ P (λ is. all.return) (λ not_return. cond_both (c == 10) (codes "%0A") (shown_char c) P (λ is. all.feed) (λ not_feed. other)))
+
+property_holds : (P : List ℕ → Type 0) → Holds P → (c : ℕ) → P (shown_char c) → P (property_char c)
+property_holds P all c other =
+    cond_both (c == 58) (codes "%3A") _ P (λ is. all.colon) (λ not_colon. cond_both (c == 44) (codes "%2C") (data_char c) P (λ is. all.comma) (λ not_comma. data_holds P all c other))
+
+html_holds : (P : List ℕ → Type 0) → Holds P → (c : ℕ) → P (shown_char c) → P (html_char c)
+html_holds P all c other =
+    cond_both (c == 38) (codes "&amp;") _ P (λ is. all.ampersand)
+    (λ no_ampersand. cond_both (c == 60) (codes "&lt;") _ P (λ is. all.less)
+    (λ no_less. cond_both (c == 62) (codes "&gt;") _ P (λ is. all.greater)
+    (λ no_greater. cond_both (c == 34) (codes "&#34;") _ P (λ is. all.quote) (λ no_quote. cond_both (c == 39) (codes "&#39;") (shown_char c) P (λ is. all.apostrophe) (λ no_apostrophe. other)))))
+
+char_holds : (P : List ℕ → Type 0) → Holds P → (how : Escape) (c : ℕ) → P (shown_char c) → P (escaped_char how c)
+char_holds P all escape.Shown c other = other
+char_holds P all escape.Data c other = data_holds P all c other
+char_holds P all escape.Property c other = property_holds P all c other
+char_holds P all escape.Html c other = html_holds P all c other
+
+-- ---- bytes
+
+printed_each : Holds (λ t. list_all is_printed t ≡ true)
+printed_each = record {
+  percent = refl;
+  return = refl;
+  feed = refl;
+  colon = refl;
+  comma = refl;
+  ampersand = refl;
+  less = refl;
+  greater = refl;
+  quote = refl;
+  apostrophe = refl;
+}
+
+pub escaped_printed : (how : Escape) (text : List ℕ) → list_all is_printed (escaped how text) ≡ true
+escaped_printed how text = each_passes is_printed (escaped_char how) (λ c. char_holds (λ t. list_all is_printed t ≡ true) printed_each how c (shown_char_printed c)) (chars text)
+
+-- ---- characters
+
+ascii_visible : (text : List ℕ) → list_all is_low text ≡ true → list_all is_visible text ≡ true → Passes is_visible text
+ascii_visible text low seen = passes_ascii is_visible text (ascii_from text low) seen
+
+visible_each : Holds (Passes is_visible)
+unfolding is_low
+visible_each = record {
+  percent = ascii_visible (codes "%25") refl refl;
+  return = ascii_visible (codes "%0D") refl refl;
+  feed = ascii_visible (codes "%0A") refl refl;
+  colon = ascii_visible (codes "%3A") refl refl;
+  comma = ascii_visible (codes "%2C") refl refl;
+  ampersand = ascii_visible (codes "&amp;") refl refl;
+  less = ascii_visible (codes "&lt;") refl refl;
+  greater = ascii_visible (codes "&gt;") refl refl;
+  quote = ascii_visible (codes "&#34;") refl refl;
+  apostrophe = ascii_visible (codes "&#39;") refl refl;
+}
+
+pub escaped_visible : (how : Escape) (text : List ℕ) → IsUtf8 text → list_all is_visible (chars (escaped how text)) ≡ true
+escaped_visible how text utf8 =
+    (passes_text is_visible (escaped_char how) (λ c is_scalar. char_holds (Passes is_visible) visible_each how c (char_visible c is_scalar)) text utf8).all
+
+-- ---- C1 controls
+
+-- a byte that is not 194 begins no C1 control
+begins_none : (b : ℕ) (rest : List ℕ) → (b == 194) ≡ false → begins_with_c1 (b ∷ rest) ≡ false
 begins_none b [] other = refl
 begins_none b (code ∷ rest) other = λ i. other i && is_c1 code
 
-other_before : (b : ℕ) (rest : List ℕ) → (b == 194) ≡ false → has_no_c1 rest ≡ true → has_no_c1 (b ∷ rest) ≡ true
-other_before b rest other none = λ i. not (begins_none b rest other i) && none i
+other_first : (b : ℕ) (rest : List ℕ) → (b ≡ 194 → ⊥) → has_no_c1 rest ≡ true → has_no_c1 (b ∷ rest) ≡ true
+other_first b rest other none = λ i. not (begins_none b rest (ne_eqb b 194 other) i) && none i
 
--- nothing makes a C1 control with a byte that is no code of one
-no_code : (a b : ℕ) → is_c1 b ≡ false → ((a == 194) && is_c1 b) ≡ false
-no_code a b other = and_right (a == 194) (is_c1 b) other
+-- a text before one without C1 controls makes none
+abbrev Apart : List ℕ → Type 0
+Apart text = (rest : List ℕ) → has_no_c1 rest ≡ true → has_no_c1 (text ++ rest) ≡ true
 
-shown_byte_before : (b : ℕ) (rest : List ℕ) → begins_with_c1 (b ∷ rest) ≡ false → has_no_c1 rest ≡ true → has_no_c1 (shown_byte b ++ rest) ≡ true
-shown_byte_before b rest apart none =
-    let P : List ℕ → Type 0 = λ t. has_no_c1 (t ++ rest) ≡ true in
-    cond_both (nat_lt b 32) (226 ∷ 144 ∷ (128 + b) ∷ []) _ P (λ control. other_before (128 + b) rest (ne_eqb (128 + b) 194 (λ e. omega (arith, ltb-true b 32 control))) none)
-    (λ printable. chosen (b == 127) (226 ∷ 144 ∷ 161 ∷ []) (b ∷ []) P (other_before 161 rest refl none) (λ no_delete. λ i. not (apart i) && none i))
+ascii_apart : (text : List ℕ) → list_all is_low text ≡ true → Apart text
+unfolding is_low
+ascii_apart [] low = λ rest none. none
+ascii_apart (b ∷ bs) low =
+    let parts = and_parts (nat_lt b 128) (list_all is_low bs) low in
+    let small = ltb-true b 128 parts.0 in
+    λ rest none. other_first b (bs ++ rest) (λ e. omega (arith, small, e)) (ascii_apart bs parts.1 rest none)
 
-shown_byte_behind : (a b : ℕ) (rest : List ℕ) → ((a == 194) && is_c1 b) ≡ false → begins_with_c1 (a ∷ (shown_byte b ++ rest)) ≡ false
-shown_byte_behind a b rest apart =
-    let P : List ℕ → Type 0 = λ t. begins_with_c1 (a ∷ (t ++ rest)) ≡ false in
-    chosen (nat_lt b 32) (226 ∷ 144 ∷ (128 + b) ∷ []) _ P (no_code a 226 refl) (λ printable. chosen (b == 127) (226 ∷ 144 ∷ 161 ∷ []) (b ∷ []) P (no_code a 226 refl) (λ no_delete. apart))
+c1_hidden : (c : ℕ) → 128 ≤ c → c ≤ 159 → is_hidden c ≡ true
+c1_hidden c low high = grind (arith, nat_tests)
 
-html_byte_before : (b : ℕ) (rest : List ℕ) → begins_with_c1 (b ∷ rest) ≡ false → has_no_c1 rest ≡ true → has_no_c1 (html_byte b ++ rest) ≡ true
-html_byte_before b rest apart none =
-    let P : List ℕ → Type 0 = λ t. has_no_c1 (t ++ rest) ≡ true in
-    let reference : has_no_c1 (59 ∷ rest) ≡ true = other_before 59 rest refl none in
-    chosen (b == 38) (codes "&amp;") _ P reference
-    (λ no_ampersand. chosen (b == 60) (codes "&lt;") _ P reference
-    (λ no_less. chosen (b == 62) (codes "&gt;") _ P reference
-    (λ no_greater. chosen (b == 34) (codes "&#34;") _ P reference
-    (λ no_quote. chosen (b == 39) (codes "&#39;") _ P reference (λ no_apostrophe. shown_byte_before b rest apart none)))))
+-- the two bytes of a character that is not hidden are no C1 control
+two_apart : (c : ℕ) → is_hidden c ≡ false → ((192 + c / 64 == 194) && is_c1 (128 + c % 64)) ≡ false
+two_apart c seen =
+    false_from_ne_true ((192 + c / 64 == 194) && is_c1 (128 + c % 64)) (λ both.
+    let parts = and_parts (192 + c / 64 == 194) (is_c1 (128 + c % 64)) both in
+    let first = eqb-true (192 + c / 64) 194 parts.0 in
+    let within = leb-true (128 + c % 64) 159 (and_parts (nat_le 128 (128 + c % 64)) (nat_le (128 + c % 64) 159) parts.1).1 in
+    both_ways (is_hidden c) seen (c1_hidden c (omega arith) (omega arith)))
 
-html_byte_behind : (a b : ℕ) (rest : List ℕ) → ((a == 194) && is_c1 b) ≡ false → begins_with_c1 (a ∷ (html_byte b ++ rest)) ≡ false
-html_byte_behind a b rest apart =
-    let P : List ℕ → Type 0 = λ t. begins_with_c1 (a ∷ (t ++ rest)) ≡ false in
-    let reference : ((a == 194) && is_c1 38) ≡ false = no_code a 38 refl in
-    chosen (b == 38) (codes "&amp;") _ P reference
-    (λ no_ampersand. chosen (b == 60) (codes "&lt;") _ P reference
-    (λ no_less. chosen (b == 62) (codes "&gt;") _ P reference
-    (λ no_greater. chosen (b == 34) (codes "&#34;") _ P reference
-    (λ no_quote. chosen (b == 39) (codes "&#39;") _ P reference (λ no_apostrophe. shown_byte_behind a b rest apart)))))
+next_first : (n : ℕ) (rest : List ℕ) → has_no_c1 rest ≡ true → has_no_c1 ((128 + n % 64) ∷ rest) ≡ true
+next_first n rest none = other_first (128 + n % 64) rest (λ e. omega arith) none
 
--- ---- the text
+encode_apart : (c : ℕ) → is_hidden c ≡ false → Apart (encode_utf8 c)
+unfolding encode_utf8
+encode_apart c seen = λ rest none.
+    cond_both (nat_lt c 128) _ _ (λ t. has_no_c1 (t ++ rest) ≡ true)
+    (λ one. let small = ltb-true c 128 one in other_first c rest (λ e. omega (arith, small, e)) none)
+    (λ more. cond_both (nat_lt c 2048) _ _ (λ t. has_no_c1 (t ++ rest) ≡ true)
+    (λ two. λ i. not (two_apart c seen i) && next_first c rest none i)
+    (λ more. cond_both (nat_lt c 65536) _ _ (λ t. has_no_c1 (t ++ rest) ≡ true)
+    (λ three.
+    other_first (224 + c / 4096) ((128 + c / 64 % 64) ∷ (128 + c % 64) ∷ rest) (λ e. omega (arith, e))
+    (next_first (c / 64) ((128 + c % 64) ∷ rest) (next_first c rest none)))
+    (λ four.
+    other_first (240 + c / 262144) ((128 + c / 4096 % 64) ∷ (128 + c / 64 % 64) ∷ (128 + c % 64) ∷ rest) (λ e. omega (arith, e))
+    (next_first (c / 4096) ((128 + c / 64 % 64) ∷ (128 + c % 64) ∷ rest) (next_first (c / 64) ((128 + c % 64) ∷ rest) (next_first c rest none))))))
 
--- a byte is put before a text without C1 controls
-abbrev Before : (ℕ → List ℕ) → Type 0
-Before f = (b : ℕ) (rest : List ℕ) → begins_with_c1 (b ∷ rest) ≡ false → has_no_c1 rest ≡ true → has_no_c1 (f b ++ rest) ≡ true
+shown_apart : (c : ℕ) → Apart (shown_char c)
+shown_apart c = cond_both (is_hidden c) (escape_of c) (encode_utf8 c) Apart (λ hidden. ascii_apart (escape_of c) (escape_passes is_low low_passes c hidden)) (encode_apart c)
 
--- what is put for a byte makes no C1 control with the byte before it
-abbrev Behind : (ℕ → List ℕ) → Type 0
-Behind f = (a b : ℕ) (rest : List ℕ) → ((a == 194) && is_c1 b) ≡ false → begins_with_c1 (a ∷ (f b ++ rest)) ≡ false
+apart_each : Holds Apart
+unfolding is_low
+apart_each = record {
+  percent = ascii_apart (codes "%25") refl;
+  return = ascii_apart (codes "%0D") refl;
+  feed = ascii_apart (codes "%0A") refl;
+  colon = ascii_apart (codes "%3A") refl;
+  comma = ascii_apart (codes "%2C") refl;
+  ampersand = ascii_apart (codes "&amp;") refl;
+  less = ascii_apart (codes "&lt;") refl;
+  greater = ascii_apart (codes "&gt;") refl;
+  quote = ascii_apart (codes "&#34;") refl;
+  apostrophe = ascii_apart (codes "&#39;") refl;
+}
 
-replaced : (f : ℕ → List ℕ) → Before f → (rest : List ℕ) → has_no_c1 (flat_map f rest) ≡ true → has_no_c1 (flat_map f (239 ∷ 191 ∷ 189 ∷ rest)) ≡ true
-replaced f before rest none =
-    let last = before 189 (flat_map f rest) (begins_none 189 (flat_map f rest) refl) none in
-    let middle = before 191 (flat_map f (189 ∷ rest)) (begins_none 191 (flat_map f (189 ∷ rest)) refl) last in
-    before 239 (flat_map f (191 ∷ 189 ∷ rest)) (begins_none 239 (flat_map f (191 ∷ 189 ∷ rest)) refl) middle
+none_each : (f : ℕ → List ℕ) → ((c : ℕ) → Apart (f c)) → (cs : List ℕ) → has_no_c1 (flat_map f cs) ≡ true
+none_each f each [] = refl
+none_each f each (c ∷ cs) = each c (flat_map f cs) (none_each f each cs)
 
-next_behind : (f : ℕ → List ℕ) → Behind f → (a b : ℕ) (rest : List ℕ) → ((a == 194) && is_c1 b) ≡ false → begins_with_c1 (a ∷ flat_map f (without_c1 (b ∷ rest))) ≡ false
-next_behind f behind a b [] apart = behind a b [] apart
-next_behind f behind a b (code ∷ rest) apart =
-    chosen (begins_with_c1 (b ∷ code ∷ rest)) (239 ∷ 191 ∷ 189 ∷ without_c1 rest) (b ∷ without_c1 (code ∷ rest)) (λ t. begins_with_c1 (a ∷ flat_map f t) ≡ false)
-    (behind a 239 (flat_map f (191 ∷ 189 ∷ without_c1 rest)) (no_code a 239 refl)) (λ other. behind a b (flat_map f (without_c1 (code ∷ rest))) apart)
-
-none_left : (f : ℕ → List ℕ) → Before f → Behind f → (text : List ℕ) → has_no_c1 (flat_map f (without_c1 text)) ≡ true
-none_left f before behind [] = refl
-none_left f before behind (b ∷ []) = before b [] refl refl
-none_left f before behind (b ∷ code ∷ rest) =
-    chosen (begins_with_c1 (b ∷ code ∷ rest)) (239 ∷ 191 ∷ 189 ∷ without_c1 rest) (b ∷ without_c1 (code ∷ rest)) (λ t. has_no_c1 (flat_map f t) ≡ true)
-    (replaced f before (without_c1 rest) (none_left f before behind rest))
-    (λ apart. before b (flat_map f (without_c1 (code ∷ rest))) (next_behind f behind b code rest apart) (none_left f before behind (code ∷ rest)))
-
-pub shown_without : (text : List ℕ) → has_no_c1 (escaped escape.Shown text) ≡ true
-shown_without = none_left shown_byte shown_byte_before shown_byte_behind
-
-pub html_without : (text : List ℕ) → has_no_c1 (escaped escape.Html text) ≡ true
-html_without = none_left html_byte html_byte_before html_byte_behind
+pub escaped_has_no_c1 : (how : Escape) (text : List ℕ) → has_no_c1 (escaped how text) ≡ true
+escaped_has_no_c1 how text = none_each (escaped_char how) (λ c. char_holds Apart apart_each how c (shown_apart c)) (chars text)

@@ -1,79 +1,82 @@
 -- Escaped text does not leave its place.
-use Rattle.std.proofs.Common.{◌≡◌, ℕ, ◌+◌, ◌==◌, Bool, true, false, ◌&&◌, ◌||◌, not, List, [], ◌∷◌, ◌++◌, codes, nat_lt, refl, arith, le-ltb, if◌then◌else◌}
-use Rattle.std.proofs.lemmas.Bool.{ne_eqb}
+use Rattle.std.proofs.Common.{◌≡◌, ℕ, ◌<◌, ◌≤◌, ◌==◌, Bool, true, false, ◌&&◌, ◌||◌, not, List, [], ◌∷◌, ◌++◌, codes, chars, refl, arith, if◌then◌else◌}
+use Rattle.std.proofs.lemmas.Bool.{and_from, and_parts, cond_both, not-true, not_from_false}
+use Rattle.std.proofs.lemmas.Bool.Decides.{nat_tests}
 use Rattle.std.specs.List.{flat_map, list_all}
-use Rattle.check_report.specs.Escape.{data_byte, escaped, html_byte, is_in_line, is_in_property, is_inert, is_reference, is_shown, property_byte, shown_byte, without_c1}
+use Rattle.shown_text.specs.Shown.{is_printed, shown_char}
+use Rattle.shown_text.proofs.Visible.{PassesEscapes, PassesHigh, each_passes, seen_printed, shown_char_passes}
+use Rattle.check_report.specs.Escape.{escaped, html_char, is_in_property, is_inert, is_markup, is_reference, property_char}
 use Rattle.check_report.specs.declared.escape.Escape.TheVariants as escape
 
--- what holds of both answers
-pub chosen : (q : Bool) (x y : List ℕ) (P : List ℕ → Type 0) → P x → (q ≡ false → P y) → P (if q then x else y)
-chosen true x y P of_x of_y = of_x
-chosen false x y P of_x of_y = of_y refl
+-- ---- HTML
 
--- a byte that is none of the five
-plain_byte : (b : ℕ) (rest : List ℕ) → (b == 38) ≡ false → (b == 60) ≡ false → (b == 62) ≡ false → (b == 34) ≡ false → (b == 39) ≡ false → is_inert rest ≡ true → is_inert (b ∷ rest) ≡ true
-plain_byte b rest no_ampersand no_less no_greater no_quote no_apostrophe inert =
-    (λ i. (if no_ampersand i then is_reference rest else not (no_less i || no_greater i || no_quote i || no_apostrophe i)) && inert i)
+-- none of < > " ' &
+is_text : ℕ → Bool
+is_text b = not (b == 38) && not (is_markup b)
 
-picture_byte : (b : ℕ) (rest : List ℕ) → is_inert rest ≡ true → is_inert ((128 + b) ∷ rest) ≡ true
-picture_byte b rest inert =
-    plain_byte (128 + b) rest (ne_eqb (128 + b) 38 (λ e. omega arith)) (ne_eqb (128 + b) 60 (λ e. omega arith)) (ne_eqb (128 + b) 62 (λ e. omega arith)) (ne_eqb (128 + b) 34 (λ e. omega arith))
-    (ne_eqb (128 + b) 39 (λ e. omega arith)) inert
+text_inert : (bs rest : List ℕ) → list_all is_text bs ≡ true → is_inert rest ≡ true → is_inert (bs ++ rest) ≡ true
+unfolding is_text
+text_inert [] rest all inert = inert
+text_inert (b ∷ bs) rest all inert =
+    let parts = and_parts (is_text b) (list_all is_text bs) all in
+    let neither = and_parts (not (b == 38)) (not (is_markup b)) parts.0 in
+    λ i. (if not-true (b == 38) neither.0 i then is_reference (bs ++ rest) else neither.1 i) && text_inert bs rest parts.1 inert i
 
-html_byte_inert : (b : ℕ) (rest : List ℕ) → is_inert rest ≡ true → is_inert (html_byte b ++ rest) ≡ true
-html_byte_inert b rest inert =
+between_text : (b : ℕ) → 40 ≤ b → (60 ≤ b → 63 ≤ b) → is_text b ≡ true
+unfolding is_text
+between_text b low other = grind (arith, nat_tests)
+
+escapes_text : PassesEscapes is_text
+escapes_text = (λ b from to. between_text b (omega arith) (λ high. omega arith), λ b from to. between_text b (omega arith) (λ high. omega arith))
+
+high_text : PassesHigh is_text
+high_text b high = between_text b (omega arith) (λ more. omega arith)
+
+other_text : (b : ℕ) → (b == 38) ≡ false → (b == 60) ≡ false → (b == 62) ≡ false → (b == 34) ≡ false → (b == 39) ≡ false → is_text b ≡ true
+unfolding is_text
+other_text b no_ampersand no_less no_greater no_quote no_apostrophe =
+    λ i. not (no_ampersand i) && not (no_less i || no_greater i || no_quote i || no_apostrophe i)
+
+html_char_inert : (c : ℕ) (rest : List ℕ) → is_inert rest ≡ true → is_inert (html_char c ++ rest) ≡ true
+html_char_inert c rest inert =
     let P : List ℕ → Type 0 = λ t. is_inert (t ++ rest) ≡ true in
-    chosen (b == 38) (codes "&amp;") _ P inert
-    (λ no_ampersand. chosen (b == 60) (codes "&lt;") _ P inert
-    (λ no_less. chosen (b == 62) (codes "&gt;") _ P inert
-    (λ no_greater. chosen (b == 34) (codes "&#34;") _ P inert
-    (λ no_quote. chosen (b == 39) (codes "&#39;") _ P inert
-    (λ no_apostrophe. chosen (nat_lt b 32) (226 ∷ 144 ∷ (128 + b) ∷ []) _ P (picture_byte b rest inert)
-    (λ printable. chosen (b == 127) (226 ∷ 144 ∷ 161 ∷ []) (b ∷ []) P inert
-    (λ no_delete. plain_byte b rest no_ampersand no_less no_greater no_quote no_apostrophe inert)))))))
+    cond_both (c == 38) (codes "&amp;") _ P (λ is. inert)
+    (λ no_ampersand. cond_both (c == 60) (codes "&lt;") _ P (λ is. inert)
+    (λ no_less. cond_both (c == 62) (codes "&gt;") _ P (λ is. inert)
+    (λ no_greater. cond_both (c == 34) (codes "&#34;") _ P (λ is. inert)
+    (λ no_quote. cond_both (c == 39) (codes "&#39;") (shown_char c) P (λ is. inert)
+    (λ no_apostrophe. text_inert (shown_char c) rest
+    (shown_char_passes is_text escapes_text high_text c (λ small seen. other_text c no_ampersand no_less no_greater no_quote no_apostrophe)) inert)))))
 
-each_inert : (text : List ℕ) → is_inert (flat_map html_byte text) ≡ true
+each_inert : (cs : List ℕ) → is_inert (flat_map html_char cs) ≡ true
 each_inert [] = refl
-each_inert (b ∷ bs) = html_byte_inert b (flat_map html_byte bs) (each_inert bs)
+each_inert (c ∷ cs) = html_char_inert c (flat_map html_char cs) (each_inert cs)
 
 pub html_inert : (text : List ℕ) → is_inert (escaped escape.Html text) ≡ true
-html_inert text = each_inert (without_c1 text)
+html_inert text = each_inert (chars text)
 
--- ---- each byte by itself
+-- ---- properties
 
--- what holds of the bytes of each byte holds of all
-each_byte : (p : ℕ → Bool) (f : ℕ → List ℕ) → ((b : ℕ) (rest : List ℕ) → list_all p rest ≡ true → list_all p (f b ++ rest) ≡ true) → (text : List ℕ) → list_all p (flat_map f text) ≡ true
-each_byte p f step [] = refl
-each_byte p f step (b ∷ bs) = step b (flat_map f bs) (each_byte p f step bs)
+between_inside : (b : ℕ) → 45 ≤ b → (58 ≤ b → 59 ≤ b) → (127 ≤ b → 128 ≤ b) → is_in_property b ≡ true
+between_inside b low other delete = grind (arith, nat_tests)
 
-shown_byte_shown : (b : ℕ) (rest : List ℕ) → list_all is_shown rest ≡ true → list_all is_shown (shown_byte b ++ rest) ≡ true
-shown_byte_shown b rest shown =
-    let P : List ℕ → Type 0 = λ t. list_all is_shown (t ++ rest) ≡ true in
-    chosen (nat_lt b 32) (226 ∷ 144 ∷ (128 + b) ∷ []) _ P (λ i. (not (le-ltb (128 + b) 32 (omega arith) i) && not (ne_eqb (128 + b) 127 (λ e. omega arith) i)) && shown i)
-    (λ printable. chosen (b == 127) (226 ∷ 144 ∷ 161 ∷ []) (b ∷ []) P shown (λ no_delete. λ i. (not (printable i) && not (no_delete i)) && shown i))
+escapes_inside : PassesEscapes is_in_property
+escapes_inside = (λ b from to. between_inside b (omega arith) (λ high. omega arith) (λ high. omega arith), λ b from to. between_inside b (omega arith) (λ high. omega arith) (λ high. omega arith))
 
-pub shown_shown : (text : List ℕ) → list_all is_shown (escaped escape.Shown text) ≡ true
-shown_shown text = each_byte is_shown shown_byte shown_byte_shown (without_c1 text)
+high_inside : PassesHigh is_in_property
+high_inside b high = between_inside b (omega arith) (λ more. omega arith) (λ more. high)
 
-data_byte_in_line : (b : ℕ) (rest : List ℕ) → list_all is_in_line rest ≡ true → list_all is_in_line (data_byte b ++ rest) ≡ true
-data_byte_in_line b rest inside =
-    let P : List ℕ → Type 0 = λ t. list_all is_in_line (t ++ rest) ≡ true in
-    chosen (b == 37) (codes "%25") _ P inside
-    (λ no_percent. chosen (b == 13) (codes "%0D") _ P inside
-    (λ no_return. chosen (b == 10) (codes "%0A") (b ∷ []) P inside (λ no_feed. λ i. (not (no_feed i) && not (no_return i)) && inside i)))
-
-pub data_in_line : (text : List ℕ) → list_all is_in_line (escaped escape.Data text) ≡ true
-data_in_line = each_byte is_in_line data_byte data_byte_in_line
-
-property_byte_inside : (b : ℕ) (rest : List ℕ) → list_all is_in_property rest ≡ true → list_all is_in_property (property_byte b ++ rest) ≡ true
-property_byte_inside b rest inside =
-    let P : List ℕ → Type 0 = λ t. list_all is_in_property (t ++ rest) ≡ true in
-    chosen (b == 58) (codes "%3A") _ P inside
-    (λ no_colon. chosen (b == 44) (codes "%2C") _ P inside
-    (λ no_comma. chosen (b == 37) (codes "%25") _ P inside
-    (λ no_percent. chosen (b == 13) (codes "%0D") _ P inside
-    (λ no_return. chosen (b == 10) (codes "%0A") (b ∷ []) P inside
-    (λ no_feed. λ i. ((not (no_feed i) && not (no_return i)) && (not (no_colon i) && not (no_comma i))) && inside i)))))
+property_char_inside : (c : ℕ) → list_all is_in_property (property_char c) ≡ true
+property_char_inside c =
+    let P : List ℕ → Type 0 = λ t. list_all is_in_property t ≡ true in
+    cond_both (c == 58) (codes "%3A") _ P (λ is. refl)
+    (λ no_colon. cond_both (c == 44) (codes "%2C") _ P (λ is. refl)
+    (λ no_comma. cond_both (c == 37) (codes "%25") _ P (λ is. refl)
+    (λ no_percent. cond_both (c == 13) (codes "%0D") _ P (λ is. refl)
+    (λ no_return. cond_both (c == 10) (codes "%0A") (shown_char c) P (λ is. refl)
+    (λ no_feed. shown_char_passes is_in_property escapes_inside high_inside c (λ small seen.
+    and_from (is_printed c) (not (c == 58) && not (c == 44)) (seen_printed c small seen)
+    (and_from (not (c == 58)) (not (c == 44)) (not_from_false (c == 58) no_colon) (not_from_false (c == 44) no_comma))))))))
 
 pub property_inside : (text : List ℕ) → list_all is_in_property (escaped escape.Property text) ≡ true
-property_inside = each_byte is_in_property property_byte property_byte_inside
+property_inside text = each_passes is_in_property property_char property_char_inside (chars text)

@@ -15,22 +15,22 @@ abbrev pub message_line : Broken → List ℕ
 message_line b = escaped escape.Data (string_bytes b.target) ++ codes ": " ++ wrong_of escape.Data b ++ codes "\n"
 
 -- a folder without a leading `./`
-abbrev pub behind_here : List ℕ → List ℕ
-behind_here folder = if starts_with nat_eq folder (codes "./") then drop 2 folder else folder
+abbrev pub without_here : List ℕ → List ℕ
+without_here folder = if starts_with nat_eq folder (codes "./") then drop 2 folder else folder
 
 -- the slash to put after a folder with this last byte
-abbrev pub slash_behind : Option ℕ → List ℕ
-slash_behind None = []
-slash_behind (Some last) = if last == 47 then [] else codes "/"
+abbrev pub slash_after : Option ℕ → List ℕ
+slash_after None = []
+slash_after (Some last) = if last == 47 then [] else codes "/"
 
 -- the text before the names of a folder's files: nothing for an empty name and for the current folder
 abbrev pub front_of : List ℕ → List ℕ
-front_of folder = if bytes_eq folder (codes ".") then [] else folder ++ slash_behind (slice_get folder (length folder - 1))
+front_of folder = if bytes_eq folder (codes ".") then [] else escaped escape.Property folder ++ slash_after (slice_get folder (length folder - 1))
 
 -- the location of a link
 abbrev pub at_place : List ℕ → Place → List ℕ
 at_place folder p =
-    codes "::error file=" ++ escaped escape.Property (front_of (behind_here folder) ++ string_bytes p.file) ++ counted (codes ",line=") p.line ++ counted (codes ",col=") p.column
+    codes "::error file=" ++ front_of (without_here folder) ++ escaped escape.Property (string_bytes p.file) ++ counted (codes ",line=") p.line ++ counted (codes ",col=") p.column
 
 abbrev pub place_annotation : List ℕ → Broken → Place → List ℕ
 place_annotation folder b p = at_place folder p ++ codes "::" ++ message_line b

@@ -66,13 +66,13 @@ abbrev pub broken_counts : Totals → Members
 broken_counts t = count_at (codes "broken") t.broken_links (count_at (codes "missing_pages") t.broken_urls (count_at (codes "missing_anchors") t.broken_anchors no_members))
 
 -- the optional counts, and then the counts of broken links
-abbrev pub told_counts : Totals → Counts → Members
-told_counts t c = count_if_at (codes "unreached") c.unreached (count_if_at (codes "external") c.external (broken_counts t))
+abbrev pub optional_counts : Totals → Counts → Members
+optional_counts t c = count_if_at (codes "unreached") c.unreached (count_if_at (codes "external") c.external (broken_counts t))
 
 abbrev pub total_members : List ℕ → Totals → Counts → Members
 total_members base t c =
-    kind (codes "total") (text_at (codes "base") base (count_at (codes "pages") t.pages (count_at (codes "links") t.links
-    (count_at (codes "redirects") t.moved (told_counts t c)))))
+    kind (codes "total") (text_at (codes "base") base (count_at (codes "pages") t.pages (count_at (codes "aliases") t.aliases
+    (count_at (codes "links") t.links (count_at (codes "redirects") t.moved (optional_counts t c))))))
 
 abbrev pub members_of : Line → Members
 members_of (line.total base totals counts) = total_members base totals counts

@@ -1,10 +1,10 @@
 -- A row of the HTML page. Untrusted texts are only in elements, and escaped.
-use Rattle.std.specs.Prelude.{ℕ, ◌==◌, List, [], ◌++◌, codes, decimal, nat_lt, string_bytes, if◌then◌else◌, Option, None, Some}
+use Rattle.std.specs.Prelude.{ℕ, ◌==◌, Bool, ◌||◌, List, [], ◌++◌, codes, decimal, nat_lt, string_bytes, if◌then◌else◌, Option, None, Some}
 use Rattle.std.specs.Option.{option_map}
 use Rattle.check_report.specs.Escape.{escaped}
 use Rattle.check_report.specs.Rows as line
 use Rattle.check_report.specs.Rows.{Line}
-use Rattle.check_report.specs.Text.{counted, linked_from, redirect_target, wrong_of}
+use Rattle.check_report.specs.Text.{counted, is_broken, linked_from, redirect_target, wrong_of}
 use Rattle.check_report.specs.declared.as_page.parts.TheConstants.{HEAD, SCRIPT, STYLE, TAIL, TOOLS}
 use Rattle.check_report.specs.declared.escape.Escape.TheVariants as escape
 use Rattle.check_report.specs.declared.row.Counts.{Counts}
@@ -42,15 +42,28 @@ html text = escaped escape.Html text
 abbrev pub links_noun : ℕ → List ℕ
 links_noun n = if n == 1 then codes " broken link" else codes " broken links"
 
+abbrev pub missing_noun : ℕ → List ℕ
+missing_noun n = if n == 1 then codes " missing page" else codes " missing pages"
+
+-- the title counts the broken links, or the missing pages if no link leads to them
+abbrev pub counts_links : Totals → Bool
+counts_links t = nat_lt 0 t.broken_links || (t.broken_urls == 0)
+
+abbrev pub title_count : Totals → ℕ
+title_count t = if counts_links t then t.broken_links else t.broken_urls
+
+abbrev pub title_noun : Totals → List ℕ
+title_noun t = if counts_links t then links_noun t.broken_links else missing_noun t.broken_urls
+
 -- the page up to its body, with the title
 abbrev pub page_start : List ℕ → Totals → List ℕ
-page_start base t = head_part ++ decimal t.broken_links ++ links_noun t.broken_links ++ codes " - " ++ html base ++ style_part
+page_start base t = head_part ++ decimal (title_count t) ++ title_noun t ++ codes " - " ++ html base ++ style_part
 
 abbrev pub verdict_start : Totals → List ℕ
-verdict_start t = if nat_lt 0 t.broken_links then codes "</p>\n<h1 class=bad><b>" else codes "</p>\n<h1 class=good><b>"
+verdict_start t = if is_broken t then codes "</p>\n<h1 class=bad><b>" else codes "</p>\n<h1 class=good><b>"
 
 abbrev pub page_heading : List ℕ → Totals → List ℕ
-page_heading base t = script_part ++ html base ++ verdict_start t ++ decimal t.broken_links ++ codes "</b>" ++ links_noun t.broken_links ++ codes "</h1>\n<ul>\n"
+page_heading base t = script_part ++ html base ++ verdict_start t ++ decimal (title_count t) ++ codes "</b>" ++ title_noun t ++ codes "</h1>\n<ul>\n"
 
 -- an item in the list of totals
 abbrev pub total_item : List ℕ → ℕ → List ℕ
@@ -58,6 +71,7 @@ total_item word n = counted word n ++ codes "</b></li>\n"
 
 abbrev pub site_items : Totals → List ℕ
 site_items t = total_item (codes "<li>pages <b>") t.pages ++ total_item (codes "<li>links <b>") t.links ++ total_item (codes "<li>redirects <b>") t.moved
+    ++ total_item (codes "<li>other URLs of pages <b>") t.aliases
 
 abbrev pub broken_items : Totals → List ℕ
 broken_items t = total_item (codes "<li>missing pages <b>") t.broken_urls ++ total_item (codes "<li>missing anchors <b>") t.broken_anchors
@@ -67,11 +81,11 @@ abbrev pub item_if : List ℕ → Option ℕ → List ℕ
 item_if word None = []
 item_if word (Some n) = total_item word n
 
-abbrev pub told_items : Counts → List ℕ
-told_items c = item_if (codes "<li>unreached files <b>") c.unreached ++ item_if (codes "<li>external URLs <b>") c.external
+abbrev pub optional_items : Counts → List ℕ
+optional_items c = item_if (codes "<li>unreached files <b>") c.unreached ++ item_if (codes "<li>external URLs <b>") c.external
 
 abbrev pub count_items : Totals → Counts → List ℕ
-count_items t c = site_items t ++ broken_items t ++ told_items c
+count_items t c = site_items t ++ broken_items t ++ optional_items c
 
 unfoldable pub page_total : List ℕ → Totals → Counts → List ℕ
 page_total base t c = page_start base t ++ page_heading base t ++ count_items t c ++ tools_part

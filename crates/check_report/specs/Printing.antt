@@ -9,7 +9,7 @@ use Rattle.check_report.specs.Text.{text_line}
 use Rattle.check_report.specs.declared.form.Form.{Form}
 use Rattle.check_report.specs.declared.form.Form.TheVariants as form
 use Rattle.check_report.specs.declared.value.Findings.{Findings}
-use Rattle.check_report.specs.declared.value.Told.{Told}
+use Rattle.check_report.specs.declared.value.Contents.{Contents}
 
 abbrev pub bytes_of : Form → Line → List ℕ
 bytes_of (form.Text colour) line = text_line colour line
@@ -22,21 +22,21 @@ abbrev pub Adds : Form → List ℕ → List ℕ → List Line → Type 0
 Adds how out more lines = more ≡ out ++ flat_map (bytes_of how) lines
 
 -- the bytes of a report
-abbrev pub printed : Form → Bool → Told → Findings → List ℕ
-printed how all told f = flat_map (bytes_of how) (rows_of all told f)
+abbrev pub printed : Form → Bool → Contents → Findings → List ℕ
+printed how all contents f = flat_map (bytes_of how) (rows_of all contents f)
 
 -- as text, with three locations of each target or with all, and with or without colour
-abbrev pub printed_text : Bool → Bool → Told → Findings → List ℕ
-printed_text all colour told f = printed (form.Text colour) all told f
+abbrev pub printed_text : Bool → Bool → Contents → Findings → List ℕ
+printed_text all colour contents f = printed (form.Text colour) all contents f
 
 -- as JSON, with all locations
-abbrev pub printed_json : Told → Findings → List ℕ
-printed_json told f = printed form.Json true told f
+abbrev pub printed_json : Contents → Findings → List ℕ
+printed_json contents f = printed form.Json true contents f
 
 -- as GitHub annotations, with all locations
-abbrev pub printed_annotations : Told → Findings → List ℕ
-printed_annotations told f = printed (form.Annotations told.folder) true told f
+abbrev pub printed_annotations : Contents → Findings → List ℕ
+printed_annotations contents f = printed (form.Annotations contents.folder) true contents f
 
 -- as an HTML page, with all locations
-abbrev pub printed_page : Told → Findings → List ℕ
-printed_page told f = printed form.Page true told f
+abbrev pub printed_page : Contents → Findings → List ℕ
+printed_page contents f = printed form.Page true contents f

@@ -9,7 +9,7 @@ use Rattle.check_report.specs.declared.value.FileCount.{FileCount}
 use Rattle.check_report.specs.declared.value.Findings.{Findings}
 use Rattle.check_report.specs.declared.value.Place.{Place}
 use Rattle.check_report.specs.declared.value.Redirect.{Redirect}
-use Rattle.check_report.specs.declared.value.Told.{Told}
+use Rattle.check_report.specs.declared.value.Contents.{Contents}
 use Rattle.check_report.specs.declared.value.Totals.{Totals}
 use Rattle.check_report.specs.declared.row.Counts.{Counts}
 use Rattle.check_report.specs.declared.row.Part.{Part}
@@ -52,15 +52,19 @@ line_of row.Last = last
 
 -- ---- broken links
 
--- the first three locations, or all of them
+-- the number of locations of a target that a report lists if it does not list all
+abbrev pub places_limit : ℕ
+places_limit = 3
+
+-- the locations that are listed: the first ones, or all of them
 abbrev pub shown_places : Bool → List Place → List Place
 shown_places true places = places
-shown_places false places = take 3 places
+shown_places false places = take places_limit places
 
 -- the number of locations that are not listed, if there are any
 abbrev pub left_out : Bool → ℕ → List Line
 left_out true places = []
-left_out false places = if nat_lt 3 places then more (places - 3) ∷ [] else []
+left_out false places = if nat_lt places_limit places then more (places - places_limit) ∷ [] else []
 
 abbrev pub place_lines : Broken → List Place → List Line
 place_lines target places = map (place target) places
@@ -97,26 +101,26 @@ abbrev pub external_part : List External → List Line
 external_part urls = in_part part.External (length urls) (map external urls)
 
 -- the names if they are listed, otherwise none
-abbrev pub if_told : Bool → List (String Global) → List (String Global)
-if_told true names = names
-if_told false names = []
+abbrev pub if_listed : Bool → List (String Global) → List (String Global)
+if_listed true names = names
+if_listed false names = []
 
 abbrev pub count_if : Bool → ℕ → Option ℕ
 count_if true count = Some count
 count_if false count = None
 
 -- the optional counts: those of the lists that the report has
-abbrev pub counts_of : Told → Findings → Counts
-counts_of told f = record { unreached = count_if told.unreached (length f.unreached.now); external = option_map (λ urls. length urls.now) told.external }
+abbrev pub counts_of : Contents → Findings → Counts
+counts_of contents f = record { unreached = count_if contents.unreached (length f.unreached.now); external = option_map (λ urls. length urls.now) contents.external }
 
 abbrev pub or_none : Option (List External) → List External
 or_none None = []
 or_none (Some urls) = urls
 
-abbrev pub external_of : Told → List External
-external_of told = or_none (option_map (λ urls. urls.now) told.external)
+abbrev pub external_of : Contents → List External
+external_of contents = or_none (option_map (λ urls. urls.now) contents.external)
 
-abbrev pub rows_of : Bool → Told → Findings → List Line
-rows_of all told f =
-    total f.base.now f.totals (counts_of told f) ∷ broken_part all f.broken.now ++ worst_part f.worst.now ++ redirect_part f.redirects.now
-    ++ name_part part.Unreached (if_told told.unreached f.unreached.now) ++ external_part (external_of told) ++ name_part part.Unused f.unused_ignores.now ++ last ∷ []
+abbrev pub rows_of : Bool → Contents → Findings → List Line
+rows_of all contents f =
+    total f.base.now f.totals (counts_of contents f) ∷ broken_part all f.broken.now ++ worst_part f.worst.now ++ redirect_part f.redirects.now
+    ++ name_part part.Unreached (if_listed contents.unreached f.unreached.now) ++ external_part (external_of contents) ++ name_part part.Unused f.unused_ignores.now ++ last ∷ []

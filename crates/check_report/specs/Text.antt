@@ -1,6 +1,7 @@
 -- A row of the text report.
-use Rattle.std.specs.Prelude.{ℕ, ◌==◌, Bool, true, false, List, [], ◌∷◌, ◌++◌, codes, length, nat_lt, decimal, string_bytes, if◌then◌else◌, Option, None, Some}
+use Rattle.std.specs.Prelude.{ℕ, ◌==◌, Bool, true, false, ◌||◌, List, [], ◌∷◌, ◌++◌, codes, length, nat_lt, decimal, string_bytes, if◌then◌else◌, Option, None, Some}
 use Rattle.std.specs.Option.{option_map}
+use Rattle.shown_text.specs.Shown.{shown}
 use Rattle.check_report.specs.Escape.{escaped}
 use Rattle.check_report.specs.Rows as line
 use Rattle.check_report.specs.Rows.{Line}
@@ -17,11 +18,6 @@ use Rattle.check_report.specs.declared.value.Kind.TheVariants.{NoPage, NoAnchor}
 use Rattle.check_report.specs.declared.value.Place.{Place}
 use Rattle.check_report.specs.declared.value.Redirect.{Redirect}
 use Rattle.check_report.specs.declared.value.Totals.{Totals}
-
--- ---- untrusted texts
-
-abbrev pub shown : List ℕ → List ℕ
-shown text = escaped escape.Shown text
 
 -- ---- colour
 
@@ -88,9 +84,13 @@ place_text colour b p = code colour bold ++ place_start p ++ code colour plain +
 abbrev pub broken_text : Bool → Broken → List ℕ
 broken_text colour b = if nat_lt 0 (length b.places.items) then [] else target_text colour b
 
--- red if a link is broken, otherwise green
+-- whether something is missing. A page at which the check starts can be missing though no link leads to it
+abbrev pub is_broken : Totals → Bool
+is_broken t = nat_lt 0 t.broken_links || nat_lt 0 t.broken_urls || nat_lt 0 t.broken_anchors
+
+-- red if something is missing, otherwise green
 abbrev pub verdict : Totals → List ℕ
-verdict t = if nat_lt 0 t.broken_links then red else green
+verdict t = if is_broken t then red else green
 
 -- the second line of the totals
 abbrev pub broken_total : Bool → Totals → List ℕ
@@ -102,7 +102,7 @@ broken_total colour t =
 abbrev pub site_total : Totals → Counts → List ℕ
 site_total t c =
     counted (codes "pages ") t.pages ++ counted (codes ", links ") t.links ++ counted (codes ", redirects ") t.moved
-    ++ counted_if (codes ", unreached files ") c.unreached ++ counted_if (codes ", external URLs ") c.external
+    ++ counted (codes ", aliases ") t.aliases ++ counted_if (codes ", unreached files ") c.unreached ++ counted_if (codes ", external URLs ") c.external
 
 abbrev pub total_text : Bool → Totals → Counts → List ℕ
 total_text colour t c = site_total t c ++ codes "\n" ++ broken_total colour t ++ codes "\n"

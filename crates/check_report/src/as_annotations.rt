@@ -1,9 +1,7 @@
 //! Prints a row as a GitHub annotation.
 ghost use Rattle.std.specs.Prelude.{◌≡◌, ◌-◌, ◌++◌, OnOk, length, slice_get};
-ghost use Rattle.check_report.specs.Annotations.{annotation_line, at_place, behind_here, broken_annotation, front_of, message_line, place_annotation, slash_behind};
-ghost use Rattle.check_report.specs.Escape.{escaped};
+ghost use Rattle.check_report.specs.Annotations.{annotation_line, at_place, without_here, broken_annotation, front_of, message_line, place_annotation, slash_after};
 ghost use Rattle.check_report.specs.Rows.{line_of};
-ghost use Rattle.check_report.specs.declared.escape.Escape.TheVariants as escape;
 
 use crate::as_text::put_wrong_of;
 use crate::escape::{Escape, put_escaped};
@@ -57,33 +55,33 @@ fn put_at(out: &mut Vec<u8>, folder: &str, place: &Place) -> Result<(), NoMemory
     ensures { OnOk result (out.new.items ≡ out.old.items ++ at_place folder.now place.now) }
 {
     put(out, "::error file=")?;
-    put_front(out, behind_here(folder))?;
+    put_front(out, without_here(folder))?;
     put_escaped(out, Escape::Property, place.file.as_str())?;
     put_counted(out, ",line=", place.line)?;
     put_counted(out, ",col=", place.column)
 }
 
 /// The folder without a leading `./`.
-fn behind_here(folder: &str) -> &str
-    ensures { result.now ≡ behind_here folder.now }
+fn without_here(folder: &str) -> &str
+    ensures { result.now ≡ without_here folder.now }
 {
     folder.strip_prefix("./").unwrap_or(folder)
 }
 
 /// Appends the folder and a slash, or nothing for the current folder.
 fn put_front(out: &mut Vec<u8>, folder: &str) -> Result<(), NoMemory>
-    ensures { OnOk result (out.new.items ≡ out.old.items ++ escaped escape.Property (front_of folder.now)) }
+    ensures { OnOk result (out.new.items ≡ out.old.items ++ front_of folder.now) }
 {
     if folder == "." {
         return Ok(());
     }
     put_escaped(out, Escape::Property, folder)?;
-    put_escaped(out, Escape::Property, slash_behind(folder))
+    put(out, slash_after(folder))
 }
 
 /// The slash to put after the folder, if it does not end with one.
-fn slash_behind(folder: &str) -> &str
-    ensures { result.now ≡ slash_behind (slice_get folder.now (length folder.now - 1)) }
+fn slash_after(folder: &str) -> &str
+    ensures { result.now ≡ slash_after (slice_get folder.now (length folder.now - 1)) }
 {
     match folder.as_bytes().last() {
         None | Some(b'/') => "",

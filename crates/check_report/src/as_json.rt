@@ -4,7 +4,7 @@ ghost use Rattle.std.specs.Option.{option_map};
 ghost use Rattle.json.specs.Json.{object};
 ghost use Rattle.json.specs.Token.{begin_object, end_object, key, string, number};
 ghost use Rattle.json.specs.Tree.{json_tokens, members_tokens};
-ghost use Rattle.check_report.specs.Json.{count_tokens, is_object, json_line, members_of, missing, object_line, row_kind, text_or_null, told_counts};
+ghost use Rattle.check_report.specs.Json.{count_tokens, is_object, json_line, members_of, missing, object_line, row_kind, text_or_null, optional_counts};
 ghost use Rattle.check_report.specs.Rows as line;
 ghost use Rattle.check_report.specs.Rows.{line_of};
 
@@ -83,14 +83,15 @@ fn put_total(out: &mut Writer, base: &str, totals: Totals, counts: Counts) -> Re
     put_text(out, "kind", "total")?;
     put_text(out, "base", base)?;
     put_count(out, "pages", totals.pages)?;
+    put_count(out, "aliases", totals.aliases)?;
     put_count(out, "links", totals.links)?;
     put_count(out, "redirects", totals.moved)?;
-    put_told_counts(out, totals, counts)
+    put_optional_counts(out, totals, counts)
 }
 
 // The optional counts, and then the counts of broken links.
-fn put_told_counts(out: &mut Writer, totals: Totals, counts: Counts) -> Result<(), NoMemory>
-    ensures tokens { OnOk result (out.new.tokens ++ end_object ∷ [] ≡ out.old.tokens ++ members_tokens (told_counts totals counts)) }
+fn put_optional_counts(out: &mut Writer, totals: Totals, counts: Counts) -> Result<(), NoMemory>
+    ensures tokens { OnOk result (out.new.tokens ++ end_object ∷ [] ≡ out.old.tokens ++ members_tokens (optional_counts totals counts)) }
     ensures before { out.new.before ≡ out.old.before }
 {
     put_count_if(out, "unreached", counts.unreached)?;

@@ -1,11 +1,11 @@
 //! Prints a row in the HTML page.
 ghost use Rattle.std.specs.Prelude.{◌≡◌, ◌++◌, OnOk, codes};
-ghost use Rattle.check_report.specs.Page.{broken_items, broken_row, count_items, external_row, head_part, html, item_if, links_noun, more_row, page_heading, page_line, page_start, page_total, place_row, redirect_row, script_part, section_start, site_items, style_part, tail_part, told_items, tools_part, total_item, verdict_start, worst_row};
+ghost use Rattle.check_report.specs.Page.{broken_items, broken_row, count_items, external_row, head_part, html, item_if, counts_links, links_noun, missing_noun, more_row, page_heading, page_line, page_start, page_total, place_row, redirect_row, script_part, section_start, site_items, style_part, tail_part, title_count, title_noun, optional_items, tools_part, total_item, verdict_start, worst_row};
 ghost use Rattle.check_report.specs.Rows.{line_of};
 
 mod parts;
 
-use crate::as_text::{put_linked_from, put_redirect_target, put_wrong_of};
+use crate::as_text::{is_broken, put_linked_from, put_redirect_target, put_wrong_of};
 use crate::escape::{Escape, put_escaped};
 use crate::put::{NoMemory, put, put_count, put_counted};
 use crate::row::{Counts, Part, Row};
@@ -100,8 +100,8 @@ fn put_start(out: &mut Vec<u8>, base: &str, totals: Totals) -> Result<(), NoMemo
     ensures { OnOk result (out.new.items ≡ out.old.items ++ page_start base.now totals) }
 {
     put(out, head_part())?;
-    put_count(out, totals.broken_links)?;
-    put(out, links_noun(totals.broken_links))?;
+    put_count(out, title_count(totals))?;
+    put(out, title_noun(totals))?;
     put(out, " - ")?;
     put_html(out, base)?;
     put(out, style_part())
@@ -113,10 +113,38 @@ fn put_heading(out: &mut Vec<u8>, base: &str, totals: Totals) -> Result<(), NoMe
     put(out, script_part())?;
     put_html(out, base)?;
     put(out, verdict_start(totals))?;
-    put_count(out, totals.broken_links)?;
+    put_count(out, title_count(totals))?;
     put(out, "</b>")?;
-    put(out, links_noun(totals.broken_links))?;
+    put(out, title_noun(totals))?;
     put(out, "</h1>\n<ul>\n")
+}
+
+/// The number of broken links, or of missing pages if no link leads to them.
+fn title_count(totals: Totals) -> u64
+    ensures { result ≡ title_count totals }
+{
+    if counts_links(totals) {
+        totals.broken_links
+    } else {
+        totals.broken_urls
+    }
+}
+
+/// What is counted.
+fn title_noun(totals: Totals) -> &'static str
+    ensures { result.now ≡ title_noun totals }
+{
+    if counts_links(totals) {
+        links_noun(totals.broken_links)
+    } else {
+        missing_noun(totals.broken_urls)
+    }
+}
+
+fn counts_links(totals: Totals) -> bool
+    ensures { result ≡ counts_links totals }
+{
+    totals.broken_links > 0 || totals.broken_urls == 0
 }
 
 fn links_noun(count: u64) -> &'static str
@@ -129,10 +157,20 @@ fn links_noun(count: u64) -> &'static str
     }
 }
 
+fn missing_noun(count: u64) -> &'static str
+    ensures { result.now ≡ missing_noun count }
+{
+    if count == 1 {
+        " missing page"
+    } else {
+        " missing pages"
+    }
+}
+
 fn verdict_start(totals: Totals) -> &'static str
     ensures { result.now ≡ verdict_start totals }
 {
-    if totals.broken_links > 0 {
+    if is_broken(totals) {
         "</p>\n<h1 class=bad><b>"
     } else {
         "</p>\n<h1 class=good><b>"
@@ -144,7 +182,7 @@ fn put_count_items(out: &mut Vec<u8>, totals: Totals, counts: Counts) -> Result<
 {
     put_site_items(out, totals)?;
     put_broken_items(out, totals)?;
-    put_told_items(out, counts)
+    put_optional_items(out, counts)
 }
 
 fn put_site_items(out: &mut Vec<u8>, totals: Totals) -> Result<(), NoMemory>
@@ -152,7 +190,8 @@ fn put_site_items(out: &mut Vec<u8>, totals: Totals) -> Result<(), NoMemory>
 {
     put_item(out, "<li>pages <b>", totals.pages)?;
     put_item(out, "<li>links <b>", totals.links)?;
-    put_item(out, "<li>redirects <b>", totals.moved)
+    put_item(out, "<li>redirects <b>", totals.moved)?;
+    put_item(out, "<li>other URLs of pages <b>", totals.aliases)
 }
 
 fn put_broken_items(out: &mut Vec<u8>, totals: Totals) -> Result<(), NoMemory>
@@ -162,8 +201,8 @@ fn put_broken_items(out: &mut Vec<u8>, totals: Totals) -> Result<(), NoMemory>
     put_item(out, "<li>missing anchors <b>", totals.broken_anchors)
 }
 
-fn put_told_items(out: &mut Vec<u8>, counts: Counts) -> Result<(), NoMemory>
-    ensures { OnOk result (out.new.items ≡ out.old.items ++ told_items counts) }
+fn put_optional_items(out: &mut Vec<u8>, counts: Counts) -> Result<(), NoMemory>
+    ensures { OnOk result (out.new.items ≡ out.old.items ++ optional_items counts) }
 {
     put_item_if(out, "<li>unreached files <b>", counts.unreached)?;
     put_item_if(out, "<li>external URLs <b>", counts.external)

@@ -2,12 +2,13 @@
 ghost use Rattle.std.specs.Prelude.{◌≡◌, ◌++◌, OnOk, string_bytes};
 ghost use Rattle.std.specs.Option.{option_map};
 ghost use Rattle.check_report.specs.Rows.{line_of};
-ghost use Rattle.check_report.specs.Text.{begin_text, broken_text, broken_total, external_text, linked_from, message, more_text, moves_text, name_text, pages_noun, place_start, place_text, redirect_target, redirect_text, same_name_text, site_total, target_text, text_line, title, total_text, verdict, worst_text, wrong_of, wrong_text};
+ghost use Rattle.check_report.specs.Text.{begin_text, broken_text, broken_total, external_text, is_broken, linked_from, message, more_text, moves_text, name_text, pages_noun, place_start, place_text, redirect_target, redirect_text, same_name_text, site_total, target_text, text_line, title, total_text, verdict, worst_text, wrong_of, wrong_text};
 
-use crate::escape::{Escape, put_escaped, put_shown};
+use crate::escape::{Escape, put_escaped};
 use crate::put::{NoMemory, put, put_code, put_counted, put_counted_if};
 use crate::row::{Counts, Part, Row};
 use crate::value::{Broken, External, FileCount, Kind, Place, Redirect, Totals};
+use shown_text::put_shown;
 
 const BOLD: &str = "\x1b[1m";
 
@@ -54,6 +55,7 @@ fn put_site_total(out: &mut Vec<u8>, totals: Totals, counts: Counts) -> Result<(
     put_counted(out, "pages ", totals.pages)?;
     put_counted(out, ", links ", totals.links)?;
     put_counted(out, ", redirects ", totals.moved)?;
+    put_counted(out, ", aliases ", totals.aliases)?;
     put_counted_if(out, ", unreached files ", counts.unreached)?;
     put_counted_if(out, ", external URLs ", counts.external)
 }
@@ -68,11 +70,18 @@ fn put_broken_total(out: &mut Vec<u8>, totals: Totals, colour: bool) -> Result<(
     put_counted(out, ", missing anchors ", totals.broken_anchors)
 }
 
-/// Red if a link is broken, otherwise green.
+/// Red if something is missing, otherwise green.
 fn verdict(totals: Totals) -> &'static str
     ensures { result.now ≡ verdict totals }
 {
-    if totals.broken_links > 0 { RED } else { GREEN }
+    if is_broken(totals) { RED } else { GREEN }
+}
+
+/// Whether something is missing. A page at which the check starts can be missing though no link leads to it.
+pub fn is_broken(totals: Totals) -> bool
+    ensures { result ≡ is_broken totals }
+{
+    totals.broken_links > 0 || totals.broken_urls > 0 || totals.broken_anchors > 0
 }
 
 fn put_begin(out: &mut Vec<u8>, part: Part, colour: bool) -> Result<(), NoMemory>

@@ -1,12 +1,12 @@
 //! Escapes untrusted texts.
-ghost use Rattle.std.specs.Prelude.{◌≡◌, ◌-◌, ◌≤◌, ◌&&◌, ◌++◌, IfOk, OnOk, length};
+ghost use Rattle.std.specs.Prelude.{◌≡◌, ◌-◌, ◌≤◌, ◌++◌, IfOk, IsUtf8, OnOk, length};
 ghost use Rattle.std.specs.List.{take_while};
-ghost use Rattle.check_report.specs.Escape.{begins_with_c1, data_byte, escaped, escaped_byte, hides_c1, html_byte, is_plain, property_byte, shown_byte};
-ghost use Rattle.check_report.specs.Text.{shown};
+ghost use Rattle.check_report.specs.Escape.{data_char, escaped, escaped_char, html_char, is_ordinary, property_char};
 
 use crate::put::{NoMemory, put};
+use shown_text::{put_shown, put_shown_char};
 
-/// The place that a text is escaped for.
+/// The position in the output that a text is escaped for.
 #[derive(Clone, Copy)]
 pub enum Escape {
     /// A line of text.
@@ -19,153 +19,107 @@ pub enum Escape {
     Html,
 }
 
-/// Appends a text, escaped for its place.
+/// Appends a text, escaped for its position. Hidden characters are escaped in every position.
 pub fn put_escaped(out: &mut Vec<u8>, how: Escape, text: &str) -> Result<(), NoMemory>
     ensures { OnOk result (out.new.items ≡ out.old.items ++ escaped how text.now) }
 {
-    put_bytes(out, how, text.as_bytes())
-}
-
-/// Appends a text with symbols for its control bytes and U+FFFD for its C1 controls.
-pub fn put_shown(out: &mut Vec<u8>, text: &str) -> Result<(), NoMemory>
-    ensures { OnOk result (out.new.items ≡ out.old.items ++ shown text.now) }
-{
-    put_escaped(out, Escape::Shown, text)
-}
-
-fn put_bytes(out: &mut Vec<u8>, how: Escape, bytes: &[u8]) -> Result<(), NoMemory>
-    ensures { OnOk result (out.new.items ≡ out.old.items ++ escaped how bytes.now) }
-{
-    let mut rest = bytes;
+    let mut rest = text;
     'runs: while !rest.is_empty() {
-        let (run, behind) = rest.split_at(plain_len(rest));
-        out.extend_from_slice(run)?;
-        rest = put_first(out, how, behind)?;
+        let (run, tail) = rest.split_at(ordinary_len(rest));
+        put_shown(out, run)?;
+        rest = put_first(out, how, tail)?;
     }
     Ok(())
 }
 
-/// The number of bytes at the start of the text that are the same in every form.
-fn plain_len(bytes: &[u8]) -> usize
-    ensures { result ≡ length (take_while is_plain bytes.now) }
+/// The number of bytes at the start of the text that need no escape besides those of hidden characters.
+fn ordinary_len(text: &str) -> usize
+    ensures { result ≡ length (take_while is_ordinary text.now) }
 {
-    bytes.iter().take_while(|byte| is_plain(**byte)).count()
+    let bytes = text.as_bytes();
+    bytes.iter().take_while(|byte| is_ordinary(**byte)).count()
 }
 
-fn is_plain(byte: u8) -> bool
-    ensures { result ≡ is_plain byte }
+fn is_ordinary(byte: u8) -> bool
+    ensures { result ≡ is_ordinary byte }
 {
-    byte >= b'-' && !matches!(byte, b':'..=b'>' | 127 | 194)
+    !matches!(
+        byte,
+        b'\n' | b'\r' | b'"' | b'%' | b'&' | b'\'' | b',' | b':' | b'<' | b'>'
+    )
 }
 
-/// Appends the escaped form of the first C1 control or byte, and returns the rest of the text.
-fn put_first<'a>(out: &mut Vec<u8>, how: Escape, bytes: &'a [u8]) -> Result<&'a [u8], NoMemory>
-    ensures text { IfOk result (λ rest. out.new.items ++ escaped how rest.now ≡ out.old.items ++ escaped how bytes.now) }
-    ensures shorter { IfOk result (λ rest. length rest.now ≤ length bytes.now - 1) }
+/// Appends the first character of the text, escaped, and returns the rest.
+fn put_first<'a>(out: &mut Vec<u8>, how: Escape, text: &'a str) -> Result<&'a str, NoMemory>
+    ensures text { IfOk result (λ rest. out.new.items ++ escaped how rest.now ≡ out.old.items ++ escaped how text.now) }
+    ensures shorter { IfOk result (λ rest. length rest.now ≤ length text.now - 1) }
+    ensures utf8 { IfOk result (λ rest. IsUtf8 rest.now) }
 {
-    if hides_first(how, bytes) {
-        put(out, "\u{fffd}")?;
-        return Ok(&bytes[2..]);
-    }
-    match bytes.split_first() {
-        Some((first, rest)) => {
-            put_byte(out, how, *first)?;
-            Ok(rest)
+    let mut rest = text.chars();
+    match rest.next() {
+        Some(c) => {
+            put_char(out, how, c)?;
+            Ok(rest.as_str())
         }
-        None => Ok(bytes),
+        None => Ok(text),
     }
 }
 
-/// Whether the start of the text is replaced by U+FFFD.
-fn hides_first(how: Escape, bytes: &[u8]) -> bool
-    ensures { result ≡ (hides_c1 how && begins_with_c1 bytes.now) }
-{
-    hides_c1(how) && begins_with_c1(bytes)
-}
-
-fn hides_c1(how: Escape) -> bool
-    ensures { result ≡ hides_c1 how }
+fn put_char(out: &mut Vec<u8>, how: Escape, c: char) -> Result<(), NoMemory>
+    ensures { OnOk result (out.new.items ≡ out.old.items ++ escaped_char how c) }
 {
     match how {
-        Escape::Shown | Escape::Html => true,
-        Escape::Data | Escape::Property => false,
+        Escape::Shown => put_shown_char(out, c),
+        Escape::Data => put_data_char(out, c),
+        Escape::Property => put_property_char(out, c),
+        Escape::Html => put_html_char(out, c),
     }
 }
 
-/// Whether the text starts with one of U+0080 to U+009F.
-fn begins_with_c1(bytes: &[u8]) -> bool
-    ensures { result ≡ begins_with_c1 bytes.now }
+fn put_data_char(out: &mut Vec<u8>, c: char) -> Result<(), NoMemory>
+    ensures { OnOk result (out.new.items ≡ out.old.items ++ data_char c) }
 {
-    matches!(bytes, [194, 128..=159, ..])
-}
-
-fn put_byte(out: &mut Vec<u8>, how: Escape, byte: u8) -> Result<(), NoMemory>
-    ensures { OnOk result (out.new.items ≡ out.old.items ++ escaped_byte how byte) }
-{
-    match how {
-        Escape::Shown => put_shown_byte(out, byte),
-        Escape::Data => put_data_byte(out, byte),
-        Escape::Property => put_property_byte(out, byte),
-        Escape::Html => put_html_byte(out, byte),
-    }
-}
-
-fn put_shown_byte(out: &mut Vec<u8>, byte: u8) -> Result<(), NoMemory>
-    ensures { OnOk result (out.new.items ≡ out.old.items ++ shown_byte byte) }
-{
-    if byte < 32 {
-        return out.extend_from_slice(&[226, 144, 128 + byte]);
-    }
-    if byte == 127 {
-        return out.extend_from_slice(&[226, 144, 161]);
-    }
-    out.extend_from_slice(&[byte])
-}
-
-fn put_data_byte(out: &mut Vec<u8>, byte: u8) -> Result<(), NoMemory>
-    ensures { OnOk result (out.new.items ≡ out.old.items ++ data_byte byte) }
-{
-    if byte == b'%' {
+    if c == '%' {
         return put(out, "%25");
     }
-    if byte == b'\r' {
+    if c == '\r' {
         return put(out, "%0D");
     }
-    if byte == b'\n' {
+    if c == '\n' {
         return put(out, "%0A");
     }
-    out.extend_from_slice(&[byte])
+    put_shown_char(out, c)
 }
 
-fn put_property_byte(out: &mut Vec<u8>, byte: u8) -> Result<(), NoMemory>
-    ensures { OnOk result (out.new.items ≡ out.old.items ++ property_byte byte) }
+fn put_property_char(out: &mut Vec<u8>, c: char) -> Result<(), NoMemory>
+    ensures { OnOk result (out.new.items ≡ out.old.items ++ property_char c) }
 {
-    if byte == b':' {
+    if c == ':' {
         return put(out, "%3A");
     }
-    if byte == b',' {
+    if c == ',' {
         return put(out, "%2C");
     }
-    put_data_byte(out, byte)
+    put_data_char(out, c)
 }
 
-fn put_html_byte(out: &mut Vec<u8>, byte: u8) -> Result<(), NoMemory>
-    ensures { OnOk result (out.new.items ≡ out.old.items ++ html_byte byte) }
+fn put_html_char(out: &mut Vec<u8>, c: char) -> Result<(), NoMemory>
+    ensures { OnOk result (out.new.items ≡ out.old.items ++ html_char c) }
 {
-    if byte == b'&' {
+    if c == '&' {
         return put(out, "&amp;");
     }
-    if byte == b'<' {
+    if c == '<' {
         return put(out, "&lt;");
     }
-    if byte == b'>' {
+    if c == '>' {
         return put(out, "&gt;");
     }
-    if byte == b'"' {
+    if c == '"' {
         return put(out, "&#34;");
     }
-    if byte == b'\'' {
+    if c == '\'' {
         return put(out, "&#39;");
     }
-    put_shown_byte(out, byte)
+    put_shown_char(out, c)
 }

@@ -14,7 +14,6 @@ mod put;
 mod row;
 mod value;
 
-pub use escape::put_shown;
 pub use printing::{print_annotations, print_json, print_page, print_text};
 pub use put::NoMemory;
-pub use value::{Broken, External, FileCount, Findings, Kind, Place, Redirect, Told, Totals};
+pub use value::{Broken, Contents, External, FileCount, Findings, Kind, Place, Redirect, Totals};

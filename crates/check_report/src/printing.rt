@@ -1,8 +1,8 @@
 //! Prints a report.
-ghost use Rattle.std.specs.Prelude.{◌≡◌, [], ◌∷◌, IfOk, length, map, string_bytes};
+ghost use Rattle.std.specs.Prelude.{◌≡◌, [], ◌∷◌, IfOk, map, string_bytes};
 ghost use Rattle.check_report.specs.Printing.{Adds, printed, printed_annotations, printed_json, printed_page, printed_text};
 ghost use Rattle.check_report.specs.Rows as line;
-ghost use Rattle.check_report.specs.Rows.{line_of, broken_lines, broken_part, counts_of, edge, external_of, external_part, if_told, left_out, name_part, place_lines, redirect_part, shown_places, target_lines, worst_part};
+ghost use Rattle.check_report.specs.Rows.{line_of, broken_lines, broken_part, counts_of, edge, external_of, external_part, if_listed, left_out, name_part, place_lines, redirect_part, shown_places, target_lines, worst_part};
 
 use crate::as_annotations::put_annotation;
 use crate::as_json::with_json;
@@ -11,8 +11,11 @@ use crate::as_text::put_text;
 use crate::form::Form;
 use crate::put::NoMemory;
 use crate::row::{Counts, Part, Row};
-use crate::value::{Broken, External, FileCount, Findings, Place, Redirect, Told};
+use crate::value::{Broken, Contents, External, FileCount, Findings, Place, Redirect};
 use std::alloc::Global;
+
+/// The number of locations of a target that a report lists if it does not list all.
+const PLACES_LIMIT: usize = 3;
 
 /// Prints a report as text: the totals, the broken links, the files with the most of them, and the other sections that have rows.
 /// It lists three locations of each target, or all of them. Colour is ANSI escape codes.
@@ -22,13 +25,13 @@ use std::alloc::Global;
 pub fn print_text(
     alloc: Global,
     findings: &Findings<'_>,
-    told: Told<'_>,
+    contents: Contents<'_>,
     all: bool,
     colour: bool,
 ) -> Result<Vec<u8>, NoMemory>
-    ensures { IfOk result (λ text. text.items ≡ printed_text all colour told.entry findings.now) }
+    ensures { IfOk result (λ text. text.items ≡ printed_text all colour contents.entry findings.now) }
 {
-    print(alloc, findings, told, all, Form::Text(colour))
+    print(alloc, findings, contents, all, Form::Text(colour))
 }
 
 /// Prints a report as JSON, one object per line.
@@ -38,11 +41,11 @@ pub fn print_text(
 pub fn print_json(
     alloc: Global,
     findings: &Findings<'_>,
-    told: Told<'_>,
+    contents: Contents<'_>,
 ) -> Result<Vec<u8>, NoMemory>
-    ensures { IfOk result (λ text. text.items ≡ printed_json told.entry findings.now) }
+    ensures { IfOk result (λ text. text.items ≡ printed_json contents.entry findings.now) }
 {
-    print(alloc, findings, told, true, Form::Json)
+    print(alloc, findings, contents, true, Form::Json)
 }
 
 /// Prints a report as GitHub annotations: an `::error` command for each location of a broken link.
@@ -52,11 +55,17 @@ pub fn print_json(
 pub fn print_annotations(
     alloc: Global,
     findings: &Findings<'_>,
-    told: Told<'_>,
+    contents: Contents<'_>,
 ) -> Result<Vec<u8>, NoMemory>
-    ensures { IfOk result (λ text. text.items ≡ printed_annotations told.entry findings.now) }
+    ensures { IfOk result (λ text. text.items ≡ printed_annotations contents.entry findings.now) }
 {
-    print(alloc, findings, told, true, Form::Annotations(told.folder))
+    print(
+        alloc,
+        findings,
+        contents,
+        true,
+        Form::Annotations(contents.folder),
+    )
 }
 
 /// Prints a report as an HTML page that loads nothing from the network. It shows every row without scripts. With scripts it shows
@@ -67,55 +76,55 @@ pub fn print_annotations(
 pub fn print_page(
     alloc: Global,
     findings: &Findings<'_>,
-    told: Told<'_>,
+    contents: Contents<'_>,
 ) -> Result<Vec<u8>, NoMemory>
-    ensures { IfOk result (λ text. text.items ≡ printed_page told.entry findings.now) }
+    ensures { IfOk result (λ text. text.items ≡ printed_page contents.entry findings.now) }
 {
-    print(alloc, findings, told, true, Form::Page)
+    print(alloc, findings, contents, true, Form::Page)
 }
 
 fn print(
     alloc: Global,
     findings: &Findings<'_>,
-    told: Told<'_>,
+    contents: Contents<'_>,
     all: bool,
     form: Form<'_>,
 ) -> Result<Vec<u8>, NoMemory>
-    ensures { IfOk result (λ text. text.items ≡ printed form.entry all told.entry findings.now) }
+    ensures { IfOk result (λ text. text.items ≡ printed form.entry all contents.entry findings.now) }
 {
-    let begun = with(Vec::new(alloc), form, total_of(findings, told))?;
+    let begun = with(Vec::new(alloc), form, total_of(findings, contents))?;
     let broken = with_broken(begun, form, findings.broken, all)?;
     let worst = with_worst(broken, form, findings.worst)?;
     let redirects = with_redirects(worst, form, findings.redirects)?;
-    let names = if_told(told.unreached, findings.unreached);
+    let names = if_listed(contents.unreached, findings.unreached);
     let unreached = with_names(redirects, form, Part::Unreached, names)?;
-    let external = with_external(unreached, form, external_of(told))?;
+    let external = with_external(unreached, form, external_of(contents))?;
     let unused = with_names(external, form, Part::Unused, findings.unused_ignores)?;
     let all = with(unused, form, Row::Last)?;
     Ok(all)
 }
 
-fn total_of<'r>(findings: &Findings<'r>, told: Told<'_>) -> Row<'r>
-    ensures { line_of result ≡ line.total findings.now.base.now findings.now.totals (counts_of told.entry findings.now) }
+fn total_of<'r>(findings: &Findings<'r>, contents: Contents<'_>) -> Row<'r>
+    ensures { line_of result ≡ line.total findings.now.base.now findings.now.totals (counts_of contents.entry findings.now) }
 {
     Row::Total {
         base: findings.base,
         totals: findings.totals,
-        counts: counts_of(findings, told),
+        counts: counts_of(findings, contents),
     }
 }
 
 /// The optional counts: those of the lists that the report has.
-fn counts_of(findings: &Findings<'_>, told: Told<'_>) -> Counts
-    ensures { result ≡ counts_of told.entry findings.now }
+fn counts_of(findings: &Findings<'_>, contents: Contents<'_>) -> Counts
+    ensures { result ≡ counts_of contents.entry findings.now }
 {
     Counts {
-        unreached: if told.unreached {
+        unreached: if contents.unreached {
             Some(findings.unreached.len())
         } else {
             None
         },
-        external: match told.external {
+        external: match contents.external {
             Some(urls) => Some(urls.len()),
             None => None,
         },
@@ -123,16 +132,16 @@ fn counts_of(findings: &Findings<'_>, told: Told<'_>) -> Counts
 }
 
 /// The names if they are listed, otherwise none.
-fn if_told(told: bool, names: &[String]) -> &[String]
-    ensures { result.now ≡ if_told told names.now }
+fn if_listed(listed: bool, names: &[String]) -> &[String]
+    ensures { result.now ≡ if_listed listed names.now }
 {
-    if told { names } else { &[] }
+    if listed { names } else { &[] }
 }
 
-fn external_of(told: Told<'_>) -> &[External]
-    ensures { result.now ≡ external_of told.entry }
+fn external_of(contents: Contents<'_>) -> &[External]
+    ensures { result.now ≡ external_of contents.entry }
 {
-    match told.external {
+    match contents.external {
         Some(urls) => urls,
         None => &[],
     }
@@ -180,8 +189,8 @@ fn with_broken(
 {
     let rows = targets.len();
     let begun = with_edge(out, form, Row::Begin(Part::Broken), rows)?;
-    let told = with_targets(begun, form, targets, all)?;
-    with_edge(told, form, Row::Finish(Part::Broken), rows)
+    let listed = with_targets(begun, form, targets, all)?;
+    with_edge(listed, form, Row::Finish(Part::Broken), rows)
 }
 
 fn with_targets(
@@ -208,18 +217,18 @@ fn with_target(
 {
     let places = target.places.as_slice();
     let begun = with(out, form, Row::Broken(target))?;
-    let told = with_places(begun, form, target, shown_places(places, all))?;
-    with_left_out(told, form, places.len(), all)
+    let listed = with_places(begun, form, target, shown_places(places, all))?;
+    with_left_out(listed, form, places.len(), all)
 }
 
-/// The first three locations, or all of them.
+/// The locations that are listed: the first ones, or all of them.
 fn shown_places(places: &[Place], all: bool) -> &[Place]
     ensures { result.now ≡ shown_places all places.now }
 {
-    if all || places.len() <= 3 {
+    if all || places.len() <= PLACES_LIMIT {
         places
     } else {
-        &places[..3]
+        &places[..PLACES_LIMIT]
     }
 }
 
@@ -245,10 +254,10 @@ fn with_left_out(
 ) -> Result<Vec<u8>, NoMemory>
     ensures { IfOk result (λ more. Adds form.entry out.items more.items (left_out all places)) }
 {
-    if all || places <= 3 {
+    if all || places <= PLACES_LIMIT {
         Ok(out)
     } else {
-        with(out, form, Row::More(places - 3))
+        with(out, form, Row::More(places - PLACES_LIMIT))
     }
 }
 
@@ -257,8 +266,8 @@ fn with_worst(out: Vec<u8>, form: Form<'_>, counts: &[FileCount]) -> Result<Vec<
 {
     let rows = counts.len();
     let begun = with_edge(out, form, Row::Begin(Part::Worst), rows)?;
-    let told = with_counts(begun, form, counts)?;
-    with_edge(told, form, Row::Finish(Part::Worst), rows)
+    let listed = with_counts(begun, form, counts)?;
+    with_edge(listed, form, Row::Finish(Part::Worst), rows)
 }
 
 fn with_counts(mut out: Vec<u8>, form: Form<'_>, counts: &[FileCount]) -> Result<Vec<u8>, NoMemory>
@@ -275,8 +284,8 @@ fn with_redirects(out: Vec<u8>, form: Form<'_>, pages: &[Redirect]) -> Result<Ve
 {
     let rows = pages.len();
     let begun = with_edge(out, form, Row::Begin(Part::Redirects), rows)?;
-    let told = with_moved(begun, form, pages)?;
-    with_edge(told, form, Row::Finish(Part::Redirects), rows)
+    let listed = with_moved(begun, form, pages)?;
+    with_edge(listed, form, Row::Finish(Part::Redirects), rows)
 }
 
 fn with_moved(mut out: Vec<u8>, form: Form<'_>, pages: &[Redirect]) -> Result<Vec<u8>, NoMemory>
@@ -293,8 +302,8 @@ fn with_external(out: Vec<u8>, form: Form<'_>, urls: &[External]) -> Result<Vec<
 {
     let rows = urls.len();
     let begun = with_edge(out, form, Row::Begin(Part::External), rows)?;
-    let told = with_urls(begun, form, urls)?;
-    with_edge(told, form, Row::Finish(Part::External), rows)
+    let listed = with_urls(begun, form, urls)?;
+    with_edge(listed, form, Row::Finish(Part::External), rows)
 }
 
 fn with_urls(mut out: Vec<u8>, form: Form<'_>, urls: &[External]) -> Result<Vec<u8>, NoMemory>
@@ -316,8 +325,8 @@ fn with_names(
 {
     let rows = texts.len();
     let begun = with_edge(out, form, Row::Begin(of_part), rows)?;
-    let told = with_texts(begun, form, of_part, texts)?;
-    with_edge(told, form, Row::Finish(of_part), rows)
+    let listed = with_texts(begun, form, of_part, texts)?;
+    with_edge(listed, form, Row::Finish(of_part), rows)
 }
 
 fn with_texts(

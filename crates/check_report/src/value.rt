@@ -20,7 +20,7 @@ pub struct Findings<'a> {
 
 /// The optional contents of a report.
 #[derive(Clone, Copy)]
-pub struct Told<'a> {
+pub struct Contents<'a> {
     /// Whether the report counts and lists unreached files.
     pub unreached: bool,
     /// The external links, if the report counts and lists them.
@@ -32,9 +32,11 @@ pub struct Told<'a> {
 /// The counts of a check.
 #[derive(Clone, Copy)]
 pub struct Totals {
-    /// The URLs at which a file was found.
+    /// The files that were found, each at its own URL.
     pub pages: u64,
-    /// The links in these pages.
+    /// The other URLs of these files that links lead to.
+    pub aliases: u64,
+    /// The links in these files.
     pub links: u64,
     /// The links to missing pages and anchors.
     pub broken_links: u64,

@@ -1,6 +1,6 @@
 //! The forms of a report. The expected bytes are written by hand.
 use check_report::{
-    Broken, External, FileCount, Findings, Kind, NoMemory, Place, Redirect, Told, Totals,
+    Broken, Contents, External, FileCount, Findings, Kind, NoMemory, Place, Redirect, Totals,
     print_annotations, print_json, print_page, print_text,
 };
 use std::alloc::Global;
@@ -36,6 +36,7 @@ const TARGETS: &[Target] = &[
 
 const TOTALS: Totals = Totals {
     pages: 4,
+    aliases: 3,
     links: 20,
     broken_links: 5,
     broken_urls: 2,
@@ -44,14 +45,14 @@ const TOTALS: Totals = Totals {
 };
 
 /// The text with three locations of each target, without colour.
-const TEXT: &str = "pages 4, links 20, redirects 2, unreached files 1, external URLs 2
+const TEXT: &str = "pages 4, links 20, redirects 2, aliases 3, unreached files 1, external URLs 2
 broken links 5, missing pages 2, missing anchors 1
 
 a.html:41:12: down.html: no such page (did you mean lib/down.html?)
 b.html:3:1: down.html: no such page (did you mean lib/down.html?)
 b.html:4:1: down.html: no such page (did you mean lib/down.html?)
   and 1 more
-d,e:f%␍.html:1:2: a<b>&\"'.html#x␊: no such anchor
+d,e:f%\\u{d}.html:1:2: a<b>&\"'.html#x\\u{a}: no such anchor
 start.html: no such page
 
 files with the most broken links:
@@ -62,7 +63,7 @@ links to redirects:
   old.html -> - (linked from 1 page)
 
 unreached files:
-  x␉.html
+  x\\u{9}.html
 
 external links (not checked):
   3 http://o.test/?a&b
@@ -73,7 +74,7 @@ unused --ignore entries:
 ";
 
 const JSON: &str =
-    "{\"kind\":\"total\",\"base\":\"http://s.test\",\"pages\":4,\"links\":20,\"redirects\":2,\"unreached\":1,\"external\":2,\"broken\":5,\"missing_pages\":2,\"missing_anchors\":1}
+    "{\"kind\":\"total\",\"base\":\"http://s.test\",\"pages\":4,\"aliases\":3,\"links\":20,\"redirects\":2,\"unreached\":1,\"external\":2,\"broken\":5,\"missing_pages\":2,\"missing_anchors\":1}
 {\"kind\":\"broken\",\"target\":\"down.html\",\"missing\":\"page\",\"pages\":3,\"same_name\":\"lib/down.html\"}
 {\"kind\":\"place\",\"target\":\"down.html\",\"missing\":\"page\",\"file\":\"a.html\",\"line\":41,\"column\":12}
 {\"kind\":\"place\",\"target\":\"down.html\",\"missing\":\"page\",\"file\":\"b.html\",\"line\":3,\"column\":1}
@@ -110,8 +111,8 @@ const PAGE: &str = "</form>
 \tb.html:3:1
 \tb.html:4:1
 \tc.html:5:6
-<b>a&lt;b&gt;&amp;&#34;&#39;.html#x␊</b>\tno such anchor
-\td,e:f%␍.html:1:2
+<b>a&lt;b&gt;&amp;&#34;&#39;.html#x\\u{a}</b>\tno such anchor
+\td,e:f%\\u{d}.html:1:2
 <b>start.html</b>\tno such page
 </pre>
 </section>
@@ -131,7 +132,7 @@ old.html\tto -\tlinked from 1 page
 <section id=unreached aria-labelledby=h-unreached>
 <h2 id=h-unreached>Unreached files</h2>
 <pre>
-x␉.html
+x\\u{9}.html
 </pre>
 </section>
 <section id=external aria-labelledby=h-external>
@@ -154,7 +155,7 @@ http://a.test/
 ";
 
 /// The text of a report without rows, with colour: only the totals.
-const NOTHING: &str = "pages 4, links 20, redirects 2
+const NOTHING: &str = "pages 4, links 20, redirects 2, aliases 3
 \x1b[31mbroken links 5\x1b[0m, missing pages 2, missing anchors 1
 ";
 
@@ -173,27 +174,40 @@ const FOLDERS: &[(&str, &str)] = &[
     ("/", "/a.html"),
 ];
 
-/// A text, its bytes, which are unchanged in an annotation, and its bytes in the text and in the HTML page.
-type Seen = (&'static str, &'static [u8], &'static [u8]);
+/// A text, and how all forms for people show it: as text, as annotations and as the HTML page.
+type Seen = (&'static str, &'static str);
 
-/// C1 controls and their neighbours.
-const CONTROLS: &[Seen] = &[
-    ("\u{80}", b"\xc2\x80", b"\xef\xbf\xbd"),
-    ("\u{85}", b"\xc2\x85", b"\xef\xbf\xbd"),
-    ("\u{9b}31m", b"\xc2\x9b31m", b"\xef\xbf\xbd31m"),
-    ("\u{9f}", b"\xc2\x9f", b"\xef\xbf\xbd"),
-    ("\u{a0}", b"\xc2\xa0", b"\xc2\xa0"),
-    ("\u{e9}", b"\xc3\xa9", b"\xc3\xa9"),
-    ("\u{201b}", b"\xe2\x80\x9b", b"\xe2\x80\x9b"),
+/// Hidden characters and their neighbours.
+const SEEN: &[Seen] = &[
+    ("\u{80}", "\\u{80}"),
+    ("\u{85}", "\\u{85}"),
+    ("\u{9b}31m", "\\u{9b}31m"),
+    ("\u{9f}", "\\u{9f}"),
+    ("\u{a0}", "\u{a0}"),
+    ("\u{e9}", "\u{e9}"),
+    ("\u{201b}", "\u{201b}"),
+    ("\u{c2}\u{9b}\u{84} z", "\u{c2}\\u{9b}\\u{84} z"),
+    ("\u{1b}[31m\u{7}\u{7f}", "\\u{1b}[31m\\u{7}\\u{7f}"),
     (
-        "\u{c2}\u{9b}\u{84} z",
-        b"\xc3\x82\xc2\x9b\xc2\x84 z",
-        b"\xc3\x82\xef\xbf\xbd\xef\xbf\xbd z",
+        "\u{202e}x\u{2028}\u{2029}\u{2066}y\u{2069}",
+        "\\u{202e}x\\u{2028}\\u{2029}\\u{2066}y\\u{2069}",
     ),
 ];
 
+/// The numbers of broken links and of missing pages, and the heading of the HTML page.
+type Heading = (u64, u64, &'static str);
+
+const HEADINGS: &[Heading] = &[
+    (0, 0, "<h1 class=good><b>0</b> broken links</h1>"),
+    (1, 1, "<h1 class=bad><b>1</b> broken link</h1>"),
+    (7, 2, "<h1 class=bad><b>7</b> broken links</h1>"),
+    // pages at which the check starts, and to which no link leads
+    (0, 1, "<h1 class=bad><b>1</b> missing page</h1>"),
+    (0, 2, "<h1 class=bad><b>2</b> missing pages</h1>"),
+];
+
 /// The end of the HTML page, after the last name.
-const BEHIND_NAME: &[u8] =
+const AFTER_NAME: &[u8] =
     b"\n</pre>\n</section>\n</main>\n<footer id=end></footer>\n</body>\n</html>\n";
 
 fn text(alloc: Global, text: &str) -> Option<String> {
@@ -278,12 +292,12 @@ fn ends(form: Result<Vec<u8>, NoMemory>, expected: &str) -> bool {
 }
 
 /// Which forms are printed as expected: the text, the JSON, the annotations, the end of the page.
-fn forms(alloc: Global, findings: &Findings<'_>, told: Told<'_>) -> [bool; 4] {
+fn forms(alloc: Global, findings: &Findings<'_>, contents: Contents<'_>) -> [bool; 4] {
     [
-        is(print_text(alloc, findings, told, false, false), TEXT),
-        is(print_json(alloc, findings, told), JSON),
-        is(print_annotations(alloc, findings, told), ANNOTATIONS),
-        ends(print_page(alloc, findings, told), PAGE),
+        is(print_text(alloc, findings, contents, false, false), TEXT),
+        is(print_json(alloc, findings, contents), JSON),
+        is(print_annotations(alloc, findings, contents), ANNOTATIONS),
+        ends(print_page(alloc, findings, contents), PAGE),
     ]
 }
 
@@ -309,12 +323,12 @@ fn printed(alloc: Global) -> Option<[bool; 4]> {
         unreached: &unreached,
         unused_ignores: &unused,
     };
-    let told = Told {
+    let contents = Contents {
         unreached: true,
         external: Some(&others),
         folder: "s:te",
     };
-    Some(forms(alloc, &findings, told))
+    Some(forms(alloc, &findings, contents))
 }
 
 /// Optional lists that are not chosen are neither counted nor printed.
@@ -329,12 +343,12 @@ fn nothing(alloc: Global) -> Option<bool> {
         unreached: &unreached,
         unused_ignores: &[],
     };
-    let told = Told {
+    let contents = Contents {
         unreached: false,
         external: None,
         folder: "",
     };
-    let text = print_text(alloc, &findings, told, false, true).ok()?;
+    let text = print_text(alloc, &findings, contents, false, true).ok()?;
     Some(text.as_slice() == NOTHING.as_bytes())
 }
 
@@ -349,15 +363,15 @@ fn annotated(alloc: Global, folder: &str) -> Option<Vec<u8>> {
         unreached: &[],
         unused_ignores: &[],
     };
-    let told = Told {
+    let contents = Contents {
         unreached: false,
         external: None,
         folder,
     };
-    print_annotations(alloc, &findings, told).ok()
+    print_annotations(alloc, &findings, contents).ok()
 }
 
-fn stands_at(annotation: &[u8], file: &str) -> bool {
+fn is_at(annotation: &[u8], file: &str) -> bool {
     let Some(at) = annotation.strip_prefix(b"::error file=") else {
         return false;
     };
@@ -368,12 +382,12 @@ fn stands_at(annotation: &[u8], file: &str) -> bool {
 }
 
 /// Whether the bytes end with these three, in this order.
-fn ends_so(bytes: &[u8], front: &[u8], middle: &[u8], behind: &[u8]) -> Option<bool> {
-    let rest = bytes.strip_suffix(behind)?;
-    Some(rest.strip_suffix(middle)?.ends_with(front))
+fn ends_with(bytes: &[u8], first: &[u8], second: &str, third: &[u8]) -> Option<bool> {
+    let rest = bytes.strip_suffix(third)?;
+    Some(rest.strip_suffix(second.as_bytes())?.ends_with(first))
 }
 
-/// Which forms have the name as expected: the text, the HTML page, the annotations.
+/// Which forms show the name as expected: the text, the HTML page, the annotations.
 fn seen(alloc: Global, row: &Seen) -> Option<[bool; 3]> {
     let broken = [target(alloc, &(row.0, Kind::NoPage, "", &[]))?];
     let unused = [text(alloc, row.0)?];
@@ -386,37 +400,82 @@ fn seen(alloc: Global, row: &Seen) -> Option<[bool; 3]> {
         unreached: &[],
         unused_ignores: &unused,
     };
-    let told = Told {
+    let contents = Contents {
         unreached: false,
         external: None,
         folder: "",
     };
-    let text = print_text(alloc, &findings, told, false, false).ok()?;
-    let page = print_page(alloc, &findings, told).ok()?;
-    let command = print_annotations(alloc, &findings, told).ok()?;
+    let text = print_text(alloc, &findings, contents, false, false).ok()?;
+    let page = print_page(alloc, &findings, contents).ok()?;
+    let command = print_annotations(alloc, &findings, contents).ok()?;
     Some([
-        ends_so(text.as_slice(), b":\n  ", row.2, b"\n")?,
-        ends_so(page.as_slice(), b"<pre>\n", row.2, BEHIND_NAME)?,
-        ends_so(command.as_slice(), b"::error::", row.1, b": no such page\n")?,
+        ends_with(text.as_slice(), b":\n  ", row.1, b"\n")?,
+        ends_with(page.as_slice(), b"<pre>\n", row.1, AFTER_NAME)?,
+        ends_with(command.as_slice(), b"::error::", row.1, b": no such page\n")?,
     ])
 }
 
+/// The totals with these numbers of broken links and of missing pages, and nothing else.
+fn counted(row: &Heading) -> Totals {
+    Totals {
+        pages: 1,
+        aliases: 0,
+        links: 9,
+        broken_links: row.0,
+        broken_urls: row.1,
+        broken_anchors: 0,
+        moved: 0,
+    }
+}
+
+/// Whether the page has the heading, and coloured text is red if and only if the heading is bad.
+fn is_headed(alloc: Global, row: &Heading) -> Option<bool> {
+    let findings = Findings {
+        base: "",
+        totals: counted(row),
+        broken: &[],
+        worst: &[],
+        redirects: &[],
+        unreached: &[],
+        unused_ignores: &[],
+    };
+    let contents = Contents {
+        unreached: false,
+        external: None,
+        folder: "",
+    };
+    let page = print_page(alloc, &findings, contents).ok()?;
+    let text = print_text(alloc, &findings, contents, false, true).ok()?;
+    let is_red = str::from_utf8(text.as_slice())
+        .ok()?
+        .contains("\x1b[31mbroken");
+    let has_heading = str::from_utf8(page.as_slice()).ok()?.contains(row.2);
+    Some(has_heading && is_red == row.2.contains("bad"))
+}
+
 #[test]
-fn shows_no_c1_control(rt: HostRuntime) {
-    for row in CONTROLS {
+fn escapes_hidden_characters(rt: HostRuntime) {
+    for row in SEEN {
         let forms = seen(rt.alloc(), row);
         assert!(rt; forms == Some([true; 3]), "{:?}: {forms:?}", row.1);
     }
 }
 
 #[test]
+fn counts_missing_pages_without_links(rt: HostRuntime) {
+    for row in HEADINGS {
+        assert!(rt; is_headed(rt.alloc(), row) == Some(true), "{}", row.2);
+    }
+}
+
+#[test]
 fn annotates_files_of_folders(rt: HostRuntime) {
     for (folder, file) in FOLDERS {
-        let stands = match annotated(rt.alloc(), folder) {
-            Some(text) => stands_at(text.as_slice(), file),
+        let is_named = match annotated(rt.alloc(), folder) {
+            Some(text) => is_at(text.as_slice(), file),
             None => false,
         };
-        assert!(rt; stands, "{folder}");
+        assert!(rt; is_named, "{folder}");
     }
 }
 

@@ -1,6 +1,6 @@
 use Rattle.std.proofs.Common.{[], ◌∷◌, ◌++◌, codes, decimal}
 use Rattle.json.specs.Token.{key, number}
-use Rattle.check_report.proofs.Adding.{behind, last_behind}
+use Rattle.check_report.proofs.Adding.{joined, last_joined}
 use Rattle.check_report.proofs.as_json.put_broken_counts.Goals as goal
 
 pub returns-clause-tokens : goal.returns-clause-tokens
@@ -10,5 +10,5 @@ returns-clause-tokens c =
     let links = key (codes "broken") ∷ number (decimal t.broken_links) ∷ [] in
     let pages = key (codes "missing_pages") ∷ number (decimal t.broken_urls) ∷ [] in
     let anchors = key (codes "missing_anchors") ∷ number (decimal t.broken_anchors) ∷ [] in
-    last_behind c.put_count-3.result old c.put_count-2.new.out.tokens c.put_count-3.new.out.tokens (links ++ pages) anchors
-    (behind old c.put_count.new.out.tokens c.put_count-2.new.out.tokens links pages c.in_ok-put_count.ensures.tokens c.in_ok-put_count-2.ensures.tokens) c.put_count-3.ensures.tokens
+    last_joined c.put_count-3.result old c.put_count-2.new.out.tokens c.put_count-3.new.out.tokens (links ++ pages) anchors
+    (joined old c.put_count.new.out.tokens c.put_count-2.new.out.tokens links pages c.in_ok-put_count.ensures.tokens c.in_ok-put_count-2.ensures.tokens) c.put_count-3.ensures.tokens

@@ -1,6 +1,6 @@
 use Rattle.std.proofs.Common.{◌++◌, codes, ap, ◌∙◌}
 use Rattle.check_report.specs.Text.{code, counted, plain, verdict}
-use Rattle.check_report.proofs.Adding.{behind, last_behind}
+use Rattle.check_report.proofs.Adding.{joined, last_joined}
 use Rattle.check_report.proofs.as_text.put_broken_total.Goals as goal
 
 pub returns : goal.returns
@@ -13,7 +13,7 @@ returns c =
     let pages = counted (codes ", missing pages ") t.broken_urls in
     let anchors = counted (codes ", missing anchors ") t.broken_anchors in
     let first = c.in_ok-put_code.ensures ∙ ap (λ w. old ++ code colour w) c.verdict.ensures in
-    let second = behind old c.put_code.new.out.items c.put_counted.new.out.items red links first c.in_ok-put_counted.ensures in
-    let third = behind old c.put_counted.new.out.items c.put_code-2.new.out.items (red ++ links) (code colour plain) second c.in_ok-put_code-2.ensures in
-    let fourth = behind old c.put_code-2.new.out.items c.put_counted-2.new.out.items (red ++ links ++ code colour plain) pages third c.in_ok-put_counted-2.ensures in
-    last_behind c.put_counted-3.result old c.put_counted-2.new.out.items c.put_counted-3.new.out.items (red ++ links ++ code colour plain ++ pages) anchors fourth c.put_counted-3.ensures
+    let second = joined old c.put_code.new.out.items c.put_counted.new.out.items red links first c.in_ok-put_counted.ensures in
+    let third = joined old c.put_counted.new.out.items c.put_code-2.new.out.items (red ++ links) (code colour plain) second c.in_ok-put_code-2.ensures in
+    let fourth = joined old c.put_code-2.new.out.items c.put_counted-2.new.out.items (red ++ links ++ code colour plain) pages third c.in_ok-put_counted-2.ensures in
+    last_joined c.put_counted-3.result old c.put_counted-2.new.out.items c.put_counted-3.new.out.items (red ++ links ++ code colour plain ++ pages) anchors fourth c.put_counted-3.ensures

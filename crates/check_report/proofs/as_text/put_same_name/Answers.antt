@@ -1,7 +1,7 @@
 use Rattle.std.proofs.Common.{◌≡◌, ◌++◌, OnOk, ap, codes, option_map, string_bytes, subst, sym, ◌∙◌}
 use Rattle.check_report.specs.Escape.{escaped}
 use Rattle.check_report.specs.Text.{same_name_text}
-use Rattle.check_report.proofs.Adding.{behind, last_behind}
+use Rattle.check_report.proofs.Adding.{joined, last_joined}
 use Rattle.check_report.proofs.as_text.put_same_name.Goals as goal
 
 pub returns-in_ok-put_escaped-in-Some : goal.returns-in_ok-put_escaped-in-Some
@@ -11,6 +11,6 @@ returns-in_ok-put_escaped-in-Some c =
     let word = codes " (did you mean " in
     let page = string_bytes c.in-Some.page in
     let name = c.in_ok-put_escaped-in-Some.ensures ∙ ap (λ t. c.put.new.out.items ++ escaped how t) c.as_str.ensures.value in
-    let start = behind old c.put.new.out.items c.put_escaped.new.out.items word (escaped how page) c.in_ok-put-in-Some.ensures name in
+    let start = joined old c.put.new.out.items c.put_escaped.new.out.items word (escaped how page) c.in_ok-put-in-Some.ensures name in
     subst (λ p. OnOk c.put-in-Some.result (c.put-in-Some.new.out.items ≡ old ++ same_name_text how (option_map string_bytes p))) (sym c.in-Some.is)
-    (last_behind c.put-in-Some.result old c.put_escaped.new.out.items c.put-in-Some.new.out.items (word ++ escaped how page) (codes "?)") start c.put-in-Some.ensures)
+    (last_joined c.put-in-Some.result old c.put_escaped.new.out.items c.put-in-Some.new.out.items (word ++ escaped how page) (codes "?)") start c.put-in-Some.ensures)

@@ -1,14 +1,11 @@
-use Rattle.std.proofs.Common.{◌∙◌, sym}
-use Rattle.std.proofs.lemmas.List.{take_rest}
-use Rattle.check_report.proofs.Pieces.{byte_put, c1_put}
+use Rattle.std.proofs.Common.{◌++◌, ap, sym, ◌∙◌}
+use Rattle.std.specs.Char.{encode_utf8}
+use Rattle.check_report.proofs.Pieces.{char_put}
 use Rattle.check_report.proofs.escape.put_first.Goals as goal
 
-pub returns-then-hides_first-clause-text : goal.returns-then-hides_first-clause-text
-returns-then-hides_first-clause-text c =
-    rw (take_rest c.args.bytes.now 2)
-    (c1_put c.args.how c.args.out.now.items c.put.new.out.items c.args.bytes.now (sym c.hides_first.ensures ∙ c.if-hides_first.true) c.in_ok-put.ensures)
-
-pub returns-in_ok-put_byte-in-Some-clause-text : goal.returns-in_ok-put_byte-in-Some-clause-text
-returns-in_ok-put_byte-in-Some-clause-text c =
-    byte_put c.args.how c.args.out.now.items c.put_byte.new.out.items c.args.bytes.now c.in-Some.rest.now c.in-Some.first.now c.in-Some.ensures.cases.0
-    (sym c.hides_first.ensures ∙ c.if-hides_first.false) c.in_ok-put_byte-in-Some.ensures
+pub returns-in_ok-put_char-in-Some-clause-text : goal.returns-in_ok-put_char-in-Some-clause-text
+returns-in_ok-put_char-in-Some-clause-text c =
+    let text = c.args.text.now in
+    let rest = c.as_str.result.now in
+    let split = sym c.chars-rest.ensures.rest ∙ c.in-Some.ensures.steps.0 ∙ ap (λ t. encode_utf8 c.in-Some.c ++ t) (sym c.as_str.ensures) in
+    char_put c.args.how c.args.out.now.items c.put_char.new.out.items text rest c.in-Some.c c.utf8.text split c.in_ok-put_char-in-Some.ensures

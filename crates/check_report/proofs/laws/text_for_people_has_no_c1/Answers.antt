@@ -1,8 +1,5 @@
-use Rattle.check_report.proofs.Controls.{html_without, shown_without}
+use Rattle.check_report.proofs.Controls.{escaped_has_no_c1}
 use Rattle.check_report.proofs.laws.text_for_people_has_no_c1.Goals as goal
 
-pub returns-clause-line : goal.returns-clause-line
-returns-clause-line c = shown_without
-
-pub returns-clause-page : goal.returns-clause-page
-returns-clause-page c = html_without
+pub returns : goal.returns
+returns c = escaped_has_no_c1

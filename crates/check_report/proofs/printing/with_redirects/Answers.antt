@@ -6,5 +6,5 @@ use Rattle.check_report.proofs.printing.with_redirects.Goals as goal
 
 pub returns : goal.returns
 returns c =
-    part_more c.args.form c.with_edge-2.result c.args.out.items c.in_ok-begun.begun.items c.in_ok-told.told.items part.Redirects (length c.args.pages.now) (map redirect c.args.pages.now)
-    c.in_ok-begun.ensures c.in_ok-told.ensures c.with_edge-2.ensures
+    part_more c.args.form c.with_edge-2.result c.args.out.items c.in_ok-begun.begun.items c.in_ok-listed.listed.items part.Redirects (length c.args.pages.now) (map redirect c.args.pages.now)
+    c.in_ok-begun.ensures c.in_ok-listed.ensures c.with_edge-2.ensures

@@ -2,9 +2,9 @@ use Rattle.std.proofs.Common.{[], ◌∷◌, ◌++◌, codes, decimal, ap, ◌�
 use Rattle.std.proofs.lemmas.List.{append_assoc}
 use Rattle.json.specs.Token.{end_object, key, number}
 use Rattle.check_report.specs.Json.{broken_counts, count_if_at, count_tokens}
-use Rattle.check_report.proofs.Adding.{behind, last_behind}
+use Rattle.check_report.proofs.Adding.{joined, last_joined}
 use Rattle.check_report.proofs.Members.{count_first, then_ok}
-use Rattle.check_report.proofs.as_json.put_told_counts.Goals as goal
+use Rattle.check_report.proofs.as_json.put_optional_counts.Goals as goal
 
 pub returns-clause-tokens : goal.returns-clause-tokens
 returns-clause-tokens c =
@@ -17,11 +17,11 @@ returns-clause-tokens c =
     let external = count_tokens (codes "external") c.args.counts.external in
     let broken = key (codes "broken") ∷ number (decimal t.broken_links) ∷ key (codes "missing_pages") ∷ number (decimal t.broken_urls) ∷ key (codes "missing_anchors") ∷ number (decimal t.broken_anchors) ∷ [] in
     let end = end_object ∷ [] in
-    let told = behind old first second unreached external c.in_ok-put_count_if.ensures.tokens c.in_ok-put_count_if-2.ensures.tokens in
+    let listed = joined old first second unreached external c.in_ok-put_count_if.ensures.tokens c.in_ok-put_count_if-2.ensures.tokens in
     then_ok c.put_broken_counts.result
     (λ is. ap (λ ts. ts ++ end) is ∙ append_assoc old ((unreached ++ external) ++ broken) end
     ∙ ap (λ ts. old ++ ts)
     (append_assoc (unreached ++ external) broken end ∙ append_assoc unreached external (broken ++ end)
     ∙ ap (λ ts. unreached ++ ts) (count_first (codes "external") c.args.counts.external (broken_counts t))
     ∙ count_first (codes "unreached") c.args.counts.unreached (count_if_at (codes "external") c.args.counts.external (broken_counts t))))
-    (last_behind c.put_broken_counts.result old second new (unreached ++ external) broken told c.put_broken_counts.ensures.tokens)
+    (last_joined c.put_broken_counts.result old second new (unreached ++ external) broken listed c.put_broken_counts.ensures.tokens)
