@@ -1,0 +1,28 @@
+//! Laws about shown texts. A law is a function that does nothing; its clauses are the theorem.
+ghost use Rattle.std.specs.Prelude.{◌≡◌, ℕ, true, List, IsUtf8};
+ghost use Rattle.std.specs.List.{list_all};
+ghost use Rattle.std.specs.Str.{chars};
+ghost use Rattle.shown_text.specs.Shown.{is_printed, is_visible, is_visible_or_lf, shown, shown_lines};
+
+/// A shown text has no hidden character, and one of several lines none but LF.
+pub fn shown_text_has_no_hidden_character()
+    ensures line { (text : List ℕ) → IsUtf8 text → list_all is_visible (chars (shown text)) ≡ true }
+    ensures lines { (text : List ℕ) → IsUtf8 text → list_all is_visible_or_lf (chars (shown_lines text)) ≡ true }
+{}
+
+/// A shown text has no byte of a C0 control and no DEL, even if it is not UTF-8. It can neither end a line nor control a terminal.
+pub fn shown_text_has_no_control_byte()
+    ensures { (text : List ℕ) → list_all is_printed (shown text) ≡ true }
+{}
+
+/// A text without hidden characters is shown as it is.
+pub fn visible_text_is_unchanged()
+    ensures line { (text : List ℕ) → IsUtf8 text → list_all is_visible (chars text) ≡ true → shown text ≡ text }
+    ensures lines { (text : List ℕ) → IsUtf8 text → list_all is_visible_or_lf (chars text) ≡ true → shown_lines text ≡ text }
+{}
+
+/// A shown text is UTF-8.
+pub fn shown_text_is_utf8()
+    ensures line { (text : List ℕ) → IsUtf8 text → IsUtf8 (shown text) }
+    ensures lines { (text : List ℕ) → IsUtf8 text → IsUtf8 (shown_lines text) }
+{}
