@@ -16,7 +16,7 @@ use std::fmt::Display;
 /// The text of an error, with the file that it is about.
 #[derive(Clone, Copy)]
 pub struct FaultText<'a> {
-    /// The name of the file, as it was given.
+    /// The name of the file, with its hidden characters escaped.
     pub file: &'a str,
     /// The error.
     pub fault: Fault,
