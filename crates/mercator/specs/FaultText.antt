@@ -90,6 +90,7 @@ abbrev pub log_text : LogFault → List ℕ
 log_text unlogged.CannotOpen = codes "cannot open"
 log_text unlogged.InUse = codes "in use by another program"
 log_text unlogged.CannotRead = codes "cannot read"
+log_text unlogged.NotALog = codes "not a log"
 log_text unlogged.OtherSettings = codes "made with other options"
 log_text unlogged.CannotWrite = codes "cannot write"
 log_text unlogged.CannotMakeNew = codes "cannot create the new log, which must not exist"

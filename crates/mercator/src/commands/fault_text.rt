@@ -174,6 +174,7 @@ fn log_words(fault: LogFault) -> Words
         LogFault::CannotOpen => alone("cannot open"),
         LogFault::InUse => alone("in use by another program"),
         LogFault::CannotRead => alone("cannot read"),
+        LogFault::NotALog => alone("not a log"),
         LogFault::OtherSettings => alone("made with other options"),
         LogFault::CannotWrite => alone("cannot write"),
         LogFault::CannotMakeNew => alone("cannot create the new log, which must not exist"),
